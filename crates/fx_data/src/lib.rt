@@ -1,0 +1,5 @@
+//! The values of formulas and their types.
+#![tactic(auto)]
+
+pub mod faults;
+pub mod words;
