@@ -1,2 +1,4 @@
+pub mod Risings
+pub mod Sizes
 pub mod Texts
 pub mod Utf8Order

@@ -1,1 +1,12 @@
+pub mod Days
+pub mod Lookup
+pub mod Rising
+pub mod TypeCode
+pub mod TypeFalls
+pub mod TypeView
+pub mod Types
+pub mod ValueCode
+pub mod ValueFalls
+pub mod ValueView
+pub mod Values
 pub mod Words

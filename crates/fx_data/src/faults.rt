@@ -1,4 +1,9 @@
-//! Errors as values.
+// Errors as values.
+ghost use Rattle.std.specs.Prelude.{◌≡◌, IfOk};
+
+use crate::words::Words;
+use fx_base::Memory;
+use std::alloc::Global;
 
 /// The kind of an error, as `FirstError.Kind` names it.
 #[derive(Clone, Copy, Debug, PartialEq, Eq)]
@@ -21,4 +26,23 @@ pub enum Kind {
     Validation,
     /// An error that a formula made.
     Custom,
+}
+
+/// An error, as the value of a formula.
+#[derive(Drop)]
+pub struct Fault {
+    pub kind: Kind,
+    pub message: Words,
+}
+
+impl Fault {
+    /// The same error.
+    pub fn copy(&self, alloc: Global) -> Result<Fault, Memory>
+        ensures { IfOk result (λ f. f ≡ self.now) }
+    {
+        Ok(Fault {
+            kind: self.kind,
+            message: self.message.copy(alloc)?,
+        })
+    }
 }
