@@ -1,21 +1,45 @@
 //! Numbers as whole counts of ten-thousandths.
 #![tactic(auto)]
 
-ghost use Rattle.std.specs.Prelude.{◌≡◌, ℤ, MatchOption, ◌+ℤ◌, ◌^◌, ◌<◌};
-ghost use Rattle.fx_number.specs.Number.{IsInRange, Checked, nearest, product_of, signed};
+ghost use Rattle.std.specs.Prelude.{◌≡◌, ◌<◌, ◌≤◌, MatchOption, IsTrue};
+ghost use Rattle.fx_number.specs.Decimal.{IsInRange, greatest, signed};
 
 pub use fx_base::Memory;
 use std::marker::Model;
 
+mod arithmetic;
+mod spelling;
+#[cfg(test)]
+mod tests;
+
+pub use arithmetic::{add, div, modulo, mul, power, round, sub};
+pub use spelling::{read, spelling_laws, text};
+
 /// Why an operation has no number.
 #[derive(Clone, Copy, Debug, PartialEq, Eq)]
 pub enum NumErr {
+    /// The exact result, rounded, is out of range.
     Overflow,
+    /// The divisor is 0.
     DivZero,
+    /// The exponent is no whole number from -1,000 to 1,000.
     BadArgument,
 }
 
-/// A number, as a whole count of ten-thousandths.
+/// How a number is rounded.
+#[derive(Clone, Copy, Debug, PartialEq, Eq)]
+pub enum Way {
+    /// To the nearest, half away from zero.
+    Near,
+    /// Away from zero.
+    Up,
+    /// Towards zero.
+    Down,
+    /// Towards the lower number.
+    Floor,
+}
+
+/// A number, as a whole count of ten-thousandths from -(2^63-1) to 2^63-1. There is no minus zero.
 #[derive(Clone, Copy, Debug)]
 pub struct Num {
     units: i64,
@@ -23,7 +47,7 @@ pub struct Num {
 
 impl Model for Num {
     ghost use Rattle.std.specs.Prelude.{ℤ};
-    ghost use Rattle.fx_number.specs.Number.{IsInRange};
+    ghost use Rattle.fx_number.specs.Decimal.{IsInRange};
 
     ghost Value = { ℤ };
 
@@ -35,6 +59,7 @@ impl Model for Num {
 }
 
 impl Num {
+    /// The number of this many ten-thousandths. None exactly for the least `i64`.
     pub fn from_units(units: i64) -> Option<Num>
         ensures { MatchOption result (¬ IsInRange units) (λ n. (n ≡ units) × IsInRange units) }
     {
@@ -45,50 +70,20 @@ impl Num {
         }
     }
 
+    /// Its ten-thousandths, from -(2^63-1) to 2^63-1.
     pub fn units(self) -> i64
         ensures value { result ≡ self }
         ensures in_range { IsInRange result }
     {
         self.units
     }
-}
 
-/// The sum.
-pub fn add(a: Num, b: Num) -> Result<Num, NumErr>
-    ensures { Checked (a +ℤ b) result }
-{
-    match a.units.checked_add(b.units) {
-        Some(sum) => Num::from_units(sum).ok_or(NumErr::Overflow),
-        None => Err(NumErr::Overflow),
-    }
-}
-
-/// The product, rounded once, half away from zero.
-pub fn mul(a: Num, b: Num) -> Result<Num, NumErr>
-    ensures { Checked (product_of a b) result }
-{
-    let magnitude = nearest_whole(
-        u128::from(a.units.unsigned_abs()) * u128::from(b.units.unsigned_abs()),
-    );
-    with_sign((a.units < 0) != (b.units < 0), magnitude)
-}
-
-// The whole number next to a count of a ten-thousandth's ten-thousandths, half up.
-fn nearest_whole(count: u128) -> u128
-    requires { count < 2 ^ 127 }
-    ensures { result ≡ nearest count 10000 }
-{
-    (count + 5000) / 10000
-}
-
-// A number of this magnitude.
-fn with_sign(negative: bool, magnitude: u128) -> Result<Num, NumErr>
-    ensures { Checked (signed negative magnitude) result }
-{
-    match i64::try_from(magnitude) {
-        Ok(units) => Ok(Num {
-            units: if negative { -units } else { units },
-        }),
-        Err(_) => Err(NumErr::Overflow),
+    // Whether it is below 0, and how far it is from 0.
+    fn sign_and_magnitude(self) -> (bool, u128)
+        ensures value { signed result.0 result.1 ≡ self }
+        ensures bound { result.1 ≤ greatest }
+        ensures sign { IsTrue result.0 → 0 < result.1 }
+    {
+        (self.units < 0, u128::from(self.units.unsigned_abs()))
     }
 }

@@ -1,0 +1,5 @@
+pub mod Decimals
+pub mod Powers
+pub mod Digits
+pub mod LeftToRight
+pub mod Written
