@@ -7,6 +7,7 @@ pub mod days;
 pub mod faults;
 pub mod types;
 pub mod values;
+mod word_order;
 pub mod words;
 
 pub use aggregates::Totals;
