@@ -1,0 +1,4 @@
+//! The trees of formulas.
+#![tactic(auto)]
+
+pub mod tree;
