@@ -1,0 +1,13 @@
+pub mod Pieces
+pub mod Steps
+pub mod Bytes
+pub mod Readings
+pub mod Ranks
+pub mod Complete
+pub mod Sound
+pub mod LineLaws
+pub mod Turns
+pub mod NameLaws
+pub mod TokenLaws
+pub mod WholeTexts
+pub mod NumberLaws
