@@ -1,0 +1,10 @@
+pub mod Steps
+pub mod Digits
+pub mod Found
+pub mod Covers
+pub mod Judge
+pub mod Texts
+pub mod Fits
+pub mod Readings
+pub mod Cuts
+pub mod Follows
