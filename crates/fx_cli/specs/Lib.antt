@@ -1,0 +1,7 @@
+pub mod Disk
+pub mod Found
+pub mod Plain
+pub mod Report
+pub mod Telling
+pub mod Values
+pub mod Words
