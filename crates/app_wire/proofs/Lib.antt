@@ -1,0 +1,10 @@
+pub mod Blanks
+pub mod Callers
+pub mod Doorways
+pub mod Heads
+pub mod ListsInMemory
+pub mod Nexts
+pub mod OneThing
+pub mod RoutePaths
+pub mod RouteSteps
+pub mod Stands

@@ -1,0 +1,133 @@
+-- What the bytes of a conversation begin with.
+use Rattle.std.specs.Prelude.{◌≡◌, ℕ, ◌<◌, ◌≤◌, ◌⊎◌, Bool, true, false, List, [], ◌++◌, length, take, drop, codes}
+use Rattle.httparse.specs.Grammar.{RequestHead}
+use Rattle.app_wire.specs.Head.{IsHead, has_framing, method_of, path_of}
+use Rattle.app_wire.specs.declared.head.Method.{Method}
+use Rattle.app_wire.specs.declared.framer.Request.{Request}
+use Rattle.app_wire.specs.declared.framer.Fed.{Fed}
+use Rattle.app_wire.specs.declared.framer.Fed.TheVariants.{Need, Whole, Refused}
+use Rattle.app_wire.specs.declared.framer.Look.{Look}
+use Rattle.app_wire.specs.declared.framer.Look.TheVariants as look
+
+-- a request, without where it lies in memory
+pub record Asked : Type 0 where
+  pub method : Method
+  pub path : List ℕ
+  pub body : List ℕ
+
+-- the request of the program, so seen
+abbrev pub asked : Request → Asked
+asked r = record { method = r.method; path = r.path.items; body = r.body.items }
+
+-- the request of a head with no body
+abbrev pub request_of : RequestHead → Asked
+request_of h = record { method = method_of h.method; path = path_of h.target; body = [] }
+
+-- the bytes end with a blank line: an LF, an optional CR and an LF
+abbrev pub EndsBlank : List ℕ → Type 0
+EndsBlank bytes =
+    ((before : List ℕ) × (bytes ≡ before ++ codes "\n\n"))
+    ⊎ ((before : List ℕ) × (bytes ≡ before ++ codes "\n\r\n"))
+
+-- no blank line ends within the first n bytes
+abbrev pub HasNoBlank : List ℕ → ℕ → Type 0
+HasNoBlank bytes n = (k : ℕ) → k ≤ n → EndsBlank (take k bytes) → ⊥
+
+-- the first n bytes, at most 8192, end with the first blank line
+pub record IsFront (bytes : List ℕ) (n : ℕ) : Type 0 where
+  pub within : n ≤ length bytes
+  pub near : n ≤ 8192
+  pub blank : EndsBlank (take n bytes)
+  pub first : (k : ℕ) → k < n → EndsBlank (take k bytes) → ⊥
+
+-- a front that is no request head with at most 64 fields
+pub record IsBadHead (bytes : List ℕ) : Type 0 where
+  pub len : ℕ
+  pub front : IsFront bytes len
+  pub bad : (h : RequestHead) → IsHead (take len bytes) h → ⊥
+
+-- 8192 bytes came and hold no blank line
+pub record IsTooLong (bytes : List ℕ) : Type 0 where
+  pub long : 8192 ≤ length bytes
+  pub none : HasNoBlank bytes 8192
+
+-- a head with a field that frames a body
+pub record IsNotOffered (bytes : List ℕ) : Type 0 where
+  pub len : ℕ
+  pub front : IsFront bytes len
+  pub head : RequestHead
+  pub is : IsHead (take len bytes) head
+  pub framing : has_framing head ≡ true
+
+-- the first len bytes are this request
+pub record IsWhole (bytes : List ℕ) (request : Asked) (len : ℕ) : Type 0 where
+  pub front : IsFront bytes len
+  pub head : RequestHead
+  pub is : IsHead (take len bytes) head
+  pub plain : has_framing head ≡ false
+  pub same : request ≡ request_of head
+
+-- a request was begun and isn't whole
+pub record IsBegun (bytes : List ℕ) : Type 0 where
+  pub some : 0 < length bytes
+  pub short : length bytes < 8192
+  pub none : HasNoBlank bytes (length bytes)
+
+-- what bytes can begin with
+pub data Frame : Type 0 where
+  nothing : Frame
+  refused : (code : ℕ) → Frame
+  whole : (request : Asked) (len : ℕ) → Frame
+  need : Frame
+
+-- the refusals by their codes; the last one where the input has ended
+abbrev pub Refuses : List ℕ → Bool → ℕ → Type 0
+Refuses bytes ended code =
+    ((code ≡ 1) × IsBadHead bytes)
+    ⊎ ((code ≡ 2) × IsTooLong bytes)
+    ⊎ ((code ≡ 5) × IsNotOffered bytes)
+    ⊎ ((code ≡ 6) × (ended ≡ true) × IsBegun bytes)
+
+-- the bytes taken so far, which end the input or not, begin with this
+abbrev pub Framing : List ℕ → Bool → Frame → Type 0
+Framing bytes ended nothing = bytes ≡ []
+Framing bytes ended (refused code) = Refuses bytes ended code
+Framing bytes ended (whole request len) = IsWhole bytes request len
+Framing bytes ended need = (ended ≡ false) × IsBegun bytes
+
+-- no request is whole yet and none is refused
+abbrev pub IsOpen : List ℕ → Type 0
+IsOpen bytes = Framing bytes false nothing ⊎ Framing bytes false need
+
+-- what a look at the bytes finds, while more may come
+abbrev pub Finds : List ℕ → Look → Type 0
+Finds bytes look.Need = IsOpen bytes
+Finds bytes (look.Refused code) = Framing bytes false (refused code)
+Finds bytes (look.Whole method path len) =
+    Framing bytes false (whole (record { method = method; path = path.now; body = [] }) len)
+
+-- the framer's answer on the bytes that came, and what of them it then holds
+abbrev pub Feeds : List ℕ → Fed → List ℕ → Type 0
+Feeds bytes Need held = IsOpen bytes × (held ≡ bytes)
+Feeds bytes (Refused code) held = Framing bytes false (refused code) × (held ≡ bytes)
+Feeds bytes (Whole request) held =
+    (len : ℕ) × Framing bytes false (whole (asked request) len) × (held ≡ drop len bytes)
+
+-- nothing that may still come changes it
+abbrev pub IsFinal : Frame → Type 0
+IsFinal nothing = ⊥
+IsFinal (refused code) = Unit {0}
+IsFinal (whole request len) = Unit {0}
+IsFinal need = ⊥
+
+-- what was found of the bytes so far stands, however they go on
+abbrev pub Stands : Type 0
+Stands =
+    (bytes more : List ℕ) (ended : Bool) (frame : Frame)
+    → IsFinal frame → Framing bytes false frame → Framing (bytes ++ more) ended frame
+
+-- the bytes begin with one thing only
+abbrev pub IsOneThing : Type 0
+IsOneThing =
+    (bytes : List ℕ) (ended : Bool) (a b : Frame)
+    → Framing bytes ended a → Framing bytes ended b → a ≡ b

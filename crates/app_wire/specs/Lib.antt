@@ -1,0 +1,10 @@
+pub mod DoorsInMemory
+pub mod Doorway
+pub mod Framing
+pub mod Head
+pub mod Moments
+pub mod NextRequest
+pub mod Refusals
+pub mod ReplyBytes
+pub mod RouteTable
+pub mod Routing
