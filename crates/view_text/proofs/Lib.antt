@@ -1,0 +1,4 @@
+pub mod CivilDays
+mod Floats
+mod JsonLemmas
+mod Quotes

@@ -1,0 +1,5 @@
+pub mod DateText
+pub mod JsonText
+pub mod PlainText
+pub mod RefusalText
+pub mod ReplyText
