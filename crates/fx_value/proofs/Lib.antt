@@ -1,0 +1,7 @@
+pub mod Coercions
+pub mod FitsLemmas
+pub mod JoinSteps
+pub mod SameLemmas
+pub mod Unions
+pub mod WideningSteps
+pub mod Widenings

@@ -1,0 +1,44 @@
+-- What is equal part for part is equal.
+use Rattle.std.proofs.Common.{◌≡◌, ℕ, suc, List, [], ◌∷◌, length, refl, ap}
+use Rattle.std.specs.Prelude.{◌≢◌}
+use Rattle.fx_data.specs.Values.{Data, rec, tab, field_list, row_list}
+use Rattle.fx_data.specs.ValueView.{fields_view}
+use Rattle.fx_data.specs.declared.values.Value.{Value}
+
+-- fields and rows are those of their lists
+pub field_list_tells : (fs gs : List (List ℕ × Data)) → field_list fs ≡ field_list gs → fs ≡ gs
+field_list_tells [] [] e = refl
+field_list_tells [] (g ∷ gs) e = cc
+field_list_tells (f ∷ fs) [] e = cc
+field_list_tells (f ∷ fs) (g ∷ gs) e =
+    let n : f.0 ≡ g.0 = cc in
+    let d : f.1 ≡ g.1 = cc in
+    let r : field_list fs ≡ field_list gs = cc in
+    λ i. (n i, d i) ∷ field_list_tells fs gs r i
+
+pub row_list_tells : (rs ss : List (List (List ℕ × Data))) → row_list rs ≡ row_list ss → rs ≡ ss
+row_list_tells [] [] e = refl
+row_list_tells [] (s ∷ ss) e = cc
+row_list_tells (r ∷ rs) [] e = cc
+row_list_tells (r ∷ rs) (s ∷ ss) e =
+    let f : field_list r ≡ field_list s = cc in
+    let g : row_list rs ≡ row_list ss = cc in
+    λ i. field_list_tells r s f i ∷ row_list_tells rs ss g i
+
+pub rec_tells : (fs gs : List (List ℕ × Data)) → rec (field_list fs) ≡ rec (field_list gs) → fs ≡ gs
+rec_tells fs gs e = let q : field_list fs ≡ field_list gs = cc in field_list_tells fs gs q
+
+pub tab_tells : (rs ss : List (List (List ℕ × Data))) → tab (row_list rs) ≡ tab (row_list ss) → rs ≡ ss
+tab_tells rs ss e = let q : row_list rs ≡ row_list ss = cc in row_list_tells rs ss q
+
+-- equal lists are as long as each other
+pub unequal_fields : (fs gs : List (List ℕ × Value)) → length fs ≢ length gs → ¬ (fields_view fs ≡ fields_view gs)
+unequal_fields [] [] h e = h refl
+unequal_fields [] (g ∷ gs) h e = cc
+unequal_fields (f ∷ fs) [] h e = cc
+unequal_fields (f ∷ fs) (g ∷ gs) h e =
+    let r : fields_view fs ≡ fields_view gs = cc in
+    unequal_fields fs gs (λ k. h (ap suc k)) r
+
+pub unequal_rows : (rs ss : List (List (List ℕ × Data))) → length rs ≢ length ss → ¬ (rs ≡ ss)
+unequal_rows rs ss h e = h (ap length e)

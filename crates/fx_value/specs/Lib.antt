@@ -1,0 +1,4 @@
+pub mod Coercion
+pub mod Fits
+pub mod Join
+pub mod Weight
