@@ -1,0 +1,3 @@
+pub mod Found
+pub mod NamedValues
+pub mod Values
