@@ -1,0 +1,38 @@
+-- The bodies of replies.
+use Rattle.std.proofs.Common.{◌≡◌, ◌⊎◌, ℕ, inl, inr, List, [], ◌∷◌, map, refl, ap, sym, ◌∙◌, subst}
+use Rattle.std.specs.Fmt.{digits}
+use Rattle.serde_json.specs.Data.{array}
+use Rattle.serde_json.specs.View.{items_of}
+use Rattle.serde_json.specs.Written.{compact_text}
+use Rattle.serde_json.proofs.OnLiterals.{serde_json_on_literals}
+use Rattle.app_wire.specs.ReplyBytes.{refusal_body}
+use Rattle.fx_eval.specs.Values.{values_of}
+use Rattle.fx_parser.specs.Lines.{NamedTree}
+use Rattle.view_text.specs.JsonText.{tagged}
+use Rattle.view_text.specs.RefusalText.{refusal_text}
+use Rattle.view_text.specs.ReplyText.{named_data, named_text}
+use Rattle.view_text.specs.declared.refusals.Detail.TheVariants as detail
+use Rattle.view_text.specs.declared.replies.Named.{Named}
+use Rattle.office.specs.NamedReply.{named_body, pair_data, shown}
+
+by_pairs : (rows : List Named) → map named_data rows ≡ map pair_data (map shown rows)
+by_pairs [] = refl
+by_pairs (r ∷ rs) = ap (λ ds. named_data r ∷ ds) (by_pairs rs)
+
+-- rows with the values of the formulas are the body
+pub named_is : (rows : List Named) (app : List NamedTree) → map shown rows ≡ values_of app → named_text rows ≡ named_body app
+unfolding named_body
+named_is rows app h = ap (λ ds. compact_text (tagged (110 ∷ 97 ∷ 109 ∷ 101 ∷ 100 ∷ []) (array (items_of ds)))) (by_pairs rows ∙ ap (map pair_data) h)
+
+plain_11 : refusal_text (record { code = 11; detail = detail.None }) ≡ refusal_body 11
+unfolding serde_json_on_literals digits
+plain_11 = refl
+
+plain_12 : refusal_text (record { code = 12; detail = detail.None }) ≡ refusal_body 12
+unfolding serde_json_on_literals digits
+plain_12 = refl
+
+-- the body of a refusal with no detail, as JSON
+pub plain_body : (code : ℕ) → (code ≡ 11) ⊎ (code ≡ 12) → refusal_text (record { code = code; detail = detail.None }) ≡ refusal_body code
+plain_body code (inl e) = subst (λ k. refusal_text (record { code = k; detail = detail.None }) ≡ refusal_body k) (sym e) plain_11
+plain_body code (inr e) = subst (λ k. refusal_text (record { code = k; detail = detail.None }) ≡ refusal_body k) (sym e) plain_12

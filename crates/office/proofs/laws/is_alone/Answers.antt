@@ -1,0 +1,5 @@
+use Rattle.office.proofs.Isolation.{is_alone}
+use Rattle.office.proofs.laws.is_alone.Goals as goal
+
+pub returns : goal.returns
+returns c = is_alone

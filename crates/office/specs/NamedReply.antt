@@ -1,0 +1,24 @@
+-- The reply that shows the named formulas.
+use Rattle.std.specs.Prelude.{ℕ, List, map, codes, encode_utf8_all}
+use Rattle.serde_json.specs.Data as json
+use Rattle.serde_json.specs.Data.{string, array, object, member, no_members}
+use Rattle.serde_json.specs.View.{items_of}
+use Rattle.serde_json.specs.Written.{compact_text}
+use Rattle.fx_data.specs.Values.{Data}
+use Rattle.fx_data.specs.ValueView.{view}
+use Rattle.fx_eval.specs.Values.{values_of}
+use Rattle.fx_parser.specs.Lines.{NamedTree}
+use Rattle.view_text.specs.JsonText.{tagged, value_data}
+use Rattle.view_text.specs.declared.replies.Named.{Named}
+
+-- `{"name":..,"value":..}`
+abbrev pub pair_data : List ℕ × Data → json.Data
+pair_data p = object (member (codes "name") (string (encode_utf8_all p.0)) (member (codes "value") (value_data p.1) no_members))
+
+-- `{"named":[..]}`: each named formula of the app with its value, evaluated afresh
+unfoldable pub named_body : List NamedTree → List ℕ
+named_body app = compact_text (tagged (codes "named") (array (items_of (map pair_data (values_of app)))))
+
+-- a row of the reply, as its name and its value
+abbrev pub shown : Named → List ℕ × Data
+shown n = (n.name, view n.value)

@@ -1,0 +1,76 @@
+//! Replies.
+ghost use Rattle.std.specs.Prelude.{◌≡◌, ◌⊎◌, IfOk, IsTrue};
+ghost use Rattle.app_wire.specs.Refusals.{status_of};
+ghost use Rattle.app_wire.specs.ReplyBytes.{is_fixed, refusal, reply};
+ghost use Rattle.office.specs.Step.{IsReply, said};
+
+use app_wire::reply::{fixed_reply, reply_bytes};
+use fx_base::Memory;
+use std::alloc::Global;
+use view_text::{Detail, Refusal, refusal_json};
+
+/// A whole HTTP reply: that of the refusal `fixed`, which takes no memory, where it is Some, else `bytes`. `status` is the
+/// status in its first line.
+#[derive(Drop)]
+pub struct Reply {
+    pub status: u16,
+    pub bytes: Vec<u8>,
+    pub fixed: Option<u8>,
+}
+
+impl Reply {
+    /// The bytes of the reply.
+    pub fn whole(&self) -> &[u8]
+        requires { IsReply self.now }
+        ensures { result.now ≡ said self.now }
+    {
+        match self.fixed {
+            Some(code) => fixed_reply(code),
+            None => &self.bytes,
+        }
+    }
+
+    /// The reply that accepts a request.
+    pub(crate) fn accepted(alloc: Global, body: &str) -> Result<Reply, Memory>
+        ensures said { IfOk result (λ r. said r ≡ reply 200 body.now) }
+        ensures whole { IfOk result IsReply }
+    {
+        let bytes = reply_bytes(alloc, 200, body)?;
+        Ok(Reply {
+            status: 200,
+            bytes,
+            fixed: None,
+        })
+    }
+
+    /// A refusal whose reply takes no memory.
+    pub(crate) fn fixed(alloc: Global, code: u8, status: u16) -> Reply
+        requires fixed { IsTrue (is_fixed code) }
+        requires status { status ≡ status_of code }
+        ensures said { said result ≡ refusal code }
+        ensures whole { IsReply result }
+    {
+        Reply {
+            status,
+            bytes: Vec::new(alloc),
+            fixed: Some(code),
+        }
+    }
+
+    /// The refusal of a session that isn't live, or of one session too many.
+    pub(crate) fn refused(alloc: Global, code: u8, status: u16) -> Result<Reply, Memory>
+        requires code { (code ≡ 11) ⊎ (code ≡ 12) }
+        requires status { status ≡ status_of code }
+        ensures said { IfOk result (λ r. said r ≡ refusal code) }
+        ensures whole { IfOk result IsReply }
+    {
+        let detail = Detail::None;
+        let body = refusal_json(alloc, &Refusal { code, detail })?;
+        let bytes = reply_bytes(alloc, status, &body)?;
+        Ok(Reply {
+            status,
+            bytes,
+            fixed: None,
+        })
+    }
+}
