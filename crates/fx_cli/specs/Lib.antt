@@ -1,7 +1,6 @@
 pub mod Disk
-pub mod Found
+pub mod Held
 pub mod Plain
 pub mod Report
 pub mod Telling
-pub mod Values
 pub mod Words

@@ -3,8 +3,13 @@ use Rattle.std.specs.Prelude.{◌≡◌, ℕ, ◌+◌, ◌++◌, [], ◌∷◌, 
 use Rattle.fx_base.specs.Faults.{Rose}
 use Rattle.fx_parser.specs.FirstText.{IsFirstText, longest}
 use Rattle.fx_parser.specs.Lines.{NamedTree}
+use Rattle.office.specs.AppFile.{IsAppFile, most_bytes}
+use Rattle.fx_cli.specs.declared.replay.ReplayEnd.{ReplayEnd}
+use Rattle.fx_cli.specs.declared.replay.ReplayEnd.TheVariants as replay
 use Rattle.fx_cli.specs.declared.report.Report.{Report}
-use Rattle.fx_cli.specs.declared.report.Report.TheVariants.{Shown, NotBuilt, Usage, OutOfMemory, Unread}
+use Rattle.fx_cli.specs.declared.report.Report.TheVariants.{Shown, NotBuilt, Usage, OutOfMemory, Unread, NoApp, Replayed}
+use Rattle.fx_cli.specs.declared.words.Form.{Form}
+use Rattle.fx_cli.specs.declared.words.Form.TheVariants.{View, Replay}
 use Rattle.fx_cli.specs.Plain.{shown}
 use Rattle.fx_cli.specs.Telling.{AreFirst, Contents}
 
@@ -14,48 +19,84 @@ usage_text = codes "usage: pfx view FILE | check APP | replay APP | serve APP DB
 unfoldable pub not_built_text : List ℕ
 not_built_text = codes "App.Formulas: E16 NotBuilt at 0: text\n"
 
+unfoldable pub no_app_text : List ℕ
+no_app_text = codes "App: E16 NotBuilt at 0: app\n"
+
 unfoldable pub memory_text : List ℕ
 memory_text = codes "pfx: out of memory\n"
+
+unfoldable pub fault_text : List ℕ
+fault_text = codes "pfx: connection fault\n"
+
+unfoldable pub limit_text : List ℕ
+limit_text = codes "pfx: request limit\n"
 
 abbrev pub unread_text : List ℕ → List ℕ
 unread_text name = codes "pfx: cannot read " ++ (name ++ codes "\n")
 
--- one byte more than the longest text that can be viewed
-abbrev pub most_read : ℕ
-most_read = longest + 1
+-- one byte more than the longest file of each form
+abbrev pub most_read : Form → ℕ
+most_read View = longest + 1
+most_read Replay = most_bytes + 1
+
+-- a form of words, and a file that goes with it
+abbrev pub Wanted : Type 0
+Wanted = Option (Form × List ℕ)
 
 -- This name is the file that is wanted, and the one that the files were asked for.
-pub record AsksFor {F : Type 0} (asked : F → List (List ℕ)) (old new : F) (wanted : Option (List ℕ)) (name : List ℕ) : Type 0 where
-  pub is_wanted : wanted ≡ Some name
+pub record AsksFor {F : Type 0} (asked : F → List (List ℕ)) (old new : F) (wanted : Wanted) (form : Form) (name : List ℕ) : Type 0 where
+  pub is_wanted : wanted ≡ Some (form, name)
   pub grown : asked new ≡ asked old ++ name ∷ []
 
 -- The file that is wanted is the one that was asked for, and these are its first bytes, where that is told.
-pub record Takes {F : Type 0} (told : F → Option Contents) (asked : F → List (List ℕ)) (old new : F) (wanted : Option (List ℕ)) (bytes : List ℕ) : Type 0 where
+pub record Takes {F : Type 0} (told : F → Option Contents) (asked : F → List (List ℕ)) (old new : F) (wanted : Wanted) (form : Form) (bytes : List ℕ) : Type 0 where
   pub name : List ℕ
-  pub asks : AsksFor asked old new wanted name
-  pub first : AreFirst (told old) name most_read bytes
+  pub asks : AsksFor asked old new wanted form name
+  pub first : AreFirst (told old) name (most_read form) bytes
 
 -- it is told that these are the first bytes of the file that is wanted
-pub record HasFile {F : Type 0} (told : F → Option Contents) (files : F) (wanted : Option (List ℕ)) (bytes : List ℕ) : Type 0 where
+pub record HasFile {F : Type 0} (told : F → Option Contents) (files : F) (wanted : Wanted) (form : Form) (bytes : List ℕ) : Type 0 where
   pub name : List ℕ
   pub contents : Contents
-  pub is_wanted : wanted ≡ Some name
+  pub is_wanted : wanted ≡ Some (form, name)
   pub is_told : told files ≡ Some contents
-  pub first : option_map (take most_read) (contents name) ≡ Some bytes
+  pub first : option_map (take (most_read form)) (contents name) ≡ Some bytes
 
 -- the bytes are no list of formulas over numbers
 abbrev pub IsNotBuilt : List ℕ → Type 0
 IsNotBuilt bytes = (lines : List NamedTree) → IsFirstText bytes lines → ⊥
 
--- when a run that wants this file makes each report
-abbrev pub Reports : {F : Type 0} (told : F → Option Contents) (asked : F → List (List ℕ)) (faults : F → ℕ) (old new : F) → Option (List ℕ) → Report → Type 0
-Reports told asked faults old new wanted (Shown text) =
-    (bytes : List ℕ) × (lines : List NamedTree) × Takes told asked old new wanted bytes × IsFirstText bytes lines × (string_bytes text ≡ shown lines)
-Reports told asked faults old new wanted NotBuilt = (bytes : List ℕ) × Takes told asked old new wanted bytes × IsNotBuilt bytes
-Reports told asked faults old new wanted Usage = wanted ≡ None
-Reports told asked faults old new wanted OutOfMemory = IsSome wanted
-Reports told asked faults old new wanted (Unread text) =
-    (name : List ℕ) × AsksFor asked old new wanted name × Rose (faults old) (faults new) × (string_bytes text ≡ unread_text name)
+-- the bytes are no app file
+abbrev pub IsNoAppFile : List ℕ → Type 0
+IsNoAppFile bytes = (formulas : List NamedTree) → IsAppFile bytes formulas → ⊥
+
+-- When a run that wants this makes each report. A replay of an app ended so, as `ends` says.
+abbrev pub Reports : {F : Type 0} (told : F → Option Contents) (asked : F → List (List ℕ)) (faults : F → ℕ) (old new : F)
+    (ends : List NamedTree → ReplayEnd → Type 0) → Wanted → Report → Type 0
+Reports told asked faults old new ends wanted (Shown text) =
+    (bytes : List ℕ) × (lines : List NamedTree) × Takes told asked old new wanted View bytes × IsFirstText bytes lines × (string_bytes text ≡ shown lines)
+Reports told asked faults old new ends wanted NotBuilt = (bytes : List ℕ) × Takes told asked old new wanted View bytes × IsNotBuilt bytes
+Reports told asked faults old new ends wanted Usage = wanted ≡ None
+Reports told asked faults old new ends wanted OutOfMemory = IsSome wanted
+Reports told asked faults old new ends wanted (Unread text) =
+    (form : Form) × (name : List ℕ) × AsksFor asked old new wanted form name × Rose (faults old) (faults new) × (string_bytes text ≡ unread_text name)
+Reports told asked faults old new ends wanted NoApp = (bytes : List ℕ) × Takes told asked old new wanted Replay bytes × IsNoAppFile bytes
+Reports told asked faults old new ends wanted (Replayed end) =
+    (bytes : List ℕ) × (formulas : List NamedTree) × Takes told asked old new wanted Replay bytes × IsAppFile bytes formulas × ends formulas end
+
+-- nothing was replayed
+abbrev pub no_replay : List NamedTree → ReplayEnd → Type 0
+no_replay app end = ⊥
+
+-- no conversation was begun
+abbrev pub IsIdle : Report → Type 0
+IsIdle (Replayed end) = ⊥
+IsIdle (Shown text) = Unit {0}
+IsIdle NotBuilt = Unit {0}
+IsIdle Usage = Unit {0}
+IsIdle OutOfMemory = Unit {0}
+IsIdle (Unread text) = Unit {0}
+IsIdle NoApp = Unit {0}
 
 -- it says that a file of this name could not be read, or memory ran out
 abbrev pub IsUnread : List ℕ → Report → Type 0
@@ -64,6 +105,14 @@ IsUnread name OutOfMemory = Unit {0}
 IsUnread name (Shown text) = ⊥
 IsUnread name NotBuilt = ⊥
 IsUnread name Usage = ⊥
+IsUnread name NoApp = ⊥
+IsUnread name (Replayed end) = ⊥
+
+-- the status that goes with the end of a replay
+abbrev pub status_of_end : ReplayEnd → ℕ
+status_of_end replay.Done = 0
+status_of_end replay.Fault = 6
+status_of_end replay.Full = 9
 
 -- the status that goes with a report
 abbrev pub status_of : Report → ℕ
@@ -72,6 +121,14 @@ status_of NotBuilt = 1
 status_of Usage = 2
 status_of OutOfMemory = 3
 status_of (Unread text) = 4
+status_of NoApp = 1
+status_of (Replayed end) = status_of_end end
+
+-- what is said at the end of a replay
+abbrev pub text_of_end : ReplayEnd → List ℕ
+text_of_end replay.Done = []
+text_of_end replay.Fault = fault_text
+text_of_end replay.Full = limit_text
 
 -- what a report says
 abbrev pub text_of : Report → List ℕ
@@ -80,10 +137,15 @@ text_of NotBuilt = not_built_text
 text_of Usage = usage_text
 text_of OutOfMemory = memory_text
 text_of (Unread text) = string_bytes text
+text_of NoApp = no_app_text
+text_of (Replayed end) = text_of_end end
 
--- the statuses of a run
+-- the statuses of a run, and those of `view`
+abbrev pub IsViewStatus : ℕ → Type 0
+IsViewStatus status = (status ≡ 0) ⊎ (status ≡ 1) ⊎ (status ≡ 2) ⊎ (status ≡ 3) ⊎ (status ≡ 4) ⊎ (status ≡ 7)
+
 abbrev pub IsStatus : ℕ → Type 0
-IsStatus status = (status ≡ 0) ⊎ (status ≡ 1) ⊎ (status ≡ 2) ⊎ (status ≡ 3) ⊎ (status ≡ 4) ⊎ (status ≡ 7)
+IsStatus status = (status ≡ 6) ⊎ (status ≡ 9) ⊎ IsViewStatus status
 
 -- a run ended with this status, or for want of memory, or by a counted fault
 abbrev pub EndsWith : ℕ → ℕ → Type 0 → Type 0 → Type 0

@@ -1,76 +1,126 @@
 //! The top of the program: what its words do, and how it ends.
 #![tactic(auto)]
 
-ghost use Rattle.std.specs.Prelude.{◌≡◌, ◌≢◌, ◌≤◌, ◌⊎◌, ℕ, List, None};
+ghost use Rattle.std.specs.Prelude.{◌≡◌, ◌≢◌, ◌≤◌, ◌⊎◌, ℕ, List, [], None};
 ghost use Rattle.fx_base.specs.Faults.{Rose};
 ghost use Rattle.fx_base.specs.Telling.{Tells};
+ghost use Rattle.fx_cli.specs.Held.{Replayed};
 ghost use Rattle.fx_cli.specs.Plain.{shown};
-ghost use Rattle.fx_cli.specs.Report.{AsksFor, EndsWith, HasFile, IsNotBuilt, IsStatus, Reports, Takes, memory_text, not_built_text, status_of, text_of, unread_text, usage_text};
+ghost use Rattle.fx_cli.specs.Report.{AsksFor, EndsWith, HasFile, IsNoAppFile, IsNotBuilt, IsStatus, IsViewStatus, Reports, Takes, fault_text, limit_text, memory_text, no_app_text, not_built_text, status_of, text_of, unread_text, usage_text};
 ghost use Rattle.fx_cli.specs.Telling.{Grows, GrowsInPart};
-ghost use Rattle.fx_cli.specs.Words.{file_to_view};
+ghost use Rattle.fx_cli.specs.Words.{IsForm, wanted};
+ghost use Rattle.fx_cli.specs.declared.words.Form.{Form};
+ghost use Rattle.fx_cli.specs.declared.words.Form.TheVariants.{Replay, View};
 ghost use Rattle.fx_parser.specs.FirstText.{IsFirstText};
 ghost use Rattle.fx_parser.specs.Lines.{NamedTree};
+ghost use Rattle.office.specs.AppFile.{IsAppFile};
+ghost use Rattle.office.specs.State.{started};
 
 pub mod files;
 pub mod memory;
-pub mod outcome;
+pub mod replay;
 pub mod report;
 pub mod sink;
 pub mod system;
 pub mod view;
+pub mod words;
 
 use crate::files::Files;
+use crate::replay::ReplayEnd;
 use crate::report::{Report, carry_out};
 use crate::sink::{Sink, write_all};
+use app_wire::clock::Clock;
+use app_wire::doors::Doors;
 use fx_base::Failed;
+use fx_steps::Steps;
 use std::alloc::Global;
+use std::sync::ledger::Ledger;
 
 /// How a run ends: 0 done, 1 the file breaks a rule, 2 the words are no form, 3 want of memory, 4 a file that could not
-/// be read, 7 output that could not be written.
+/// be read, 6 a fault of the doors, 7 output that could not be written, 9 the most requests or conversations.
 #[derive(Clone, Copy, Debug, PartialEq, Eq)]
 pub struct Status(pub u8);
 
 /// All that the program does. `words` are those after its name. What it says is made whole before any of it is written,
-/// and nothing else is written.
-pub fn run<F: Files, O: Sink>(alloc: Global, words: &[String], files: &mut F, out: &mut O) -> Status
-    // 0: the file was read, and a line for each of its formulas was written, in its order, with its value.
-    ensures shown { result.0 ≡ 0 → (bytes : List ℕ) × (lines : List NamedTree)
-        × Takes F.told F.asked files.old files.new (file_to_view words.now) bytes
+/// and nothing else is written to `out`.
+pub fn run<D: Doors, F: Files, O: Sink, C: Clock, L: Ledger>(
+    alloc: Global,
+    words: &[String],
+    doors: &mut D,
+    files: &mut F,
+    out: &mut O,
+    clock: &mut C,
+    steps: &mut Steps<L>,
+) -> Status
+    // `replay` ends with 0: the file was read and is an app, and all conversations of the doors were answered as the office
+    // that serves it answers them, from no session. Nothing is said.
+    ensures headline { result.0 ≡ 0 → IsForm Replay words.now → (bytes : List ℕ) × (formulas : List NamedTree)
+        × Takes F.told F.asked files.old files.new (wanted words.now) Replay bytes × IsAppFile bytes formulas
+        × Replayed (D.single doors.old) (started formulas) (C.told clock.old) (C.told clock.new) (D.told doors.old) (D.told doors.new) ReplayEnd.Done
+        × Tells (Grows []) (O.told out.old) (O.told out.new) }
+    // `view` ends with 0: the file was read, and a line for each of its formulas was written, in its order, with its value.
+    ensures shown { result.0 ≡ 0 → IsForm View words.now → (bytes : List ℕ) × (lines : List NamedTree)
+        × Takes F.told F.asked files.old files.new (wanted words.now) View bytes
         × IsFirstText bytes lines × Tells (Grows (shown lines)) (O.told out.old) (O.told out.new) }
-    // 1: the file was read, and is no list of formulas over numbers.
-    ensures not_built { result.0 ≡ 1 → (bytes : List ℕ)
-        × Takes F.told F.asked files.old files.new (file_to_view words.now) bytes
+    // 1: the file was read, and is no list of formulas over numbers, or no app.
+    ensures not_built { result.0 ≡ 1 → IsForm View words.now → (bytes : List ℕ)
+        × Takes F.told F.asked files.old files.new (wanted words.now) View bytes
         × IsNotBuilt bytes × Tells (Grows not_built_text) (O.told out.old) (O.told out.new) }
-    // 2: the words are no form. Then no file is touched.
-    ensures usage { result.0 ≡ 2 → (file_to_view words.now ≡ None)
+    ensures no_app { result.0 ≡ 1 → IsForm Replay words.now → (bytes : List ℕ)
+        × Takes F.told F.asked files.old files.new (wanted words.now) Replay bytes
+        × IsNoAppFile bytes × Tells (Grows no_app_text) (O.told out.old) (O.told out.new) }
+    // 0 and 1 come only for words of a form. 2: the words are no form. Then no file is touched.
+    ensures usage { result.0 ≡ 2 → (wanted words.now ≡ None)
         × Tells (Grows usage_text) (O.told out.old) (O.told out.new) }
-    ensures usage_only { file_to_view words.now ≡ None → (result.0 ≡ 2) ⊎ (result.0 ≡ 7) }
-    ensures untouched { file_to_view words.now ≡ None → files.new ≡ files.old }
+    ensures usage_only { wanted words.now ≡ None → (result.0 ≡ 2) ⊎ (result.0 ≡ 7) }
+    ensures untouched { wanted words.now ≡ None → files.new ≡ files.old }
     // 3: memory ran out.
     ensures memory { result.0 ≡ 3 → Tells (Grows memory_text) (O.told out.old) (O.told out.new) }
     // 4: a fault of the files was counted, which were asked for the file alone.
-    ensures unread { result.0 ≡ 4 → (name : List ℕ)
-        × AsksFor F.asked files.old files.new (file_to_view words.now) name
+    ensures unread { result.0 ≡ 4 → (form : Form) × (name : List ℕ)
+        × AsksFor F.asked files.old files.new (wanted words.now) form name
         × Rose (F.faults files.old) (F.faults files.new)
         × Tells (Grows (unread_text name)) (O.told out.old) (O.told out.new) }
+    // 6: a fault of the doors was counted, where conversations have more than one reply. What came before it was answered.
+    ensures fault { result.0 ≡ 6 → Rose (D.faults doors.old) (D.faults doors.new) }
+    ensures broken { result.0 ≡ 6 → (bytes : List ℕ) × (formulas : List NamedTree)
+        × Takes F.told F.asked files.old files.new (wanted words.now) Replay bytes × IsAppFile bytes formulas
+        × Replayed (D.single doors.old) (started formulas) (C.told clock.old) (C.told clock.new) (D.told doors.old) (D.told doors.new) ReplayEnd.Fault
+        × Tells (Grows fault_text) (O.told out.old) (O.told out.new) }
+    // 9: as many requests of one conversation were answered as may be, or as many conversations.
+    ensures limit { result.0 ≡ 9 → (bytes : List ℕ) × (formulas : List NamedTree)
+        × Takes F.told F.asked files.old files.new (wanted words.now) Replay bytes × IsAppFile bytes formulas
+        × Replayed (D.single doors.old) (started formulas) (C.told clock.old) (C.told clock.new) (D.told doors.old) (D.told doors.new) ReplayEnd.Full
+        × Tells (Grows limit_text) (O.told out.old) (O.told out.new) }
     // 7: a fault of the sink was counted, and what this run had to say was written in part.
     ensures sink { result.0 ≡ 7 → Rose (O.faults out.old) (O.faults out.new) }
     ensures part { result.0 ≡ 7 → (report : Report)
-        × Reports F.told F.asked F.faults files.old files.new (file_to_view words.now) report
+        × Reports F.told F.asked F.faults files.old files.new
+        (λ app end. Replayed (D.single doors.old) (started app) (C.told clock.old) (C.told clock.new) (D.told doors.old) (D.told doors.new) end) (wanted words.now) report
         × Tells (GrowsInPart (text_of report)) (O.told out.old) (O.told out.new) }
     ensures status { IsStatus result.0 }
+    // `view` ends with no other status than 0 to 4 and 7. Where no conversation was to be answered, doors and clock are left alone.
+    ensures view_status { IsForm View words.now → IsViewStatus result.0 }
+    ensures view_idle { IsForm View words.now → (doors.new ≡ doors.old) × (clock.new ≡ clock.old) }
+    ensures idle { (result.0 ≡ 1) ⊎ (result.0 ≡ 2) ⊎ (result.0 ≡ 3) ⊎ (result.0 ≡ 4) → (doors.new ≡ doors.old) × (clock.new ≡ clock.old) }
 
     // A file that is told ends with 0 where it is a list of formulas, and with 1 where it isn't, but for
     // want of memory and counted faults.
-    ensures built { (bytes : List ℕ) (lines : List NamedTree) → HasFile F.told files.old (file_to_view words.now) bytes
+    ensures built { (bytes : List ℕ) (lines : List NamedTree) → HasFile F.told files.old (wanted words.now) View bytes
         → IsFirstText bytes lines → EndsWith 0 result.0 (Rose (F.faults files.old) (F.faults files.new)) (Rose (O.faults out.old) (O.faults out.new)) }
-    ensures refused { (bytes : List ℕ) → HasFile F.told files.old (file_to_view words.now) bytes
+    ensures refused { (bytes : List ℕ) → HasFile F.told files.old (wanted words.now) View bytes
         → IsNotBuilt bytes → EndsWith 1 result.0 (Rose (F.faults files.old) (F.faults files.new)) (Rose (O.faults out.old) (O.faults out.new)) }
+    // One that is an app is replayed up to an end, and another ends with 1, but for the same.
+    ensures replayed { (bytes : List ℕ) (formulas : List NamedTree) → HasFile F.told files.old (wanted words.now) Replay bytes
+        → IsAppFile bytes formulas → (result.0 ≡ 6) ⊎ (result.0 ≡ 9) ⊎ EndsWith 0 result.0 (Rose (F.faults files.old) (F.faults files.new)) (Rose (O.faults out.old) (O.faults out.new)) }
+    ensures no_app_refused { (bytes : List ℕ) → HasFile F.told files.old (wanted words.now) Replay bytes
+        → IsNoAppFile bytes → EndsWith 1 result.0 (Rose (F.faults files.old) (F.faults files.new)) (Rose (O.faults out.old) (O.faults out.new)) }
     ensures told { F.told files.new ≡ F.told files.old }
     ensures files_later { F.faults files.old ≤ F.faults files.new }
+    ensures doors_later { D.faults doors.old ≤ D.faults doors.new }
     ensures out_later { O.faults out.old ≤ O.faults out.new }
 {
-    let report = carry_out(alloc, words, files);
+    let report = carry_out(alloc, words, doors, files, clock, steps);
     say(&report, out)
 }
 

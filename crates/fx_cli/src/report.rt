@@ -1,12 +1,26 @@
 //! What a run says before it ends.
-ghost use Rattle.std.specs.Prelude.{◌≡◌, ◌≤◌, IfOk, None, Some, option_copied, string_bytes};
-ghost use Rattle.fx_cli.specs.Report.{IsUnread, Reports, memory_text, not_built_text, status_of, text_of, unread_text, usage_text};
-ghost use Rattle.fx_cli.specs.Words.{file_to_view};
+ghost use Rattle.std.specs.Prelude.{◌≡◌, ◌≤◌, IfErr, IfOk, List, None, Some};
+ghost use Rattle.fx_base.specs.Faults.{Rose};
+ghost use Rattle.fx_parser.specs.Lines.{NamedTree};
+ghost use Rattle.office.specs.AppFile.{IsAppFile, IsNoApp};
+ghost use Rattle.office.specs.State.{started, state_of};
+ghost use Rattle.fx_cli.specs.Held.{Replayed};
+ghost use Rattle.fx_cli.specs.Report.{IsIdle, IsUnread, Reports, fault_text, limit_text, memory_text, no_app_text, no_replay, not_built_text, status_of, status_of_end, text_of, text_of_end, unread_text, usage_text};
+ghost use Rattle.fx_cli.specs.Words.{wanted};
+ghost use Rattle.fx_cli.specs.declared.words.Form.TheVariants.{Replay, View};
 
 use crate::files::{FileEnd, Files};
+use crate::replay::{ReplayEnd, replay};
 use crate::view::view_text;
+use crate::words::{Form, form_of};
+use app_wire::clock::Clock;
+use app_wire::doors::Doors;
+use fx_base::Memory;
 use fx_parser::token::FirstEnd;
+use fx_steps::Steps;
+use office::{AppEnd, Office, load};
 use std::alloc::Global;
+use std::sync::ledger::Ledger;
 
 /// What a run says. It is made whole before any of it is written.
 #[derive(Drop)]
@@ -21,6 +35,10 @@ pub enum Report {
     OutOfMemory,
     /// The file could not be read.
     Unread(String),
+    /// The file is no app.
+    NoApp,
+    /// The conversations were answered, up to this end.
+    Replayed(ReplayEnd),
 }
 
 impl Report {
@@ -30,10 +48,11 @@ impl Report {
     {
         match self {
             Report::Shown(_) => 0,
-            Report::NotBuilt => 1,
+            Report::NotBuilt | Report::NoApp => 1,
             Report::Usage => 2,
             Report::OutOfMemory => 3,
             Report::Unread(_) => 4,
+            Report::Replayed(end) => status_of_end(*end),
         }
     }
 
@@ -47,7 +66,29 @@ impl Report {
             Report::Usage => usage(),
             Report::OutOfMemory => out_of_memory(),
             Report::Unread(text) => text.as_bytes(),
+            Report::NoApp => no_app(),
+            Report::Replayed(end) => text_of_end(*end),
         }
+    }
+}
+
+fn status_of_end(end: ReplayEnd) -> u8
+    ensures { result ≡ status_of_end end }
+{
+    match end {
+        ReplayEnd::Done => 0,
+        ReplayEnd::Fault => 6,
+        ReplayEnd::Full => 9,
+    }
+}
+
+fn text_of_end(end: ReplayEnd) -> &'static [u8]
+    ensures { result.now ≡ text_of_end end }
+{
+    match end {
+        ReplayEnd::Done => b"",
+        ReplayEnd::Fault => connection_fault(),
+        ReplayEnd::Full => request_limit(),
     }
 }
 
@@ -56,6 +97,13 @@ fn not_built() -> &'static [u8]
     ensures { result.now ≡ not_built_text }
 {
     b"App.Formulas: E16 NotBuilt at 0: text\n"
+}
+
+#[tactic(auto, unfolding(crate::specs::Report::no_app_text))]
+fn no_app() -> &'static [u8]
+    ensures { result.now ≡ no_app_text }
+{
+    b"App: E16 NotBuilt at 0: app\n"
 }
 
 #[tactic(auto, unfolding(crate::specs::Report::usage_text))]
@@ -72,35 +120,54 @@ fn out_of_memory() -> &'static [u8]
     b"pfx: out of memory\n"
 }
 
+#[tactic(auto, unfolding(crate::specs::Report::fault_text))]
+fn connection_fault() -> &'static [u8]
+    ensures { result.now ≡ fault_text }
+{
+    b"pfx: connection fault\n"
+}
+
+#[tactic(auto, unfolding(crate::specs::Report::limit_text))]
+fn request_limit() -> &'static [u8]
+    ensures { result.now ≡ limit_text }
+{
+    b"pfx: request limit\n"
+}
+
 /// One byte more than the longest text that can be viewed.
 const MOST_READ: u32 = 262_145;
 
-/// Does what the words ask for, up to the report of it.
-pub fn carry_out<F: Files>(alloc: Global, words: &[String], files: &mut F) -> Report
-    ensures reports { Reports F.told F.asked F.faults files.old files.new (file_to_view words.now) result }
-    ensures later { F.faults files.old ≤ F.faults files.new }
-    ensures told { F.told files.new ≡ F.told files.old }
-    ensures untouched { file_to_view words.now ≡ None → files.new ≡ files.old }
-{
-    match file_of(words) {
-        Some(name) => view_file(alloc, name, files),
-        None => Report::Usage,
-    }
-}
+/// One byte more than the longest app file.
+const MOST_APP_READ: u32 = 4_194_305;
 
-/// The FILE of `view FILE`.
-fn file_of(words: &[String]) -> Option<&str>
-    ensures { option_copied result ≡ file_to_view words.now }
+/// Does what the words ask for, up to the report of it.
+pub fn carry_out<D: Doors, F: Files, C: Clock, L: Ledger>(
+    alloc: Global,
+    words: &[String],
+    doors: &mut D,
+    files: &mut F,
+    clock: &mut C,
+    steps: &mut Steps<L>,
+) -> Report
+    ensures reports { Reports F.told F.asked F.faults files.old files.new
+        (λ app end. Replayed (D.single doors.old) (started app) (C.told clock.old) (C.told clock.new) (D.told doors.old) (D.told doors.new) end) (wanted words.now) result }
+    ensures cause { result ≡ Report.Replayed ReplayEnd.Fault → Rose (D.faults doors.old) (D.faults doors.new) }
+    ensures idle { IsIdle result → (doors.new ≡ doors.old) × (clock.new ≡ clock.old) }
+    ensures later { F.faults files.old ≤ F.faults files.new }
+    ensures doors_later { D.faults doors.old ≤ D.faults doors.new }
+    ensures told { F.told files.new ≡ F.told files.old }
+    ensures untouched { wanted words.now ≡ None → files.new ≡ files.old }
 {
-    match words {
-        [command, file] if command.as_str() == "view" => Some(file.as_str()),
-        _ => None,
+    match form_of(words) {
+        Some((Form::View, name)) => view_file(alloc, name, files),
+        Some((Form::Replay, name)) => replay_file(alloc, name, doors, files, clock, steps),
+        None => Report::Usage,
     }
 }
 
 /// Views a file.
 fn view_file<F: Files>(alloc: Global, name: &str, files: &mut F) -> Report
-    ensures reports { Reports F.told F.asked F.faults files.old files.new (Some name.now) result }
+    ensures reports { Reports F.told F.asked F.faults files.old files.new no_replay (Some (View, name.now)) result }
     ensures later { F.faults files.old ≤ F.faults files.new }
     ensures told { F.told files.new ≡ F.told files.old }
 {
@@ -113,6 +180,47 @@ fn view_file<F: Files>(alloc: Global, name: &str, files: &mut F) -> Report
         Ok(text) => Report::Shown(text),
         Err(FirstEnd::NotFirst) => Report::NotBuilt,
         Err(FirstEnd::Memory) => Report::OutOfMemory,
+    }
+}
+
+/// Answers the conversations of the doors over the app of a file.
+fn replay_file<D: Doors, F: Files, C: Clock, L: Ledger>(
+    alloc: Global,
+    name: &str,
+    doors: &mut D,
+    files: &mut F,
+    clock: &mut C,
+    steps: &mut Steps<L>,
+) -> Report
+    ensures reports { Reports F.told F.asked F.faults files.old files.new
+        (λ app end. Replayed (D.single doors.old) (started app) (C.told clock.old) (C.told clock.new) (D.told doors.old) (D.told doors.new) end) (Some (Replay, name.now)) result }
+    ensures cause { result ≡ Report.Replayed ReplayEnd.Fault → Rose (D.faults doors.old) (D.faults doors.new) }
+    ensures idle { IsIdle result → (doors.new ≡ doors.old) × (clock.new ≡ clock.old) }
+    ensures later { F.faults files.old ≤ F.faults files.new }
+    ensures doors_later { D.faults doors.old ≤ D.faults doors.new }
+    ensures told { F.told files.new ≡ F.told files.old }
+{
+    let file = match files.read(name, MOST_APP_READ) {
+        Ok(file) => file,
+        Err(FileEnd::Memory) => return Report::OutOfMemory,
+        Err(FileEnd::Failed) => return unread(alloc, name),
+    };
+    match office_of(alloc, &file) {
+        Ok(mut office) => Report::Replayed(replay(&mut office, doors, clock, steps)),
+        Err(AppEnd::Refused(_)) => Report::NoApp,
+        Err(AppEnd::Memory) => Report::OutOfMemory,
+    }
+}
+
+/// An office that serves the app of a file.
+fn office_of(alloc: Global, file: &[u8]) -> Result<Office, AppEnd>
+    ensures office { IfOk result (λ o. (formulas : List NamedTree) × IsAppFile file.now formulas × (state_of o ≡ started formulas)) }
+    ensures refused { IfErr result (IsNoApp file.now) }
+{
+    let app = load(alloc, file)?;
+    match Office::new(alloc, app) {
+        Ok(office) => Ok(office),
+        Err(Memory) => Err(AppEnd::Memory),
     }
 }
 

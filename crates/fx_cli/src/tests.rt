@@ -1,12 +1,29 @@
+//! Worked rows, through the top call.
+ghost use Rattle.std.specs.Prelude.{◌≡◌, ◌<◌};
+
 use crate::memory::{MemoryFiles, MemorySink};
 use crate::{Status, run};
+use app_wire::clock::ListClock;
+use app_wire::memory::MemoryDoors;
+use fx_steps::Steps;
 use std::alloc::{AllocError, Global};
+use std::marker::Brand;
+use std::sync::ledger::{Blank, Ledger};
 use std::test::Fail;
 
 const USAGE: &str =
     "usage: pfx view FILE | check APP | replay APP | serve APP DB PORT [COUNT] | gen N\n";
 
 const NOT_BUILT: &str = "App.Formulas: E16 NotBuilt at 0: text\n";
+
+const APP: &[u8] =
+    b"{\"format\":\"pfx-1\",\"formulas\":\"A = 1/3; B = A*3;\",\"screens\":[{\"name\":\"S\",\"controls\":[]}]}";
+
+const STREAM: &[u8] =
+    b"PUT /s/a HTTP/1.1\r\n\r\nGET /s/a/named HTTP/1.1\r\n\r\nGET /s/b/named HTTP/1.1\r\n\r\n";
+
+const REPLIES: &[u8] =
+    b"HTTP/1.1 200 OK\r\nContent-Type: application/json\r\nContent-Length: 11\r\nConnection: close\r\n\r\n{\"ok\":true}HTTP/1.1 200 OK\r\nContent-Type: application/json\r\nContent-Length: 83\r\nConnection: close\r\n\r\n{\"named\":[{\"name\":\"A\",\"value\":{\"n\":\"0.3333\"}},{\"name\":\"B\",\"value\":{\"n\":\"0.9999\"}}]}HTTP/1.1 404 Not Found\r\nContent-Type: application/json\r\nContent-Length: 56\r\nConnection: close\r\n\r\n{\"refused\":{\"code\":11,\"detail\":null,\"name\":\"NoSession\"}}";
 
 fn numbers(alloc: Global, numbers: &[u64]) -> Result<Vec<u64>, AllocError> {
     Vec::from_slice(alloc, numbers)
@@ -16,7 +33,69 @@ fn spaces(alloc: Global, count: usize) -> Result<Vec<u8>, AllocError> {
     vec![in alloc; b' '; count]
 }
 
-/// A run over one file `formulas.fx`, of which these calls of files and sink fail.
+/// How the doors of a run are.
+#[derive(Clone, Copy)]
+struct Way<'a> {
+    stream: &'a [u8],
+    piece: usize,
+    one: bool,
+    fails: &'a [u64],
+}
+
+/// No conversation but an empty one.
+const QUIET: Way<'static> = Way {
+    stream: b"",
+    piece: 1,
+    one: false,
+    fails: &[],
+};
+
+/// How a run ended, and what it wrote.
+#[derive(Drop)]
+struct Ended {
+    status: Status,
+    out: MemorySink,
+    doors: MemoryDoors,
+}
+
+/// A run over one file `file`, of which these calls of files and sink fail, and over one conversation.
+fn ran_with<L: Ledger>(
+    alloc: Global,
+    blank: Blank,
+    words: &[&str],
+    source: &[u8],
+    way: Way<'_>,
+    file_fails: &[u64],
+    sink_fails: &[u64],
+) -> Result<Ended, AllocError>
+    requires name { blank.name ≡ L.name }
+    requires parts { blank.parts ≡ L.parts }
+    requires some { 0 < L.parts }
+{
+    let mut owned = Vec::new(alloc);
+    for word in words {
+        owned.push(String::from_str(alloc, word)?)?;
+    }
+    let mut all = Vec::new(alloc);
+    all.push((
+        String::from_str(alloc, "file")?,
+        Vec::from_slice(alloc, source)?,
+    ))?;
+    let mut conversations = Vec::new(alloc);
+    conversations.push(Vec::from_slice(alloc, way.stream)?)?;
+    let fails = numbers(alloc, way.fails)?;
+    let mut doors = MemoryDoors::new(alloc, conversations, way.piece.max(1), way.one, fails);
+    let mut files = MemoryFiles::new(alloc, all, numbers(alloc, file_fails)?);
+    let mut out = MemorySink::new(alloc, numbers(alloc, sink_fails)?);
+    let mut clock = ListClock::new(numbers(alloc, &[1_704_067_200])?);
+    let mut steps = Steps::<L>::new(blank);
+    let status = run(
+        alloc, &owned, &mut doors, &mut files, &mut out, &mut clock, &mut steps,
+    );
+    Ok(Ended { status, out, doors })
+}
+
+/// A run without doors.
 fn ran(
     alloc: Global,
     words: &[&str],
@@ -24,19 +103,92 @@ fn ran(
     file_fails: &[u64],
     sink_fails: &[u64],
 ) -> Result<(Status, MemorySink), AllocError> {
-    let mut owned = Vec::new(alloc);
-    for word in words {
-        owned.push(String::from_str(alloc, word)?)?;
+    let ended = ran_with::<Brand>(
+        alloc,
+        Blank::new(1),
+        words,
+        source,
+        QUIET,
+        file_fails,
+        sink_fails,
+    )?;
+    Ok((ended.status, ended.out))
+}
+
+/// A replay of an app file.
+fn replayed(alloc: Global, file: &[u8], way: Way<'_>) -> Result<Ended, AllocError> {
+    let words = ["replay", "file"];
+    ran_with::<Brand>(alloc, Blank::new(1), &words, file, way, &[], &[])
+}
+
+#[test]
+fn a_stream_is_answered(rt: HostRuntime) -> Result<(), Fail> {
+    for piece in [4096, 1] {
+        let way = Way {
+            stream: STREAM,
+            piece,
+            ..QUIET
+        };
+        let ended = replayed(rt.alloc(), APP, way)?;
+        assert_eq!(rt; ended.status, Status(0));
+        assert_eq!(rt; ended.out.written(), b"".as_slice());
+        assert_eq!(rt; ended.doors.written(0), Some(REPLIES));
     }
-    let mut all = Vec::new(alloc);
-    all.push((
-        String::from_str(alloc, "formulas.fx")?,
-        Vec::from_slice(alloc, source)?,
-    ))?;
-    let mut files = MemoryFiles::new(alloc, all, numbers(alloc, file_fails)?);
-    let mut out = MemorySink::new(alloc, numbers(alloc, sink_fails)?);
-    let status = run(alloc, &owned, &mut files, &mut out);
-    Ok((status, out))
+    Ok(())
+}
+
+#[test]
+fn a_fault_of_the_doors_ends_a_replay(rt: HostRuntime) -> Result<(), Fail> {
+    // The calls are one to go to the conversation, a read, three writes, a read at the end, and one to go on.
+    for call in 1..8 {
+        let way = Way {
+            stream: STREAM,
+            piece: 4096,
+            one: false,
+            fails: &[call],
+        };
+        let ended = replayed(rt.alloc(), APP, way)?;
+        assert_eq!(rt; ended.status, Status(6), "{call}");
+        assert_eq!(rt; ended.out.written(), b"pfx: connection fault\n".as_slice());
+        let written = ended.doors.written(0).unwrap_or(b"");
+        assert!(&rt; REPLIES.starts_with(written));
+    }
+    // Where a conversation has one reply, a fault in it ends no other.
+    let way = Way {
+        stream: STREAM,
+        piece: 4096,
+        one: true,
+        fails: &[3],
+    };
+    let ended = replayed(rt.alloc(), APP, way)?;
+    assert_eq!(rt; ended.status, Status(0));
+    Ok(())
+}
+
+#[test]
+fn other_files_are_no_apps(rt: HostRuntime) -> Result<(), Fail> {
+    let rows = [
+        "",
+        "A = 1;",
+        "{\"format\":\"pfx-1\",\"formulas\":\"A = 1 +;\",\"screens\":[{\"name\":\"S\",\"controls\":[]}]}",
+        "{\"format\":\"pfx-2\",\"formulas\":\"A = 1;\",\"screens\":[{\"name\":\"S\",\"controls\":[]}]}",
+        "{\"format\":\"pfx-1\",\"formulas\":\"A = 1;\",\"screens\":[]}",
+    ];
+    for file in rows {
+        let way = Way {
+            stream: STREAM,
+            piece: 4096,
+            ..QUIET
+        };
+        let ended = replayed(rt.alloc(), file.as_bytes(), way)?;
+        assert_eq!(rt; ended.status, Status(1), "{file}");
+        assert_eq!(rt;
+            ended.out.written(),
+            b"App: E16 NotBuilt at 0: app\n".as_slice()
+        );
+        assert!(&rt; ended.doors.written(0).is_none());
+    }
+    Ok(())
 }
 
 #[test]
@@ -64,13 +216,7 @@ fn formulas_are_shown(rt: HostRuntime) -> Result<(), Fail> {
         ("A = 1; A = 2;", 1, NOT_BUILT),
     ];
     for (source, status, text) in rows {
-        let (ended, out) = ran(
-            rt.alloc(),
-            &["view", "formulas.fx"],
-            source.as_bytes(),
-            &[],
-            &[],
-        )?;
+        let (ended, out) = ran(rt.alloc(), &["view", "file"], source.as_bytes(), &[], &[])?;
         assert_eq!(rt; ended, Status(status), "{source}");
         assert_eq!(rt; out.written(), text.as_bytes(), "{source}");
     }
@@ -86,15 +232,19 @@ fn each_status_has_its_text(rt: HostRuntime) -> Result<(), Fail> {
     assert_eq!(rt; ended, Status(2));
     assert_eq!(rt; out.written(), USAGE.as_bytes());
 
+    let (ended, out) = ran(alloc, &["replay", "nofile"], source, &[], &[])?;
+    assert_eq!(rt; ended, Status(4));
+    assert_eq!(rt; out.written(), b"pfx: cannot read nofile\n".as_slice());
+
     let (ended, out) = ran(alloc, &["view", "nofile"], source, &[], &[])?;
     assert_eq!(rt; ended, Status(4));
     assert_eq!(rt; out.written(), b"pfx: cannot read nofile\n".as_slice());
 
-    let (ended, out) = ran(alloc, &["view", "formulas.fx"], source, &[1], &[])?;
+    let (ended, out) = ran(alloc, &["view", "file"], source, &[1], &[])?;
     assert_eq!(rt; ended, Status(4));
-    assert_eq!(rt; out.written(), b"pfx: cannot read formulas.fx\n".as_slice());
+    assert_eq!(rt; out.written(), b"pfx: cannot read file\n".as_slice());
 
-    let (ended, out) = ran(alloc, &["view", "formulas.fx"], source, &[], &[1])?;
+    let (ended, out) = ran(alloc, &["view", "file"], source, &[], &[1])?;
     assert_eq!(rt; ended, Status(7));
     assert_eq!(rt; out.written(), b"".as_slice());
     Ok(())
@@ -104,12 +254,12 @@ fn each_status_has_its_text(rt: HostRuntime) -> Result<(), Fail> {
 fn a_text_has_a_greatest_length(rt: HostRuntime) -> Result<(), Fail> {
     let alloc = rt.alloc();
     let longest = spaces(alloc, 262_144)?;
-    let (ended, out) = ran(alloc, &["view", "formulas.fx"], &longest, &[], &[])?;
+    let (ended, out) = ran(alloc, &["view", "file"], &longest, &[], &[])?;
     assert_eq!(rt; ended, Status(0));
     assert_eq!(rt; out.written(), b"".as_slice());
 
     let longer = spaces(alloc, 262_145)?;
-    let (ended, out) = ran(alloc, &["view", "formulas.fx"], &longer, &[], &[])?;
+    let (ended, out) = ran(alloc, &["view", "file"], &longer, &[], &[])?;
     assert_eq!(rt; ended, Status(1));
     assert_eq!(rt; out.written(), NOT_BUILT.as_bytes());
     Ok(())

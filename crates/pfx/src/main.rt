@@ -1,20 +1,27 @@
 //! `pfx`, a server for small office apps written in Power Fx.
 #![tactic(auto)]
 
+ghost use Rattle.std.specs.Prelude.{◌≡◌, ◌<◌};
+
+use app_wire::clock::SystemClock;
+use app_wire::stream::StreamDoors;
 use fx_cli::report::Report;
 use fx_cli::system::{RealFiles, StdSink};
-use fx_cli::{run, say};
+use fx_cli::words::{Form, form_of};
+use fx_cli::{Status, run, say};
+use fx_steps::Steps;
 use std::env;
 use std::io::{self, ErrorKind};
+use std::marker::Brand;
 use std::process::ExitCode;
 use std::rt::Env;
+use std::sync::ledger::{Blank, Ledger};
 
 fn main(rt: HostRuntime) -> ExitCode {
-    let mut out = StdSink::new(io::writer(&rt));
     let status = match words(&rt) {
-        Ok(words) => run(rt.alloc(), &words, &mut RealFiles::new(&rt), &mut out),
-        Err(error) if error.kind() == ErrorKind::OutOfMemory => say(&Report::OutOfMemory, &mut out),
-        Err(_) => say(&Report::Usage, &mut out),
+        Ok(words) => ran::<Brand>(&rt, &words, Blank::new(1)),
+        Err(error) if error.kind() == ErrorKind::OutOfMemory => said(&rt, &Report::OutOfMemory),
+        Err(_) => said(&rt, &Report::Usage),
     };
     ExitCode::from(status.0)
 }
@@ -22,4 +29,42 @@ fn main(rt: HostRuntime) -> ExitCode {
 /// The words after the program's name. It is an error where one of them is no text.
 fn words(rt: &(impl Env + AllocGlobal)) -> io::Result<Vec<String>> {
     Ok(env::args(rt)?.skip(1).collect(rt.alloc())?)
+}
+
+/// A run over standard input and output, the system's files and its clock. A replay answers on standard output, and says
+/// what it has to say on standard error.
+fn ran<L: Ledger>(rt: &HostRuntime, words: &[String], blank: Blank) -> Status
+    requires name { blank.name ≡ L.name }
+    requires parts { blank.parts ≡ L.parts }
+    requires some { 0 < L.parts }
+{
+    let mut doors = StreamDoors::new(rt.reader(), rt.stdout());
+    let mut files = RealFiles::new(rt);
+    let mut clock = SystemClock::new(rt);
+    let mut steps = Steps::<L>::new(blank);
+    match form_of(words) {
+        Some((Form::Replay, _)) => run(
+            rt.alloc(),
+            words,
+            &mut doors,
+            &mut files,
+            &mut StdSink::new(rt.stderr()),
+            &mut clock,
+            &mut steps,
+        ),
+        _ => run(
+            rt.alloc(),
+            words,
+            &mut doors,
+            &mut files,
+            &mut StdSink::new(rt.stdout()),
+            &mut clock,
+            &mut steps,
+        ),
+    }
+}
+
+/// Says this alone, on standard output.
+fn said(rt: &HostRuntime, report: &Report) -> Status {
+    say(report, &mut StdSink::new(rt.stdout()))
 }
