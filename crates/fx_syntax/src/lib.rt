@@ -1,0 +1,5 @@
+//! The trees of formulas.
+#![tactic(auto)]
+
+pub mod expr;
+pub mod make;
