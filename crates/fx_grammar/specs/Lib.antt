@@ -1,0 +1,4 @@
+pub mod Means
+pub mod Grammar
+pub mod Formulas
+pub mod Reading

@@ -1,0 +1,8 @@
+//! What tokens mean, and that a text has one tree at most.
+#![tactic(auto)]
+
+mod laws;
+mod marks;
+
+pub use laws::one_tree_of_a_text;
+pub use marks::{Marks, undoubled};
