@@ -137,6 +137,3 @@ pub fn say<O: Sink>(report: &Report, out: &mut O) -> Status
         Err(Failed) => Status(7),
     }
 }
-
-#[cfg(test)]
-mod tests;
