@@ -1,0 +1,5 @@
+//! Worked rows through the top call.
+#![tactic(auto)]
+
+#[cfg(test)]
+mod tests;
