@@ -2,10 +2,9 @@
 use Rattle.std.specs.Prelude.{◌≡◌, not, true, false, ℕ, ℤ, pos, Bool, List, [], Some, codes, bytes_eq, encode_utf8_all, if◌then◌else◌, ◌==◌}
 use Rattle.std.specs.List.{list_all}
 use Rattle.std.specs.Ordering.{int_eq}
-use Rattle.jiff.specs.Words.{epoch_day, date_text}
-use Rattle.jiff_core.specs.declared.civil.date.Date.{Date}
 use Rattle.fx_number.specs.Decimal.{IsInRange}
 use Rattle.fx_number.specs.Spelling.{Spells, text_of}
+use Rattle.fx_calendar.specs.DateText.{date_text}
 use Rattle.fx_data.specs.Words.{scalars_of}
 use Rattle.fx_data.specs.declared.faults.Kind.TheVariants.{InvalidArgument}
 use Rattle.fx_data.specs.Types.{Shape, blanks, numbers, texts, booleans, dates, records, tables, ColumnList, no_columns, column}
@@ -64,10 +63,6 @@ pub record CanCoerce (d : Data) (t : Shape) : Type 0 where
   pub fitting : fits_in d from ≡ true
   pub coercion : HasCoercion from t
 
--- the text of a day: its date as the calendar crate writes it, yyyy-mm-dd
-abbrev pub IsDateText : ℤ → List ℕ → Type 0
-IsDateText z cs = (d : Date) × (epoch_day d ≡ z) × (cs ≡ scalars_of (date_text d))
-
 -- whether a text is empty or of spaces alone
 abbrev pub are_spaces : List ℕ → Bool
 are_spaces = list_all (λ b. b == 32)
@@ -90,7 +85,7 @@ IsCoerced (number z) texts w = w ≡ text (scalars_of (text_of z))
 IsCoerced (number z) booleans w = w ≡ boolean (not (int_eq z (pos 0)))
 IsCoerced (boolean b) texts w = w ≡ text (scalars_of (if b then codes "true" else codes "false"))
 IsCoerced (boolean b) numbers w = w ≡ number (if b then pos 10000 else pos 0)
-IsCoerced (date z) texts w = (cs : List ℕ) × (w ≡ text cs) × IsDateText z cs
+IsCoerced (date z) texts w = w ≡ text (scalars_of (date_text z))
 IsCoerced (text cs) numbers w = IsReadAs (encode_utf8_all cs) w
 IsCoerced d t w = w ≡ widened d t
 

@@ -1,13 +1,13 @@
 // Coercions.
 ghost use Rattle.std.specs.Prelude.{◌≡◌, IfOk, true, not, ℤ, List, ℕ, pos, codes, encode_utf8_all, if◌then◌else◌};
 ghost use Rattle.std.specs.Ordering.{int_eq};
-ghost use Rattle.jiff_core.specs.Date.{epoch_day};
+ghost use Rattle.fx_calendar.specs.DateText.{date_text as date_text_of};
 ghost use Rattle.fx_data.specs.TypeView.{shape};
 ghost use Rattle.fx_data.specs.Types.{blanks, numbers, texts, booleans};
 ghost use Rattle.fx_data.specs.ValueView.{view};
 ghost use Rattle.fx_data.specs.Words.{scalars_of};
 ghost use Rattle.fx_number.specs.Spelling.{text_of};
-ghost use Rattle.fx_value.specs.Coercion.{CanCoerce, IsCoerced, IsDateText, IsReadAs, JoinTakesBoth, are_spaces};
+ghost use Rattle.fx_value.specs.Coercion.{CanCoerce, IsCoerced, IsReadAs, JoinTakesBoth, are_spaces};
 ghost use Rattle.fx_value.specs.Fits.{fits_in};
 
 use crate::widening::widen;
@@ -18,7 +18,6 @@ use fx_data::types::Ty;
 use fx_data::values::Value;
 use fx_data::words::Words;
 use fx_number::Num;
-use jiff::civil::Date;
 use std::alloc::Global;
 
 /// The value as one of another type, for a pair of types that has a coercion. Blank and errors stay
@@ -127,20 +126,10 @@ fn number_text(alloc: Global, number: Num) -> Result<Words, Memory>
 
 // A day as `yyyy-mm-dd`.
 fn date_text(alloc: Global, day: Day) -> Result<Words, Memory>
-    ensures { IfOk result (λ w. IsDateText day w) }
+    ensures { IfOk result (λ w. w ≡ scalars_of (date_text_of day)) }
 {
-    let date = date_of(day);
-    let text = format!(in alloc; "{date}")?;
+    let text = fx_calendar::date_text(alloc, day)?;
     Words::of(alloc, text.as_str())
-}
-
-fn date_of(day: Day) -> Date
-    ensures { epoch_day result ≡ day }
-{
-    match jiff_core::civil::Date::from_unix_epoch_day(i64::from(day.days())) {
-        Ok(date) => Date::from_plain(date),
-        Err(_) => unreachable!(),
-    }
 }
 
 // What a text is read as: blank where it has spaces alone.

@@ -113,6 +113,24 @@ fn texts_become_numbers(rt: HostRuntime) -> Result<(), Fail> {
     Ok(())
 }
 
+#[test]
+fn blanks_and_errors_stay(rt: HostRuntime) -> Result<(), Fail> {
+    let alloc = rt.alloc();
+    let error = Fault {
+        kind: Kind::NotFound,
+        message: Words::of(alloc, "x")?,
+    };
+    let given = Value::Fault(error.copy(alloc)?);
+    let error = Value::Fault(error);
+    assert!(rt; becomes(alloc, given, &Ty::Boolean, &Ty::Text, &error)?);
+    assert!(rt; becomes(alloc, error.copy(alloc)?, &Ty::Text, &Ty::Blank, &error)?);
+    assert!(rt; becomes(alloc, Value::Blank, &Ty::Blank, &Ty::Date, &Value::Blank)?);
+    assert!(rt; becomes(alloc, Value::Blank, &Ty::Text, &Ty::Number, &Value::Blank)?);
+    let no = Value::Boolean(false);
+    assert!(rt; becomes(alloc, no, &Ty::Boolean, &Ty::Number, &number(0)?)?);
+    Ok(())
+}
+
 fn columns_of(alloc: Global, name: &str, ty: Ty) -> Result<Columns, Fail> {
     let mut columns = Columns::new(alloc);
     columns.push((Words::of(alloc, name)?, ty))?;

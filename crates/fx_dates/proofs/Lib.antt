@@ -1,0 +1,2 @@
+mod MonthLemmas
+mod TextLemmas
