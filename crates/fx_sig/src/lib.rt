@@ -1,0 +1,9 @@
+//! The table of functions: each name with the function that it calls and how many arguments it takes.
+#![tactic(auto)]
+
+pub mod table;
+
+pub use table::{all, signature};
+
+#[cfg(test)]
+mod tests;
