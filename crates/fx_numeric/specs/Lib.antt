@@ -1,0 +1,3 @@
+pub mod Folds
+pub mod Formats
+pub mod Numbers

@@ -1,0 +1,4 @@
+pub mod Folding
+pub mod Search
+pub mod Substitution
+pub mod Texts
