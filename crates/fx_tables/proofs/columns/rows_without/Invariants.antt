@@ -1,0 +1,6 @@
+use Rattle.std.proofs.Common.{◌≡◌, ◌++◌, map}
+use Rattle.fx_tables.specs.Columns.{without}
+use Rattle.fx_tables.proofs.columns.rows_without.Given as goal
+
+abbrev pub invariant-loop-row : goal.invariant-loop-row
+invariant-loop-row l = l.kept.items ++ map (without l.name) l.row-iterator.rest.items ≡ map (without l.name) l.fn.rows

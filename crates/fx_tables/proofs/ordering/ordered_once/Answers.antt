@@ -1,0 +1,5 @@
+use Rattle.fx_tables.proofs.OrderSteps.{one_order}
+use Rattle.fx_tables.proofs.ordering.ordered_once.Goals as goal
+
+pub returns : goal.returns
+returns c = one_order c.compare_is_total.ensures.total

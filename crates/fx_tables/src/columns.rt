@@ -1,0 +1,186 @@
+// The calls that change the columns of a table.
+ghost use Rattle.std.specs.Prelude.{◌≡◌, ◌≤◌, IfOk, MatchOption, map, length, unwrap_or, None, Some, option_map, slice_get};
+ghost use Rattle.std.specs.List.{list_any, position_or_len};
+ghost use Rattle.std.specs.Prelude.{bytes_eq};
+ghost use Rattle.std.specs.Cmp.Lexicographic.{slice_cmp};
+ghost use Rattle.std.specs.Ordering.{nat_cmp, is_lt};
+ghost use Rattle.fx_data.specs.Lookup.{item_of};
+ghost use Rattle.fx_data.specs.Rising.{AreRising};
+ghost use Rattle.fx_data.specs.Values.{blank};
+ghost use Rattle.fx_data.specs.ValueView.{view, fields_view};
+ghost use Rattle.fx_data.specs.Words.{scalars_of};
+ghost use Rattle.fx_tables.specs.Columns.{LacksColumn, only as only_of, renamed as renamed_of, with_column, with_field as with_field_of, without as without_of};
+
+use fx_base::Memory;
+use fx_data::values::{Fields, Rows, Value};
+use fx_data::words::Words;
+use std::alloc::Global;
+
+/// The rows with one more column, of the values that stand at their places.
+pub fn add_column(alloc: Global, rows: Rows, name: &str, values: Vec<Value>) -> Result<Rows, Memory>
+    requires new { LacksColumn (scalars_of name.now) rows }
+    requires long { length values.items ≡ length rows }
+    ensures { IfOk result (λ r. r ≡ with_column (scalars_of name.now) rows (map view values.items)) }
+{
+    let name = Words::of(alloc, name)?;
+    rows_with(alloc, rows, &name, values)
+}
+
+/// The rows without the column of this name.
+pub fn drop_column(alloc: Global, rows: Rows, name: &str) -> Result<Rows, Memory>
+    ensures { IfOk result (λ r. r ≡ map (without_of (scalars_of name.now)) rows) }
+{
+    let name = Words::of(alloc, name)?;
+    rows_without(alloc, rows, &name)
+}
+
+/// The rows in which the column `from` has the name `to`, which is no column's.
+pub fn rename_column(alloc: Global, rows: Rows, from: &str, to: &str) -> Result<Rows, Memory>
+    requires { LacksColumn (scalars_of to.now) rows }
+    ensures { IfOk result (λ r. r
+        ≡ map (renamed_of (scalars_of from.now) (scalars_of to.now)) rows) }
+{
+    let from = Words::of(alloc, from)?;
+    let to = Words::of(alloc, to)?;
+    rows_renamed(alloc, rows, &from, &to)
+}
+
+/// The rows with the columns of these names alone.
+pub fn show_columns(alloc: Global, rows: Rows, names: &[Words]) -> Result<Rows, Memory>
+    ensures { IfOk result (λ r. r ≡ map (only_of names.now) rows) }
+{
+    let items = rows.into_items();
+    let mut shown = Vec::with_capacity(alloc, items.len())?;
+    for row in items {
+        shown.push(only(row, names))?;
+    }
+    Ok(Rows::from_items(shown))
+}
+
+fn rows_with(alloc: Global, rows: Rows, name: &Words, values: Vec<Value>) -> Result<Rows, Memory>
+    requires new { LacksColumn name.now rows }
+    requires long { length values.items ≡ length rows }
+    ensures { IfOk result (λ r. r ≡ with_column name.now rows (map view values.items)) }
+{
+    let items = rows.into_items();
+    let mut wider = Vec::with_capacity(alloc, items.len())?;
+    let mut left = values.into_iter();
+    for row in items {
+        let Some(value) = left.next() else {
+            unreachable!()
+        };
+        wider.push(with_field(row, name.copy(alloc)?, value)?)?;
+    }
+    Ok(Rows::from_items(wider))
+}
+
+fn rows_without(alloc: Global, rows: Rows, name: &Words) -> Result<Rows, Memory>
+    ensures { IfOk result (λ r. r ≡ map (without_of name.now) rows) }
+{
+    let items = rows.into_items();
+    let mut kept = Vec::with_capacity(alloc, items.len())?;
+    for row in items {
+        kept.push(without(row, name))?;
+    }
+    Ok(Rows::from_items(kept))
+}
+
+fn rows_renamed(alloc: Global, rows: Rows, from: &Words, to: &Words) -> Result<Rows, Memory>
+    requires { LacksColumn to.now rows }
+    ensures { IfOk result (λ r. r ≡ map (renamed_of from.now to.now) rows) }
+{
+    let items = rows.into_items();
+    let mut changed = Vec::with_capacity(alloc, items.len())?;
+    for row in items {
+        changed.push(renamed(row, from, to.copy(alloc)?)?)?;
+    }
+    Ok(Rows::from_items(changed))
+}
+
+// A record with one more field.
+fn with_field(row: Fields, name: Words, value: Value) -> Result<Fields, Memory>
+    requires { item_of name row ≡ None }
+    ensures { IfOk result (λ f. f ≡ with_field_of name (view value) row) }
+{
+    let mut items = row.into_items();
+    let place = place_of(items.as_slice(), &name);
+    items.insert(place, (name, value))?;
+    Ok(Fields::from_rising(items))
+}
+
+// Where a name stands among fields: before the first whose name is above it.
+fn place_of(items: &[(Words, Value)], name: &Words) -> usize
+    ensures value { result
+        ≡ position_or_len (λ f. is_lt (slice_cmp nat_cmp name.now f.0)) items.now }
+    ensures bound { result ≤ length items.now }
+{
+    for (place, (other, _)) in items.iter().enumerate() {
+        if name.compare(other).is_lt() {
+            return place;
+        }
+    }
+    items.len()
+}
+
+// A record without a field.
+fn without(row: Fields, name: &Words) -> Fields
+    ensures { result ≡ without_of name.now row }
+{
+    let mut items = row.into_items();
+    let _ = take_value(&mut items, name);
+    Fields::from_rising(items)
+}
+
+// A record with the fields of these names alone.
+fn only(row: Fields, names: &[Words]) -> Fields
+    ensures { result ≡ only_of names.now row }
+{
+    let mut items = row.into_items();
+    items.retain(|(other, _)| is_among(other, names));
+    Fields::from_rising(items)
+}
+
+fn is_among(name: &Words, names: &[Words]) -> bool
+    ensures { result ≡ list_any (bytes_eq name.now) names.now }
+{
+    names.iter().any(|other| name.is(other))
+}
+
+// A record in which a field has another name.
+fn renamed(row: Fields, from: &Words, to: Words) -> Result<Fields, Memory>
+    requires { item_of to row ≡ None }
+    ensures { IfOk result (λ f. f ≡ renamed_of from.now to row) }
+{
+    let mut items = row.into_items();
+    let value = take_value(&mut items, from);
+    with_field(Fields::from_rising(items), to, value)
+}
+
+// The value under a name, which is taken out, or blank where it is missing.
+fn take_value(items: &mut Vec<(Words, Value)>, name: &Words) -> Value
+    requires { AreRising (fields_view items.old.items) }
+    ensures value { view result ≡ unwrap_or (item_of name.now (fields_view items.old.items)) blank }
+    ensures others { fields_view items.new.items
+        ≡ without_of name.now (fields_view items.old.items) }
+{
+    match place_under(items.as_slice(), name) {
+        Some(place) => {
+            let (_, value) = items.remove(place);
+            value
+        }
+        None => Value::Blank,
+    }
+}
+
+// Where the field of a name stands.
+fn place_under(items: &[(Words, Value)], name: &Words) -> Option<usize>
+    ensures { MatchOption result (item_of name.now (fields_view items.now) ≡ None)
+        (λ place. option_map (λ f. f.0) (slice_get items.now place) ≡ Some name.now) }
+{
+    for (place, (other, _)) in items.iter().enumerate() {
+        if other.is(name) {
+            return Some(place);
+        }
+    }
+    None
+}
