@@ -1,0 +1,35 @@
+//! The tables of an app.
+
+use crate::in_order::InOrder;
+use fx_data::types::Ty;
+use fx_data::words::Words;
+
+/// A column of a table, other than `ID`.
+#[derive(Drop)]
+pub struct Column {
+    pub name: Words,
+    /// A number, text, Boolean or date.
+    pub ty: Ty,
+    pub required: bool,
+    pub unique: bool,
+    pub indexed: bool,
+}
+
+/// The columns of a table in app order, `ID` aside.
+pub type ColumnList = InOrder<Column>;
+
+/// A table.
+#[derive(Drop)]
+pub struct TableShape {
+    pub name: Words,
+    pub columns: ColumnList,
+}
+
+/// Tables in app order.
+pub type TableList = InOrder<TableShape>;
+
+/// The tables of an app.
+#[derive(Drop)]
+pub struct Schema {
+    pub tables: TableList,
+}

@@ -1,0 +1,2 @@
+//! What typed trees are well typed. This crate has definitions and laws alone.
+#![tactic(auto)]
