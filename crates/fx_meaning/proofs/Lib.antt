@@ -1,2 +1,4 @@
 pub mod Doubling
 pub mod Meanings
+pub mod Spoken
+pub mod Sound

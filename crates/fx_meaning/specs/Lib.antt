@@ -1,1 +1,2 @@
 pub mod Undoubling
+pub mod Meant
