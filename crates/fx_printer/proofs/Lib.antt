@@ -1,0 +1,13 @@
+pub mod Ahead
+pub mod Lines
+pub mod Weights
+pub mod Steps
+pub mod Weaves
+pub mod Forms
+pub mod Proper
+pub mod Says
+pub mod Least
+pub mod Unplaced
+pub mod FewestIs
+pub mod Writing
+pub mod Falls

@@ -1,0 +1,4 @@
+pub mod Printing
+pub mod SameTree
+pub mod Doubling
+pub mod Fewest
