@@ -31,6 +31,10 @@ none_within_none bytes k le = not_empty (take k bytes) (take_none bytes k le)
 pub front_some : (bytes : List ℕ) (n : ℕ) → IsFront bytes n → bytes ≡ [] → ⊥
 front_some bytes n f e = not_empty (take n bytes) (take_none bytes n (omega (arith, f.within, ap length e))) f.blank
 
+pub front_byte : (bytes : List ℕ) (n : ℕ) → IsFront bytes n → 0 < length bytes
+front_byte [] n f = absurd (front_some [] n f refl)
+front_byte (b ∷ bytes) n f = omega arith
+
 -- one byte more
 pub one_more : (bytes : List ℕ) (n : ℕ) → HasNoBlank bytes n → (EndsBlank (take (n + 1) bytes) → ⊥) → HasNoBlank bytes (n + 1)
 one_more bytes n none here k le =

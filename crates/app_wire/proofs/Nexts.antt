@@ -1,6 +1,6 @@
 -- From what the framer found of the bytes that came to what the whole rest of the conversation begins with.
-use Rattle.std.proofs.Common.{◌≡◌, ℕ, ◌≤◌, ◌⊎◌, inl, inr, false, true, List, [], ◌++◌, Some, None, Result, Ok, Err, IfOk, length, drop, refl, ap, sym, ◌∙◌, subst, append_assoc}
-use Rattle.std.proofs.lemmas.List.{append-nil, drop-append-le}
+use Rattle.std.proofs.Common.{◌≡◌, ℕ, ◌<◌, ◌≤◌, ◌⊎◌, inl, inr, false, true, List, [], ◌++◌, Some, None, Result, Ok, Err, IfOk, OnErr, length, drop, refl, ap, sym, ◌∙◌, subst, append_assoc, arith}
+use Rattle.std.proofs.lemmas.List.{append-nil, drop-append-le, length-append}
 use Rattle.fx_base.specs.declared.Memory.{Memory}
 use Rattle.app_wire.specs.Doorway.{Doorway, Reads}
 use Rattle.app_wire.specs.Framing.{asked, Refuses, Feeds, Framing, IsOpen, whole, refused}
@@ -21,23 +21,27 @@ rest_of held held' a b k = ap (λ s. s ++ b.unread) k.1 ∙ append_assoc held k.
 keeps_as : (held came held' : List ℕ) (a b : Doorway) → held' ≡ came → Keeps held came a b → Keeps held held' a b
 keeps_as held came held' a b e k = (k.0, e ∙ k.1, k.2, k.3)
 
+-- a byte that came is one of the rest of the conversation
+came_some : (held came : List ℕ) (a b : Doorway) → Keeps held came a b → 0 < length came → 0 < length (held ++ a.unread)
+came_some held came a b k some = omega (arith, ap length (rest_of held came a b k), length-append came b.unread, some)
+
 -- of the bytes that came the framer found this
 pub found_next : (answer : Result Fed Memory) (found : Found) (came held' : List ℕ) → IfOk answer (λ answer. Feeds came answer held') → found_in answer ≡ Some found
-    → (held : List ℕ) (a b : Doorway) → Keeps held came a b → ReadsLittle held a b → FindsNext found held held' a b
-found_next (Ok fed.Need) found came held' h e held a b k little = cc
-found_next (Ok (fed.Whole request)) found came held' h e held a b k little = let all = rest_of held came a b k in at_found found (next.Whole request) held held' a b e (
+    → OnErr answer (0 < length came) → (held : List ℕ) (a b : Doorway) → Keeps held came a b → ReadsLittle held a b → FindsNext found held held' a b
+found_next (Ok fed.Need) found came held' h e some held a b k little = cc
+found_next (Ok (fed.Whole request)) found came held' h e some held a b k little = let all = rest_of held came a b k in at_found found (next.Whole request) held held' a b e (
   h.0,
   subst (λ bytes. Framing bytes true (whole (asked request) h.0)) all (whole_more b.unread h.1),
   ap (λ s. s ++ b.unread) h.2 ∙ sym (drop-append-le h.0 came b.unread h.1.front.within) ∙ ap (drop h.0) all,
   k.3,
   little,
 )
-found_next (Ok (fed.Refused code)) found came held' h e held a b k little = at_found found (next.Refused code) held held' a b e (
+found_next (Ok (fed.Refused code)) found came held' h e some held a b k little = at_found found (next.Refused code) held held' a b e (
   subst (λ bytes. Framing bytes true (refused code)) (rest_of held came a b k) (refusal_more came b.unread true code h.0),
   keeps_as held came held' a b h.1 k,
   little,
 )
-found_next (Err error) found came held' h e held a b k little = at_found found next.Memory held held' a b e (k.3, little)
+found_next (Err error) found came held' h e some held a b k little = at_found found next.Memory held held' a b e (came_some held came a b k some, k.3, little)
 
 pub still_open : (answer : Result Fed Memory) (came held' : List ℕ) → IfOk answer (λ answer. Feeds came answer held') → found_in answer ≡ None → IsOpen held' × (held' ≡ came)
 still_open (Ok fed.Need) came held' h e = (subst IsOpen (sym h.1) h.0, h.1)

@@ -4,7 +4,6 @@ pub mod Framing
 pub mod Head
 pub mod Moments
 pub mod NextRequest
-pub mod Refusals
 pub mod ReplyBytes
 pub mod RouteTable
 pub mod Routing

@@ -1,5 +1,5 @@
 -- The next request of a conversation over doors.
-use Rattle.std.specs.Prelude.{◌≡◌, ◌⊎◌, ◌≤◌, ℕ, true, List, ◌++◌, length, drop, Option, Some, None, Result, Ok, Err}
+use Rattle.std.specs.Prelude.{◌≡◌, ◌⊎◌, ◌<◌, ◌≤◌, ℕ, true, List, ◌++◌, length, drop, Option, Some, None, Result, Ok, Err}
 use Rattle.fx_base.specs.declared.Memory.{Memory}
 use Rattle.app_wire.specs.Doorway.{Doorway}
 use Rattle.app_wire.specs.Framing.{asked, nothing, refused, whole, Framing, IsOpen}
@@ -30,7 +30,7 @@ ReadsLittle held a b =
     (b.unread ≡ a.unread)
     ⊎ ((earlier : List ℕ) × (last : List ℕ) × IsOpen (held ++ earlier) × (length last ≤ 512) × (a.unread ≡ earlier ++ (last ++ b.unread)))
 
--- what the rest of the conversation, to its end, begins with
+-- what the rest of the conversation, to its end, begins with; memory runs out only where a byte is left
 abbrev pub FindsNext : Found → List ℕ → List ℕ → Doorway → Doorway → Type 0
 FindsNext (next.Whole request) held held' a b =
     (len : ℕ) × Framing (held ++ a.unread) true (whole (asked request) len)
@@ -38,7 +38,7 @@ FindsNext (next.Whole request) held held' a b =
 FindsNext (next.Refused code) held held' a b =
     Framing (held ++ a.unread) true (refused code) × Keeps held held' a b × ReadsLittle held a b
 FindsNext next.Quiet held held' a b = Framing (held ++ a.unread) true nothing × Keeps held held' a b
-FindsNext next.Memory held held' a b = OnlyRead a b × ReadsLittle held a b
+FindsNext next.Memory held held' a b = (0 < length (held ++ a.unread)) × OnlyRead a b × ReadsLittle held a b
 FindsNext next.Failed held held' a b = IsOpen held' × Keeps held held' a b
 
 -- a refusal has one of the codes of framing, also where nothing is told

@@ -48,16 +48,26 @@ impl Clock for ListClock {
     }
 }
 
-/// The system's clock. Where the system gives no moment it repeats its last one, at first 0.
+/// The system's clock. Where the system gives no moment it repeats its last one, at first 0. It is seen as that one.
 #[derive(Drop)]
 pub struct SystemClock<R> {
     runtime: R,
     last: u64,
 }
 
+impl<R> Model for SystemClock<R> {
+    ghost use Rattle.std.specs.Prelude.{ℕ};
+
+    ghost Value = { ℕ };
+
+    ghost view = { λ c. c.last };
+}
+
 impl<R> SystemClock<R> {
     /// A clock over the runtime, which has given no moment.
-    pub fn new(runtime: R) -> SystemClock<R> {
+    pub fn new(runtime: R) -> SystemClock<R>
+        ensures { result ≡ 0 }
+    {
         SystemClock { runtime, last: 0 }
     }
 }
@@ -65,7 +75,10 @@ impl<R> SystemClock<R> {
 impl<R: std::rt::Clock> Clock for SystemClock<R> {
     ghost told = { λ c. None };
 
-    fn now(&mut self) -> u64 {
+    fn now(&mut self) -> u64
+        ensures tick { Tick result None None }
+        ensures last { result ≡ self.new }
+    {
         if let Ok(moment) = SystemTime::now(&self.runtime)
             && let Ok(since) = moment.duration_since(UNIX_EPOCH)
         {

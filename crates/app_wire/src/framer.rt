@@ -1,5 +1,5 @@
 //! Requests from the pieces of a conversation.
-ghost use Rattle.std.specs.Prelude.{◌≡◌, ◌≤◌, ◌++◌, IfOk, OnErr, [], drop, vec_len, ◌↔◌, IsTrue, true};
+ghost use Rattle.std.specs.Prelude.{◌≡◌, ◌<◌, ◌≤◌, ◌++◌, IfOk, OnErr, [], drop, length, vec_len, ◌↔◌, IsTrue, true};
 ghost use Rattle.app_wire.specs.Framing.{Finds, Feeds, Framing, refused};
 
 use crate::front::{HEAD_ROOM, head_end};
@@ -94,10 +94,11 @@ impl Framer {
     }
 
     /// Answers by the bytes so far: the next whole request, which is taken from them, a refusal, or that more is needed.
-    /// On want of memory nothing changes.
+    /// On want of memory, which comes only where a byte came, nothing changes.
     pub fn more(&mut self) -> Result<Fed, Memory>
         ensures fed { IfOk result (λ fed. Feeds self.old fed self.new) }
         ensures err { OnErr result (self.new ≡ self.old) }
+        ensures some { OnErr result (0 < length self.old) }
     {
         match look_at(&self.held) {
             Look::Need => Ok(Fed::Need),
@@ -111,11 +112,12 @@ impl Framer {
         }
     }
 
-    /// Takes the next piece of the conversation, and answers as `more` does. On want of memory nothing changes, and the
-    /// piece wasn't taken.
+    /// Takes the next piece of the conversation, and answers as `more` does. On want of memory, which comes only where a
+    /// byte came, nothing changes, and the piece wasn't taken.
     pub fn feed(&mut self, piece: &[u8]) -> Result<Fed, Memory>
         ensures fed { IfOk result (λ fed. Feeds (self.old ++ piece.now) fed self.new) }
         ensures err { OnErr result (self.new ≡ self.old) }
+        ensures some { OnErr result (0 < length (self.old ++ piece.now)) }
     {
         let before = self.held.len();
         self.held.extend_from_slice(piece)?;

@@ -1,28 +1,11 @@
 //! The bytes of a reply.
 ghost use Rattle.std.specs.Prelude.{◌≡◌, ◌++◌, IfOk, IsTrue, length, string_bytes};
-ghost use Rattle.app_wire.specs.ReplyBytes.{is_fixed, is_status, reason_of, refusal, reply, reply_head};
+ghost use Rattle.refusals.specs.Statuses.{is_status};
+ghost use Rattle.app_wire.specs.ReplyBytes.{is_fixed, refusal, reply, reply_head};
 
 use fx_base::Memory;
+use refusals::reason;
 use std::alloc::{AllocError, Global};
-
-fn reason(status: u16) -> &'static str
-    ensures { result.now ≡ reason_of status }
-{
-    match status {
-        200 => "OK",
-        400 => "Bad Request",
-        404 => "Not Found",
-        405 => "Method Not Allowed",
-        409 => "Conflict",
-        413 => "Content Too Large",
-        422 => "Unprocessable Content",
-        429 => "Too Many Requests",
-        431 => "Request Header Fields Too Large",
-        501 => "Not Implemented",
-        503 => "Service Unavailable",
-        _ => "Insufficient Storage",
-    }
-}
 
 fn head_text(alloc: Global, status: u16, reason: &str, len: usize) -> Result<String, AllocError>
     ensures { IfOk result (λ s. string_bytes s ≡ reply_head status reason.now len) }

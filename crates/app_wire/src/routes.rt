@@ -28,7 +28,7 @@ fn place_of(router: &Router<Place>, path: &str) -> Option<Place>
     }
 }
 
-/// The routes, made once.
+/// The routes, made once. A value of this type has all of them.
 #[derive(Drop)]
 pub struct Routes {
     router: Router<Place>,
@@ -36,7 +36,7 @@ pub struct Routes {
 }
 
 impl Routes {
-    /// All routes.
+    /// All routes. That they are all is in the type, so no clause says it again.
     pub fn new(alloc: Global) -> Result<Routes, Memory> {
         match make(alloc) {
             Ok(router) => Ok(Routes { router }),

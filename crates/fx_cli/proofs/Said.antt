@@ -1,19 +1,21 @@
 -- What a status says of the report.
-use Rattle.std.proofs.Common.{◌≡◌, ◌≢◌, ℕ, ◌⊎◌, inl, inr, List, Option, Some, refl, sym, ◌∙◌, subst, false, nat_eq}
+use Rattle.std.proofs.Common.{◌≡◌, ◌≢◌, ℕ, ◌⊎◌, inl, inr, List, Option, Some, Ok, Err, refl, sym, ◌∙◌, subst, false, nat_eq}
 use Rattle.std.proofs.lemmas.Bool.{cases_eq}
 use Rattle.fx_base.specs.Faults.{Rose}
 use Rattle.fx_base.specs.Telling.{Tells}
-use Rattle.fx_parser.specs.FirstText.{IsFirstText}
-use Rattle.fx_parser.specs.Lines.{NamedTree}
-use Rattle.office.specs.AppFile.{IsAppFile}
+use Rattle.fx_parser.specs.declared.entries.Named.{Named}
+use Rattle.fx_rules.specs.BrokenText.{ended_line}
+use Rattle.fx_rules.specs.declared.broken.Broken.{Broken as Break}
+use Rattle.fx_named.specs.Judged.{Judged}
+use Rattle.office.specs.AppFile.{JudgedApp}
 use Rattle.fx_cli.specs.Plain.{shown}
 use Rattle.fx_cli.specs.declared.replay.ReplayEnd.{ReplayEnd}
 use Rattle.fx_cli.specs.declared.replay.ReplayEnd.TheVariants as replay
 use Rattle.fx_cli.specs.declared.report.Report.{Report}
-use Rattle.fx_cli.specs.declared.report.Report.TheVariants.{Shown, NotBuilt, Usage, OutOfMemory, Unread, NoApp, Replayed}
+use Rattle.fx_cli.specs.declared.report.Report.TheVariants.{Shown, Broken, Usage, OutOfMemory, Unread, Replayed}
 use Rattle.fx_cli.specs.declared.words.Form.{Form}
 use Rattle.fx_cli.specs.declared.words.Form.TheVariants.{View, Replay}
-use Rattle.fx_cli.specs.Report.{AsksFor, IsIdle, IsNoAppFile, IsNotBuilt, IsStatus, IsViewStatus, Reports, Takes, Wanted, no_app_text, not_built_text, status_of, text_of, text_of_end, unread_text}
+use Rattle.fx_cli.specs.Report.{AsksFor, IsIdle, IsStatus, IsViewStatus, JudgedAs, Reports, Takes, Wanted, status_of, text_of, text_of_end, unread_text}
 use Rattle.fx_cli.specs.Telling.{Contents, Grows}
 use Rattle.fx_cli.proofs.Reported.{not_both}
 
@@ -109,124 +111,103 @@ no_9_6 : ◌≡◌ {A = ℕ} 9 6 → ⊥
 no_9_6 e = cc
 
 -- a replay that ends with 0 is done
-pub is_done : {F : Type 0} (told : F → Option Contents) (asked : F → List (List ℕ)) (faults : F → ℕ) (old new : F) (ends : List NamedTree → ReplayEnd → Type 0) (wanted : Wanted) (r : Report) → Reports told asked faults old new ends wanted r → status_of r ≡ 0 → (name : List ℕ) → wanted ≡ Some (Replay, name) → r ≡ Replayed replay.Done
+pub is_done : {F : Type 0} (told : F → Option Contents) (asked : F → List (List ℕ)) (faults : F → ℕ) (old new : F) (ends : List Named → ReplayEnd → Type 0) (wanted : Wanted) (r : Report) → Reports told asked faults old new ends wanted r → status_of r ≡ 0 → (name : List ℕ) → wanted ≡ Some (Replay, name) → r ≡ Replayed replay.Done
 is_done told asked faults old new ends wanted (Shown text) h e name is = absurd (not_both wanted h.2.name name h.2.asks.is_wanted is)
-is_done told asked faults old new ends wanted NotBuilt h e name is = absurd (no_1_0 e)
+is_done told asked faults old new ends wanted (Broken text) h e name is = absurd (no_1_0 e)
 is_done told asked faults old new ends wanted Usage h e name is = absurd (no_2_0 e)
 is_done told asked faults old new ends wanted OutOfMemory h e name is = absurd (no_3_0 e)
 is_done told asked faults old new ends wanted (Unread text) h e name is = absurd (no_4_0 e)
-is_done told asked faults old new ends wanted NoApp h e name is = absurd (no_1_0 e)
 is_done told asked faults old new ends wanted (Replayed replay.Done) h e name is = refl
 is_done told asked faults old new ends wanted (Replayed replay.Fault) h e name is = absurd (no_6_0 e)
 is_done told asked faults old new ends wanted (Replayed replay.Full) h e name is = absurd (no_9_0 e)
 
 -- with 6 it ends by a fault
-pub is_fault : {F : Type 0} (told : F → Option Contents) (asked : F → List (List ℕ)) (faults : F → ℕ) (old new : F) (ends : List NamedTree → ReplayEnd → Type 0) (wanted : Wanted) (r : Report) → Reports told asked faults old new ends wanted r → status_of r ≡ 6 → r ≡ Replayed replay.Fault
+pub is_fault : {F : Type 0} (told : F → Option Contents) (asked : F → List (List ℕ)) (faults : F → ℕ) (old new : F) (ends : List Named → ReplayEnd → Type 0) (wanted : Wanted) (r : Report) → Reports told asked faults old new ends wanted r → status_of r ≡ 6 → r ≡ Replayed replay.Fault
 is_fault told asked faults old new ends wanted (Shown text) h e = absurd (no_0_6 e)
-is_fault told asked faults old new ends wanted NotBuilt h e = absurd (no_1_6 e)
+is_fault told asked faults old new ends wanted (Broken text) h e = absurd (no_1_6 e)
 is_fault told asked faults old new ends wanted Usage h e = absurd (no_2_6 e)
 is_fault told asked faults old new ends wanted OutOfMemory h e = absurd (no_3_6 e)
 is_fault told asked faults old new ends wanted (Unread text) h e = absurd (no_4_6 e)
-is_fault told asked faults old new ends wanted NoApp h e = absurd (no_1_6 e)
 is_fault told asked faults old new ends wanted (Replayed replay.Done) h e = absurd (no_0_6 e)
 is_fault told asked faults old new ends wanted (Replayed replay.Fault) h e = refl
 is_fault told asked faults old new ends wanted (Replayed replay.Full) h e = absurd (no_9_6 e)
 
 -- with 9 it is full
-pub is_full : {F : Type 0} (told : F → Option Contents) (asked : F → List (List ℕ)) (faults : F → ℕ) (old new : F) (ends : List NamedTree → ReplayEnd → Type 0) (wanted : Wanted) (r : Report) → Reports told asked faults old new ends wanted r → status_of r ≡ 9 → r ≡ Replayed replay.Full
+pub is_full : {F : Type 0} (told : F → Option Contents) (asked : F → List (List ℕ)) (faults : F → ℕ) (old new : F) (ends : List Named → ReplayEnd → Type 0) (wanted : Wanted) (r : Report) → Reports told asked faults old new ends wanted r → status_of r ≡ 9 → r ≡ Replayed replay.Full
 is_full told asked faults old new ends wanted (Shown text) h e = absurd (no_0_9 e)
-is_full told asked faults old new ends wanted NotBuilt h e = absurd (no_1_9 e)
+is_full told asked faults old new ends wanted (Broken text) h e = absurd (no_1_9 e)
 is_full told asked faults old new ends wanted Usage h e = absurd (no_2_9 e)
 is_full told asked faults old new ends wanted OutOfMemory h e = absurd (no_3_9 e)
 is_full told asked faults old new ends wanted (Unread text) h e = absurd (no_4_9 e)
-is_full told asked faults old new ends wanted NoApp h e = absurd (no_1_9 e)
 is_full told asked faults old new ends wanted (Replayed replay.Done) h e = absurd (no_0_9 e)
 is_full told asked faults old new ends wanted (Replayed replay.Fault) h e = absurd (no_6_9 e)
 is_full told asked faults old new ends wanted (Replayed replay.Full) h e = refl
 
 -- a view that ends with 0 has shown the formulas
-pub shown_at : {F : Type 0} (told : F → Option Contents) (asked : F → List (List ℕ)) (faults : F → ℕ) (old new : F) (ends : List NamedTree → ReplayEnd → Type 0) (wanted : Wanted) (r : Report) → Reports told asked faults old new ends wanted r → status_of r ≡ 0 → (name : List ℕ) → wanted ≡ Some (View, name) → (o o' : Option (List ℕ)) → Tells (Grows (text_of r)) o o' → (bytes : List ℕ) × (lines : List NamedTree) × Takes told asked old new wanted View bytes × IsFirstText bytes lines × Tells (Grows (shown lines)) o o'
+pub shown_at : {F : Type 0} (told : F → Option Contents) (asked : F → List (List ℕ)) (faults : F → ℕ) (old new : F) (ends : List Named → ReplayEnd → Type 0) (wanted : Wanted) (r : Report) → Reports told asked faults old new ends wanted r → status_of r ≡ 0 → (name : List ℕ) → wanted ≡ Some (View, name) → (o o' : Option (List ℕ)) → Tells (Grows (text_of r)) o o' → (bytes : List ℕ) × (lines : List Named) × Takes told asked old new wanted View bytes × Judged bytes (Ok lines) × Tells (Grows (shown lines)) o o'
 shown_at told asked faults old new ends wanted (Shown text) h e name is o o' t = (h.0, h.1, h.2, h.3, subst (λ s. Tells (Grows s) o o') h.4 t)
-shown_at told asked faults old new ends wanted NotBuilt h e name is o o' t = absurd (no_1_0 e)
+shown_at told asked faults old new ends wanted (Broken text) h e name is o o' t = absurd (no_1_0 e)
 shown_at told asked faults old new ends wanted Usage h e name is o o' t = absurd (no_2_0 e)
 shown_at told asked faults old new ends wanted OutOfMemory h e name is o o' t = absurd (no_3_0 e)
 shown_at told asked faults old new ends wanted (Unread text) h e name is o o' t = absurd (no_4_0 e)
-shown_at told asked faults old new ends wanted NoApp h e name is o o' t = absurd (no_1_0 e)
 shown_at told asked faults old new ends wanted (Replayed replay.Done) h e name is o o' t = absurd (not_both wanted name h.2.name is h.2.asks.is_wanted)
 shown_at told asked faults old new ends wanted (Replayed replay.Fault) h e name is o o' t = absurd (no_6_0 e)
 shown_at told asked faults old new ends wanted (Replayed replay.Full) h e name is o o' t = absurd (no_9_0 e)
 
--- with 1 it has a file that is no list of formulas
-pub not_built_at : {F : Type 0} (told : F → Option Contents) (asked : F → List (List ℕ)) (faults : F → ℕ) (old new : F) (ends : List NamedTree → ReplayEnd → Type 0) (wanted : Wanted) (r : Report) → Reports told asked faults old new ends wanted r → status_of r ≡ 1 → (name : List ℕ) → wanted ≡ Some (View, name) → (o o' : Option (List ℕ)) → Tells (Grows (text_of r)) o o' → (bytes : List ℕ) × Takes told asked old new wanted View bytes × IsNotBuilt bytes × Tells (Grows not_built_text) o o'
-not_built_at told asked faults old new ends wanted (Shown text) h e name is o o' t = absurd (no_0_1 e)
-not_built_at told asked faults old new ends wanted NotBuilt h e name is o o' t = (h.0, h.1, h.2, t)
-not_built_at told asked faults old new ends wanted Usage h e name is o o' t = absurd (no_2_1 e)
-not_built_at told asked faults old new ends wanted OutOfMemory h e name is o o' t = absurd (no_3_1 e)
-not_built_at told asked faults old new ends wanted (Unread text) h e name is o o' t = absurd (no_4_1 e)
-not_built_at told asked faults old new ends wanted NoApp h e name is o o' t = absurd (not_both wanted name h.1.name is h.1.asks.is_wanted)
-not_built_at told asked faults old new ends wanted (Replayed replay.Done) h e name is o o' t = absurd (no_0_1 e)
-not_built_at told asked faults old new ends wanted (Replayed replay.Fault) h e name is o o' t = absurd (no_6_1 e)
-not_built_at told asked faults old new ends wanted (Replayed replay.Full) h e name is o o' t = absurd (no_9_1 e)
-
--- a replay that ends with 1 has a file that is no app
-pub no_app_said : {F : Type 0} (told : F → Option Contents) (asked : F → List (List ℕ)) (faults : F → ℕ) (old new : F) (ends : List NamedTree → ReplayEnd → Type 0) (wanted : Wanted) (r : Report) → Reports told asked faults old new ends wanted r → status_of r ≡ 1 → (name : List ℕ) → wanted ≡ Some (Replay, name) → (o o' : Option (List ℕ)) → Tells (Grows (text_of r)) o o' → (bytes : List ℕ) × Takes told asked old new wanted Replay bytes × IsNoAppFile bytes × Tells (Grows no_app_text) o o'
-no_app_said told asked faults old new ends wanted (Shown text) h e name is o o' t = absurd (no_0_1 e)
-no_app_said told asked faults old new ends wanted NotBuilt h e name is o o' t = absurd (not_both wanted h.1.name name h.1.asks.is_wanted is)
-no_app_said told asked faults old new ends wanted Usage h e name is o o' t = absurd (no_2_1 e)
-no_app_said told asked faults old new ends wanted OutOfMemory h e name is o o' t = absurd (no_3_1 e)
-no_app_said told asked faults old new ends wanted (Unread text) h e name is o o' t = absurd (no_4_1 e)
-no_app_said told asked faults old new ends wanted NoApp h e name is o o' t = (h.0, h.1, h.2, t)
-no_app_said told asked faults old new ends wanted (Replayed replay.Done) h e name is o o' t = absurd (no_0_1 e)
-no_app_said told asked faults old new ends wanted (Replayed replay.Fault) h e name is o o' t = absurd (no_6_1 e)
-no_app_said told asked faults old new ends wanted (Replayed replay.Full) h e name is o o' t = absurd (no_9_1 e)
+-- with 1 it has a file that breaks a rule
+pub broken_at : {F : Type 0} (told : F → Option Contents) (asked : F → List (List ℕ)) (faults : F → ℕ) (old new : F) (ends : List Named → ReplayEnd → Type 0) (wanted : Wanted) (r : Report) → Reports told asked faults old new ends wanted r → status_of r ≡ 1 → (o o' : Option (List ℕ)) → Tells (Grows (text_of r)) o o' → (form : Form) × (bytes : List ℕ) × (b : Break) × Takes told asked old new wanted form bytes × JudgedAs form bytes (Err b) × Tells (Grows (ended_line b)) o o'
+broken_at told asked faults old new ends wanted (Shown text) h e o o' t = absurd (no_0_1 e)
+broken_at told asked faults old new ends wanted (Broken text) h e o o' t = (h.0, h.1, h.2, h.3, h.4, subst (λ s. Tells (Grows s) o o') h.5 t)
+broken_at told asked faults old new ends wanted Usage h e o o' t = absurd (no_2_1 e)
+broken_at told asked faults old new ends wanted OutOfMemory h e o o' t = absurd (no_3_1 e)
+broken_at told asked faults old new ends wanted (Unread text) h e o o' t = absurd (no_4_1 e)
+broken_at told asked faults old new ends wanted (Replayed replay.Done) h e o o' t = absurd (no_0_1 e)
+broken_at told asked faults old new ends wanted (Replayed replay.Fault) h e o o' t = absurd (no_6_1 e)
+broken_at told asked faults old new ends wanted (Replayed replay.Full) h e o o' t = absurd (no_9_1 e)
 
 -- with 4 the file could not be read
-pub unread_at : {F : Type 0} (told : F → Option Contents) (asked : F → List (List ℕ)) (faults : F → ℕ) (old new : F) (ends : List NamedTree → ReplayEnd → Type 0) (wanted : Wanted) (r : Report) → Reports told asked faults old new ends wanted r → status_of r ≡ 4 → (o o' : Option (List ℕ)) → Tells (Grows (text_of r)) o o' → (form : Form) × (name : List ℕ) × AsksFor asked old new wanted form name × Rose (faults old) (faults new) × Tells (Grows (unread_text name)) o o'
+pub unread_at : {F : Type 0} (told : F → Option Contents) (asked : F → List (List ℕ)) (faults : F → ℕ) (old new : F) (ends : List Named → ReplayEnd → Type 0) (wanted : Wanted) (r : Report) → Reports told asked faults old new ends wanted r → status_of r ≡ 4 → (o o' : Option (List ℕ)) → Tells (Grows (text_of r)) o o' → (form : Form) × (name : List ℕ) × AsksFor asked old new wanted form name × Rose (faults old) (faults new) × Tells (Grows (unread_text name)) o o'
 unread_at told asked faults old new ends wanted (Shown text) h e o o' t = absurd (no_0_4 e)
-unread_at told asked faults old new ends wanted NotBuilt h e o o' t = absurd (no_1_4 e)
+unread_at told asked faults old new ends wanted (Broken text) h e o o' t = absurd (no_1_4 e)
 unread_at told asked faults old new ends wanted Usage h e o o' t = absurd (no_2_4 e)
 unread_at told asked faults old new ends wanted OutOfMemory h e o o' t = absurd (no_3_4 e)
 unread_at told asked faults old new ends wanted (Unread text) h e o o' t = (h.0, h.1, h.2, h.3, subst (λ s. Tells (Grows s) o o') h.4 t)
-unread_at told asked faults old new ends wanted NoApp h e o o' t = absurd (no_1_4 e)
 unread_at told asked faults old new ends wanted (Replayed replay.Done) h e o o' t = absurd (no_0_4 e)
 unread_at told asked faults old new ends wanted (Replayed replay.Fault) h e o o' t = absurd (no_6_4 e)
 unread_at told asked faults old new ends wanted (Replayed replay.Full) h e o o' t = absurd (no_9_4 e)
 
 -- what was replayed, up to this end
-pub replay_at : (end : ReplayEnd) → {F : Type 0} (told : F → Option Contents) (asked : F → List (List ℕ)) (faults : F → ℕ) (old new : F) (ends : List NamedTree → ReplayEnd → Type 0) (wanted : Wanted) (r : Report) → Reports told asked faults old new ends wanted r → r ≡ Replayed end → (o o' : Option (List ℕ)) → Tells (Grows (text_of r)) o o'
-    → (bytes : List ℕ) × (formulas : List NamedTree) × Takes told asked old new wanted Replay bytes × IsAppFile bytes formulas × ends formulas end × Tells (Grows (text_of_end end)) o o'
+pub replay_at : (end : ReplayEnd) → {F : Type 0} (told : F → Option Contents) (asked : F → List (List ℕ)) (faults : F → ℕ) (old new : F) (ends : List Named → ReplayEnd → Type 0) (wanted : Wanted) (r : Report) → Reports told asked faults old new ends wanted r → r ≡ Replayed end → (o o' : Option (List ℕ)) → Tells (Grows (text_of r)) o o'
+    → (bytes : List ℕ) × (formulas : List Named) × Takes told asked old new wanted Replay bytes × JudgedApp bytes (Ok formulas) × ends formulas end × Tells (Grows (text_of_end end)) o o'
 replay_at end told asked faults old new ends wanted r h e o o' t =
     let so = subst (λ x. Reports told asked faults old new ends wanted x) e h in
     (so.0, so.1, so.2, so.3, so.4, subst (λ x. Tells (Grows (text_of x)) o o') e t)
 
 -- a view begins no conversation
-pub idle_view : {F : Type 0} (told : F → Option Contents) (asked : F → List (List ℕ)) (faults : F → ℕ) (old new : F) (ends : List NamedTree → ReplayEnd → Type 0) (wanted : Wanted) (r : Report) → Reports told asked faults old new ends wanted r → (name : List ℕ) → wanted ≡ Some (View, name) → IsIdle r
+pub idle_view : {F : Type 0} (told : F → Option Contents) (asked : F → List (List ℕ)) (faults : F → ℕ) (old new : F) (ends : List Named → ReplayEnd → Type 0) (wanted : Wanted) (r : Report) → Reports told asked faults old new ends wanted r → (name : List ℕ) → wanted ≡ Some (View, name) → IsIdle r
 idle_view told asked faults old new ends wanted (Shown text) h name is = tt
-idle_view told asked faults old new ends wanted NotBuilt h name is = tt
+idle_view told asked faults old new ends wanted (Broken text) h name is = tt
 idle_view told asked faults old new ends wanted Usage h name is = tt
 idle_view told asked faults old new ends wanted OutOfMemory h name is = tt
 idle_view told asked faults old new ends wanted (Unread text) h name is = tt
-idle_view told asked faults old new ends wanted NoApp h name is = tt
 idle_view told asked faults old new ends wanted (Replayed end) h name is = absurd (not_both wanted name h.2.name is h.2.asks.is_wanted)
 
 -- the statuses of reports that begin none
 pub idle_status : (r : Report) → IsIdle r → IsViewStatus (status_of r)
 idle_status (Shown text) h = inl refl
-idle_status NotBuilt h = inr (inl refl)
+idle_status (Broken text) h = inr (inl refl)
 idle_status Usage h = inr (inr (inl refl))
 idle_status OutOfMemory h = inr (inr (inr (inl refl)))
 idle_status (Unread text) h = inr (inr (inr (inr (inl refl))))
-idle_status NoApp h = inr (inl refl)
 idle_status (Replayed end) h = absurd h
 
 -- and of all reports
 pub status_at : (r : Report) → IsStatus (status_of r)
 status_at (Shown text) = inr (inr (inl refl))
-status_at NotBuilt = inr (inr (inr (inl refl)))
+status_at (Broken text) = inr (inr (inr (inl refl)))
 status_at Usage = inr (inr (inr (inr (inl refl))))
 status_at OutOfMemory = inr (inr (inr (inr (inr (inl refl)))))
 status_at (Unread text) = inr (inr (inr (inr (inr (inr (inl refl))))))
-status_at NoApp = inr (inr (inr (inl refl)))
 status_at (Replayed replay.Done) = inr (inr (inl refl))
 status_at (Replayed replay.Fault) = inl refl
 status_at (Replayed replay.Full) = inr (inl refl)
@@ -234,11 +215,10 @@ status_at (Replayed replay.Full) = inr (inl refl)
 -- reports with the statuses 1 to 4 begin none
 pub idle_at : (r : Report) → (status_of r ≡ 1) ⊎ (status_of r ≡ 2) ⊎ (status_of r ≡ 3) ⊎ (status_of r ≡ 4) → IsIdle r
 idle_at (Shown text) h = tt
-idle_at NotBuilt h = tt
+idle_at (Broken text) h = tt
 idle_at Usage h = tt
 idle_at OutOfMemory h = tt
 idle_at (Unread text) h = tt
-idle_at NoApp h = tt
 idle_at (Replayed replay.Done) h = elim h [ inl e ↦ cc | inr j ↦ elim j [ inl e ↦ cc | inr k ↦ elim k [ inl e ↦ cc | inr e ↦ cc ] ] ]
 idle_at (Replayed replay.Fault) h = elim h [ inl e ↦ cc | inr j ↦ elim j [ inl e ↦ cc | inr k ↦ elim k [ inl e ↦ cc | inr e ↦ cc ] ] ]
 idle_at (Replayed replay.Full) h = elim h [ inl e ↦ cc | inr j ↦ elim j [ inl e ↦ cc | inr k ↦ elim k [ inl e ↦ cc | inr e ↦ cc ] ] ]

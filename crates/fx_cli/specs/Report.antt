@@ -1,13 +1,17 @@
 -- What a run says before it ends, and when.
-use Rattle.std.specs.Prelude.{◌≡◌, ℕ, ◌+◌, ◌++◌, [], ◌∷◌, ◌⊎◌, List, Option, Some, None, IsSome, codes, option_map, string_bytes, take}
+use Rattle.std.specs.Prelude.{◌≡◌, ℕ, ◌+◌, ◌++◌, [], ◌∷◌, ◌⊎◌, List, Option, Some, None, IsSome, Result, Ok, Err, codes, flat_map, option_map, string_bytes, take}
 use Rattle.fx_base.specs.Faults.{Rose}
-use Rattle.fx_parser.specs.FirstText.{IsFirstText, longest}
-use Rattle.fx_parser.specs.Lines.{NamedTree}
-use Rattle.office.specs.AppFile.{IsAppFile, most_bytes}
+use Rattle.fx_parser.specs.declared.entries.Named.{Named}
+use Rattle.fx_rules.specs.BrokenText.{ended_line}
+use Rattle.fx_rules.specs.declared.broken.Broken.{Broken as Break}
+use Rattle.fx_rules.specs.declared.end.AppEnd.{AppEnd}
+use Rattle.fx_rules.specs.declared.end.AppEnd.TheVariants as end
+use Rattle.fx_named.specs.Judged.{Judged, longest}
+use Rattle.office.specs.AppFile.{JudgedApp, most_bytes}
 use Rattle.fx_cli.specs.declared.replay.ReplayEnd.{ReplayEnd}
 use Rattle.fx_cli.specs.declared.replay.ReplayEnd.TheVariants as replay
 use Rattle.fx_cli.specs.declared.report.Report.{Report}
-use Rattle.fx_cli.specs.declared.report.Report.TheVariants.{Shown, NotBuilt, Usage, OutOfMemory, Unread, NoApp, Replayed}
+use Rattle.fx_cli.specs.declared.report.Report.TheVariants.{Shown, Broken, Usage, OutOfMemory, Unread, Replayed}
 use Rattle.fx_cli.specs.declared.words.Form.{Form}
 use Rattle.fx_cli.specs.declared.words.Form.TheVariants.{View, Replay}
 use Rattle.fx_cli.specs.Plain.{shown}
@@ -15,12 +19,6 @@ use Rattle.fx_cli.specs.Telling.{AreFirst, Contents}
 
 unfoldable pub usage_text : List ℕ
 usage_text = codes "usage: pfx view FILE | check APP | replay APP | serve APP DB PORT [COUNT] | gen N\n"
-
-unfoldable pub not_built_text : List ℕ
-not_built_text = codes "App.Formulas: E16 NotBuilt at 0: text\n"
-
-unfoldable pub no_app_text : List ℕ
-no_app_text = codes "App: E16 NotBuilt at 0: app\n"
 
 unfoldable pub memory_text : List ℕ
 memory_text = codes "pfx: out of memory\n"
@@ -62,51 +60,52 @@ pub record HasFile {F : Type 0} (told : F → Option Contents) (files : F) (want
   pub is_told : told files ≡ Some contents
   pub first : option_map (take (most_read form)) (contents name) ≡ Some bytes
 
--- the bytes are no list of formulas over numbers
-abbrev pub IsNotBuilt : List ℕ → Type 0
-IsNotBuilt bytes = (lines : List NamedTree) → IsFirstText bytes lines → ⊥
-
--- the bytes are no app file
-abbrev pub IsNoAppFile : List ℕ → Type 0
-IsNoAppFile bytes = (formulas : List NamedTree) → IsAppFile bytes formulas → ⊥
+-- the bytes of a file, judged as its form is: a text of named formulas, or an app file
+abbrev pub JudgedAs : Form → List ℕ → Result (List Named) Break → Type 0
+JudgedAs View = Judged
+JudgedAs Replay = JudgedApp
 
 -- When a run that wants this makes each report. A replay of an app ended so, as `ends` says.
 abbrev pub Reports : {F : Type 0} (told : F → Option Contents) (asked : F → List (List ℕ)) (faults : F → ℕ) (old new : F)
-    (ends : List NamedTree → ReplayEnd → Type 0) → Wanted → Report → Type 0
+    (ends : List Named → ReplayEnd → Type 0) → Wanted → Report → Type 0
 Reports told asked faults old new ends wanted (Shown text) =
-    (bytes : List ℕ) × (lines : List NamedTree) × Takes told asked old new wanted View bytes × IsFirstText bytes lines × (string_bytes text ≡ shown lines)
-Reports told asked faults old new ends wanted NotBuilt = (bytes : List ℕ) × Takes told asked old new wanted View bytes × IsNotBuilt bytes
+    (bytes : List ℕ) × (formulas : List Named) × Takes told asked old new wanted View bytes × Judged bytes (Ok formulas) × (string_bytes text ≡ shown formulas)
+Reports told asked faults old new ends wanted (Broken text) =
+    (form : Form) × (bytes : List ℕ) × (b : Break) × Takes told asked old new wanted form bytes × JudgedAs form bytes (Err b) × (string_bytes text ≡ ended_line b)
 Reports told asked faults old new ends wanted Usage = wanted ≡ None
 Reports told asked faults old new ends wanted OutOfMemory = IsSome wanted
 Reports told asked faults old new ends wanted (Unread text) =
     (form : Form) × (name : List ℕ) × AsksFor asked old new wanted form name × Rose (faults old) (faults new) × (string_bytes text ≡ unread_text name)
-Reports told asked faults old new ends wanted NoApp = (bytes : List ℕ) × Takes told asked old new wanted Replay bytes × IsNoAppFile bytes
 Reports told asked faults old new ends wanted (Replayed end) =
-    (bytes : List ℕ) × (formulas : List NamedTree) × Takes told asked old new wanted Replay bytes × IsAppFile bytes formulas × ends formulas end
+    (bytes : List ℕ) × (formulas : List Named) × Takes told asked old new wanted Replay bytes × JudgedApp bytes (Ok formulas) × ends formulas end
 
 -- nothing was replayed
-abbrev pub no_replay : List NamedTree → ReplayEnd → Type 0
+abbrev pub no_replay : List Named → ReplayEnd → Type 0
 no_replay app end = ⊥
 
 -- no conversation was begun
 abbrev pub IsIdle : Report → Type 0
 IsIdle (Replayed end) = ⊥
 IsIdle (Shown text) = Unit {0}
-IsIdle NotBuilt = Unit {0}
+IsIdle (Broken text) = Unit {0}
 IsIdle Usage = Unit {0}
 IsIdle OutOfMemory = Unit {0}
 IsIdle (Unread text) = Unit {0}
-IsIdle NoApp = Unit {0}
 
 -- it says that a file of this name could not be read, or memory ran out
 abbrev pub IsUnread : List ℕ → Report → Type 0
 IsUnread name (Unread text) = string_bytes text ≡ unread_text name
 IsUnread name OutOfMemory = Unit {0}
 IsUnread name (Shown text) = ⊥
-IsUnread name NotBuilt = ⊥
+IsUnread name (Broken text) = ⊥
 IsUnread name Usage = ⊥
-IsUnread name NoApp = ⊥
 IsUnread name (Replayed end) = ⊥
+
+-- it tells of the breaks that an end has, or memory ran out
+abbrev pub IsRefusal : AppEnd → Report → Type 0
+IsRefusal (end.Refused all) (Broken text) = string_bytes text ≡ flat_map ended_line all.items
+IsRefusal e OutOfMemory = Unit {0}
+IsRefusal e r = ⊥
 
 -- the status that goes with the end of a replay
 abbrev pub status_of_end : ReplayEnd → ℕ
@@ -117,11 +116,10 @@ status_of_end replay.Full = 9
 -- the status that goes with a report
 abbrev pub status_of : Report → ℕ
 status_of (Shown text) = 0
-status_of NotBuilt = 1
+status_of (Broken text) = 1
 status_of Usage = 2
 status_of OutOfMemory = 3
 status_of (Unread text) = 4
-status_of NoApp = 1
 status_of (Replayed end) = status_of_end end
 
 -- what is said at the end of a replay
@@ -133,11 +131,10 @@ text_of_end replay.Full = limit_text
 -- what a report says
 abbrev pub text_of : Report → List ℕ
 text_of (Shown text) = string_bytes text
-text_of NotBuilt = not_built_text
+text_of (Broken text) = string_bytes text
 text_of Usage = usage_text
 text_of OutOfMemory = memory_text
 text_of (Unread text) = string_bytes text
-text_of NoApp = no_app_text
 text_of (Replayed end) = text_of_end end
 
 -- the statuses of a run, and those of `view`

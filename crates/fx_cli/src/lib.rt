@@ -1,19 +1,21 @@
 //! The top of the program: what its words do, and how it ends.
 #![tactic(auto)]
 
-ghost use Rattle.std.specs.Prelude.{◌≡◌, ◌≢◌, ◌≤◌, ◌⊎◌, ℕ, List, [], None};
+ghost use Rattle.std.specs.Prelude.{◌≡◌, ◌≢◌, ◌≤◌, ◌⊎◌, ℕ, Err, List, [], None, Ok};
 ghost use Rattle.fx_base.specs.Faults.{Rose};
 ghost use Rattle.fx_base.specs.Telling.{Tells};
 ghost use Rattle.fx_cli.specs.Held.{Replayed};
 ghost use Rattle.fx_cli.specs.Plain.{shown};
-ghost use Rattle.fx_cli.specs.Report.{AsksFor, EndsWith, HasFile, IsNoAppFile, IsNotBuilt, IsStatus, IsViewStatus, Reports, Takes, fault_text, limit_text, memory_text, no_app_text, not_built_text, status_of, text_of, unread_text, usage_text};
+ghost use Rattle.fx_cli.specs.Report.{AsksFor, EndsWith, HasFile, IsStatus, IsViewStatus, JudgedAs, Reports, Takes, fault_text, limit_text, memory_text, status_of, text_of, unread_text, usage_text};
 ghost use Rattle.fx_cli.specs.Telling.{Grows, GrowsInPart};
 ghost use Rattle.fx_cli.specs.Words.{IsForm, wanted};
 ghost use Rattle.fx_cli.specs.declared.words.Form.{Form};
 ghost use Rattle.fx_cli.specs.declared.words.Form.TheVariants.{Replay, View};
-ghost use Rattle.fx_parser.specs.FirstText.{IsFirstText};
-ghost use Rattle.fx_parser.specs.Lines.{NamedTree};
-ghost use Rattle.office.specs.AppFile.{IsAppFile};
+ghost use Rattle.fx_named.specs.Judged.{Judged};
+ghost use Rattle.fx_parser.specs.declared.entries.Named.{Named};
+ghost use Rattle.fx_rules.specs.BrokenText.{ended_line};
+ghost use Rattle.fx_rules.specs.declared.broken.Broken.{Broken};
+ghost use Rattle.office.specs.AppFile.{JudgedApp};
 ghost use Rattle.office.specs.State.{started};
 
 pub mod files;
@@ -54,21 +56,18 @@ pub fn run<D: Doors, F: Files, O: Sink, C: Clock, L: Ledger>(
 ) -> Status
     // `replay` ends with 0: the file was read and is an app, and all conversations of the doors were answered as the office
     // that serves it answers them, from no session. Nothing is said.
-    ensures headline { result.0 ≡ 0 → IsForm Replay words.now → (bytes : List ℕ) × (formulas : List NamedTree)
-        × Takes F.told F.asked files.old files.new (wanted words.now) Replay bytes × IsAppFile bytes formulas
+    ensures headline { result.0 ≡ 0 → IsForm Replay words.now → (bytes : List ℕ) × (formulas : List Named)
+        × Takes F.told F.asked files.old files.new (wanted words.now) Replay bytes × JudgedApp bytes (Ok formulas)
         × Replayed (D.single doors.old) (started formulas) (C.told clock.old) (C.told clock.new) (D.told doors.old) (D.told doors.new) ReplayEnd.Done
         × Tells (Grows []) (O.told out.old) (O.told out.new) }
     // `view` ends with 0: the file was read, and a line for each of its formulas was written, in its order, with its value.
-    ensures shown { result.0 ≡ 0 → IsForm View words.now → (bytes : List ℕ) × (lines : List NamedTree)
+    ensures shown { result.0 ≡ 0 → IsForm View words.now → (bytes : List ℕ) × (formulas : List Named)
         × Takes F.told F.asked files.old files.new (wanted words.now) View bytes
-        × IsFirstText bytes lines × Tells (Grows (shown lines)) (O.told out.old) (O.told out.new) }
-    // 1: the file was read, and is no list of formulas over numbers, or no app.
-    ensures not_built { result.0 ≡ 1 → IsForm View words.now → (bytes : List ℕ)
-        × Takes F.told F.asked files.old files.new (wanted words.now) View bytes
-        × IsNotBuilt bytes × Tells (Grows not_built_text) (O.told out.old) (O.told out.new) }
-    ensures no_app { result.0 ≡ 1 → IsForm Replay words.now → (bytes : List ℕ)
-        × Takes F.told F.asked files.old files.new (wanted words.now) Replay bytes
-        × IsNoAppFile bytes × Tells (Grows no_app_text) (O.told out.old) (O.told out.new) }
+        × Judged bytes (Ok formulas) × Tells (Grows (shown formulas)) (O.told out.old) (O.told out.new) }
+    // 1: the file was read and breaks a rule, and the line of that break was written.
+    ensures breaks { result.0 ≡ 1 → (form : Form) × (bytes : List ℕ) × (b : Broken)
+        × Takes F.told F.asked files.old files.new (wanted words.now) form bytes
+        × JudgedAs form bytes (Err b) × Tells (Grows (ended_line b)) (O.told out.old) (O.told out.new) }
     // 0 and 1 come only for words of a form. 2: the words are no form. Then no file is touched.
     ensures usage { result.0 ≡ 2 → (wanted words.now ≡ None)
         × Tells (Grows usage_text) (O.told out.old) (O.told out.new) }
@@ -83,13 +82,13 @@ pub fn run<D: Doors, F: Files, O: Sink, C: Clock, L: Ledger>(
         × Tells (Grows (unread_text name)) (O.told out.old) (O.told out.new) }
     // 6: a fault of the doors was counted, where conversations have more than one reply. What came before it was answered.
     ensures fault { result.0 ≡ 6 → Rose (D.faults doors.old) (D.faults doors.new) }
-    ensures broken { result.0 ≡ 6 → (bytes : List ℕ) × (formulas : List NamedTree)
-        × Takes F.told F.asked files.old files.new (wanted words.now) Replay bytes × IsAppFile bytes formulas
+    ensures broken { result.0 ≡ 6 → (bytes : List ℕ) × (formulas : List Named)
+        × Takes F.told F.asked files.old files.new (wanted words.now) Replay bytes × JudgedApp bytes (Ok formulas)
         × Replayed (D.single doors.old) (started formulas) (C.told clock.old) (C.told clock.new) (D.told doors.old) (D.told doors.new) ReplayEnd.Fault
         × Tells (Grows fault_text) (O.told out.old) (O.told out.new) }
     // 9: as many requests of one conversation were answered as may be, or as many conversations.
-    ensures limit { result.0 ≡ 9 → (bytes : List ℕ) × (formulas : List NamedTree)
-        × Takes F.told F.asked files.old files.new (wanted words.now) Replay bytes × IsAppFile bytes formulas
+    ensures limit { result.0 ≡ 9 → (bytes : List ℕ) × (formulas : List Named)
+        × Takes F.told F.asked files.old files.new (wanted words.now) Replay bytes × JudgedApp bytes (Ok formulas)
         × Replayed (D.single doors.old) (started formulas) (C.told clock.old) (C.told clock.new) (D.told doors.old) (D.told doors.new) ReplayEnd.Full
         × Tells (Grows limit_text) (O.told out.old) (O.told out.new) }
     // 7: a fault of the sink was counted, and what this run had to say was written in part.
@@ -104,17 +103,15 @@ pub fn run<D: Doors, F: Files, O: Sink, C: Clock, L: Ledger>(
     ensures view_idle { IsForm View words.now → (doors.new ≡ doors.old) × (clock.new ≡ clock.old) }
     ensures idle { (result.0 ≡ 1) ⊎ (result.0 ≡ 2) ⊎ (result.0 ≡ 3) ⊎ (result.0 ≡ 4) → (doors.new ≡ doors.old) × (clock.new ≡ clock.old) }
 
-    // A file that is told ends with 0 where it is a list of formulas, and with 1 where it isn't, but for
-    // want of memory and counted faults.
-    ensures built { (bytes : List ℕ) (lines : List NamedTree) → HasFile F.told files.old (wanted words.now) View bytes
-        → IsFirstText bytes lines → EndsWith 0 result.0 (Rose (F.faults files.old) (F.faults files.new)) (Rose (O.faults out.old) (O.faults out.new)) }
-    ensures refused { (bytes : List ℕ) → HasFile F.told files.old (wanted words.now) View bytes
-        → IsNotBuilt bytes → EndsWith 1 result.0 (Rose (F.faults files.old) (F.faults files.new)) (Rose (O.faults out.old) (O.faults out.new)) }
-    // One that is an app is replayed up to an end, and another ends with 1, but for the same.
-    ensures replayed { (bytes : List ℕ) (formulas : List NamedTree) → HasFile F.told files.old (wanted words.now) Replay bytes
-        → IsAppFile bytes formulas → (result.0 ≡ 6) ⊎ (result.0 ≡ 9) ⊎ EndsWith 0 result.0 (Rose (F.faults files.old) (F.faults files.new)) (Rose (O.faults out.old) (O.faults out.new)) }
-    ensures no_app_refused { (bytes : List ℕ) → HasFile F.told files.old (wanted words.now) Replay bytes
-        → IsNoAppFile bytes → EndsWith 1 result.0 (Rose (F.faults files.old) (F.faults files.new)) (Rose (O.faults out.old) (O.faults out.new)) }
+    // A text that is told ends with 0 where it breaks no rule, and each file that is told with 1 where it breaks one,
+    // but for want of memory and counted faults.
+    ensures built { (bytes : List ℕ) (formulas : List Named) → HasFile F.told files.old (wanted words.now) View bytes
+        → Judged bytes (Ok formulas) → EndsWith 0 result.0 (Rose (F.faults files.old) (F.faults files.new)) (Rose (O.faults out.old) (O.faults out.new)) }
+    ensures refused { (form : Form) (bytes : List ℕ) (b : Broken) → HasFile F.told files.old (wanted words.now) form bytes
+        → JudgedAs form bytes (Err b) → EndsWith 1 result.0 (Rose (F.faults files.old) (F.faults files.new)) (Rose (O.faults out.old) (O.faults out.new)) }
+    // One that is an app is replayed up to an end, but for the same.
+    ensures replayed { (bytes : List ℕ) (formulas : List Named) → HasFile F.told files.old (wanted words.now) Replay bytes
+        → JudgedApp bytes (Ok formulas) → (result.0 ≡ 6) ⊎ (result.0 ≡ 9) ⊎ EndsWith 0 result.0 (Rose (F.faults files.old) (F.faults files.new)) (Rose (O.faults out.old) (O.faults out.new)) }
     ensures told { F.told files.new ≡ F.told files.old }
     ensures files_later { F.faults files.old ≤ F.faults files.new }
     ensures doors_later { D.faults doors.old ≤ D.faults doors.new }

@@ -1,11 +1,12 @@
 //! What a run says before it ends.
-ghost use Rattle.std.specs.Prelude.{◌≡◌, ◌≤◌, IfErr, IfOk, List, None, Some};
+ghost use Rattle.std.specs.Prelude.{◌≡◌, ◌≤◌, Err, IfErr, IfOk, List, None, Ok, Some};
 ghost use Rattle.fx_base.specs.Faults.{Rose};
-ghost use Rattle.fx_parser.specs.Lines.{NamedTree};
-ghost use Rattle.office.specs.AppFile.{IsAppFile, IsNoApp};
+ghost use Rattle.fx_named.specs.Judged.{Tells};
+ghost use Rattle.fx_parser.specs.declared.entries.Named.{Named};
+ghost use Rattle.office.specs.AppFile.{JudgedApp};
 ghost use Rattle.office.specs.State.{started, state_of};
 ghost use Rattle.fx_cli.specs.Held.{Replayed};
-ghost use Rattle.fx_cli.specs.Report.{IsIdle, IsUnread, Reports, fault_text, limit_text, memory_text, no_app_text, no_replay, not_built_text, status_of, status_of_end, text_of, text_of_end, unread_text, usage_text};
+ghost use Rattle.fx_cli.specs.Report.{IsIdle, IsRefusal, IsUnread, Reports, fault_text, limit_text, memory_text, no_replay, status_of, status_of_end, text_of, text_of_end, unread_text, usage_text};
 ghost use Rattle.fx_cli.specs.Words.{wanted};
 ghost use Rattle.fx_cli.specs.declared.words.Form.TheVariants.{Replay, View};
 
@@ -16,9 +17,9 @@ use crate::words::{Form, form_of};
 use app_wire::clock::Clock;
 use app_wire::doors::Doors;
 use fx_base::Memory;
-use fx_parser::token::FirstEnd;
+use fx_rules::{AppEnd, lines};
 use fx_steps::Steps;
-use office::{AppEnd, Office, load};
+use office::{Office, load};
 use std::alloc::Global;
 use std::sync::ledger::Ledger;
 
@@ -27,16 +28,14 @@ use std::sync::ledger::Ledger;
 pub enum Report {
     /// The lines of a file's formulas.
     Shown(String),
-    /// The file is no list of formulas over numbers.
-    NotBuilt,
+    /// The file breaks a rule: a line for each break.
+    Broken(String),
     /// The words are no form.
     Usage,
     /// Memory ran out.
     OutOfMemory,
     /// The file could not be read.
     Unread(String),
-    /// The file is no app.
-    NoApp,
     /// The conversations were answered, up to this end.
     Replayed(ReplayEnd),
 }
@@ -48,7 +47,7 @@ impl Report {
     {
         match self {
             Report::Shown(_) => 0,
-            Report::NotBuilt | Report::NoApp => 1,
+            Report::Broken(_) => 1,
             Report::Usage => 2,
             Report::OutOfMemory => 3,
             Report::Unread(_) => 4,
@@ -62,11 +61,10 @@ impl Report {
     {
         match self {
             Report::Shown(text) => text.as_bytes(),
-            Report::NotBuilt => not_built(),
+            Report::Broken(text) => text.as_bytes(),
             Report::Usage => usage(),
             Report::OutOfMemory => out_of_memory(),
             Report::Unread(text) => text.as_bytes(),
-            Report::NoApp => no_app(),
             Report::Replayed(end) => text_of_end(*end),
         }
     }
@@ -90,20 +88,6 @@ fn text_of_end(end: ReplayEnd) -> &'static [u8]
         ReplayEnd::Fault => connection_fault(),
         ReplayEnd::Full => request_limit(),
     }
-}
-
-#[tactic(auto, unfolding(crate::specs::Report::not_built_text))]
-fn not_built() -> &'static [u8]
-    ensures { result.now ≡ not_built_text }
-{
-    b"App.Formulas: E16 NotBuilt at 0: text\n"
-}
-
-#[tactic(auto, unfolding(crate::specs::Report::no_app_text))]
-fn no_app() -> &'static [u8]
-    ensures { result.now ≡ no_app_text }
-{
-    b"App: E16 NotBuilt at 0: app\n"
 }
 
 #[tactic(auto, unfolding(crate::specs::Report::usage_text))]
@@ -178,8 +162,7 @@ fn view_file<F: Files>(alloc: Global, name: &str, files: &mut F) -> Report
     };
     match view_text(alloc, &source) {
         Ok(text) => Report::Shown(text),
-        Err(FirstEnd::NotFirst) => Report::NotBuilt,
-        Err(FirstEnd::Memory) => Report::OutOfMemory,
+        Err(end) => refused(alloc, end),
     }
 }
 
@@ -207,20 +190,32 @@ fn replay_file<D: Doors, F: Files, C: Clock, L: Ledger>(
     };
     match office_of(alloc, &file) {
         Ok(mut office) => Report::Replayed(replay(&mut office, doors, clock, steps)),
-        Err(AppEnd::Refused(_)) => Report::NoApp,
-        Err(AppEnd::Memory) => Report::OutOfMemory,
+        Err(end) => refused(alloc, end),
     }
 }
 
 /// An office that serves the app of a file.
 fn office_of(alloc: Global, file: &[u8]) -> Result<Office, AppEnd>
-    ensures office { IfOk result (λ o. (formulas : List NamedTree) × IsAppFile file.now formulas × (state_of o ≡ started formulas)) }
-    ensures refused { IfErr result (IsNoApp file.now) }
+    ensures office { IfOk result (λ o. (formulas : List Named) × JudgedApp file.now (Ok formulas) × (state_of o ≡ started formulas)) }
+    ensures refused { IfErr result (Tells (λ b. JudgedApp file.now (Err b))) }
 {
     let app = load(alloc, file)?;
     match Office::new(alloc, app) {
         Ok(office) => Ok(office),
         Err(Memory) => Err(AppEnd::Memory),
+    }
+}
+
+/// What breaks rules in a file.
+fn refused(alloc: Global, end: AppEnd) -> Report
+    ensures { IsRefusal end result }
+{
+    match end {
+        AppEnd::Refused(all) => match lines(alloc, &all) {
+            Ok(text) => Report::Broken(text),
+            Err(Memory) => Report::OutOfMemory,
+        },
+        AppEnd::Memory => Report::OutOfMemory,
     }
 }
 

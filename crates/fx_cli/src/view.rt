@@ -1,29 +1,30 @@
 //! What `view` prints: each formula of a text with its value.
-ghost use Rattle.std.specs.Prelude.{◌≡◌, ◌++◌, IfErr, IfOk, List, OnOk, flat_map, map, string_bytes};
+ghost use Rattle.std.specs.Prelude.{◌≡◌, ◌++◌, Err, IfErr, IfOk, List, Ok, OnOk, flat_map, map, string_bytes};
 ghost use Rattle.fx_cli.specs.Plain.{line_of, shown};
 ghost use Rattle.fx_eval.specs.NamedValues.{seen};
-ghost use Rattle.fx_parser.specs.FirstText.{IsFirstText, IsRefused, views};
-ghost use Rattle.fx_parser.specs.Lines.{NamedTree};
+ghost use Rattle.fx_named.specs.Judged.{Judged, Tells};
+ghost use Rattle.fx_parser.specs.declared.entries.Named.{Named};
 
 use fx_base::Memory;
 use fx_eval::{NamedValue, values_of};
-use fx_parser::first::parse_first;
-use fx_parser::token::{FirstEnd, Named};
+use fx_named::load_named;
+use fx_parser::Named;
+use fx_rules::AppEnd;
 use std::alloc::Global;
 use view_text::plain;
 
 /// A line for each formula of the text, in order: its name and its value.
-pub fn view_text(alloc: Global, source: &[u8]) -> Result<String, FirstEnd>
-    ensures ok { IfOk result (λ text. (lines : List NamedTree) × IsFirstText source.now lines × (string_bytes text ≡ shown lines)) }
-    ensures err { IfErr result (IsRefused source.now) }
+pub fn view_text(alloc: Global, source: &[u8]) -> Result<String, AppEnd>
+    ensures ok { IfOk result (λ text. (formulas : List Named) × Judged source.now (Ok formulas) × (string_bytes text ≡ shown formulas)) }
+    ensures err { IfErr result (Tells (λ b. Judged source.now (Err b))) }
 {
-    let formulas = parse_first(alloc, source)?;
+    let formulas = load_named(alloc, source)?;
     Ok(lines_text(alloc, &formulas)?)
 }
 
 /// The lines of formulas.
 fn lines_text(alloc: Global, formulas: &[Named]) -> Result<String, Memory>
-    ensures { IfOk result (λ text. string_bytes text ≡ shown (views formulas.now)) }
+    ensures { IfOk result (λ text. string_bytes text ≡ shown formulas.now) }
 {
     let values = values_of(alloc, formulas)?;
     values_text(alloc, &values)

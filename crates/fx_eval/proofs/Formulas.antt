@@ -7,9 +7,7 @@ use Rattle.std.specs.BTreeMap.{BTreeMap, get, is_at}
 use Rattle.std.specs.Cmp.Lexicographic.{slice_cmp}
 use Rattle.std.specs.Ordering.{nat_cmp}
 use Rattle.fx_data.specs.declared.faults.Kind.TheVariants.{NotFound}
-use Rattle.fx_core.specs.View.{view}
-use Rattle.fx_parser.specs.declared.token.Named.{Named}
-use Rattle.fx_parser.specs.FirstText.{views}
+use Rattle.fx_parser.specs.declared.entries.Named.{Named}
 use Rattle.fx_eval.specs.declared.outcome.Outcome.{Outcome}
 use Rattle.fx_eval.specs.declared.outcome.Outcome.TheVariants.{Error}
 use Rattle.fx_eval.specs.Found.{found_in}
@@ -29,11 +27,11 @@ found_more old new name value updates = fun_ext (λ q.
 -- the values so far, and the value of the next formula
 pub value_more : (values more whole : List (List ℕ × Data)) (formulas : List Named) (i : ℕ) (formula : Named) (old new : BTreeMap (List ℕ) Outcome) (value : Outcome)
     → i < length formulas → formula ≡ get_or formulas i formula
-    → value ≡ value_in (found_in old) (view formula.expr)
+    → value ≡ value_in (found_in old) formula.expr
     → more ≡ values ++ (formula.name, data_of value) ∷ []
     → found_in new ≡ with_value (found_in old) formula.name value
-    → values ++ map named_data (values_after (found_in old) (views (drop i formulas))) ≡ whole
-    → more ++ map named_data (values_after (found_in new) (views (drop (i + 1) formulas))) ≡ whole
+    → values ++ map named_data (values_after (found_in old) (drop i formulas)) ≡ whole
+    → more ++ map named_data (values_after (found_in new) (drop (i + 1) formulas)) ≡ whole
 value_more values more whole formulas i formula old new value below is value_is more_is found so_far =
     rw (found, more_is, value_is, add-one, append_assoc)
     (rw (drop-cons formulas i formula below, ← is) at so_far)

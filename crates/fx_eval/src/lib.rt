@@ -5,6 +5,3 @@ pub mod named;
 pub mod outcome;
 
 pub use named::{NamedValue, values_of};
-
-#[cfg(test)]
-mod tests;

@@ -3,14 +3,13 @@ ghost use Rattle.std.specs.Prelude.{◌≡◌, IfOk, map};
 ghost use Rattle.fx_data.specs.ValueView.{view};
 ghost use Rattle.fx_eval.specs.NamedValues.{seen};
 ghost use Rattle.fx_eval.specs.Values.{data_of, values_of};
-ghost use Rattle.fx_parser.specs.FirstText.{views};
 
 use crate::outcome::{Outcome, value_of};
 use fx_base::Memory;
 use fx_data::faults::Fault;
 use fx_data::values::Value;
 use fx_data::words::Words;
-use fx_parser::token::Named;
+use fx_parser::Named;
 use std::alloc::Global;
 use std::collections::BTreeMap;
 
@@ -23,7 +22,7 @@ pub struct NamedValue {
 
 /// The value of each formula, in order. A formula sees the values of those before it.
 pub fn values_of(alloc: Global, formulas: &[Named]) -> Result<Vec<NamedValue>, Memory>
-    ensures { IfOk result (λ v. map seen v.items ≡ values_of (views formulas.now)) }
+    ensures { IfOk result (λ v. map seen v.items ≡ values_of formulas.now) }
 {
     let mut values = Vec::new(alloc);
     let mut earlier = BTreeMap::new(alloc);

@@ -1,13 +1,12 @@
 //! The values of formulas over numbers.
 ghost use Rattle.std.specs.Prelude.{◌≡◌};
-ghost use Rattle.fx_core.specs.View.{view};
 ghost use Rattle.fx_eval.specs.Found.{found_in};
-ghost use Rattle.fx_eval.specs.Values.{answered, applied, combined, negated, value_in};
+ghost use Rattle.fx_eval.specs.Values.{answered, applied, combined, negated, unbuilt, value_in};
 
-use fx_core::tree::{Expr, Node, Op};
 use fx_data::faults::Kind;
 use fx_data::words::Words;
 use fx_number::{Num, NumErr, add, div, mul, sub};
+use fx_syntax::expr::{Expr, Node, Op};
 use std::collections::BTreeMap;
 
 /// The value of a formula.
@@ -19,7 +18,7 @@ pub enum Outcome {
 
 /// The value of a formula, where names have the values of the lines before it.
 pub fn value_of(earlier: &BTreeMap<Words, Outcome>, expr: &Expr) -> Outcome
-    ensures { result ≡ value_in (found_in earlier.now) (view expr.now) }
+    ensures { result ≡ value_in (found_in earlier.now) expr.now }
 {
     match &expr.node {
         Node::Num(number) => Outcome::Number(*number),
@@ -31,7 +30,15 @@ pub fn value_of(earlier: &BTreeMap<Words, Outcome>, expr: &Expr) -> Outcome
         Node::Pair(op, left, right) => {
             combine(*op, value_of(earlier, left), value_of(earlier, right))
         }
+        _ => unbuilt(),
     }
+}
+
+/// What a form gives that isn't built yet. No formula with one is evaluated.
+fn unbuilt() -> Outcome
+    ensures { result ≡ unbuilt }
+{
+    Outcome::Error(Kind::InvalidArgument)
 }
 
 fn negate(operand: Outcome) -> Outcome
@@ -66,6 +73,7 @@ fn apply(op: Op, left: Num, right: Num) -> Outcome
         Op::Sub => outcome_of(sub(left, right)),
         Op::Mul => outcome_of(mul(left, right)),
         Op::Div => outcome_of(div(left, right)),
+        _ => unbuilt(),
     }
 }
 

@@ -1,13 +1,4 @@
-pub mod Pieces
-pub mod Steps
-pub mod Bytes
-pub mod Readings
-pub mod Ranks
-pub mod Complete
-pub mod Sound
-pub mod LineLaws
-pub mod Turns
-pub mod NameLaws
-pub mod TokenLaws
-pub mod WholeTexts
-pub mod NumberLaws
+pub mod Firsts
+pub mod Cuts
+pub mod Ends
+pub mod Tokens

@@ -1,9 +1,3 @@
-pub mod Classes
-pub mod Scan
-pub mod Lexed
-pub mod Grammar
-pub mod Lines
-pub mod Names
-pub mod FirstText
-pub mod Reading
-pub mod Answer
+pub mod Texts
+pub mod Entries
+pub mod Details

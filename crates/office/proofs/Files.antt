@@ -1,5 +1,5 @@
 -- The JSON of app files.
-use Rattle.std.proofs.Common.{◌≡◌, ℕ, suc, ◌==◌, false, List, [], ◌∷◌, length, Some, String, refl, ap, sym, ◌∙◌, subst, arith}
+use Rattle.std.proofs.Common.{◌≡◌, ℕ, suc, ◌==◌, false, List, [], ◌∷◌, length, Some, None, Result, Err, inl, String, refl, ap, sym, ◌∙◌, subst, arith}
 use Rattle.std.proofs.lemmas.Bool.Decides.{nat_tests}
 use Rattle.std.specs.declared.alloc.Global.{Global}
 use Rattle.serde_json.specs.Data.{Data, Members, array, boolean, null, number, object, string}
@@ -8,11 +8,13 @@ use Rattle.serde_json.specs.Find.{as_object}
 use Rattle.serde_json.specs.Read.{read}
 use Rattle.serde_json.specs.View.{items_view, members_view}
 use Rattle.serde_json.specs.declared.value.Value.{Value}
-use Rattle.fx_parser.specs.FirstText.{IsFirstText}
-use Rattle.office.specs.AppFile.{IsAppData, Refuses, formulas_text, is_empty_list, is_one_screen, member_count, IsNoApp, IsNoAppData}
-use Rattle.office.specs.declared.loader.AppEnd.{AppEnd}
-use Rattle.office.specs.declared.loader.AppEnd.TheVariants.{Refused, Memory}
-use Rattle.office.specs.declared.loader.NotBuilt.{NotBuilt}
+use Rattle.fx_parser.specs.declared.entries.Named.{Named}
+use Rattle.fx_rules.specs.declared.broken.Broken.{Broken}
+use Rattle.fx_rules.specs.declared.end.AppEnd.{AppEnd}
+use Rattle.fx_named.specs.Judged.{IsSame, Judged, Tells}
+use Rattle.fx_named.proofs.OneVerdict.{judged_one}
+use Rattle.fx_named.proofs.Tellings.{tells_this, tells_weaker}
+use Rattle.office.specs.AppFile.{HasJson, JudgedApp, JudgedData, app_form, formulas_text, is_empty_list, is_json, is_one_screen, member_count, no_app, no_json, other_form}
 
 nonzero : (n : ℕ) → (suc n == 0) ≡ false
 nonzero n = grind (arith, nat_tests)
@@ -47,22 +49,34 @@ count_view ms (object other) e = let same : ms ≡ other = cc in ap members_len 
 pub count_is : (ms : List (String Global × Value)) (d : Data) → Some (members_view ms) ≡ as_object d → length ms ≡ member_count d
 count_is ms d e = sym (length_view ms) ∙ count_view (members_view ms) d e
 
--- what is refused of the text of an app is refused of the app
-pub refused_data : (f : NotBuilt) (root : Data) (text : List ℕ) → Some text ≡ formulas_text root → (e : AppEnd) → Refuses f (IsFirstText text) e → Refuses f (IsAppData root) e
-refused_data f root text form (Refused other) h = (
-  h.0,
-  λ formulas app.
-      let same : app.text ≡ text = let both = app.form in cc in
-      h.1 formulas (subst (λ t. IsFirstText t formulas) same app.lines),
-)
-refused_data f root text form Memory h = tt
+-- what ends tell of the JSON, and of the file
+pub tells_form : (root : Data) (text : List ℕ) → Some text ≡ formulas_text root → (e : AppEnd) → Tells (λ b. Judged text (Err b)) e → Tells (λ b. JudgedData root (Err b)) e
+tells_form root text form = tells_weaker (λ b. Judged text (Err b)) (λ b. JudgedData root (Err b)) (λ b h. app_form root text (Err b) (sym form) h)
 
--- what is refused of the JSON of a file is refused of the file
-pub refused_file : (file : List ℕ) (root : Data) → read file ≡ Some root → (e : AppEnd) → IsNoAppData root e → IsNoApp file e
-refused_file file root json (Refused other) h = (
-  h.0,
-  λ formulas app.
-      let same : app.root ≡ root = let both = app.json in cc in
-      h.1 formulas (subst (λ d. IsAppData d formulas) same app.app),
-)
-refused_file file root json Memory h = tt
+pub tells_other : (root : Data) → None ≡ formulas_text root → (e : AppEnd) → Tells (λ b. b ≡ no_app) e → Tells (λ b. JudgedData root (Err b)) e
+tells_other root none e h = tells_this (λ b. JudgedData root (Err b)) no_app (other_form root (sym none)) e h
+
+pub tells_json : (file : List ℕ) (root : Data) → HasJson file root → (e : AppEnd) → Tells (λ b. JudgedData root (Err b)) e → Tells (λ b. JudgedApp file (Err b)) e
+tells_json file root json = tells_weaker (λ b. JudgedData root (Err b)) (λ b. JudgedApp file (Err b)) (λ b h. is_json file root (Err b) json h)
+
+pub tells_none : (file : List ℕ) → ((root : Data) → HasJson file root → ⊥) → (e : AppEnd) → Tells (λ b. b ≡ no_app) e → Tells (λ b. JudgedApp file (Err b)) e
+tells_none file none e h = tells_this (λ b. JudgedApp file (Err b)) no_app (no_json file none) e h
+
+-- a file has one verdict at most
+pub data_one : {root : Data} {v w : Result (List Named) Broken} → JudgedData root v → JudgedData root w → IsSame v w
+data_one (other_form root p) (other_form _ q) = inl refl
+data_one (other_form root p) (app_form _ text w q h) = cc
+data_one (app_form root text v p h) (other_form _ q) = cc
+data_one (app_form root text v p h) (app_form _ words w q k) =
+    let e : Some text ≡ Some words = sym p ∙ q in
+    let same : text ≡ words = cc in
+    judged_one (subst (λ t. Judged t v) same h) k
+
+pub app_one : {file : List ℕ} {v w : Result (List Named) Broken} → JudgedApp file v → JudgedApp file w → IsSame v w
+app_one (no_json file p) (no_json _ q) = inl refl
+app_one (no_json file p) (is_json _ root w q h) = absurd (p root q)
+app_one (is_json file root v p h) (no_json _ q) = absurd (q root p)
+app_one (is_json file root v p h) (is_json _ other w q k) =
+    let e : Some root ≡ Some other = sym p.json ∙ q.json in
+    let same : root ≡ other = cc in
+    data_one (subst (λ d. JudgedData d v) same h) k

@@ -65,7 +65,7 @@ route_others Named Delete name s other differ = refl
 route_others Named Other name s other differ = refl
 
 -- the route of a caller's path
-route_is : (method : Method) (path : List ℕ) (route : Result Route RouteEnd) (place : Place) (name : List ℕ)
+pub route_is : (method : Method) (path : List ℕ) (route : Result Route RouteEnd) (place : Place) (name : List ℕ)
     → IsPathOf path place name → route ≢ Err Memory → Routing method path route → route ≡ route_at place method name
 route_is method path route place name p known (inl m) = absurd (known m)
 route_is method path route place name p known (inr (inl k)) =

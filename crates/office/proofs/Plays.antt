@@ -83,6 +83,9 @@ none_before : (n : ℕ) (one : Bool) → (0 < n → one ≡ false) → one ≡ t
 none_before zero one only h = refl
 none_before (suc k) one only h = let no : false ≡ true = sym (only (omega arith)) ∙ h in absurd (cc)
 
+not_after_one : (n m : ℕ) (one : Bool) → (0 < n → one ≡ false) → m ≡ n → one ≡ true → m ≡ 1 → ⊥
+not_after_one n m one only e h single = let no : false ≡ true = sym (only (omega (arith, e, single))) ∙ h in cc
+
 -- before anything came
 pub goes_first : (old : State) (a : Doorway) → Goes [] old old [] 0 a a
 goes_first old a = record { replies = []; run = (refl, refl); count_is = refl; few = omega arith; talked = record { is = writes_none a } }
@@ -136,6 +139,7 @@ ends_after_one moments old s n held a b g only = record {
     over = inr (inr (inr (refl, g.count_is ∙ only, refl)));
     out_is = ap concat (sym (append-nil g.replies));
   };
+  taken = λ _ _. (held, refl, g.few);
   talked = g.talked;
 }
 
@@ -162,6 +166,7 @@ ends_saying moments one old s n held words below only a b c d g only_read over w
     over = over (length g.replies);
     out_is = sym (concat_more g.replies words);
   };
+  taken = λ single after_one. absurd (not_after_one n (length g.replies) one only g.count_is single after_one);
   talked = talked_more (concat g.replies) words a b c d g.talked only_read w;
 }
 
@@ -196,6 +201,7 @@ ends_quiet moments one old s n held held' below only a b c g f = record {
     over = inl (f.0, refl);
     out_is = ap concat (sym (append-nil g.replies));
   };
+  taken = λ single after_one. absurd (not_after_one n (length g.replies) one only g.count_is single after_one);
   talked = talked_read (concat g.replies) a b c g.talked f.1.3;
 }
 

@@ -7,11 +7,11 @@ use Rattle.serde_json.specs.Written.{compact_text}
 use Rattle.serde_json.proofs.OnLiterals.{serde_json_on_literals}
 use Rattle.app_wire.specs.ReplyBytes.{refusal_body}
 use Rattle.fx_eval.specs.Values.{values_of}
-use Rattle.fx_parser.specs.Lines.{NamedTree}
+use Rattle.fx_parser.specs.declared.entries.Named.{Named as Formula}
 use Rattle.view_text.specs.JsonText.{tagged}
 use Rattle.view_text.specs.RefusalText.{refusal_text}
 use Rattle.view_text.specs.ReplyText.{named_data, named_text}
-use Rattle.view_text.specs.declared.refusals.Detail.TheVariants as detail
+use Rattle.view_text.specs.declared.refused.Detail.TheVariants as detail
 use Rattle.view_text.specs.declared.replies.Named.{Named}
 use Rattle.office.specs.NamedReply.{named_body, pair_data, shown}
 
@@ -20,7 +20,7 @@ by_pairs [] = refl
 by_pairs (r ∷ rs) = ap (λ ds. named_data r ∷ ds) (by_pairs rs)
 
 -- rows with the values of the formulas are the body
-pub named_is : (rows : List Named) (app : List NamedTree) → map shown rows ≡ values_of app → named_text rows ≡ named_body app
+pub named_is : (rows : List Named) (app : List Formula) → map shown rows ≡ values_of app → named_text rows ≡ named_body app
 unfolding named_body
 named_is rows app h = ap (λ ds. compact_text (tagged (110 ∷ 97 ∷ 109 ∷ 101 ∷ 100 ∷ []) (array (items_of ds)))) (by_pairs rows ∙ ap (map pair_data) h)
 

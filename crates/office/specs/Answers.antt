@@ -17,12 +17,12 @@ Run old bytes [] (said ∷ replies) new left = ⊥
 Run old bytes (moment ∷ moments) [] new left = ⊥
 
 -- Why a conversation is over after so many replies, and what is said last: no byte is left, the bytes that are left are
--- refused, memory ran out in finding a request, or the doors end it after one reply.
+-- refused, memory ran out in finding a request in them, or the doors end it after one reply.
 abbrev pub IsOver : Bool → ℕ → List ℕ → List (List ℕ) → Type 0
 IsOver one count left last =
     (Framing left true nothing × (last ≡ []))
     ⊎ ((code : ℕ) × Framing left true (refused code) × (last ≡ refusal code ∷ []))
-    ⊎ (last ≡ refusal 26 ∷ [])
+    ⊎ ((0 < length left) × (last ≡ refusal 26 ∷ []))
     ⊎ ((one ≡ true) × (count ≡ 1) × (last ≡ []))
 
 -- the most requests that are answered in one conversation
@@ -99,10 +99,12 @@ pub record Goes (moments : List ℕ) (old new : State) (held : List ℕ) (count 
   pub few : length held ≤ most_read
   pub talked : Talked (concat replies) a b
 
--- the present conversation was answered to its end
+-- The present conversation was answered to its end. Where the doors ended it after one reply, little was taken of what
+-- follows.
 pub record Ends (one : Bool) (moments : List ℕ) (old new : State) (a b : Doorway) : Type 0 where
   pub out : List ℕ
   pub answers : Answers one old moments a.unread out new
+  pub taken : one ≡ true → length answers.replies ≡ 1 → TakesLittle answers.left b.unread
   pub talked : Talked out a b
 
 -- as many requests of it were answered as may be
@@ -116,3 +118,10 @@ pub record Fails (one : Bool) (moments : List ℕ) (old new : State) (a b : Door
   pub out : List ℕ
   pub breaks : Breaks one old moments a.unread out new b.unread
   pub talked : Talked out a b
+
+-- a conversation of no bytes gets none, and changes nothing, also where the doors fail in it
+abbrev pub IsSilent : Type 0
+IsSilent =
+    (one : Bool) (old new : State) (moments out : List ℕ)
+    → Answers one old moments [] out new ⊎ ((unread : List ℕ) × Breaks one old moments [] out new unread)
+    → (out ≡ []) × (moments ≡ []) × (new ≡ old)

@@ -1,16 +1,14 @@
 -- The app file.
-use Rattle.std.specs.Prelude.{◌≡◌, ◌≤◌, ◌==◌, ◌&&◌, ℕ, Bool, true, false, List, Option, Some, None, length, codes, bytes_eq, is_some, option_and_then, if◌then◌else◌}
+use Rattle.std.specs.Prelude.{◌≡◌, ◌≤◌, ◌==◌, ◌&&◌, ℕ, Bool, true, false, List, Option, Some, None, Result, Err, length, codes, bytes_eq, is_some, option_and_then, if◌then◌else◌}
 use Rattle.std.specs.Str.{IsUtf8}
 use Rattle.serde_json.specs.Data.{Data, object, Items, no_items, item}
 use Rattle.serde_json.specs.Events.{members_len}
 use Rattle.serde_json.specs.Find.{as_array, as_str, get}
 use Rattle.serde_json.specs.Read.{read}
-use Rattle.fx_parser.specs.FirstText.{IsFirstText}
-use Rattle.fx_parser.specs.Lines.{NamedTree}
-use Rattle.office.specs.declared.loader.AppEnd.{AppEnd}
-use Rattle.office.specs.declared.loader.AppEnd.TheVariants.{Refused, Memory}
-use Rattle.office.specs.declared.loader.NotBuilt.{NotBuilt}
-use Rattle.office.specs.declared.loader.NotBuilt.TheVariants as form
+use Rattle.fx_parser.specs.declared.entries.Named.{Named}
+use Rattle.fx_rules.specs.declared.broken.Broken.{Broken}
+use Rattle.fx_rules.specs.declared.rule.Rule.TheVariants.{NotBuilt}
+use Rattle.fx_named.specs.Judged.{Judged, in_app}
 
 -- how many members an object has
 abbrev pub member_count : Data → ℕ
@@ -54,38 +52,22 @@ formulas_text d =
 abbrev pub most_bytes : ℕ
 most_bytes = 4194304
 
--- The JSON is an app, and these are its named formulas.
-pub record IsAppData (root : Data) (formulas : List NamedTree) : Type 0 where
-  pub text : List ℕ
-  pub form : formulas_text root ≡ Some text
-  pub lines : IsFirstText text formulas
-
--- The file is an app, and these are its named formulas. Of two members with one key the last one counts.
-pub record IsAppFile (file : List ℕ) (formulas : List NamedTree) : Type 0 where
+-- The file is this JSON. Of two members with one key the last one counts.
+pub record HasJson (file : List ℕ) (root : Data) : Type 0 where
   pub short : length file ≤ most_bytes
   pub utf8 : IsUtf8 file
-  pub root : Data
   pub json : read file ≡ Some root
-  pub app : IsAppData root formulas
 
--- what an error says: this form isn't built, and what would be built has no formulas; or nothing
-abbrev pub Refuses : NotBuilt → (List NamedTree → Type 0) → AppEnd → Type 0
-Refuses f Is (Refused other) = (other ≡ f) × ((formulas : List NamedTree) → Is formulas → ⊥)
-Refuses f Is Memory = Unit {0}
+-- the break of a file that is no app
+abbrev pub no_app : Broken
+no_app = in_app NotBuilt (codes "app")
 
--- the file is no app of the form that is built
-abbrev pub IsNoApp : List ℕ → AppEnd → Type 0
-IsNoApp file = Refuses form.File (IsAppFile file)
+-- JSON, judged: it is of no app that is built, or its text of named formulas is judged.
+pub data JudgedData : Data → Result (List Named) Broken → Type 0 where
+  other_form : (root : Data) → formulas_text root ≡ None → JudgedData root (Err no_app)
+  app_form : (root : Data) (text : List ℕ) (v : Result (List Named) Broken) → formulas_text root ≡ Some text → Judged text v → JudgedData root v
 
--- the JSON is none
-abbrev pub IsNoAppData : Data → AppEnd → Type 0
-IsNoAppData root = Refuses form.File (IsAppData root)
-
--- the text is no list of named formulas over numbers
-abbrev pub IsNotOf : NotBuilt → List ℕ → AppEnd → Type 0
-IsNotOf f text = Refuses f (IsFirstText text)
-
--- the line that is printed
-abbrev pub line_of : NotBuilt → List ℕ
-line_of form.File = codes "App: E16 NotBuilt at 0: app"
-line_of form.Text = codes "App.Formulas: E16 NotBuilt at 0: text"
+-- Files, judged: they are apps of these named formulas, or this is the first thing that is wrong.
+pub data JudgedApp : List ℕ → Result (List Named) Broken → Type 0 where
+  no_json : (file : List ℕ) → ((root : Data) → HasJson file root → ⊥) → JudgedApp file (Err no_app)
+  is_json : (file : List ℕ) (root : Data) (v : Result (List Named) Broken) → HasJson file root → JudgedData root v → JudgedApp file v

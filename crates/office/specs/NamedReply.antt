@@ -7,7 +7,7 @@ use Rattle.serde_json.specs.Written.{compact_text}
 use Rattle.fx_data.specs.Values.{Data}
 use Rattle.fx_data.specs.ValueView.{view}
 use Rattle.fx_eval.specs.Values.{values_of}
-use Rattle.fx_parser.specs.Lines.{NamedTree}
+use Rattle.fx_parser.specs.declared.entries.Named.{Named as Formula}
 use Rattle.view_text.specs.JsonText.{tagged, value_data}
 use Rattle.view_text.specs.declared.replies.Named.{Named}
 
@@ -16,7 +16,7 @@ abbrev pub pair_data : List ℕ × Data → json.Data
 pair_data p = object (member (codes "name") (string (encode_utf8_all p.0)) (member (codes "value") (value_data p.1) no_members))
 
 -- `{"named":[..]}`: each named formula of the app with its value, evaluated afresh
-unfoldable pub named_body : List NamedTree → List ℕ
+unfoldable pub named_body : List Formula → List ℕ
 named_body app = compact_text (tagged (codes "named") (array (items_of (map pair_data (values_of app)))))
 
 -- a row of the reply, as its name and its value

@@ -38,6 +38,12 @@ pub record Step (old : State) (moment : ℕ) (request : Asked) (said : List ℕ)
   pub known : route ≢ Err Memory
   pub done : (new, said) ≡ carried_out route old
 
+-- a request has one answer: the same state goes to the same state with the same reply
+abbrev pub IsOneAnswer : Type 0
+IsOneAnswer =
+    (old new new' : State) (moment : ℕ) (request : Asked) (said said' : List ℕ)
+    → Step old moment request said new → Step old moment request said' new' → (new ≡ new') × (said ≡ said')
+
 -- the step, or want of memory (26) in its place, which leaves the office as it was
 abbrev pub Answered : State → ℕ → Asked → List ℕ → State → Type 0
 Answered old moment request said new =

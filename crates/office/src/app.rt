@@ -6,7 +6,7 @@ ghost use Rattle.office.specs.State.{formulas_of};
 
 use fx_base::Memory;
 use fx_eval::{NamedValue, values_of};
-use fx_parser::token::Named as Formula;
+use fx_parser::Named as Formula;
 use std::alloc::Global;
 use view_text::{Named, named_json};
 

@@ -10,9 +10,7 @@ pub mod reply;
 
 pub use app::App;
 pub use converse::{ConvEnd, MOST_REQUESTS};
-pub use loader::{AppEnd, NotBuilt, load, load_named};
+pub use fx_rules::AppEnd;
+pub use loader::{load, load_named};
 pub use machine::{MOST_SESSIONS, Office};
 pub use reply::Reply;
-
-#[cfg(test)]
-mod tests;

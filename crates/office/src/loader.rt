@@ -1,98 +1,63 @@
 //! Apps from their files.
-ghost use Rattle.std.specs.Prelude.{◌≡◌, IfErr, IfOk, codes, option_map};
-ghost use Rattle.fx_parser.specs.FirstText.{IsFirstText};
+ghost use Rattle.std.specs.Prelude.{◌≡◌, Err, IfErr, IfOk, Ok, codes, option_map};
+ghost use Rattle.fx_named.specs.Judged.{Judged, Tells};
 ghost use Rattle.serde_json.specs.Find.{as_array};
 ghost use Rattle.serde_json.specs.View.{items_view, view};
-ghost use Rattle.office.specs.AppFile.{IsAppData, IsAppFile, IsNoApp, IsNoAppData, IsNotOf, formulas_text, is_bare_screen, is_empty_list, is_one_screen, is_text, items_at, line_of, member_count, text_at};
+ghost use Rattle.office.specs.AppFile.{JudgedApp, JudgedData, formulas_text, is_bare_screen, is_empty_list, is_one_screen, is_text, items_at, member_count, no_app, text_at};
 ghost use Rattle.office.specs.State.{formulas_of};
 
 use crate::app::App;
-use fx_parser::first::parse_first;
-use fx_parser::token::FirstEnd;
+use fx_rules::{AppEnd, Rule};
 use serde_json::Value as Json;
 use std::alloc::Global;
 
 /// The most bytes of an app file.
 const MOST_BYTES: usize = 4_194_304;
 
-/// Why there is no app.
-#[derive(Clone, Copy, Debug, PartialEq, Eq)]
-pub enum AppEnd {
-    /// A form that isn't built yet.
-    Refused(NotBuilt),
-    /// Memory ran out.
-    Memory,
-}
-
-/// The forms that aren't built yet.
-#[derive(Clone, Copy, Debug, PartialEq, Eq)]
-pub enum NotBuilt {
-    /// An app file with more than named formulas over numbers, or none at all.
-    File,
-    /// A text that is no list of named formulas over numbers.
-    Text,
-}
-
-impl NotBuilt {
-    /// The line that says so.
-    pub fn line(self) -> &'static str
-        ensures { result.now ≡ line_of self }
-    {
-        match self {
-            NotBuilt::File => "App: E16 NotBuilt at 0: app",
-            NotBuilt::Text => "App.Formulas: E16 NotBuilt at 0: text",
-        }
-    }
-}
-
-/// The app of a file: JSON with the format `pfx-1`, named formulas over numbers, and one screen without controls. Every
-/// other file is refused.
+/// The app of a file: JSON with the format `pfx-1`, named formulas, and one screen without controls. Every other file is
+/// refused, and one with formulas that break a rule.
 pub fn load(alloc: Global, bytes: &[u8]) -> Result<App, AppEnd>
-    ensures app { IfOk result (λ a. IsAppFile bytes.now (formulas_of a)) }
-    ensures refused { IfErr result (IsNoApp bytes.now) }
+    ensures app { IfOk result (λ a. JudgedApp bytes.now (Ok (formulas_of a))) }
+    ensures refused { IfErr result (Tells (λ b. JudgedApp bytes.now (Err b))) }
 {
     if bytes.len() > MOST_BYTES {
-        return Err(AppEnd::Refused(NotBuilt::File));
+        return Err(no_app(alloc));
     }
     let Ok(text) = std::str::from_utf8(bytes) else {
-        return Err(AppEnd::Refused(NotBuilt::File));
+        return Err(no_app(alloc));
     };
     match Json::from_str(alloc, text) {
         Ok(root) => app_in(alloc, &root),
         Err(error) if error.is_memory() => Err(AppEnd::Memory),
-        Err(_) => Err(AppEnd::Refused(NotBuilt::File)),
+        Err(_) => Err(no_app(alloc)),
     }
 }
 
-/// The app of a text of named formulas over numbers. Every other text is refused.
-pub fn load_named(alloc: Global, bytes: &[u8]) -> Result<App, AppEnd>
-    ensures app { IfOk result (λ a. IsFirstText bytes.now (formulas_of a)) }
-    ensures refused { IfErr result (IsNotOf NotBuilt.Text bytes.now) }
+/// That a file is no app.
+fn no_app(alloc: Global) -> AppEnd
+    ensures { Tells (λ b. b ≡ no_app) result }
 {
-    app_of(alloc, bytes, NotBuilt::Text)
-}
-
-/// The app of a text. One that isn't built is refused as this form.
-fn app_of(alloc: Global, text: &[u8], form: NotBuilt) -> Result<App, AppEnd>
-    ensures app { IfOk result (λ a. IsFirstText text.now (formulas_of a)) }
-    ensures refused { IfErr result (IsNotOf form text.now) }
-{
-    match parse_first(alloc, text) {
-        Ok(formulas) => Ok(App { formulas }),
-        Err(FirstEnd::NotFirst) => Err(AppEnd::Refused(form)),
-        Err(FirstEnd::Memory) => Err(AppEnd::Memory),
-    }
+    fx_named::in_app(alloc, Rule::NotBuilt, "app")
 }
 
 /// The app that a file's JSON is.
 fn app_in(alloc: Global, root: &Json) -> Result<App, AppEnd>
-    ensures app { IfOk result (λ a. IsAppData (view root.now) (formulas_of a)) }
-    ensures refused { IfErr result (IsNoAppData (view root.now)) }
+    ensures app { IfOk result (λ a. JudgedData (view root.now) (Ok (formulas_of a))) }
+    ensures refused { IfErr result (Tells (λ b. JudgedData (view root.now) (Err b))) }
 {
     match formulas_text(root) {
-        Some(text) => app_of(alloc, text.as_bytes(), NotBuilt::File),
-        None => Err(AppEnd::Refused(NotBuilt::File)),
+        Some(text) => load_named(alloc, text.as_bytes()),
+        None => Err(no_app(alloc)),
     }
+}
+
+/// The app of a text of named formulas. A text that breaks a rule is refused.
+pub fn load_named(alloc: Global, bytes: &[u8]) -> Result<App, AppEnd>
+    ensures app { IfOk result (λ a. Judged bytes.now (Ok (formulas_of a))) }
+    ensures refused { IfErr result (Tells (λ b. Judged bytes.now (Err b))) }
+{
+    let formulas = fx_named::load_named(alloc, bytes)?;
+    Ok(App { formulas })
 }
 
 /// The text of the named formulas, where the JSON is an app of the form that is built.

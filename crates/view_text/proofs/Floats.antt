@@ -12,9 +12,9 @@ use Rattle.view_text.specs.JsonText.{value_data, fields_data, rows_data, tagged,
 use Rattle.view_text.specs.ReplyText.{named_data, all_named_data}
 use Rattle.view_text.specs.RefusalText.{detail_data, line_data, id_data, refusal_data}
 use Rattle.view_text.specs.declared.replies.Named.{Named}
-use Rattle.view_text.specs.declared.refusals.Refusal.{Refusal}
-use Rattle.view_text.specs.declared.refusals.Detail.{Detail}
-use Rattle.view_text.specs.declared.refusals.Detail.TheVariants as detail
+use Rattle.view_text.specs.declared.refused.Refusal.{Refusal}
+use Rattle.view_text.specs.declared.refused.Detail.{Detail}
+use Rattle.view_text.specs.declared.refused.Detail.TheVariants as detail
 
 integer_has_none : (z : ℤ) → is_float (of_integer z) ≡ false
 integer_has_none (pos n) = refl

@@ -1,4 +1,3 @@
-pub mod CivilDays
 mod Floats
 mod JsonLemmas
 mod Quotes

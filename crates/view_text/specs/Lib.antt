@@ -1,4 +1,3 @@
-pub mod DateText
 pub mod JsonText
 pub mod PlainText
 pub mod RefusalText

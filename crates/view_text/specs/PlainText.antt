@@ -4,7 +4,7 @@ use Rattle.fx_data.specs.declared.faults.Kind.{Kind}
 use Rattle.fx_data.specs.declared.faults.Kind.TheVariants.{Div0, Numeric, InvalidArgument, NotFound, MissingRequired, ConstraintViolated, QuotaExceeded, Validation, Custom}
 use Rattle.fx_data.specs.Values.{Data, blank, number, text, boolean, date, rec, tab, fault, FieldList, no_fields, field, RowList, no_rows, row}
 use Rattle.fx_number.specs.Spelling.{text_of}
-use Rattle.view_text.specs.DateText.{date_text}
+use Rattle.fx_calendar.specs.DateText.{date_text}
 
 abbrev pub kind_name : Kind → List ℕ
 kind_name Div0 = codes "Div0"

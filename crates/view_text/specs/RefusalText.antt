@@ -1,33 +1,14 @@
--- Refusals: their names, their statuses and their JSON.
-use Rattle.std.specs.Prelude.{◌≡◌, ◌⊎◌, ◌≢◌, ℕ, ◌-◌, List, [], ◌∷◌, Option, Some, None, map, codes, encode_utf8_all, slice_index_or}
+-- The JSON of refusals.
+use Rattle.std.specs.Prelude.{◌≡◌, ◌⊎◌, ◌≢◌, ℕ, List, Option, Some, None, map, codes, encode_utf8_all}
 use Rattle.std.specs.Int.{IsInRange}
 use Rattle.serde_json.specs.Data.{Data, null, number, unsigned, string, array, object, member, no_members}
 use Rattle.serde_json.specs.View.{items_of}
 use Rattle.serde_json.specs.Written.{compact_text}
+use Rattle.refusals.specs.Refusals.{name_of}
 use Rattle.view_text.specs.JsonText.{tagged}
-use Rattle.view_text.specs.declared.refusals.Refusal.{Refusal}
-use Rattle.view_text.specs.declared.refusals.Detail.{Detail}
-use Rattle.view_text.specs.declared.refusals.Detail.TheVariants as detail
-
--- the refusals by number from 1, each with its name and its HTTP status
-abbrev pub refusals : List (List ℕ × ℕ)
-refusals = (codes "BadHead", 400) ∷ (codes "HeadTooLong", 431) ∷ (codes "BadLength", 400) ∷ (codes "BodyTooLong", 413)
-    ∷ (codes "NotOffered", 501) ∷ (codes "CutShort", 400) ∷ (codes "NoRoute", 404) ∷ (codes "WrongMethod", 405)
-    ∷ (codes "BadJson", 400) ∷ (codes "BadShape", 400) ∷ (codes "NoSession", 404) ∷ (codes "TooManyCallers", 429)
-    ∷ (codes "OutOfStep", 409) ∷ (codes "SeqReused", 409) ∷ (codes "NoControl", 404) ∷ (codes "NoEvent", 409)
-    ∷ (codes "NotShown", 409) ∷ (codes "NoItem", 409) ∷ (codes "ItemMoved", 409) ∷ (codes "BadInput", 422)
-    ∷ (codes "NoTable", 404) ∷ (codes "NoRow", 404) ∷ (codes "RowRefused", 422) ∷ (codes "EditRefused", 422)
-    ∷ (codes "KeeperFault", 503) ∷ (codes "WantOfMemory", 507) ∷ (codes "MoveRefused", 422) ∷ (codes "ImportRefused", 422) ∷ []
-
--- what stands in that table under a number
-abbrev pub refusal_of : ℕ → List ℕ × ℕ
-refusal_of code = slice_index_or refusals (code - 1) ([], 0)
-
-abbrev pub refusal_name : ℕ → List ℕ
-refusal_name code = (refusal_of code).0
-
-abbrev pub status_of : ℕ → ℕ
-status_of code = (refusal_of code).1
+use Rattle.view_text.specs.declared.refused.Refusal.{Refusal}
+use Rattle.view_text.specs.declared.refused.Detail.{Detail}
+use Rattle.view_text.specs.declared.refused.Detail.TheVariants as detail
 
 -- the refusal with this number has this kind of detail
 abbrev pub Fits : ℕ → Detail → Type 0
@@ -65,7 +46,7 @@ detail_data (detail.Move table column rule) = move_data (encode_utf8_all table) 
 -- `{"refused":{"code":..,"detail":..,"name":..}}`
 abbrev pub refusal_data : Refusal → Data
 refusal_data r = tagged (codes "refused")
-    (object (member (codes "code") (number (unsigned r.code)) (member (codes "detail") (detail_data r.detail) (member (codes "name") (string (refusal_name r.code)) no_members))))
+    (object (member (codes "code") (number (unsigned r.code)) (member (codes "detail") (detail_data r.detail) (member (codes "name") (string (name_of r.code)) no_members))))
 
 abbrev pub refusal_text : Refusal → List ℕ
 refusal_text r = compact_text (refusal_data r)

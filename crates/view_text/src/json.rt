@@ -6,9 +6,9 @@ ghost use Rattle.fx_data.specs.Values.{field_list, row_list};
 ghost use Rattle.fx_data.specs.ValueView.{view};
 ghost use Rattle.view_text.specs.JsonText.{error_data, fields_data, number_data, rows_data, tagged, value_data};
 
-use crate::dates::date_text;
 use crate::plain_form::kind_text;
 use fx_base::Memory;
+use fx_calendar::date_text;
 use fx_data::{Fault, Fields, Rows, Value};
 use fx_number::Num;
 use serde_json::{Map, Value as Json, json};

@@ -5,8 +5,8 @@ ghost use Rattle.fx_data.specs.Values.{field_list, row_list};
 ghost use Rattle.fx_data.specs.ValueView.{view};
 ghost use Rattle.view_text.specs.PlainText.{comma_if, doubled, error_text, fields_text, kind_name, plain_text, quoted_text, rows_text};
 
-use crate::dates::date_text;
 use fx_base::Memory;
+use fx_calendar::date_text;
 use fx_data::{Fields, Kind, Rows, Value, Words};
 use std::alloc::Global;
 

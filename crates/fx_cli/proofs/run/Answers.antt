@@ -1,8 +1,8 @@
 use Rattle.std.proofs.Common.{◌∙◌, refl, sym}
 use Rattle.fx_cli.specs.Words.{wanted}
 use Rattle.fx_cli.specs.declared.replay.ReplayEnd.TheVariants.{Done, Fault, Full}
-use Rattle.fx_cli.proofs.Said.{idle_at, idle_status, idle_view, is_done, is_fault, is_full, no_app_said, not_built_at, not_seven, one_to_four, replay_at, shown_at, status_at, status_or_7, unread_at, view_status_or_7}
-use Rattle.fx_cli.proofs.Reported.{built_at, no_app_at, or_fault, or_fault_replayed, refused_at, replayed_at}
+use Rattle.fx_cli.proofs.Said.{broken_at, idle_at, idle_status, idle_view, is_done, is_fault, is_full, not_seven, one_to_four, replay_at, shown_at, status_at, status_or_7, unread_at, view_status_or_7}
+use Rattle.fx_cli.proofs.Reported.{built_at, or_fault, or_fault_replayed, refused_at, replayed_at}
 use Rattle.fx_cli.proofs.run.Goals as goal
 
 pub returns-clause-built : goal.returns-clause-built
@@ -11,19 +11,14 @@ returns-clause-built g c = λ bytes lines has is. or_fault 0 _ _ _ _ (λ other. 
     c.carry_out-report.result _ bytes lines c.carry_out-report.ensures.reports has is)
 
 pub returns-clause-refused : goal.returns-clause-refused
-returns-clause-refused g c = λ bytes has none. or_fault 1 _ _ _ _ (λ other. (c.say.ensures.said other).0) c.say.ensures.sink
+returns-clause-refused g c = λ form bytes b has is. or_fault 1 _ _ _ _ (λ other. (c.say.ensures.said other).0) c.say.ensures.sink
     (refused_at g.F.Files.told g.F.Files.asked g.F.Files.faults c.args.files.now c.carry_out-report.new.files _ (wanted c.args.words.now)
-    c.carry_out-report.result _ bytes c.carry_out-report.ensures.reports has none)
+    c.carry_out-report.result _ form bytes b c.carry_out-report.ensures.reports has is)
 
 pub returns-clause-replayed : goal.returns-clause-replayed
 returns-clause-replayed g c = λ bytes formulas has is. or_fault_replayed _ _ _ _ (λ other. (c.say.ensures.said other).0) c.say.ensures.sink
     (replayed_at g.F.Files.told g.F.Files.asked g.F.Files.faults c.args.files.now c.carry_out-report.new.files _ (wanted c.args.words.now)
     c.carry_out-report.result _ bytes formulas c.carry_out-report.ensures.reports has is)
-
-pub returns-clause-no_app_refused : goal.returns-clause-no_app_refused
-returns-clause-no_app_refused g c = λ bytes has none. or_fault 1 _ _ _ _ (λ other. (c.say.ensures.said other).0) c.say.ensures.sink
-    (no_app_at g.F.Files.told g.F.Files.asked g.F.Files.faults c.args.files.now c.carry_out-report.new.files _ (wanted c.args.words.now)
-    c.carry_out-report.result _ bytes c.carry_out-report.ensures.reports has none)
 
 pub returns-clause-headline : goal.returns-clause-headline
 returns-clause-headline g c = λ e form.
@@ -36,15 +31,10 @@ returns-clause-shown g c = λ e form.
     let said = c.say.ensures.said (not_seven _ 0 refl e) in
     shown_at g.F.Files.told g.F.Files.asked g.F.Files.faults c.args.files.now c.carry_out-report.new.files _ (wanted c.args.words.now) c.carry_out-report.result c.carry_out-report.ensures.reports (sym said.0 ∙ e) form.0 form.1 _ _ said.1
 
-pub returns-clause-not_built : goal.returns-clause-not_built
-returns-clause-not_built g c = λ e form.
+pub returns-clause-breaks : goal.returns-clause-breaks
+returns-clause-breaks g c = λ e.
     let said = c.say.ensures.said (not_seven _ 1 refl e) in
-    not_built_at g.F.Files.told g.F.Files.asked g.F.Files.faults c.args.files.now c.carry_out-report.new.files _ (wanted c.args.words.now) c.carry_out-report.result c.carry_out-report.ensures.reports (sym said.0 ∙ e) form.0 form.1 _ _ said.1
-
-pub returns-clause-no_app : goal.returns-clause-no_app
-returns-clause-no_app g c = λ e form.
-    let said = c.say.ensures.said (not_seven _ 1 refl e) in
-    no_app_said g.F.Files.told g.F.Files.asked g.F.Files.faults c.args.files.now c.carry_out-report.new.files _ (wanted c.args.words.now) c.carry_out-report.result c.carry_out-report.ensures.reports (sym said.0 ∙ e) form.0 form.1 _ _ said.1
+    broken_at g.F.Files.told g.F.Files.asked g.F.Files.faults c.args.files.now c.carry_out-report.new.files _ (wanted c.args.words.now) c.carry_out-report.result c.carry_out-report.ensures.reports (sym said.0 ∙ e) _ _ said.1
 
 pub returns-clause-unread : goal.returns-clause-unread
 returns-clause-unread g c = λ e.

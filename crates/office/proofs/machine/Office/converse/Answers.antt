@@ -66,7 +66,7 @@ returns-in-Memory-clause-ended g c e =
       inv.0,
       inv.1,
       three (λ a b x d i f w. ends_saying inv.0 _ (state_of c.args.self.now) (state_of c.loop-answered.self) c.loop-answered.answered c.loop-answered.framer (refusal 26)
-          c.loop-answered-test.true c.loop-answered.invariant.only a b x d i f.0 (λ count. inr (inr (inl refl))) w)
+          c.loop-answered-test.true c.loop-answered.invariant.only a b x d i f.1 (λ count. inr (inr (inl (f.0, refl)))) w)
           inv.2 c.in-Memory.ensures.found (c.last_words-in-Memory.ensures.ended e),
     )
 
@@ -76,7 +76,7 @@ returns-in-Memory-clause-faulted g c e =
       inv.0,
       inv.1,
       three (λ a b x d i f w. breaks_saying inv.0 _ (state_of c.args.self.now) (state_of c.loop-answered.self) c.loop-answered.answered c.loop-answered.framer (refusal 26)
-          c.loop-answered-test.true c.loop-answered.invariant.only a b x d i f.0 (λ count. inr (inr (inl refl))) w)
+          c.loop-answered-test.true c.loop-answered.invariant.only a b x d i f.1 (λ count. inr (inr (inl (f.0, refl)))) w)
           inv.2 c.in-Memory.ensures.found (c.last_words-in-Memory.ensures.faulted e),
     )
 

@@ -1,4 +1,0 @@
-//! The trees of formulas.
-#![tactic(auto)]
-
-pub mod tree;

@@ -1,0 +1,4 @@
+pub mod Forms
+pub mod Tops
+pub mod Breaks
+pub mod Judged

@@ -1,0 +1,2 @@
+pub mod BrokenText
+pub mod Rules

@@ -1,0 +1,42 @@
+-- The rules that an app can break.
+use Rattle.std.specs.Prelude.{ℕ, List, codes}
+use Rattle.fx_rules.specs.declared.rule.Rule.{Rule}
+use Rattle.fx_rules.specs.declared.rule.Rule.TheVariants as rule
+
+-- the rule's number
+abbrev pub number_of : Rule → ℕ
+number_of rule.BadToken = 1
+number_of rule.Syntax = 2
+number_of rule.TooDeep = 3
+number_of rule.UnknownName = 4
+number_of rule.NameTwice = 5
+number_of rule.WrongType = 6
+number_of rule.WrongCount = 7
+number_of rule.NoFunction = 8
+number_of rule.BehaviourInPure = 9
+number_of rule.Cycle = 10
+number_of rule.VariableTypes = 11
+number_of rule.UnknownColumn = 12
+number_of rule.LimitPassed = 13
+number_of rule.BadShape = 14
+number_of rule.NotAVariable = 15
+number_of rule.NotBuilt = 16
+
+-- the rule's name
+abbrev pub name_of : Rule → List ℕ
+name_of rule.BadToken = codes "BadToken"
+name_of rule.Syntax = codes "Syntax"
+name_of rule.TooDeep = codes "TooDeep"
+name_of rule.UnknownName = codes "UnknownName"
+name_of rule.NameTwice = codes "NameTwice"
+name_of rule.WrongType = codes "WrongType"
+name_of rule.WrongCount = codes "WrongCount"
+name_of rule.NoFunction = codes "NoFunction"
+name_of rule.BehaviourInPure = codes "BehaviourInPure"
+name_of rule.Cycle = codes "Cycle"
+name_of rule.VariableTypes = codes "VariableTypes"
+name_of rule.UnknownColumn = codes "UnknownColumn"
+name_of rule.LimitPassed = codes "LimitPassed"
+name_of rule.BadShape = codes "BadShape"
+name_of rule.NotAVariable = codes "NotAVariable"
+name_of rule.NotBuilt = codes "NotBuilt"

@@ -1,0 +1,5 @@
+use Rattle.office.proofs.OneAnswer.{one_answer}
+use Rattle.office.proofs.laws.one_answer.Goals as goal
+
+pub returns : goal.returns
+returns c = one_answer

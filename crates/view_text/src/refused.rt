@@ -1,0 +1,149 @@
+// The JSON of refusals.
+ghost use Rattle.std.specs.Prelude.{◌≡◌, ◌≤◌, ◌++◌, ◌∷◌, [], length, slice_get, Some, IfOk, OnOk, OnErr, MatchOption, map, string_bytes};
+ghost use Rattle.std.specs.Int.{IsInRange};
+ghost use Rattle.serde_json.specs.View.{view as json_view};
+ghost use Rattle.view_text.specs.RefusalText.{Fits, detail_data, line_data, move_data, refusal_data, refusal_text, row_data};
+
+use crate::json::tagged;
+use fx_base::Memory;
+use fx_data::Words;
+use refusals::Refusal as Cause;
+use serde_json::{Value as Json, json};
+use std::alloc::Global;
+use std::marker::Model;
+
+/// Why a request is refused.
+#[derive(Drop)]
+pub struct Refusal {
+    /// The refusal's number, 1 to 28.
+    pub code: u8,
+    pub detail: Detail,
+}
+
+/// What a refusal says besides its number.
+#[derive(Drop)]
+pub enum Detail {
+    None,
+    /// The caller's last number, of 13.
+    Number(u32),
+    /// The item's id, of 19.
+    Id(Option<u32>),
+    /// The place of a change or a record, its column and the broken rule, of 23 and 28.
+    Row(u32, Words, Words),
+    /// The broken rules, of 24.
+    Lines(Lines),
+    /// A table, its column and the broken rule, of 27.
+    Move(Words, Words, Words),
+}
+
+/// Lines of text.
+#[derive(Drop)]
+pub struct Lines {
+    items: Vec<Words>,
+}
+
+impl Model for Lines {
+    ghost use Rattle.std.specs.Prelude.{ℕ, List};
+
+    ghost Value = { List (List ℕ) };
+
+    ghost view = { λ a. a.items.items };
+}
+
+impl Lines {
+    /// No lines.
+    pub fn new(alloc: Global) -> Lines
+        ensures { result ≡ [] }
+    {
+        Lines {
+            items: Vec::new(alloc),
+        }
+    }
+
+    /// Adds a line at the end.
+    pub fn push(&mut self, item: Words) -> Result<(), Memory>
+        ensures ok { OnOk result (self.new ≡ self.old ++ item ∷ []) }
+        ensures err { OnErr result (self.new ≡ self.old) }
+    {
+        self.items.push(item)?;
+        Ok(())
+    }
+
+    /// How many lines there are.
+    pub fn len(&self) -> usize
+        ensures { result ≡ length self.now }
+    {
+        self.items.len()
+    }
+
+    /// The line at a place, counted from 0.
+    pub fn get(&self, place: usize) -> Option<&Words>
+        ensures { MatchOption result (length self.now ≤ place)
+            (λ l. slice_get self.now place ≡ Some l.now) }
+    {
+        self.items.get(place)
+    }
+
+    /// The lines in order.
+    pub fn as_slice(&self) -> &[Words]
+        ensures { result.now ≡ self.now }
+    {
+        self.items.as_slice()
+    }
+}
+
+/// The body of a refusal, `{"refused":{"code":13,"detail":1,"name":"OutOfStep"}}`.
+pub fn refusal_json(alloc: Global, refusal: &Refusal) -> Result<String, Memory>
+    requires { Fits refusal.now.code refusal.now.detail }
+    ensures { IfOk result (λ s. string_bytes s ≡ refusal_text refusal.now) }
+{
+    let whole = refusal_object(alloc, refusal)?;
+    Ok(whole.to_string(alloc)?)
+}
+
+fn refusal_object(alloc: Global, refusal: &Refusal) -> Result<Json, Memory>
+    requires { IsInRange 1 28 refusal.now.code }
+    ensures { IfOk result (λ v. json_view v ≡ refusal_data refusal.now) }
+{
+    let code = refusal.code;
+    let name = Cause::of(code).name();
+    let detail = detail_json(alloc, &refusal.detail)?;
+    Ok(json!(in alloc; {"refused": {"code": code, "detail": detail, "name": name}})?)
+}
+
+fn detail_json(alloc: Global, detail: &Detail) -> Result<Json, Memory>
+    ensures { IfOk result (λ v. json_view v ≡ detail_data detail.now) }
+{
+    match detail {
+        Detail::None | Detail::Id(None) => Ok(Json::Null),
+        Detail::Number(number) | Detail::Id(Some(number)) => Ok(Json::from(*number)),
+        Detail::Row(at, column, rule) => row_json(alloc, *at, column.as_str(), rule.as_str()),
+        Detail::Lines(lines) => Ok(Json::from(lines_json(alloc, lines.as_slice())?)),
+        Detail::Move(table, column, rule) => {
+            move_json(alloc, table.as_str(), column.as_str(), rule.as_str())
+        }
+    }
+}
+
+fn row_json(alloc: Global, at: u32, column: &str, rule: &str) -> Result<Json, Memory>
+    ensures { IfOk result (λ v. json_view v ≡ row_data at column.now rule.now) }
+{
+    Ok(json!(in alloc; {"at": at, "column": column, "rule": rule})?)
+}
+
+fn move_json(alloc: Global, table: &str, column: &str, rule: &str) -> Result<Json, Memory>
+    ensures { IfOk result (λ v. json_view v ≡ move_data table.now column.now rule.now) }
+{
+    Ok(json!(in alloc; {"column": column, "rule": rule, "table": table})?)
+}
+
+fn lines_json(alloc: Global, lines: &[Words]) -> Result<Vec<Json>, Memory>
+    ensures { IfOk result (λ v. map json_view v.items ≡ map line_data lines.now) }
+{
+    let mut texts = Vec::new(alloc);
+    for line in lines {
+        let text = Json::try_from_str(alloc, line.as_str())?;
+        serde_json::push(&mut texts, text)?;
+    }
+    Ok(texts)
+}
