@@ -1,0 +1,60 @@
+//! How a run ended, in lines.
+
+use crate::escapes::escaped;
+use crate::runs::Ended;
+use std::{io, str};
+
+/// The first bytes of each reply, and of no part of one.
+const REPLY: &str = "HTTP/1.1 ";
+
+/// Prints the status, what was said, if anything, and the replies.
+pub fn print_end(rt: &(impl Print + AllocGlobal), ended: &Ended) -> io::Result<()> {
+    let status = ended.status;
+    println!(rt; "status {status}")?;
+    if !ended.said.is_empty() {
+        let said = escaped(rt.alloc(), text(&ended.said))?;
+        println!(rt; "says {said}")?;
+    }
+    print_replies(rt, text(&ended.answered))
+}
+
+/// Prints each reply in a line, and those that repeat it with their count. What comes before the first is printed alone.
+fn print_replies(rt: &(impl Print + AllocGlobal), answered: &str) -> io::Result<()> {
+    let mut parts = answered.split(REPLY);
+    print_first(rt, parts.next().unwrap_or(""))?;
+    let mut last = String::new(rt.alloc());
+    let mut count = 0u64;
+    for reply in parts {
+        if count > 0 && reply == last.as_str() {
+            count = count.saturating_add(1);
+        } else {
+            print_times(rt, last.as_str(), count)?;
+            last = String::from_str(rt.alloc(), reply)?;
+            count = 1;
+        }
+    }
+    print_times(rt, last.as_str(), count)
+}
+
+/// Prints what begins no reply, if anything.
+fn print_first(rt: &(impl Print + AllocGlobal), part: &str) -> io::Result<()> {
+    if part.is_empty() {
+        return Ok(());
+    }
+    let line = escaped(rt.alloc(), part)?;
+    println!(rt; "answers {line}")
+}
+
+/// Prints what follows the first bytes of a reply, and how often it came where that isn't once.
+fn print_times(rt: &(impl Print + AllocGlobal), reply: &str, count: u64) -> io::Result<()> {
+    let line = escaped(rt.alloc(), reply)?;
+    match count {
+        0 => Ok(()),
+        1 => println!(rt; "answers {REPLY}{line}"),
+        _ => println!(rt; "answers*{count} {REPLY}{line}"),
+    }
+}
+
+fn text(bytes: &[u8]) -> &str {
+    str::from_utf8(bytes).unwrap_or("no text")
+}

@@ -1,0 +1,96 @@
+//! What a run is given.
+
+use crate::escapes::add_unescaped;
+use std::alloc::{AllocError, Global};
+
+/// The words of a run, its one file and its one conversation, and which calls, counted from 1, fail.
+#[derive(Drop)]
+pub struct Row {
+    pub words: Vec<String>,
+    /// The name of the file.
+    pub file: String,
+    /// The bytes of the file.
+    pub bytes: Vec<u8>,
+    /// What the conversation sends.
+    pub stream: Vec<u8>,
+    /// The most bytes that a read or a write takes, at least 1.
+    pub piece: usize,
+    /// Whether the conversation ends after one reply.
+    pub one: bool,
+    pub file_fails: Vec<u64>,
+    pub sink_fails: Vec<u64>,
+    pub door_fails: Vec<u64>,
+}
+
+impl Row {
+    /// No words, an empty file without a name, and an empty conversation. Nothing fails.
+    pub fn new(alloc: Global) -> Row {
+        Row {
+            words: Vec::new(alloc),
+            file: String::new(alloc),
+            bytes: Vec::new(alloc),
+            stream: Vec::new(alloc),
+            piece: 4096,
+            one: false,
+            file_fails: Vec::new(alloc),
+            sink_fails: Vec::new(alloc),
+            door_fails: Vec::new(alloc),
+        }
+    }
+
+    /// Sets what a line says, and answers whether it says anything. `bytes` and `stream` add to what is there, and with
+    /// `*N` behind them N times.
+    pub fn set(&mut self, alloc: Global, key: &str, text: &str) -> Result<bool, AllocError> {
+        let (key, count) = counted(key);
+        match key {
+            "words" => self.words = words(alloc, text)?,
+            "file" => self.file = String::from_str(alloc, text)?,
+            "bytes" => add_times(alloc, &mut self.bytes, text, count)?,
+            "stream" => add_times(alloc, &mut self.stream, text, count)?,
+            "piece" => self.piece = text.parse::<usize>().unwrap_or(1).max(1),
+            "one" => self.one = true,
+            "file_fails" => self.file_fails = numbers(alloc, text)?,
+            "sink_fails" => self.sink_fails = numbers(alloc, text)?,
+            "door_fails" => self.door_fails = numbers(alloc, text)?,
+            _ => return Ok(false),
+        }
+        Ok(true)
+    }
+}
+
+/// A key and how often it counts: `bytes*65`, and `bytes` once.
+fn counted(key: &str) -> (&str, usize) {
+    match key.split_once('*') {
+        Some((key, count)) => (key, count.parse::<usize>().unwrap_or(0)),
+        None => (key, 1),
+    }
+}
+
+fn words(alloc: Global, text: &str) -> Result<Vec<String>, AllocError> {
+    let mut words = Vec::new(alloc);
+    for word in text.split_whitespace() {
+        words.push(String::from_str(alloc, word)?)?;
+    }
+    Ok(words)
+}
+
+fn numbers(alloc: Global, text: &str) -> Result<Vec<u64>, AllocError> {
+    let mut numbers = Vec::new(alloc);
+    for word in text.split_whitespace() {
+        numbers.push(word.parse::<u64>().unwrap_or(0))?;
+    }
+    Ok(numbers)
+}
+
+/// Adds the text so often, in which `\#` is each time's number, from 1.
+fn add_times(
+    alloc: Global,
+    bytes: &mut Vec<u8>,
+    text: &str,
+    count: usize,
+) -> Result<(), AllocError> {
+    for number in 0..count {
+        add_unescaped(alloc, bytes, text, number + 1)?;
+    }
+    Ok(())
+}

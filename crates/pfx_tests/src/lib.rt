@@ -1,5 +1,0 @@
-//! Worked rows through the top call.
-#![tactic(auto)]
-
-#[cfg(test)]
-mod tests;
