@@ -1,6 +1,6 @@
 pub mod Ways
 pub mod Columns
-pub mod Typing
+pub mod WellTyped
 pub mod Acts
 pub mod Operators
 pub mod Local

@@ -13,7 +13,7 @@ use Rattle.fx_typed.specs.Term.{Term, of, nil, cons, all, Top, const, coerce, fo
 use Rattle.fx_typing.specs.Acts.{acts}
 use Rattle.fx_typing.specs.Columns.{tells_error, and_then, field_in}
 use Rattle.fx_typing.specs.Ways.{Way, same, changed, refused, way, same_shape, is_scalar, is_comparable}
-use Rattle.fx_typing.specs.Typing.{answered, head_of}
+use Rattle.fx_typing.specs.WellTyped.{answered, head_of}
 
 -- a part as it was judged: the name of its rows if it has one, its tree and its type; or the name of a
 -- column

@@ -16,7 +16,7 @@ use Rattle.fx_names.specs.declared.names.Variable.{Variable}
 use Rattle.fx_names.specs.declared.names.Collection.{Collection}
 use Rattle.fx_names.specs.declared.names.Names.{Names}
 use Rattle.fx_names.specs.declared.schema.TableShape.{TableShape}
-use Rattle.fx_names.specs.Controls.{input_type}
+use Rattle.fx_names.specs.Controls.{is_items, input_type}
 use Rattle.fx_names.specs.SourceTypes.{columns_of, item_type, property_of}
 use Rattle.fx_typed.specs.Term.{Term, of, nil, cons, const, read, row, item, caught, dot}
 use Rattle.fx_typing.specs.Columns.{field_in, field_of, fault_type}
@@ -163,14 +163,18 @@ abbrev pub is_chosen : Control → List ℕ → Bool
 is_chosen control.Gallery n = bytes_eq n (codes "Selected")
 is_chosen c n = false
 
+-- the type of a property that isn't written: rows that aren't are a table without columns
+abbrev pub default_type : Control → List ℕ → Shape → Shape
+default_type c n t = if is_items c n then tables no_columns else t
+
 -- a written property is its cell, and another one its default
-abbrev pub written_or : Control → List ℕ → Option (ℕ × Property) → Term
-written_or c x (Some p) = of (read (source.Cell p.1.cell)) nil
-written_or c x None = of (const (default_of c (encode_utf8_all x))) nil
+abbrev pub written_or : Control → List ℕ → Shape → Option (ℕ × Property) → Term × Shape
+written_or c x t (Some p) = (of (read (source.Cell p.1.cell)) nil, t)
+written_or c x t None = (of (const (default_of c (encode_utf8_all x))) nil, default_type c (encode_utf8_all x) t)
 
 abbrev pub property_read : Names → ℕ → ControlName → List ℕ → Option Shape → Result (Term × Shape) ℕ
 property_read n k c x (Some t) =
-    Ok (written_or c.kind x (place_of (λ (p : Property). nat_eq p.control k && bytes_eq p.name x) 0 n.properties), t)
+    Ok (written_or c.kind x t (place_of (λ (p : Property). nat_eq p.control k && bytes_eq p.name x) 0 n.properties))
 property_read n k c x None = Err 12
 
 abbrev pub input_read : ℕ → Option Shape → Result (Term × Shape) ℕ

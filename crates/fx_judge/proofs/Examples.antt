@@ -1,0 +1,108 @@
+-- Formulas as the definitions judge them, worked out by hand.
+use Rattle.std.proofs.Common.{◌≡◌, [], ◌∷◌, true, false, Ok, Err, refl}
+use Rattle.std.specs.Prelude.{Some, None, pos, codes}
+use Rattle.fx_data.specs.Types.{blanks, numbers, texts, booleans, records, tables, no_columns, column}
+use Rattle.fx_data.specs.Values.{number, text, boolean, tab, no_rows}
+use Rattle.fx_functions.specs.declared.functions.Fun.TheVariants as fun
+use Rattle.fx_functions.specs.declared.functions.Acting.TheVariants as acts
+use Rattle.fx_functions.specs.declared.signatures.SigShape.TheVariants as sig
+use Rattle.fx_functions.specs.declared.literals.SortOrder.TheVariants as order
+use Rattle.fx_syntax.specs.declared.expr.Op.TheVariants as op
+use Rattle.fx_syntax.specs.Tree.{Tree, node, Forest, none, more, Head}
+use Rattle.fx_syntax.specs.Tree as tree
+use Rattle.fx_typed.specs.Term.{Term, of, nil, cons, const, call, over, coerce, rec, list, dot, row, chain}
+use Rattle.fx_typing.specs.Local.{value}
+use Rattle.fx_names.specs.declared.controls.Control.TheVariants as control
+use Rattle.fx_typing.specs.Meaning.{Place, written_or}
+use Rattle.fx_judge.specs.Parts.{piece, plainly}
+use Rattle.fx_judge.specs.Plans.{setting_by, plan_call}
+use Rattle.fx_judge.specs.Calls.{called_by}
+use Rattle.fx_judge.specs.Typing.{judge, outermost, judge_whole}
+
+-- 1 < "x" is of wrong types, at the operator's first token
+pub less_texts : (p : Place) → judge p (outermost false) (node 0 (tree.pair op.Lt) (more (node 0 (tree.num (pos 10000)) none) (more (node 4 (tree.text (codes "x")) none) none))) ≡ Err (0, 6)
+less_texts p = refl
+
+-- 1 + "x" coerces the text
+pub plus_text : (p : Place) → judge p (outermost false) (node 0 (tree.pair op.Add) (more (node 0 (tree.num (pos 10000)) none) (more (node 4 (tree.text (codes "x")) none) none)))
+    ≡ Ok (plainly (of (call fun.AddNumbers) (cons (of (const (number (pos 10000))) nil) (cons (of (coerce numbers) (cons (of (const (text (codes "x"))) nil) nil)) nil)), numbers))
+plus_text p = refl
+
+-- {b: 1, a: true} has its fields by rising names
+pub record_rises : (p : Place) → judge p (outermost false) (node 0 (tree.rec (codes "b" ∷ codes "a" ∷ [])) (more (node 4 (tree.num (pos 10000)) none) (more (node 10 (tree.truth true) none) none)))
+    ≡ Ok (plainly (
+      of (rec (codes "a" ∷ codes "b" ∷ [])) (cons (of (const (boolean true)) nil) (cons (of (const (number (pos 10000))) nil) nil)),
+      records (column (codes "a") booleans (column (codes "b") numbers no_columns)),
+    ))
+record_rises p = refl
+
+-- {a: 1, a: 1} names a field twice
+pub field_twice : (p : Place) → judge p (outermost false) (node 0 (tree.rec (codes "a" ∷ codes "a" ∷ [])) (more (node 4 (tree.num (pos 10000)) none) (more (node 10 (tree.num (pos 10000)) none) none))) ≡ Err (0, 5)
+field_twice p = refl
+
+-- {a: 1}.b has no such field, and {a: 1}.a is a number
+pub no_field : (p : Place) → judge p (outermost false) (node 0 (tree.dot (codes "b")) (more (node 0 (tree.rec (codes "a" ∷ [])) (more (node 4 (tree.num (pos 10000)) none) none)) none)) ≡ Err (0, 12)
+no_field p = refl
+
+-- [1, "a"] has no common type, and [1] has the column Value
+pub mixed_list : (p : Place) → judge p (outermost false) (node 0 tree.list (more (node 1 (tree.num (pos 10000)) none) (more (node 4 (tree.text (codes "a")) none) none))) ≡ Err (0, 6)
+mixed_list p = refl
+
+pub list_of_one : (p : Place) → judge p (outermost false) (node 0 tree.list (more (node 1 (tree.num (pos 10000)) none) none))
+    ≡ Ok (plainly (of (list numbers) (cons (of (const (number (pos 10000))) nil) nil), tables (column (codes "Value") numbers no_columns)))
+list_of_one p = refl
+
+-- 1; 2 acts, and its parts are judged first
+pub pure_chain : (p : Place) → judge p (outermost false) (node 0 tree.chain (more (node 0 (tree.num (pos 10000)) none) (more (node 3 (tree.num (pos 10000)) none) none))) ≡ Err (0, 9)
+pure_chain p = refl
+
+pub acting_chain : (p : Place) → judge p (outermost true) (node 0 tree.chain (more (node 0 (tree.num (pos 10000)) none) (more (node 3 (tree.truth true) none) none)))
+    ≡ Ok (plainly (of chain (cons (of (const (number (pos 10000))) nil) (cons (of (const (boolean true)) nil) nil)), booleans))
+acting_chain p = refl
+
+-- an alias stands at the first place of a table call alone
+pub alias_alone : (p : Place) → judge p (outermost false) (node 0 (tree.alias (codes "X")) (more (node 0 tree.list none) none)) ≡ Err (0, 6)
+alias_alone p = refl
+
+-- $"" is the empty text, and text that is wanted of a number is coerced
+pub empty_weave : (p : Place) → judge p (outermost false) (node 0 tree.woven none) ≡ Ok (plainly (of (const (text [])) nil, texts))
+empty_weave p = refl
+
+pub wanted_text : (p : Place) → judge_whole p false (Some texts) (node 0 (tree.num (pos 10000)) none)
+    ≡ Ok (of (coerce texts) (cons (of (const (number (pos 10000))) nil) nil), texts)
+wanted_text p = refl
+
+pub wanted_record : (p : Place) → judge_whole p false (Some (records no_columns)) (node 7 (tree.num (pos 10000)) none) ≡ Err (7, 6)
+wanted_record p = refl
+
+-- the name of the innermost row is found where a filter's condition stands
+pub in_a_row : (p : Place) (c : Term) → judge p (setting_by p.names (outermost false) (plan_call false (Some (sig.One fun.Filter)) 2 (piece (value None c (tables (column (codes "A") numbers no_columns))) ∷ []))
+    (piece (value None c (tables (column (codes "A") numbers no_columns))) ∷ [])) (node 3 (tree.name (codes "A")) none)
+    ≡ Ok (plainly (of (dot (codes "A")) (cons (of (row 0) nil) nil), numbers))
+in_a_row p c = refl
+
+-- a literal chooses the order, and one that is no order is of a wrong type
+pub sorted_down : (p : Place) (c f : Term) → called_by p (outermost false) (sig.Literal (fun.Sort order.Ascending))
+    (piece (value None c (tables no_columns)) ∷ plainly (f, numbers) ∷ plainly (of (const (text (codes "Descending"))) nil, texts) ∷ [])
+    ≡ Ok (of (over (fun.Sort order.Descending)) (cons c (cons f nil)), tables no_columns)
+unfolding lib.Utf8.encode
+sorted_down p c f = refl
+
+pub no_order : (p : Place) (c f : Term) → called_by p (outermost false) (sig.Literal (fun.Sort order.Ascending))
+    (piece (value None c (tables no_columns)) ∷ plainly (f, numbers) ∷ plainly (of (const (text (codes "Down"))) nil, texts) ∷ []) ≡ Err 6
+unfolding lib.Utf8.encode
+no_order p c f = refl
+
+-- under one name the first part chooses
+pub sum_of_rows : (p : Place) (c f : Term) → called_by p (outermost false) (sig.Either fun.Sum fun.SumRows)
+    (piece (value None c (tables no_columns)) ∷ plainly (f, numbers) ∷ []) ≡ Ok (of (over fun.SumRows) (cons c (cons f nil)), numbers)
+sum_of_rows p c f = refl
+
+-- a text that is told acts, and so is none in a pure place
+pub told : (p : Place) (c : Term) → called_by p (outermost false) (sig.Act acts.Notify) (plainly (c, texts) ∷ []) ≡ Err 9
+told p c = refl
+
+-- the rows of a gallery that aren't written are a table without columns
+pub unwritten_items : written_or control.Gallery (codes "Items") blanks None ≡ (of (const (tab no_rows)) nil, tables no_columns)
+unfolding lib.Utf8.encode
+unwritten_items = refl

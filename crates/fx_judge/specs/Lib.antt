@@ -1,0 +1,10 @@
+pub mod Parts
+pub mod Plans
+pub mod Builds
+pub mod Targets
+pub mod Deeds
+pub mod Calls
+pub mod Typing
+pub mod Rounds
+pub mod Details
+pub mod Laws
