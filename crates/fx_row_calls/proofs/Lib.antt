@@ -1,0 +1,10 @@
+pub mod ColumnTurns
+pub mod FirstErrors
+pub mod FitColumns
+pub mod FitDistinct
+pub mod FitRows
+pub mod KeptRows
+pub mod Numbers
+pub mod OneAnswers
+pub mod Separators
+pub mod ValueRows
