@@ -1,9 +1,9 @@
 -- Where the months of all years begin. The calendar comes round after 400 years, which have 146,097 days.
-use Rattle.std.proofs.Common.{◌≡◌, ℕ, zero, suc, ◌+◌, ◌-◌, ◌*◌, ◌/◌, ◌%◌, ◌<◌, ◌≤◌, nat_eq, nat_lt, cond, [], ◌∷◌, get_or, refl, sym, ap, ◌∙◌, arith, ℤ, pos, negsuc, neg_ℤ, ◌+ℤ◌, ◌-ℤ◌, ◌*ℤ◌, unsigned_abs}
+use Rattle.std.proofs.Common.{◌≡◌, ℕ, zero, suc, ◌+◌, ◌-◌, ◌*◌, ◌/◌, ◌%◌, ◌<◌, nat_eq, nat_lt, cond, [], ◌∷◌, get_or, refl, sym, ap, ◌∙◌, arith, ℤ, pos, negsuc, ◌+ℤ◌, ◌-ℤ◌, ◌*ℤ◌, unsigned_abs}
 use Rattle.std.proofs.lemmas.Bool.Decides.{nat_tests}
-use Rattle.std.specs.Int.{int_div_euclid, int_rem_euclid}
-use Rattle.jiff_core.specs.Calendar.{is_leap_year, days_in_year, days_of_months, day_of_year, day_count, days_from_civil, weekday_number}
-use Rattle.jiff_core.specs.March.{march_days, march_months}
+use Rattle.std.specs.Int.{int_rem_euclid}
+use Rattle.jiff_core.specs.Calendar.{days_of_months, day_count, days_from_civil, weekday_number}
+use Rattle.jiff_core.specs.March.{march_days}
 use Rattle.jiff_core.proofs.SignedLemmas.{signed_arith, int_div_euclid-parts, int_rem_euclid-parts, one_part}
 use Rattle.jiff_core.proofs.MarchLemmas.{leap_day, days_in_year-leap_day, march_days-suc, day_count-early}
 use Rattle.jiff_core.proofs.CalendarLemmas.{day_count-epoch, days_from_civil-day_count, day_count-day_of_year, days_of_months_table, weekday_number-parts}

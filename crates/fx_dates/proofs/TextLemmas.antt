@@ -3,7 +3,6 @@ use Rattle.std.proofs.Common.{◌≡◌, ◌↔◌, ℕ, ◌+◌, ◌*◌, ◌/�
 use Rattle.std.specs.Option.{ok_or}
 use Rattle.jiff_core.specs.Calendar.{days_from_civil}
 use Rattle.fx_data.specs.Days.{IsDay}
-use Rattle.fx_data.specs.declared.faults.Kind.{Kind}
 use Rattle.fx_data.specs.declared.faults.Kind.TheVariants.{InvalidArgument}
 use Rattle.fx_calendar.specs.Civil.{civil_of, IsCalendarDate}
 use Rattle.fx_calendar.specs.DateText.{two_digits, civil_text, date_text}

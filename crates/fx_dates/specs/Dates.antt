@@ -8,8 +8,8 @@ use Rattle.fx_data.specs.declared.faults.Kind.TheVariants.{InvalidArgument}
 use Rattle.fx_calendar.specs.Civil.{civil_of}
 use Rattle.fx_calendar.specs.declared.civil.CivilDate.{CivilDate}
 use Rattle.fx_dates.specs.Months.{year_of, month_of, month_number, first_of}
-use Rattle.fx_dates.specs.declared.units.TimeUnit.{TimeUnit}
-use Rattle.fx_dates.specs.declared.units.TimeUnit.TheVariants.{Days, Months, Quarters, Years}
+use Rattle.fx_functions.specs.declared.literals.TimeUnit.{TimeUnit}
+use Rattle.fx_functions.specs.declared.literals.TimeUnit.TheVariants.{Days, Months, Quarters, Years}
 
 -- the day of this number, or InvalidArgument where it is the number of none
 abbrev pub IsDayOrInvalid : ℤ → Result ℤ Kind → Type 0

@@ -2,8 +2,8 @@
 use Rattle.std.specs.Prelude.{ℕ, ℤ, List, ◌∷◌, ◌++◌}
 use Rattle.fx_calendar.specs.Civil.{civil_of}
 use Rattle.fx_calendar.specs.DateText.{two_digits, four_digits, date_text}
-use Rattle.fx_dates.specs.declared.texts.DateFormat.{DateFormat}
-use Rattle.fx_dates.specs.declared.texts.DateFormat.TheVariants.{YearMonthDay, DayMonthYear, MonthDayYear}
+use Rattle.fx_functions.specs.declared.literals.DateFormat.{DateFormat}
+use Rattle.fx_functions.specs.declared.literals.DateFormat.TheVariants.{YearMonthDay, DayMonthYear, MonthDayYear}
 
 -- two numbers below 100 and one below 10000, with slashes between
 abbrev pub slashed : ℕ → ℕ → ℕ → List ℕ

@@ -1,4 +1,4 @@
-//! What formulas do with dates. Arguments that are numbers are whole; `cut` makes them so.
+//! What formulas do with dates. Counts and the parts of dates are whole numbers, already cut towards zero.
 #![tactic(auto)]
 
 mod months;
@@ -9,10 +9,10 @@ mod units;
 
 pub use fx_base::Memory;
 pub use fx_data::{Day, Kind};
-pub use operators::{add_days, cut, days_between, sub_days, whole_number};
+pub use operators::{add_days, days_between, sub_days};
 pub use parts::{date, day_of_month, month, parts_give_the_day, today, weekday, year};
-pub use texts::{DateFormat, date_value, formatted};
-pub use units::{TimeUnit, date_add, date_diff};
+pub use texts::{date_value, formatted};
+pub use units::{date_add, date_diff};
 
 #[cfg(test)]
 mod tests;

@@ -1,31 +1,13 @@
 // The operators on dates.
-ghost use Rattle.std.specs.Prelude.{◌≡◌, ◌-ℤ◌, ◌*ℤ◌, neg_ℤ, pos};
-ghost use Rattle.fx_number.specs.Decimal.{IsInRange, steps_of};
+ghost use Rattle.std.specs.Prelude.{◌≡◌, ◌-ℤ◌, neg_ℤ};
 ghost use Rattle.fx_dates.specs.Dates.{IsShifted};
 
 use crate::months::day_of_number;
 use fx_data::{Day, Kind};
-use fx_number::{Num, Way};
+use fx_number::Num;
 
 // The ten-thousandths in 1.
 const SCALE: i64 = 10_000;
-
-/// A number cut towards zero to a whole one, as functions take counts, positions and parts of dates.
-pub fn cut(number: Num) -> i64
-    ensures { result ≡ steps_of Way.Down number 10000 }
-{
-    number.units() / SCALE
-}
-
-/// A whole number, as the numbers of days, months and years are given to formulas.
-pub fn whole_number(whole: i32) -> Num
-    ensures { result ≡ whole *ℤ pos 10000 }
-{
-    match Num::from_units(i64::from(whole) * SCALE) {
-        Some(number) => number,
-        None => unreachable!(),
-    }
-}
 
 /// The operator `+` of a date and a number of days, in either order. `InvalidArgument` exactly where the
 /// number is not whole or the day is not from 1900-01-01 to 9999-12-31.

@@ -1,6 +1,7 @@
 // Rows found by hand.
 
 use crate::*;
+use fx_functions::{DateFormat, TimeUnit};
 use fx_number::Num;
 use std::test::Fail;
 
@@ -190,22 +191,20 @@ fn texts_and_moments_may_be_no_days(rt: HostRuntime) {
 #[test]
 fn numbers_of_days(rt: HostRuntime) {
     let rows = [
-        (0, 10_000, Some(1), Some(-1), 1),
-        (0, -20_000, Some(-2), Some(2), -2),
-        (0, 15_000, None, None, 1),
-        (0, -9_999, None, None, 0),
-        (2_932_896, 10_000, None, Some(2_932_895), 1),
-        (-25_567, 10_000, Some(-25_566), None, 1),
-        (0, i64::MAX, None, None, 922_337_203_685_477),
+        (0, 10_000, Some(1), Some(-1)),
+        (0, -20_000, Some(-2), Some(2)),
+        (0, 15_000, None, None),
+        (0, -9_999, None, None),
+        (2_932_896, 10_000, None, Some(2_932_895)),
+        (-25_567, 10_000, Some(-25_566), None),
+        (0, i64::MAX, None, None),
     ];
-    assert_eq!(rt; whole_number(-3).units(), -30_000);
     parts_give_the_day();
-    for (days, units, later, earlier, whole) in rows {
+    for (days, units, later, earlier) in rows {
         match (Day::of(days), Num::from_units(units)) {
             (Some(day), Some(count)) => {
                 assert_eq!(rt; number(add_days(day, count)), later, "{days} {units}");
                 assert_eq!(rt; number(sub_days(day, count)), earlier, "{days} {units}");
-                assert_eq!(rt; cut(count), whole);
             }
             _ => assert!(rt; false, "{days} {units}"),
         }

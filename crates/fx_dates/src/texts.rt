@@ -9,18 +9,8 @@ ghost use Rattle.fx_dates.specs.Texts.{slashed as slashed_text, text_in};
 use fx_base::Memory;
 use fx_calendar::{CivilDate, civil_date, date_text, day_of_date};
 use fx_data::{Day, Kind};
+use fx_functions::DateFormat;
 use std::alloc::Global;
-
-/// How a date is written.
-#[derive(Clone, Copy, Debug, PartialEq, Eq)]
-pub enum DateFormat {
-    /// `yyyy-mm-dd`
-    YearMonthDay,
-    /// `dd/mm/yyyy`
-    DayMonthYear,
-    /// `mm/dd/yyyy`
-    MonthDayYear,
-}
 
 /// The text of a day in a format.
 pub fn formatted(alloc: Global, day: Day, format: DateFormat) -> Result<String, Memory>

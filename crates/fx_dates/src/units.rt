@@ -6,20 +6,10 @@ ghost use Rattle.fx_dates.specs.Dates.{IsLater, difference, quarter_number as nu
 use crate::months::{day_of_number, month_number, months_later};
 use fx_calendar::{CivilDate, civil_date};
 use fx_data::{Day, Kind};
+use fx_functions::TimeUnit;
 
-/// A unit in which dates are counted.
-#[derive(Clone, Copy, Debug, PartialEq, Eq)]
-pub enum TimeUnit {
-    Days,
-    Months,
-    /// Three months, from January, April, July or October on.
-    Quarters,
-    /// Twelve months, from January on.
-    Years,
-}
-
-/// The day so many units later. Months, quarters and years keep the day of the month, or take the
-/// month's last day where it is shorter. `InvalidArgument` exactly where the day is not from 1900-01-01
+/// The day so many units later, a quarter being three months and a year twelve. Months, quarters and
+/// years keep the day of the month, or take the month's last day where it is shorter. `InvalidArgument` exactly where the day is not from 1900-01-01
 /// to 9999-12-31.
 pub fn date_add(day: Day, count: i64, unit: TimeUnit) -> Result<Day, Kind>
     ensures { IsLater unit day count result }
@@ -34,7 +24,7 @@ pub fn date_add(day: Day, count: i64, unit: TimeUnit) -> Result<Day, Kind>
 }
 
 /// The second day less the first: in days, or the difference of the numbers of their months, quarters
-/// or years.
+/// or years. A quarter begins with January, April, July or October.
 pub fn date_diff(from: Day, to: Day, unit: TimeUnit) -> i32
     ensures { result ≡ difference unit from to }
 {

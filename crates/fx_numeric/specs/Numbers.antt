@@ -1,8 +1,6 @@
 -- Functions of numbers, each seen as its count of ten-thousandths.
-use Rattle.std.specs.Prelude.{◌≡◌, ℕ, ◌/◌, ℤ, List, Bool, true, false, ◌==◌, Option, Some, None, Result, Ok, Err}
-use Rattle.std.specs.List.{list_all}
-use Rattle.fx_number.specs.Decimal.{by_magnitude, IsInRange}
-use Rattle.fx_number.specs.Spelling.{Spells}
+use Rattle.std.specs.Prelude.{◌≡◌, ◌/◌, ℤ, Result, Ok, Err}
+use Rattle.fx_number.specs.Decimal.{by_magnitude}
 use Rattle.fx_number.specs.declared.NumErr.{NumErr}
 use Rattle.fx_number.specs.declared.NumErr.TheVariants.{Overflow, DivZero, BadArgument}
 use Rattle.fx_data.specs.declared.faults.Kind.{Kind}
@@ -26,14 +24,3 @@ AsKind P r = (q : Result ℤ NumErr) × P q × (r ≡ with_kind q)
 -- the whole number that is left where the decimals are cut off, towards zero
 abbrev pub whole_part_of : ℤ → ℤ
 whole_part_of z = by_magnitude (λ n. n / 10000) z
-
--- whether a text is empty or of spaces alone
-abbrev pub are_spaces : List ℕ → Bool
-are_spaces = list_all (λ b. b == 32)
-
--- what the bytes of a text are read as: nothing where there are spaces alone, the number that they
--- spell, and else InvalidArgument
-abbrev pub IsValueOf : List ℕ → Result (Option ℤ) Kind → Type 0
-IsValueOf bs (Ok None) = are_spaces bs ≡ true
-IsValueOf bs (Ok (Some z)) = Spells bs z × IsInRange z
-IsValueOf bs (Err kind) = (kind ≡ InvalidArgument) × (are_spaces bs ≡ false) × ((z : ℤ) → IsInRange z → ¬ Spells bs z)

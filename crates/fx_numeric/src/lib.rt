@@ -9,4 +9,4 @@ mod tests;
 
 pub use folds::{average, max, min, sum};
 pub use formats::format;
-pub use numbers::{abs, int, kinded, modulo, power, round, trunc, value, whole_part};
+pub use numbers::{abs, int, kinded, modulo, power, round, trunc, whole_part};

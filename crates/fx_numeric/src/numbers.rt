@@ -1,10 +1,10 @@
-//! Functions of one number or two, and of a text that spells one.
-ghost use Rattle.std.specs.Prelude.{◌≡◌, Ok, encode_utf8_all, pos, unsigned_abs};
+//! Functions of one number or two.
+ghost use Rattle.std.specs.Prelude.{◌≡◌, Ok, pos, unsigned_abs};
 ghost use Rattle.fx_number.specs.Decimal.{Checked, IsPower, UnlessZero, remainder_of, rounded_to};
 ghost use Rattle.fx_number.specs.declared.Way.TheVariants.{Down, Floor};
-ghost use Rattle.fx_numeric.specs.Numbers.{AsKind, IsValueOf, are_spaces, kind_of, whole_part_of, with_kind};
+ghost use Rattle.fx_numeric.specs.Numbers.{AsKind, kind_of, whole_part_of, with_kind};
 
-use fx_data::{Kind, Words};
+use fx_data::Kind;
 use fx_number::{Num, NumErr, Way};
 
 /// An answer of arithmetic with the kind of its error: `Numeric` for one out of range, `Div0` for a
@@ -83,25 +83,4 @@ pub fn power(a: Num, b: Num) -> Result<Num, Kind>
     ensures { AsKind (IsPower a b) result }
 {
     kinded(fx_number::power(a, b))
-}
-
-/// The number that a text spells, rounded to four decimals; none where it is empty or has spaces
-/// alone. `InvalidArgument` exactly for every other text.
-pub fn value(text: &Words) -> Result<Option<Num>, Kind>
-    ensures { IsValueOf (encode_utf8_all text.now) result }
-{
-    let text = text.as_str();
-    if has_only_spaces(text.as_bytes()) {
-        return Ok(None);
-    }
-    match fx_number::read(text) {
-        Some(number) => Ok(Some(number)),
-        None => Err(Kind::InvalidArgument),
-    }
-}
-
-fn has_only_spaces(bytes: &[u8]) -> bool
-    ensures { result ≡ are_spaces bytes.now }
-{
-    bytes.iter().all(|byte| *byte == b' ')
 }

@@ -1,7 +1,7 @@
 //! Worked rows, with answers found by hand. Numbers are in ten-thousandths.
 
 use super::*;
-use fx_data::{Kind, Words};
+use fx_data::Kind;
 use fx_functions::NumberFormat;
 use fx_number::{Num, Way};
 use std::test::Fail;
@@ -160,28 +160,6 @@ fn numbers_are_written_by_formats(rt: HostRuntime) -> Result<(), Fail> {
         };
         let text = format(alloc, number, format_of_row)?;
         assert_eq!(rt; text.as_str(), expected, "{units}");
-    }
-    Ok(())
-}
-
-#[test]
-fn texts_are_read_as_numbers(rt: HostRuntime) -> Result<(), Fail> {
-    let rows = [
-        ("", Ok(None)),
-        ("   ", Ok(None)),
-        (" -2.5 ", Ok(Some(-25_000))),
-        ("0.00005", Ok(Some(1))),
-        ("1.", Err(Kind::InvalidArgument)),
-        (".5", Err(Kind::InvalidArgument)),
-        ("\t", Err(Kind::InvalidArgument)),
-        ("922337203685477.5808", Err(Kind::InvalidArgument)),
-    ];
-    for (text, expected) in rows {
-        let found = match value(&Words::of(rt.alloc(), text)?) {
-            Ok(found) => Ok(found.map(Num::units)),
-            Err(kind) => Err(kind),
-        };
-        assert!(rt; found == expected, "of {text:?}");
     }
     Ok(())
 }

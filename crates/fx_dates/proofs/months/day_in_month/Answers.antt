@@ -1,4 +1,4 @@
-use Rattle.std.proofs.Common.{◌≡◌, ◌∙◌, ℤ, pos, sym, refl, min, arith, FitsSigned, w16}
+use Rattle.std.proofs.Common.{◌≡◌, ◌∙◌, sym, refl, min, arith, FitsSigned, w16}
 use Rattle.std.specs.Int.{w128}
 use Rattle.std.proofs.lemmas.Int.{to_z-of_z}
 use Rattle.jiff_core.specs.Calendar.{days_in_month}

@@ -1,4 +1,4 @@
-use Rattle.std.proofs.Common.{◌≡◌, ◌∙◌, sym}
+use Rattle.std.proofs.Common.{◌∙◌, sym}
 use Rattle.fx_calendar.specs.Civil.{civil_of}
 use Rattle.fx_calendar.proofs.CivilDays.{civil_is_date}
 use Rattle.fx_dates.proofs.TextLemmas.{value_is}

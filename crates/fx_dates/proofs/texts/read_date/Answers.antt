@@ -1,4 +1,4 @@
-use Rattle.std.proofs.Common.{◌≡◌, ◌+◌, ◌<◌, ◌≤◌, [], ◌∷◌, length, get_or, arith}
+use Rattle.std.proofs.Common.{◌≡◌, ◌<◌, ◌≤◌, [], ◌∷◌, length, get_or, arith}
 use Rattle.fx_calendar.specs.DateText.{two_digits}
 use Rattle.fx_dates.proofs.TextLemmas.{read_is}
 use Rattle.fx_dates.proofs.texts.read_date.Goals as goal

@@ -1,0 +1,5 @@
+pub mod Arguments
+pub mod Answers
+pub mod ScalarFunctions
+pub mod Fitting
+pub mod Laws

@@ -1,0 +1,19 @@
+//! What functions of values and operators answer: one total function from arguments to a value.
+#![tactic(auto)]
+
+mod answers;
+mod arguments;
+mod dates;
+mod errors;
+mod laws;
+mod numbers;
+mod table;
+#[cfg(test)]
+mod tests;
+mod texts;
+mod truths;
+
+pub use dates::today;
+pub use errors::error_of;
+pub use laws::{answers_fit, fitting_can_apply, one_answer};
+pub use table::apply;

@@ -1,0 +1,147 @@
+//! What formulas of literals, operators and functions of values answer.
+
+use crate::arguments::{applied, coerced};
+use crate::operators::fun_of;
+use crate::typed::{Stop, Typed};
+use fx_data::{Value, Words};
+use fx_functions::literals::{enumeration_of, with_literal};
+use fx_functions::rows::row_of;
+use fx_functions::{Fun, Scalar, SigShape};
+use fx_scalar::{error_of, today};
+use fx_sig::signature;
+use fx_syntax::expr::{Expr, Node, Parts};
+use std::alloc::Global;
+
+/// More than the depth of every formula.
+pub const DEPTH: u32 = 256;
+
+/// The moment of all rows, in seconds since 1970-01-01.
+const MOMENT: u64 = 1_704_067_200;
+
+/// What a formula less deep than `depth` answers.
+#[cycle(evaluate)]
+pub fn evaluate(alloc: Global, tree: &Expr, depth: u32) -> Result<Typed, Stop> {
+    if depth == 0 {
+        return Err(Stop::NoRow);
+    }
+    match &tree.node {
+        Node::Num(number) => Ok(Typed::new(Value::Number(*number), Scalar::Number)),
+        Node::Text(words) => Ok(text(words.copy(alloc)?)),
+        Node::Truth(truth) => Ok(Typed::new(Value::Boolean(*truth), Scalar::Boolean)),
+        Node::Dot(part, name) => member(alloc, &part.node, name),
+        Node::Neg(part) => one(alloc, Fun::Negate, part, depth - 1),
+        Node::Not(part) => one(alloc, Fun::Not, part, depth - 1),
+        Node::Percent(part) => one(alloc, Fun::Percent, part, depth - 1),
+        Node::Pair(op, left, right) => {
+            let left = evaluate(alloc, left, depth - 1)?;
+            let right = evaluate(alloc, right, depth - 1)?;
+            match fun_of(*op, left.ty, right.ty) {
+                Some(fun) => two(alloc, fun, left, right),
+                None => Err(Stop::NoRow),
+            }
+        }
+        Node::Joined(parts) | Node::Woven(parts) => {
+            let parts = each(alloc, parts.as_slice(), depth - 1)?;
+            applied(alloc, Fun::Concatenation, parts)
+        }
+        Node::Call(name, args) => call(alloc, name.as_str(), args.as_slice(), depth - 1),
+        _ => Err(Stop::NoRow),
+    }
+}
+
+#[cycle(evaluate)]
+fn one(alloc: Global, fun: Fun, part: &Expr, depth: u32) -> Result<Typed, Stop> {
+    let mut args = Vec::new(alloc);
+    args.push(evaluate(alloc, part, depth)?)?;
+    applied(alloc, fun, args)
+}
+
+fn two(alloc: Global, fun: Fun, left: Typed, right: Typed) -> Result<Typed, Stop> {
+    let mut args = Vec::new(alloc);
+    args.push(left)?;
+    args.push(right)?;
+    applied(alloc, fun, args)
+}
+
+#[cycle(evaluate)]
+fn each(alloc: Global, parts: &[Expr], depth: u32) -> Result<Vec<Typed>, Stop> {
+    let mut values = Vec::new(alloc);
+    for part in parts {
+        values.push(evaluate(alloc, part, depth)?)?;
+    }
+    Ok(values)
+}
+
+// What a function answers to formulas.
+#[cycle(evaluate)]
+fn call(alloc: Global, name: &str, args: &[Expr], depth: u32) -> Result<Typed, Stop> {
+    let Some(found) = signature(name) else {
+        return Err(Stop::NoRow);
+    };
+    match found.shape {
+        SigShape::One(Fun::Error) => error(alloc, args, depth),
+        SigShape::One(fun) | SigShape::Either(fun, _) => {
+            applied(alloc, fun, each(alloc, args, depth)?)
+        }
+        SigShape::Literal(fun) => by_literal(alloc, fun, args, depth),
+        SigShape::Today => Ok(Typed::new(today(alloc, MOMENT)?, Scalar::Date)),
+        _ => Err(Stop::NoRow),
+    }
+}
+
+// A function whose last argument may be a literal.
+#[cycle(evaluate)]
+fn by_literal(alloc: Global, fun: Fun, args: &[Expr], depth: u32) -> Result<Typed, Stop> {
+    match args {
+        [values @ .., last] if args.len() > row_of(fun).most as usize => {
+            let Value::Text(literal) = evaluate(alloc, last, depth)?.value else {
+                return Err(Stop::NoRow);
+            };
+            match with_literal(fun, literal.as_str()) {
+                Some(fun) => applied(alloc, fun, each(alloc, values, depth)?),
+                None => Err(Stop::NoRow),
+            }
+        }
+        _ => applied(alloc, fun, each(alloc, args, depth)?),
+    }
+}
+
+// The error that a record tells.
+#[cycle(evaluate)]
+fn error(alloc: Global, args: &[Expr], depth: u32) -> Result<Typed, Stop> {
+    let [record] = args else {
+        return Err(Stop::NoRow);
+    };
+    let Node::Rec(fields) = &record.node else {
+        return Err(Stop::NoRow);
+    };
+    let kind = field(alloc, fields, "Kind", depth)?;
+    let message = field(alloc, fields, "Message", depth)?;
+    Ok(Typed::new(error_of(alloc, &kind, &message)?, Scalar::Blank))
+}
+
+// The text of a record's field of this name, which is blank where it is missing.
+#[cycle(evaluate)]
+fn field(alloc: Global, fields: &Parts, wanted: &str, depth: u32) -> Result<Value, Stop> {
+    for (name, part) in fields.as_slice() {
+        if name.as_str() == wanted {
+            return coerced(alloc, evaluate(alloc, part, depth)?, Scalar::Text);
+        }
+    }
+    Ok(Value::Blank)
+}
+
+// A member of an enumeration, which is the text of its name.
+fn member(alloc: Global, left: &Node, name: &Words) -> Result<Typed, Stop> {
+    let Node::Name(enumeration) = left else {
+        return Err(Stop::NoRow);
+    };
+    match enumeration_of(enumeration.as_str()) {
+        Some(enumeration) if enumeration.has(name.as_str()) => Ok(text(name.copy(alloc)?)),
+        _ => Err(Stop::NoRow),
+    }
+}
+
+fn text(words: Words) -> Typed {
+    Typed::new(Value::Text(words), Scalar::Text)
+}
