@@ -2,8 +2,8 @@
 use Rattle.std.proofs.Common.{◌≡◌, ℕ, Bool, true, false, List, [], ◌∷◌, arith, refl, All}
 use Rattle.std.specs.Prelude.{ℤ, suc, if◌then◌else◌, encode_utf8_all, Option, Some, None, Result, Ok, Err}
 use Rattle.fx_data.specs.declared.faults.Kind.{Kind}
-use Rattle.fx_data.specs.Types.{Shape, numbers, texts, booleans, dates}
-use Rattle.fx_data.specs.Values.{Data, blank, number, boolean, fault}
+use Rattle.fx_data.specs.Types.{Shape, blanks, numbers, texts, booleans, dates}
+use Rattle.fx_data.specs.Values.{Data, blank, number, boolean, rec, fault}
 use Rattle.fx_value.specs.Coercion.{IsReadAs}
 use Rattle.fx_value.specs.Fits.{fits_in}
 use Rattle.fx_functions.specs.declared.functions.Fun.{Fun}
@@ -12,7 +12,8 @@ use Rattle.fx_functions.specs.declared.rows.Answer.{Answer}
 use Rattle.fx_functions.specs.declared.rows.Answer.TheVariants as answer
 use Rattle.fx_functions.specs.Rows.{row_of}
 use Rattle.fx_scalar.specs.Answers.{IsPosition, OfDate, UnlessFault, date_answer, maybe_answer, number_answer, text_answer}
-use Rattle.fx_scalar.specs.Arguments.{date_at, first_fault, text_at}
+use Rattle.fx_scalar.specs.Arguments.{at, date_at, first_fault, text_at}
+use Rattle.fx_scalar.specs.Errors.{IsErrorOf, error_of}
 use Rattle.fx_scalar.specs.ScalarFunctions.{IsResult, answered_fault, coalesced, formatted, is_blank, is_fault}
 use Rattle.fx_scalar.specs.Fitting.{AnswersFit, FitPlaces, FitsAnswer}
 use Rattle.fx_scalar.proofs.Comparing.{fits_at}
@@ -62,6 +63,16 @@ coalesced_fits (d ∷ ds) t h = elim (is_blank d) as (λ b. fits_in (if b then c
   | true ↦ coalesced_fits ds t (λ k e lt. h (suc k) e (omega arith))
   | false ↦ h 0 d (omega arith)
 ]
+
+-- what Error answers is an error
+told_fits : (k m : Data) → fits_in (error_of k m) blanks ≡ true
+told_fits (fault k cs) m = refl
+told_fits k (fault j cs) = refl
+told_fits k m = refl
+
+error_fits : (d r : Data) → IsErrorOf d r → fits_in r blanks ≡ true
+error_fits (rec fs) r e = rw e.4 (told_fits e.0 e.1)
+error_fits d r e = rw e refl
 
 -- an error fits every type
 fault_fits : (q : Answer) (a : List Data) (r : Data) → is_fault r ≡ true → FitsAnswer q a r
@@ -149,6 +160,7 @@ result_fits fun.Value a r h e = read_fits (encode_utf8_all (text_at a 0)) r e
 result_fits fun.Text a r h e = rw e (fits_at a 0 texts (h 0))
 result_fits (fun.FormatNumber f) a r h e = formatted_fits _ _ r e
 result_fits (fun.FormatDate f) a r h e = formatted_fits _ _ r e
+result_fits fun.Error a r h e = error_fits (at a 0) r e
 result_fits fun.Coalesce a r h e = λ t all. rw e (coalesced_fits a t all)
 result_fits f a r h e = absurd e
 

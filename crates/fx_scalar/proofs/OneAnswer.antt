@@ -10,10 +10,10 @@ use Rattle.fx_functions.specs.declared.functions.Fun.TheVariants as fun
 use Rattle.fx_calendar.specs.Civil.{civil_of}
 use Rattle.fx_dates.specs.Dates.{difference, number_of_parts, weekday_of}
 use Rattle.fx_scalar.specs.Answers.{IsPosition, UnlessFault, date_answer, maybe_answer, number_answer, text_answer}
-use Rattle.fx_scalar.specs.Arguments.{date_at, maybe_number, maybe_whole_at, number_at, text_at, whole_at}
+use Rattle.fx_scalar.specs.Arguments.{at, date_at, maybe_number, maybe_whole_at, number_at, text_at, whole_at}
 use Rattle.fx_scalar.specs.ScalarFunctions.{IsResult, answered_fault, start_of}
 use Rattle.fx_scalar.specs.Laws.{OneAnswer}
-use Rattle.fx_scalar.proofs.Single.{AtMostOne, answer_one, as_kind_one, checked_one, date_read_one, day_one, equal_one, found_one, greatest_one, later_one, least_one, of_date_one, position_one, power_one, read_one, shifted_one, substituted_one, sum_one, truth_one, unless_zero_one, whole_one}
+use Rattle.fx_scalar.proofs.Single.{AtMostOne, answer_one, as_kind_one, checked_one, date_read_one, day_one, equal_one, error_one, found_one, greatest_one, later_one, least_one, of_date_one, position_one, power_one, read_one, shifted_one, substituted_one, sum_one, truth_one, unless_zero_one, whole_one}
 
 result_one : (f : Fun) (a : List Data) → AtMostOne (IsResult f a)
 result_one fun.AddNumbers a = answer_one number_answer _ (as_kind_one _ (checked_one (number_at a 0 +ℤ number_at a 1)))
@@ -72,6 +72,7 @@ result_one fun.Blank a = equal_one _
 result_one fun.IsBlank a = equal_one _
 result_one fun.Coalesce a = equal_one _
 result_one fun.IsError a = equal_one _
+result_one fun.Error a = error_one (at a 0)
 result_one fun.IsBlankOrError a = equal_one _
 result_one (fun.FormatNumber f) a = equal_one _
 result_one (fun.FormatDate f) a = equal_one _

@@ -1,6 +1,6 @@
 -- What has one answer at most, of the relations that the functions of values are made of.
 use Rattle.std.proofs.Common.{◌≡◌, ◌≢◌, ◌∙◌, ℕ, ◌/◌, ◌%◌, ◌<◌, Bool, true, false, List, [], ◌∷◌, ◌++◌, length, Contains, arith, ap, subst, sym, refl, inl, inr}
-use Rattle.std.specs.Prelude.{ℤ, zero, suc, ◌+ℤ◌, replicate, unwrap_or, pos, negsuc, neg_ℤ, ◌*ℤ◌, ◌≤ℤ◌, ◌⊎◌, ◌↔◌, ◌&&◌, IsTrue, Option, Some, None, Result, Ok, Err, min}
+use Rattle.std.specs.Prelude.{ℤ, zero, suc, ◌+ℤ◌, replicate, unwrap_or, codes, pos, negsuc, neg_ℤ, ◌*ℤ◌, ◌≤ℤ◌, ◌⊎◌, ◌↔◌, ◌&&◌, IsTrue, Option, Some, None, Result, Ok, Err, min}
 use Rattle.std.specs.Str.Parse.{AllDigits}
 use Rattle.std.specs.Char.{digit_value}
 use Rattle.std.proofs.lemmas.Bool.{cases_lt, eqb-true}
@@ -14,8 +14,9 @@ use Rattle.fx_number.specs.declared.NumErr.{NumErr}
 use Rattle.fx_number.proofs.LeftToRight.{spelled-Spells}
 use Rattle.fx_data.specs.declared.faults.Kind.{Kind}
 use Rattle.fx_data.specs.Days.{IsDay}
-use Rattle.fx_data.specs.Values.{Data, blank, number, fault}
-use Rattle.fx_value.specs.Coercion.{IsReadAs, are_spaces}
+use Rattle.fx_data.specs.Types.{texts}
+use Rattle.fx_data.specs.Values.{Data, blank, number, text, boolean, date, rec, tab, fault}
+use Rattle.fx_value.specs.Coercion.{IsCoerced, IsReadAs, are_spaces, value_in}
 use Rattle.fx_calendar.specs.Civil.{civil_of}
 use Rattle.fx_calendar.proofs.CivilDays.{civil_is_date}
 use Rattle.fx_functions.specs.declared.literals.TimeUnit.{TimeUnit}
@@ -27,6 +28,7 @@ use Rattle.fx_numeric.specs.Folds.{IsGreatest, IsLeast, IsSum}
 use Rattle.fx_text.specs.Search.{IsFirst, IsFound, IsFoundFrom, position_of}
 use Rattle.fx_text.specs.Substitution.{IsSubstituted, substitute_of}
 use Rattle.fx_text.proofs.Replacing.{one_list}
+use Rattle.fx_scalar.specs.Errors.{IsErrorOf, error_of}
 use Rattle.fx_scalar.specs.Answers.{IsPosition, IsWhole, OfDate, number_answer}
 use Rattle.fx_scalar.specs.ScalarFunctions.{IsDateRead}
 
@@ -278,3 +280,20 @@ pub position_one : (q : Result (Option ℕ) Kind) → AtMostOne (IsPosition q)
 position_one (Ok None) r s h k = h ∙ sym k
 position_one (Ok (Some n)) r s h k = whole_one (pos n) r s h k
 position_one (Err e) r s h k = h ∙ sym k
+
+-- ---- errors
+text_one : (d : Data) → AtMostOne (IsCoerced d texts)
+text_one blank r s h k = h ∙ sym k
+text_one (number z) r s h k = h ∙ sym k
+text_one (text cs) r s h k = h ∙ sym k
+text_one (boolean b) r s h k = h ∙ sym k
+text_one (date z) r s h k = h ∙ sym k
+text_one (rec fs) r s h k = h ∙ sym k
+text_one (tab rs) r s h k = h ∙ sym k
+text_one (fault e cs) r s h k = h ∙ sym k
+
+pub error_one : (d : Data) → AtMostOne (IsErrorOf d)
+error_one (rec fs) r s h k =
+    h.4 ∙ ap (λ x. error_of x h.1) (text_one (value_in (codes "Kind") fs) h.0 k.0 h.2 k.2)
+    ∙ ap (error_of k.0) (text_one (value_in (codes "Message") fs) h.1 k.1 h.3 k.3) ∙ sym k.4
+error_one d r s h k = h ∙ sym k

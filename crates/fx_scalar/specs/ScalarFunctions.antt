@@ -8,7 +8,7 @@ use Rattle.fx_data.specs.Days.{IsDay}
 use Rattle.fx_data.specs.Values.{Data, blank, number, text, boolean, fault}
 use Rattle.fx_data.specs.Types.{numbers}
 use Rattle.fx_data.specs.declared.faults.Kind.{Kind}
-use Rattle.fx_data.specs.declared.faults.Kind.TheVariants.{InvalidArgument, Custom}
+use Rattle.fx_data.specs.declared.faults.Kind.TheVariants.{InvalidArgument}
 use Rattle.fx_data.specs.declared.comparisons.Cmp.{Cmp}
 use Rattle.fx_data.specs.declared.comparisons.Cmp.TheVariants.{Eq, Ne, Lt, Le, Gt, Ge}
 use Rattle.fx_order.specs.Operators.{holds_of, CanCompare}
@@ -18,7 +18,6 @@ use Rattle.fx_functions.specs.declared.functions.Fun.TheVariants as fun
 use Rattle.fx_functions.specs.declared.rows.Takes.{Takes}
 use Rattle.fx_functions.specs.declared.rows.Takes.TheVariants as takes
 use Rattle.fx_functions.specs.Rows.{row_of}
-use Rattle.fx_functions.specs.Literals.{error_kind}
 use Rattle.fx_text.specs.Texts.{made, left_of, right_of, mid_of, replace_of, joined, lower_of, upper_of, trimmed}
 use Rattle.fx_text.specs.Search.{IsFound}
 use Rattle.fx_text.specs.Substitution.{IsSubstituted}
@@ -31,6 +30,7 @@ use Rattle.fx_calendar.specs.DateText.{date_text}
 use Rattle.fx_dates.specs.Dates.{IsDayOrInvalid, IsLater, IsShifted, difference, number_of_parts, weekday_of}
 use Rattle.fx_dates.specs.Texts.{text_in as date_text_in}
 use Rattle.fx_scalar.specs.Arguments.{at, text_in, number_at, text_at, truth_at, date_at, whole_at, maybe_whole_at, maybe_number, first_fault}
+use Rattle.fx_scalar.specs.Errors.{IsErrorOf}
 use Rattle.fx_scalar.specs.Answers.{IsNumber, IsMaybeNumber, IsText, IsDate, IsPosition, IsTruth, IsWhole, OfDate, UnlessFault}
 
 -- ---- words of single lines
@@ -143,6 +143,7 @@ IsResult fun.IsBlank a = λ r. r ≡ boolean (is_blank (at a 0))
 IsResult fun.Coalesce a = λ r. r ≡ coalesced a
 IsResult fun.IsError a = λ r. r ≡ boolean (is_fault (at a 0))
 IsResult fun.IsBlankOrError a = λ r. r ≡ boolean (is_fault (at a 0) || is_blank (at a 0))
+IsResult fun.Error a = IsErrorOf (at a 0)
 IsResult fun.Date a = IsDate (IsDayOrInvalid (number_of_parts (whole_at a 0) (whole_at a 1) (whole_at a 2)))
 IsResult (fun.DateAdd u) a = OfDate (date_at a 0) (λ d. IsDate (IsLater u d (whole_at a 1)))
 IsResult (fun.DateDiff u) a = OfDate (date_at a 0) (λ d. OfDate (date_at a 1) (λ e. IsWhole (difference u d e)))
@@ -170,10 +171,9 @@ abbrev pub IsAnswer : Fun → List Data → Data → Type 0
 IsAnswer f a = UnlessFault (answered_fault f a) (IsResult f a)
 
 -- ---- what a function takes
--- whether this is a value, and no table or record
+-- whether this is a value, and no table
 abbrev pub is_value : Takes → Bool
 is_value takes.Table = false
-is_value takes.ErrorRecord = false
 is_value t = true
 
 -- a function that compares takes arguments that its operator compares; all others take any
@@ -186,18 +186,7 @@ pub record CanApply (f : Fun) (a : List Data) : Type 0 where
   pub of_values : IsTrue (is_value (row_of f).first)
   pub comparable : answered_fault f a ≡ None → CanCompareIf (comparison_of f) a
 
--- ---- calls without such a line
--- the kind of an error that a text names, and Custom where it names none
-abbrev pub kind_in : List ℕ → Kind
-kind_in cs = unwrap_or (error_kind (encode_utf8_all cs)) Custom
-
--- what Error answers to its kind and its message, as texts: the first error of the two, and else the
--- error that they tell
-abbrev pub error_of : Data → Data → Data
-error_of (fault k cs) m = fault k cs
-error_of k (fault j cs) = fault j cs
-error_of k m = fault (kind_in (text_in k)) (text_in m)
-
+-- ---- a call without such a line
 -- the day of a moment in UTC, a count of seconds, or InvalidArgument past the last day
 abbrev pub IsToday : ℕ → Data → Type 0
 IsToday moment = IsDate (IsDayOrInvalid (pos (moment / 86400)))

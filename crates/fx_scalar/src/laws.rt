@@ -1,4 +1,5 @@
 //! Laws of the functions of values.
+ghost use Rattle.fx_scalar.specs.Errors.{RecordsTell};
 ghost use Rattle.fx_scalar.specs.Fitting.{AnswersFit, FittingCanApply};
 ghost use Rattle.fx_scalar.specs.Laws.{OneAnswer};
 
@@ -15,4 +16,9 @@ pub fn answers_fit()
 /// A law, and no work: a function has one answer at most to its arguments.
 pub fn one_answer()
     ensures { OneAnswer }
+{}
+
+/// A law, and no work: the record of an error tells that error.
+pub fn records_tell()
+    ensures { RecordsTell }
 {}

@@ -6,6 +6,7 @@ mod arguments;
 mod dates;
 mod errors;
 mod laws;
+mod lazy_forms;
 mod numbers;
 mod table;
 #[cfg(test)]
@@ -14,6 +15,7 @@ mod texts;
 mod truths;
 
 pub use dates::today;
-pub use errors::error_of;
-pub use laws::{answers_fit, fitting_can_apply, one_answer};
+pub use errors::error_record;
+pub use laws::{answers_fit, fitting_can_apply, one_answer, records_tell};
+pub use lazy_forms::{Decision, decide, decide_match, is_blank, none_left, without_error};
 pub use table::apply;

@@ -8,7 +8,7 @@ ghost use Rattle.fx_scalar.specs.Fitting.{FitPlaces, FitsAnswer};
 ghost use Rattle.fx_scalar.specs.ScalarFunctions.{CanApply, CanCompareIf, IsAnswer, IsResult, answered_fault as answered_fault_of, comparison_of, is_strict as is_strict_function, is_value};
 
 use crate::arguments::first_fault;
-use crate::{dates, numbers, texts, truths};
+use crate::{dates, errors, numbers, texts, truths};
 use fx_base::Memory;
 use fx_data::{Cmp, Fault, Value};
 use fx_functions::Fun;
@@ -17,8 +17,8 @@ use std::alloc::Global;
 /// What a function of values, or an operator, answers to its arguments. Blank arguments count as 0, as
 /// an empty text or as false; a blank date makes the answer blank. The first error from the left is
 /// answered, but `IsError` and `IsBlankOrError` tell whether there is one, and `Coalesce` passes over
-/// those behind its answer. An error that the function makes has no message. Where the arguments fit
-/// their places, the answer fits its type.
+/// those behind its answer. An error that the function makes has no message, but for that of `Error`. Where
+/// the arguments fit their places, the answer fits its type.
 pub fn apply(alloc: Global, fun: Fun, args: &[Value]) -> Result<Value, Memory>
     requires { CanApply fun (views args.now) }
     ensures answer { IfOk result (λ v. IsAnswer fun (views args.now) (view v)) }
@@ -116,6 +116,7 @@ fn calculate(alloc: Global, fun: Fun, args: &[Value]) -> Result<Value, Memory>
         Fun::Coalesce => truths::coalesce(alloc, args),
         Fun::IsError => Ok(Value::Boolean(truths::is_error(args))),
         Fun::IsBlankOrError => Ok(Value::Boolean(truths::is_error(args) || truths::is_blank(args))),
+        Fun::Error => errors::error(alloc, args),
         Fun::Date => dates::date(alloc, args),
         Fun::DateAdd(unit) => dates::date_add(alloc, unit, args),
         Fun::DateDiff(unit) => dates::date_diff(alloc, unit, args),
@@ -124,8 +125,7 @@ fn calculate(alloc: Global, fun: Fun, args: &[Value]) -> Result<Value, Memory>
         Fun::Year => dates::year(alloc, args),
         Fun::Weekday => dates::weekday(alloc, args),
         Fun::DateValue => dates::read_date(alloc, args),
-        Fun::Error
-        | Fun::Filter
+        Fun::Filter
         | Fun::LookUp
         | Fun::Sort(_)
         | Fun::First

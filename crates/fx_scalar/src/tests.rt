@@ -53,12 +53,24 @@ fn answers(alloc: Global, fun: Fun, first: Arg, second: Arg, wanted: Arg) -> Res
     Ok(is(&apply(alloc, fun, &args)?, wanted))
 }
 
+// Whether the record of an error tells that error.
+#[tactic(auto, using(crate::proofs::ArgumentLemmas::can_apply))]
+fn tells(alloc: Global, kind: Kind) -> Result<bool, Memory> {
+    let message = Words::of(alloc, "gone")?;
+    let args = [error_record(alloc, &Fault { kind, message })?];
+    match apply(alloc, Fun::Error, &args)? {
+        Value::Fault(fault) => Ok(fault.kind == kind && fault.message.as_str() == "gone"),
+        _ => Ok(false),
+    }
+}
+
 #[test]
 fn worked_rows(rt: HostRuntime) -> Result<(), Memory> {
     let alloc = rt.alloc();
     fitting_can_apply();
     answers_fit();
     one_answer();
+    records_tell();
     let months = Fun::DateAdd(TimeUnit::Months);
     let month_end = Arg::Date(19_753);
     let leap_day = Arg::Date(19_782);
@@ -69,5 +81,16 @@ fn worked_rows(rt: HostRuntime) -> Result<(), Memory> {
     assert!(rt; answers(alloc, months, Arg::Blank, one, Arg::Blank)?);
     assert!(rt; answers(alloc, Fun::Mod, found, zero, found)?);
     assert!(rt; answers(alloc, Fun::Coalesce, Arg::Text(""), zero, zero)?);
+    assert!(rt;
+        answers(
+            alloc,
+            Fun::Error,
+            Arg::Blank,
+            Arg::Blank,
+            Arg::Error(Kind::Custom)
+        )?
+    );
+    assert!(rt; answers(alloc, Fun::Error, found, zero, found)?);
+    assert!(rt; tells(alloc, Kind::ConstraintViolated)?);
     Ok(())
 }

@@ -7,6 +7,7 @@ ghost use Rattle.fx_scalar.specs.Arguments.{at as at_of, views};
 ghost use Rattle.fx_scalar.specs.ScalarFunctions.{IsCompared, IsResult, coalesced, is_blank as is_blank_value, is_fault as is_fault_value};
 
 use crate::arguments::{at, at_or, text_at, truth_at};
+use crate::lazy_forms::is_blank as is_blank_one;
 use fx_base::Memory;
 use fx_data::{Cmp, Value};
 use std::alloc::Global;
@@ -64,18 +65,8 @@ pub(crate) fn is_blank(args: &[Value]) -> bool
     ensures { result ≡ is_blank_value (at_of (views args.now) 0) }
 {
     match at(args, 0) {
-        Some(arg) => is_blank_value_of(arg),
+        Some(arg) => is_blank_one(arg),
         None => true,
-    }
-}
-
-fn is_blank_value_of(arg: &Value) -> bool
-    ensures { result ≡ is_blank_value (view arg.now) }
-{
-    match arg {
-        Value::Blank => true,
-        Value::Text(text) => text.as_str().is_empty(),
-        _ => false,
     }
 }
 
@@ -90,7 +81,7 @@ pub(crate) fn coalesce(alloc: Global, args: &[Value]) -> Result<Value, Memory>
     ensures { IfOk result (λ v. view v ≡ coalesced (views args.now)) }
 {
     for arg in args {
-        if !is_blank_value_of(arg) {
+        if !is_blank_one(arg) {
             return arg.copy(alloc);
         }
     }

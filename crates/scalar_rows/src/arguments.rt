@@ -68,8 +68,8 @@ fn taken(alloc: Global, takes: Takes, arg: Typed, common: Option<Scalar>) -> Res
     }
 }
 
-/// A value as one of another type, if there is such a coercion.
-pub fn coerced(alloc: Global, arg: Typed, to: Scalar) -> Result<Value, Stop> {
+// A value as one of another type, if there is such a coercion.
+fn coerced(alloc: Global, arg: Typed, to: Scalar) -> Result<Value, Stop> {
     if !fits(&arg.value, &arg.ty.ty()) || !has_coercion(arg.ty, to) {
         return Err(Stop::NoRow);
     }
@@ -98,7 +98,7 @@ fn can_apply(fun: Fun, args: &[Value]) -> bool
 fn is_of_values(fun: Fun) -> bool
     ensures { result ≡ is_value (row_of fun).first }
 {
-    !matches!(row_of(fun).first, Takes::Table | Takes::ErrorRecord)
+    !matches!(row_of(fun).first, Takes::Table)
 }
 
 fn fit_places(fun: Fun, args: &[Value]) -> bool

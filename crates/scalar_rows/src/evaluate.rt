@@ -1,15 +1,16 @@
 //! What formulas of literals, operators and functions of values answer.
 
-use crate::arguments::{applied, coerced};
+use crate::arguments::applied;
 use crate::operators::fun_of;
+use crate::records::{error_of, record_of};
 use crate::typed::{Stop, Typed};
 use fx_data::{Value, Words};
 use fx_functions::literals::{enumeration_of, with_literal};
 use fx_functions::rows::row_of;
 use fx_functions::{Fun, Scalar, SigShape};
-use fx_scalar::{error_of, today};
+use fx_scalar::today;
 use fx_sig::signature;
-use fx_syntax::expr::{Expr, Node, Parts};
+use fx_syntax::expr::{Expr, Node};
 use std::alloc::Global;
 
 /// More than the depth of every formula.
@@ -106,29 +107,31 @@ fn by_literal(alloc: Global, fun: Fun, args: &[Expr], depth: u32) -> Result<Type
     }
 }
 
-// The error that a record tells.
+// The error that a record tells, which needs a kind.
 #[cycle(evaluate)]
 fn error(alloc: Global, args: &[Expr], depth: u32) -> Result<Typed, Stop> {
-    let [record] = args else {
+    let [part] = args else {
         return Err(Stop::NoRow);
     };
-    let Node::Rec(fields) = &record.node else {
+    let Node::Rec(parts) = &part.node else {
         return Err(Stop::NoRow);
     };
-    let kind = field(alloc, fields, "Kind", depth)?;
-    let message = field(alloc, fields, "Message", depth)?;
-    Ok(Typed::new(error_of(alloc, &kind, &message)?, Scalar::Blank))
+    let record = record_of(alloc, fields(alloc, parts.as_slice(), depth)?)?;
+    if record.value(&Words::of(alloc, "Kind")?).is_none() {
+        return Err(Stop::NoRow);
+    }
+    Ok(Typed::new(error_of(alloc, record)?, Scalar::Blank))
 }
 
-// The text of a record's field of this name, which is blank where it is missing.
+// The values of fields.
 #[cycle(evaluate)]
-fn field(alloc: Global, fields: &Parts, wanted: &str, depth: u32) -> Result<Value, Stop> {
-    for (name, part) in fields.as_slice() {
-        if name.as_str() == wanted {
-            return coerced(alloc, evaluate(alloc, part, depth)?, Scalar::Text);
-        }
+fn fields(alloc: Global, parts: &[(Words, Expr)], depth: u32) -> Result<Vec<(Words, Value)>, Stop> {
+    let mut fields = Vec::new(alloc);
+    for (name, part) in parts {
+        let value = evaluate(alloc, part, depth)?.value;
+        fields.push((name.copy(alloc)?, value))?;
     }
-    Ok(Value::Blank)
+    Ok(fields)
 }
 
 // A member of an enumeration, which is the text of its name.

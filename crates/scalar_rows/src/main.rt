@@ -6,6 +6,7 @@
 mod arguments;
 mod evaluate;
 mod operators;
+mod records;
 mod typed;
 
 use crate::evaluate::{DEPTH, evaluate};

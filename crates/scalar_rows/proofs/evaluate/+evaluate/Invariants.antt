@@ -10,8 +10,8 @@ decreases-one l = 4 * l.depth + 1
 abbrev pub decreases-each : goal.decreases-each
 decreases-each l = 4 * l.depth + 1
 
-abbrev pub decreases-field : goal.decreases-field
-decreases-field l = 4 * l.depth + 1
+abbrev pub decreases-fields : goal.decreases-fields
+decreases-fields l = 4 * l.depth + 1
 
 abbrev pub decreases-error : goal.decreases-error
 decreases-error l = 4 * l.depth + 2
