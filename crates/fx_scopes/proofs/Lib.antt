@@ -1,0 +1,4 @@
+pub mod Behind
+pub mod Innermost
+pub mod Planned
+pub mod Spelled
