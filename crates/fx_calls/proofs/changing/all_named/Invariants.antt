@@ -1,0 +1,12 @@
+use Rattle.std.proofs.Common.{◌≡◌, map}
+use Rattle.fx_data.specs.TypeView.{shape}
+use Rattle.fx_data.specs.Types.{column_list}
+use Rattle.fx_judge.specs.Deeds.{rows_named_by}
+use Rattle.fx_local.specs.TypedView.{typed}
+use Rattle.fx_calls.specs.Lists.{behind}
+use Rattle.fx_calls.proofs.changing.all_named.Given as goal
+
+abbrev pub invariant-loop-one : goal.invariant-loop-one
+invariant-loop-one l =
+    behind (map typed l.found.items) (rows_named_by l.rows.target (column_list l.rows.columns) (map typed l.one-iterator.rest.items))
+    ≡ rows_named_by l.rows.target (column_list l.rows.columns) (map typed l.fn.named.items)

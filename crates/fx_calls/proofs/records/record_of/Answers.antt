@@ -1,0 +1,8 @@
+use Rattle.std.proofs.Common.{◌≡◌, ap, sym, subst, List, map}
+use Rattle.fx_data.specs.Rising.{AreRising}
+use Rattle.fx_local.specs.TypedView.{typed}
+use Rattle.fx_calls.proofs.Fields.{rising_puts}
+use Rattle.fx_calls.proofs.records.record_of.Goals as goal
+
+pub record_by-requires : goal.record_by-requires
+record_by-requires c = rw c.in_ok-fields.ensures (rising_puts c.args.names.items (map typed c.args.parts.items))

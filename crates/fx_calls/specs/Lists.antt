@@ -1,0 +1,22 @@
+-- Parts one after another.
+use Rattle.std.specs.Prelude.{List, ◌∷◌, ◌++◌, ℕ, Option, Some, None, Result, Ok, Err}
+use Rattle.fx_data.specs.Types.{Shape}
+use Rattle.fx_typed.specs.Term.{Term}
+use Rattle.fx_typing.specs.Local.{value}
+use Rattle.fx_judge.specs.Parts.{Part, piece, target}
+
+-- parts, and the ones behind them if those break no rule
+abbrev pub behind : {A : Type 0} → List A → Result (List A) ℕ → Result (List A) ℕ
+behind xs (Ok ys) = Ok (xs ++ ys)
+behind xs (Err e) = Err e
+
+-- a part that is a value
+abbrev pub value_of : Part → Result (Term × Shape) ℕ
+value_of (piece (value a c t)) = Ok (c, t)
+value_of q = Err 6
+
+-- the name that stands first, without a name of its rows, and the parts behind it
+abbrev pub named_first : List Part → Result (List ℕ × List Part) ℕ
+named_first (target None x ∷ qs) = Ok (x, qs)
+named_first (target (Some a) x ∷ qs) = Err 6
+named_first qs = Err 15

@@ -1,0 +1,258 @@
+//! Rows that are named for a change, and what changes in them.
+ghost use Rattle.std.specs.Prelude.{◌≡◌, Err, IfOk, Ok, Result, codes, if◌then◌else◌, map, ℕ};
+ghost use Rattle.fx_data.specs.TypeView.{shape};
+ghost use Rattle.fx_data.specs.Types.{Shape, column, column_list, no_columns, numbers, records};
+ghost use Rattle.fx_judge.specs.Deeds as deeds;
+ghost use Rattle.fx_typed.specs.Term.{Term};
+ghost use Rattle.fx_typing.specs.Columns.{field_in};
+ghost use Rattle.fx_typing.specs.Local as local;
+ghost use Rattle.fx_typing.specs.Ways.{way};
+ghost use Rattle.fx_local.specs.Answers.{Answers};
+ghost use Rattle.fx_local.specs.TypedView.{typed};
+ghost use Rattle.fx_calls.specs.Changes.{unless_broken};
+
+use crate::given::{alone, joins_to};
+use crate::lists::come_to;
+use fx_base::Memory;
+use fx_data::types::{Columns, Ty};
+use fx_data::words::Words;
+use fx_functions::deeds::Target;
+use fx_local::columns::field_in;
+use fx_local::typed::Typed;
+use fx_local::ways::coerced;
+use fx_local::wrong::Wrong;
+use fx_rules::Rule;
+use fx_typed::{Core, make};
+use std::alloc::Global;
+
+/// Rows that change, with their columns.
+#[derive(Drop)]
+pub struct Changing {
+    pub target: Target,
+    pub columns: Columns,
+}
+
+// Whether the fields that are columns join to their types.
+fn fields_join(alloc: Global, columns: &Columns, fields: &Columns) -> Result<bool, Memory>
+    ensures { IfOk result (λ b. b ≡ deeds.fields_join (column_list columns.now) (column_list fields.now)) }
+{
+    for (name, ty) in fields.as_slice() {
+        if let Some(column) = field_in(name, columns)
+            && !joins_to(alloc, column, ty)?
+        {
+            return Ok(false);
+        }
+    }
+    Ok(true)
+}
+
+// The rule that fields break which are not some of the columns: `UnknownColumn` or `WrongType`.
+fn broken_by_fields(alloc: Global, columns: &Columns, fields: &Columns) -> Result<Option<Rule>, Memory>
+    ensures { IfOk result (λ o. (r : Result (Term × Shape) ℕ)
+        → deeds.when_columns (column_list columns.now) (column_list fields.now) r ≡ unless_broken o r) }
+{
+    let row = Ty::Rec(columns.copy(alloc)?);
+    let own = Ty::Rec(fields.copy(alloc)?);
+    if joins_to(alloc, &row, &own)? {
+        return Ok(None);
+    }
+    if fields_join(alloc, columns, fields)? {
+        return Ok(Some(Rule::UnknownColumn));
+    }
+    Ok(Some(Rule::WrongType))
+}
+
+// The name of the column that numbers the rows of a table.
+fn id_name(alloc: Global) -> Result<Words, Memory>
+    ensures { IfOk result (λ w. w ≡ codes "ID") }
+{
+    Ok(Words::of(alloc, "ID")?)
+}
+
+// The column that numbers the rows of a table.
+fn id_columns(alloc: Global) -> Result<Columns, Memory>
+    ensures { IfOk result (λ cs. column_list cs ≡ column (codes "ID") numbers no_columns) }
+{
+    let mut columns = Columns::new(alloc);
+    columns.push((id_name(alloc)?, Ty::Number))?;
+    Ok(columns)
+}
+
+// The rule that fields break which have no number `ID`: `UnknownColumn` or `WrongType`.
+fn broken_by_id(alloc: Global, fields: &Columns) -> Result<Option<Rule>, Memory>
+    ensures { IfOk result (λ o. (c : Term) → deeds.by_id c (column_list fields.now) (field_in (codes "ID") (column_list fields.now))
+        ≡ unless_broken o (Ok (c, records (column_list fields.now)))) }
+{
+    let id = id_name(alloc)?;
+    match field_in(&id, fields) {
+        Some(Ty::Number | Ty::Blank) => Ok(None),
+        Some(_) => Ok(Some(Rule::WrongType)),
+        None => Ok(Some(Rule::UnknownColumn)),
+    }
+}
+
+// A record with a field `ID`, which is a number.
+fn by_id(alloc: Global, core: Core, fields: Columns) -> Result<Typed, Wrong>
+    ensures { Answers typed (deeds.by_id core (column_list fields) (field_in (codes "ID") (column_list fields))) result }
+{
+    let broken = broken_by_id(alloc, &fields)?;
+    match broken {
+        Some(rule) => Err(Wrong::Breaks(rule)),
+        None => Ok(Typed {
+            core,
+            ty: Ty::Rec(fields),
+        }),
+    }
+}
+
+// A value of type Blank as a record of these columns.
+fn blank_of(alloc: Global, core: Core, columns: Columns) -> Result<Typed, Memory>
+    ensures { IfOk result (λ t. typed t ≡ (local.coerced core (records (column_list columns)), records (column_list columns))) }
+{
+    let ty = Ty::Rec(columns);
+    Ok(Typed {
+        core: coerced(alloc, core, &ty)?,
+        ty,
+    })
+}
+
+// A record as one of these columns.
+fn come_whole(alloc: Global, columns: &Columns, core: Core, fields: Columns) -> Result<Typed, Wrong>
+    ensures { Answers typed (local.by_way (way (records (column_list fields)) (records (column_list columns.now)))
+        core (records (column_list columns.now))) result }
+{
+    let whole = columns.copy(alloc)?;
+    let own = Typed {
+        core,
+        ty: Ty::Rec(fields),
+    };
+    come_to(alloc, own, &Ty::Rec(whole))
+}
+
+// A record of some of the columns, as one of all.
+fn whole_row(alloc: Global, columns: &Columns, core: Core, fields: Columns) -> Result<Typed, Wrong>
+    ensures { Answers typed (deeds.when_columns (column_list columns.now) (column_list fields)
+        (local.by_way (way (records (column_list fields)) (records (column_list columns.now))) core (records (column_list columns.now)))) result }
+{
+    let broken = broken_by_fields(alloc, columns, &fields)?;
+    match broken {
+        Some(rule) => Err(Wrong::Breaks(rule)),
+        None => come_whole(alloc, columns, core, fields),
+    }
+}
+
+/// A row that is named for a change: in a table by its `ID`, in a collection by all that it has. One
+/// of type Blank is a blank record. The rule is `WrongType` or `UnknownColumn`.
+pub fn row_named(alloc: Global, rows: &Changing, named: Typed) -> Result<Typed, Wrong>
+    ensures { Answers typed (deeds.row_named rows.now.target (column_list rows.now.columns) (typed named)) result }
+{
+    let Typed { core, ty } = named;
+    match rows.target {
+        Target::Table(_) => match ty {
+            Ty::Rec(fields) => by_id(alloc, core, fields),
+            Ty::Blank => Ok(blank_of(alloc, core, id_columns(alloc)?)?),
+            _ => Err(Wrong::Breaks(Rule::WrongType)),
+        },
+        Target::Gathered(_) => match ty {
+            Ty::Rec(fields) => whole_row(alloc, &rows.columns, core, fields),
+            Ty::Blank => Ok(blank_of(alloc, core, rows.columns.copy(alloc)?)?),
+            _ => Err(Wrong::Breaks(Rule::WrongType)),
+        },
+    }
+}
+
+/// Rows that are named for a change, in turn, or the rule that the first wrong one breaks.
+pub fn all_named(alloc: Global, rows: &Changing, named: Vec<Typed>) -> Result<Vec<Typed>, Wrong>
+    ensures { Answers (λ xs. map typed xs.items)
+        (deeds.rows_named_by rows.now.target (column_list rows.now.columns) (map typed named.items)) result }
+{
+    let mut found = Vec::new(alloc);
+    for one in named {
+        let next = row_named(alloc, rows, one)?;
+        found.push(next)?;
+    }
+    Ok(found)
+}
+
+// Whether fields leave the number of a table's row as it is.
+fn leaves_id(alloc: Global, target: Target, fields: &Columns) -> Result<bool, Memory>
+    ensures { IfOk result (λ b. b ≡ deeds.leaves_id target (column_list fields.now)) }
+{
+    match target {
+        Target::Table(_) => {
+            let id = id_name(alloc)?;
+            Ok(field_in(&id, fields).is_none())
+        }
+        Target::Gathered(_) => Ok(true),
+    }
+}
+
+// A record as a table of one row.
+fn row_of_one(alloc: Global, core: Core, fields: Columns) -> Result<Typed, Memory>
+    ensures { IfOk result (λ t. typed t ≡ deeds.row_of_one core (column_list fields)) }
+{
+    let row = Ty::Rec(fields.copy(alloc)?);
+    Ok(Typed {
+        core: make::listed(row, alone(alloc, core)?),
+        ty: Ty::Tab(fields),
+    })
+}
+
+// A record that leaves the number of a row as it is, as a table of one row.
+fn changed(alloc: Global, target: Target, core: Core, fields: Columns) -> Result<Typed, Wrong>
+    ensures { Answers typed (if deeds.leaves_id target (column_list fields)
+        then Ok (deeds.row_of_one core (column_list fields)) else Err 12) result }
+{
+    if !leaves_id(alloc, target, &fields)? {
+        return Err(Wrong::Breaks(Rule::UnknownColumn));
+    }
+    Ok(row_of_one(alloc, core, fields)?)
+}
+
+// A record of some of the columns, as a change.
+fn change_by(alloc: Global, rows: &Changing, core: Core, fields: Columns) -> Result<Typed, Wrong>
+    ensures { Answers typed (deeds.when_columns (column_list rows.now.columns) (column_list fields)
+        (if deeds.leaves_id rows.now.target (column_list fields)
+        then Ok (deeds.row_of_one core (column_list fields)) else Err 12)) result }
+{
+    let broken = broken_by_fields(alloc, &rows.columns, &fields)?;
+    match broken {
+        Some(rule) => Err(Wrong::Breaks(rule)),
+        None => changed(alloc, rows.target, core, fields),
+    }
+}
+
+// A change without fields.
+fn no_change(alloc: Global, core: Core) -> Result<Typed, Memory>
+    ensures { IfOk result (λ t. typed t ≡ deeds.row_of_one (local.coerced core (records no_columns)) no_columns) }
+{
+    let none = Ty::Rec(Columns::new(alloc));
+    let core = coerced(alloc, core, &none)?;
+    row_of_one(alloc, core, Columns::new(alloc))
+}
+
+/// What changes in a row: a record of some of the columns, `ID` aside in a table, as a table of one
+/// row. One of type Blank has no fields. The rule is `WrongType` or `UnknownColumn`.
+pub fn change_of(alloc: Global, rows: &Changing, change: Typed) -> Result<Typed, Wrong>
+    ensures { Answers typed (deeds.change_of rows.now.target (column_list rows.now.columns) (typed change)) result }
+{
+    let Typed { core, ty } = change;
+    match ty {
+        Ty::Rec(fields) => change_by(alloc, rows, core, fields),
+        Ty::Blank => Ok(no_change(alloc, core)?),
+        _ => Err(Wrong::Breaks(Rule::WrongType)),
+    }
+}
+
+/// What changes in a row, in turn, or the rule that the first wrong change breaks.
+pub fn changes_of(alloc: Global, rows: &Changing, changes: Vec<Typed>) -> Result<Vec<Typed>, Wrong>
+    ensures { Answers (λ xs. map typed xs.items)
+        (deeds.changes_of rows.now.target (column_list rows.now.columns) (map typed changes.items)) result }
+{
+    let mut found = Vec::new(alloc);
+    for one in changes {
+        let next = change_of(alloc, rows, one)?;
+        found.push(next)?;
+    }
+    Ok(found)
+}

@@ -1,0 +1,72 @@
+//! Values that are given to variables.
+ghost use Rattle.std.specs.Prelude.{◌≡◌, ◌∷◌, [], IfOk};
+ghost use Rattle.fx_data.specs.TypeView.{shape};
+ghost use Rattle.fx_judge.specs.Deeds as deeds;
+ghost use Rattle.fx_local.specs.Answers.{Answers};
+ghost use Rattle.fx_local.specs.TypedView.{typed};
+
+use crate::lists::come_to;
+use fx_base::Memory;
+use fx_data::types::Ty;
+use fx_functions::deeds::{Deed, Sources};
+use fx_functions::sources::Source;
+use fx_local::typed::Typed;
+use fx_local::ways::same_shape;
+use fx_local::wrong::Wrong;
+use fx_rules::Rule;
+use fx_typed::{Core, CoreArgs, make};
+use fx_value::joining::join;
+use std::alloc::Global;
+
+/// A deed, which answers true.
+pub fn done_by(deed: Deed, parts: CoreArgs) -> Typed
+    ensures { typed result ≡ deeds.done_by deed parts }
+{
+    Typed {
+        core: make::acting(deed, parts),
+        ty: Ty::Boolean,
+    }
+}
+
+/// A tree alone.
+pub fn alone(alloc: Global, core: Core) -> Result<CoreArgs, Memory>
+    ensures { IfOk result (λ cs. cs ≡ core ∷ []) }
+{
+    let mut cores = CoreArgs::new(alloc);
+    cores.push(core)?;
+    Ok(cores)
+}
+
+/// Whether another type joins to exactly this one.
+pub fn joins_to(alloc: Global, ty: &Ty, other: &Ty) -> Result<bool, Memory>
+    ensures { IfOk result (λ b. b ≡ deeds.joins_to (shape ty.now) (shape other.now)) }
+{
+    match join(alloc, ty, other)? {
+        Some(joined) => Ok(same_shape(&joined, ty)),
+        None => Ok(false),
+    }
+}
+
+/// A value that is given to a variable of this type, or the rule `VariableTypes`.
+pub fn given(alloc: Global, ty: &Ty, value: Typed) -> Result<Typed, Wrong>
+    ensures { Answers typed (deeds.given (shape ty.now) (typed value)) result }
+{
+    if !joins_to(alloc, ty, &value.ty)? {
+        return Err(Wrong::Breaks(Rule::VariableTypes));
+    }
+    come_to(alloc, value, ty)
+}
+
+/// The deed that gives variables of a screen their values.
+pub fn context_given(alloc: Global, given: Vec<(Source, Core)>) -> Result<Typed, Memory>
+    ensures { IfOk result (λ t. typed t
+        ≡ deeds.done_by (Deed.UpdateContext (deeds.given_sources given.items)) (deeds.given_terms given.items)) }
+{
+    let mut sources = Sources::new(alloc);
+    let mut cores = CoreArgs::new(alloc);
+    for (source, core) in given {
+        sources.push(source)?;
+        cores.push(core)?;
+    }
+    Ok(done_by(Deed::UpdateContext(sources), cores))
+}

@@ -1,0 +1,71 @@
+//! Rows that are patched or removed.
+ghost use Rattle.std.specs.Prelude.{◌≡◌, ◌∷◌, IfOk, map};
+ghost use Rattle.fx_judge.specs.Deeds as deeds;
+ghost use Rattle.fx_typing.specs.Local as local;
+ghost use Rattle.fx_local.specs.Answers.{Answers};
+ghost use Rattle.fx_local.specs.TypedView.{typed};
+ghost use Rattle.fx_calls.specs.Changes.{changing_view, patched, removed};
+
+use crate::changing::{Changing, all_named, changes_of, row_named};
+use crate::few::first;
+use crate::given::done_by;
+use crate::lists::cores_of;
+use fx_base::Memory;
+use fx_data::types::Ty;
+use fx_functions::deeds::Deed;
+use fx_local::typed::Typed;
+use fx_local::wrong::Wrong;
+use fx_rules::Rule;
+use fx_typed::{Core, CoreArgs, make};
+use std::alloc::Global;
+
+// The trees of parts, behind a first one.
+fn cores_behind(alloc: Global, first: Core, parts: Vec<Typed>) -> Result<CoreArgs, Memory>
+    ensures { IfOk result (λ cs. cs ≡ first ∷ local.firsts (map typed parts.items)) }
+{
+    let mut cores = CoreArgs::new(alloc);
+    cores.push(first)?;
+    for part in parts {
+        let Typed { core, ty: _ } = part;
+        cores.push(core)?;
+    }
+    Ok(cores)
+}
+
+// The tree of a row that is patched, and those of what changes in it.
+fn patched(alloc: Global, rows: &Changing, base: Typed, changes: Vec<Typed>) -> Result<CoreArgs, Wrong>
+    ensures { Answers (λ cs. cs) (patched (changing_view rows.now) (typed base) (map typed changes.items)) result }
+{
+    let base = row_named(alloc, rows, base)?;
+    let changes = changes_of(alloc, rows, changes)?;
+    Ok(cores_behind(alloc, base.core, changes)?)
+}
+
+// `Patch` of a row of these rows, and what changes in it.
+fn patch_by(alloc: Global, rows: Changing, base: Typed, changes: Vec<Typed>) -> Result<Typed, Wrong>
+    ensures { Answers typed (deeds.patch_to (changing_view rows) (typed base ∷ map typed changes.items)) result }
+{
+    let cores = patched(alloc, &rows, base, changes)?;
+    Ok(Typed {
+        core: make::acting(Deed::Patch(rows.target), cores),
+        ty: Ty::Rec(rows.columns),
+    })
+}
+
+/// `Patch` of these rows: the row, then what changes. The rule is `WrongCount` where there is no row.
+pub fn patch_to(alloc: Global, rows: Changing, parts: Vec<Typed>) -> Result<Typed, Wrong>
+    ensures { Answers typed (deeds.patch_to (changing_view rows) (map typed parts.items)) result }
+{
+    match first(parts) {
+        Some((base, changes)) => patch_by(alloc, rows, base, changes),
+        None => Err(Wrong::Breaks(Rule::WrongCount)),
+    }
+}
+
+/// `Remove` of some of these rows, or the rule that the first wrong one breaks.
+pub fn remove_to(alloc: Global, rows: &Changing, named: Vec<Typed>) -> Result<Typed, Wrong>
+    ensures { Answers typed (removed (changing_view rows.now) (map typed named.items)) result }
+{
+    let found = all_named(alloc, rows, named)?;
+    Ok(done_by(Deed::Remove(rows.target), cores_of(alloc, found)?))
+}
