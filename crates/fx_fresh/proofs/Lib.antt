@@ -1,0 +1,13 @@
+pub mod Parts
+pub mod Fields
+pub mod Forms
+pub mod Branches
+pub mod Tables
+pub mod Columns
+pub mod Over
+pub mod Calls
+pub mod Widened
+pub mod Coerced
+pub mod Whole
+pub mod Lawful
+pub mod Examples

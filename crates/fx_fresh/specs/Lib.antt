@@ -1,0 +1,8 @@
+pub mod Around
+pub mod Forms
+pub mod Errors
+pub mod Rows
+pub mod Fresh
+pub mod Sources
+pub mod Named
+pub mod Sound
