@@ -10,4 +10,7 @@ pub mod Widened
 pub mod Coerced
 pub mod Whole
 pub mod Lawful
+pub mod Single
+pub mod SingleRows
+pub mod SingleWhole
 pub mod Examples

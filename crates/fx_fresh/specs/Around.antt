@@ -22,7 +22,7 @@ inside a d = record a { rows = a.rows ++ d ∷ [] }
 abbrev pub catching : Around → Kind → List ℕ → Around
 catching a k cs = record a { caught = Some (record { kind = k; message = cs }) }
 
--- what a formula means: its values, of which there is one, where it stands
+-- what a formula means: its value where it stands, if it has one
 abbrev pub Meaning : Type 1
 Meaning = Around → Data → Type 0
 

@@ -6,3 +6,4 @@ pub mod Fresh
 pub mod Sources
 pub mod Named
 pub mod Sound
+pub mod Unique

@@ -1,5 +1,8 @@
 // Laws of the values of typed trees.
 ghost use Rattle.fx_fresh.specs.Sound.{TypingsLawful, ValuesFit};
+ghost use Rattle.fx_fresh.specs.Unique.{OneNaming, OneValue};
+
+use fx_row_calls::{count_if_once, count_once, greatest_once, least_once, sort_once, sum_once};
 
 /// A law, and no work: over sources that give what fits their types, each value of a tree fits the
 /// type that a typing gives it, where the columns of all its types have rising names.
@@ -12,3 +15,27 @@ pub fn values_fit()
 pub fn typings_are_lawful()
     ensures { TypingsLawful }
 {}
+
+/// A law, and no work: a tree has one value at most where the values of its sources are told.
+pub fn one_value()
+    ensures { OneValue }
+{
+    sum_once();
+    least_once();
+    greatest_once();
+    count_once();
+    count_if_once();
+    sort_once();
+}
+
+/// A law, and no work: named formulas have one list of values at most.
+pub fn one_naming()
+    ensures { OneNaming }
+{
+    sum_once();
+    least_once();
+    greatest_once();
+    count_once();
+    count_if_once();
+    sort_once();
+}
