@@ -47,7 +47,11 @@ fn fields_join(alloc: Global, columns: &Columns, fields: &Columns) -> Result<boo
 }
 
 // The rule that fields break which are not some of the columns: `UnknownColumn` or `WrongType`.
-fn broken_by_fields(alloc: Global, columns: &Columns, fields: &Columns) -> Result<Option<Rule>, Memory>
+fn broken_by_fields(
+    alloc: Global,
+    columns: &Columns,
+    fields: &Columns,
+) -> Result<Option<Rule>, Memory>
     ensures { IfOk result (λ o. (r : Result (Term × Shape) ℕ)
         → deeds.when_columns (column_list columns.now) (column_list fields.now) r ≡ unless_broken o r) }
 {

@@ -33,7 +33,12 @@ fn cores_behind(alloc: Global, first: Core, parts: Vec<Typed>) -> Result<CoreArg
 }
 
 // The tree of a row that is patched, and those of what changes in it.
-fn patched(alloc: Global, rows: &Changing, base: Typed, changes: Vec<Typed>) -> Result<CoreArgs, Wrong>
+fn patched(
+    alloc: Global,
+    rows: &Changing,
+    base: Typed,
+    changes: Vec<Typed>,
+) -> Result<CoreArgs, Wrong>
     ensures { Answers (λ cs. cs) (patched (changing_view rows.now) (typed base) (map typed changes.items)) result }
 {
     let base = row_named(alloc, rows, base)?;
