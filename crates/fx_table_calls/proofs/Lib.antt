@@ -1,0 +1,10 @@
+pub mod Found
+pub mod Grown
+pub mod ListRows
+pub mod Made
+pub mod Parts
+pub mod Places
+pub mod Ready
+pub mod Turns
+pub mod Verdicts
+pub mod Whole
