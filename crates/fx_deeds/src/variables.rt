@@ -1,0 +1,125 @@
+//! Variables that are given values.
+ghost use Rattle.std.specs.Prelude.{◌≡◌, ◌∷◌, [], Ok, Some, map};
+ghost use Rattle.fx_judge.specs.Deeds as deeds;
+ghost use Rattle.fx_judge.specs.Targets.{screen_variable};
+ghost use Rattle.fx_names.specs.Lawful.{IsLawful};
+ghost use Rattle.fx_local.specs.Answers.{Answers};
+ghost use Rattle.fx_local.specs.TypedView.{typed};
+ghost use Rattle.fx_scopes.specs.PartView.{part};
+
+use crate::values::values;
+use fx_calls::few::one;
+use fx_calls::given::{alone, context_given, done_by, given};
+use fx_data::words::Words;
+use fx_functions::deeds::Deed;
+use fx_functions::sources::Source;
+use fx_local::typed::Typed;
+use fx_local::wrong::Wrong;
+use fx_names::names::{Names, Variable};
+use fx_rules::Rule;
+use fx_scopes::Part;
+use fx_scopes::targets::{global_variable, screen_variable};
+use fx_typed::Core;
+use std::alloc::Global;
+
+// `Set` of this variable, whose number this is.
+fn set_to(
+    alloc: Global,
+    number: u32,
+    variable: &Variable,
+    values: Vec<Typed>,
+) -> Result<Typed, Wrong>
+    ensures { Answers typed (deeds.set_to (number, variable.now) (map typed values.items)) result }
+{
+    let Some(value) = one(values) else {
+        return Err(Wrong::Breaks(Rule::WrongCount));
+    };
+    let value = given(alloc, &variable.ty, value)?;
+    Ok(done_by(Deed::Set(number), alone(alloc, value.core)?))
+}
+
+/// `Set`: a global variable and its value.
+pub fn set_of(alloc: Global, names: &Names, name: &Words, parts: Vec<Part>) -> Result<Typed, Wrong>
+    requires { IsLawful names.now }
+    ensures { Answers typed (deeds.set_of names.now name.now (map part parts.entry.items)) result }
+{
+    let values = values(alloc, parts)?;
+    match global_variable(names, name) {
+        Some((number, variable)) => set_to(alloc, number, variable, values),
+        None => Err(Wrong::Breaks(Rule::NotAVariable)),
+    }
+}
+
+// The variable of this name of a screen, with its value.
+fn give_one(
+    alloc: Global,
+    names: &Names,
+    screen: Option<u32>,
+    name: &Words,
+    value: Typed,
+) -> Result<(Source, Core), Wrong>
+    requires { IsLawful names.now }
+    ensures { Answers (λ g. g ∷ []) (deeds.give_one (screen_variable names.now screen name.now) (typed value) (Ok [])) result }
+{
+    let Some((number, variable)) = screen_variable(names, screen, name) else {
+        return Err(Wrong::Breaks(Rule::NotAVariable));
+    };
+    let value = given(alloc, &variable.ty, value)?;
+    Ok((Source::Context(number), value.core))
+}
+
+// The variables of these names of a screen, with their values.
+fn give_all(
+    alloc: Global,
+    names: &Names,
+    screen: Option<u32>,
+    variables: Vec<Words>,
+    values: Vec<Typed>,
+) -> Result<Vec<(Source, Core)>, Wrong>
+    requires { IsLawful names.now }
+    ensures { Answers (λ gs. gs.items) (deeds.give_all names.now screen variables.items (map typed values.items)) result }
+{
+    let mut given = Vec::new(alloc);
+    let mut left = values.into_iter();
+    for name in variables {
+        let Some(value) = left.next() else {
+            return Ok(given);
+        };
+        let next = give_one(alloc, names, screen, &name, value)?;
+        given.push(next)?;
+    }
+    Ok(given)
+}
+
+// `UpdateContext` of this part, on this screen.
+fn update_by(alloc: Global, names: &Names, screen: u32, assigned: Part) -> Result<Typed, Wrong>
+    requires { IsLawful names.now }
+    ensures { Answers typed (deeds.update_of names.now (Some screen) (part assigned.entry ∷ [])) result }
+{
+    match assigned {
+        Part::Assigned(variables, values) => {
+            let given = give_all(alloc, names, Some(screen), variables, values)?;
+            Ok(context_given(alloc, given)?)
+        }
+        _ => Err(Wrong::Breaks(Rule::NotAVariable)),
+    }
+}
+
+/// `UpdateContext`: variables of the formula's screen and their values.
+pub fn update_of(
+    alloc: Global,
+    names: &Names,
+    screen: Option<u32>,
+    parts: Vec<Part>,
+) -> Result<Typed, Wrong>
+    requires { IsLawful names.now }
+    ensures { Answers typed (deeds.update_of names.now screen (map part parts.entry.items)) result }
+{
+    let Some(screen) = screen else {
+        return Err(Wrong::Breaks(Rule::NotAVariable));
+    };
+    match one(parts) {
+        Some(assigned) => update_by(alloc, names, screen, assigned),
+        None => Err(Wrong::Breaks(Rule::NotAVariable)),
+    }
+}
