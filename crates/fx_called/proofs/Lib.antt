@@ -1,0 +1,3 @@
+pub mod Blanks
+pub mod Literals
+pub mod Named
