@@ -1,0 +1,2 @@
+pub mod FirstColumns
+pub mod Gaps

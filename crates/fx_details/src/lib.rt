@@ -1,0 +1,17 @@
+//! What is said of a broken node besides the rule that it breaks.
+#![tactic(auto)]
+
+pub mod borrowed;
+pub mod details;
+pub mod flaw;
+pub mod limits;
+pub mod mismatches;
+pub mod mistyped;
+pub mod stuck;
+pub mod texts;
+
+pub use details::wanted_detail;
+pub use flaw::{Flaw, Halt};
+
+#[cfg(test)]
+mod tests;
