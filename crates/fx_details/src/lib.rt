@@ -9,9 +9,11 @@ pub mod mismatches;
 pub mod mistyped;
 pub mod stuck;
 pub mod texts;
+pub mod too_deep;
 
-pub use details::wanted_detail;
+pub use details::{detail_of, wanted_detail};
 pub use flaw::{Flaw, Halt};
+pub use too_deep::is_too_deep;
 
 #[cfg(test)]
 mod tests;

@@ -1,12 +1,8 @@
 ghost use Rattle.std.specs.Prelude.{IfOk};
 ghost use Rattle.fx_names.specs.Lawful.{IsLawful};
 
-use crate::details::no_variable;
+use crate::details::detail_of;
 use crate::limits::{nested, type_limit};
-use crate::mismatches::misjoined;
-use crate::mistyped::wrong_types;
-use crate::stuck::{named_twice, unknown_column};
-use crate::texts::{commas, counted, head_name};
 use fx_base::Memory;
 use fx_data::types::{Columns, Ty};
 use fx_data::values::Value;
@@ -19,7 +15,7 @@ use fx_names::in_order::InOrder;
 use fx_names::names::{Names, Variable};
 use fx_names::schema::{Schema, TableShape};
 use fx_rules::Rule;
-use fx_scopes::{Meaning, Part, Place, Scope, Scopes};
+use fx_scopes::{Grant, Meaning, Part, Place, Scope, Scopes, Stand};
 use fx_syntax::expr::{Args, Expr, Node, Parts};
 use fx_typed::make;
 use std::alloc::Global;
@@ -160,13 +156,13 @@ fn node_of(alloc: Global, name: &str) -> Result<Expr, Memory> {
     Ok(Expr { at: 0, node })
 }
 
-// What is said of a node that breaks a rule.
+// What is said of a node of these parts that breaks a rule.
 fn said(
     alloc: Global,
     names: &Names,
     rule: Rule,
     whole: &Expr,
-    all: &[Part],
+    all: Vec<Part>,
 ) -> Result<Words, Memory>
     requires { IsLawful names.now }
 {
@@ -175,15 +171,12 @@ fn said(
         screen: Some(0),
         gallery: None,
     };
-    match rule {
-        Rule::NameTwice => named_twice(alloc, names, whole, all),
-        Rule::WrongType => commas(alloc, &wrong_types(alloc, names, whole, all)?),
-        Rule::WrongCount => counted(alloc, &head_name(alloc, whole)?, all.len()),
-        Rule::VariableTypes => misjoined(alloc, &at, whole, all),
-        Rule::UnknownColumn => unknown_column(alloc, names, whole, all),
-        Rule::NotAVariable => no_variable(alloc, whole, all),
-        _ => head_name(alloc, whole),
-    }
+    let stand = Stand {
+        catches: false,
+        grant: Grant::Acting,
+    };
+    let around = Scopes::new(alloc);
+    detail_of(alloc, &at, &around, stand, whole, all, rule)
 }
 
 // Whether this is said of a node of these parts.
@@ -199,7 +192,7 @@ fn is_said(
 {
     let whole = node_of(alloc, name)?;
     let parts = parts_of(alloc, given)?;
-    Ok(said(alloc, names, rule, &whole, &parts)?.as_str() == expected)
+    Ok(said(alloc, names, rule, &whole, parts)?.as_str() == expected)
 }
 
 // Records in one another, so many.
@@ -320,7 +313,8 @@ fn limits_are_counted(rt: HostRuntime) -> Result<(), Fail> {
     }
     let node = Node::Rec(fields);
     let names = app(alloc)?;
-    let twice = said(alloc, &names, Rule::NameTwice, &Expr { at: 0, node }, &[])?;
+    let whole = Expr { at: 0, node };
+    let twice = said(alloc, &names, Rule::NameTwice, &whole, Vec::new(alloc))?;
     assert_eq!(rt; twice.as_str(), "A");
     Ok(())
 }
