@@ -1,0 +1,81 @@
+-- Nodes are judged by their parts, from the left.
+use Rattle.std.proofs.Common.{◌≡◌, ℕ, suc, List, [], ◌∷◌, ◌++◌, length, Ok, Err, refl, ap, sym, subst, ◌∙◌, arith, length-append, inl, inr}
+use Rattle.fx_syntax.specs.Tree.{Tree, node, Forest, none, more, Head}
+use Rattle.fx_syntax.specs.TreeView.{branch}
+use Rattle.fx_syntax.specs.declared.expr.Node.{Node}
+use Rattle.fx_syntax.specs.declared.expr.Node.TheVariants as kind
+use Rattle.fx_typing.specs.Meaning.{Place}
+use Rattle.fx_judge.specs.Details.{HasToldBroken, IsToldBroken, detail_of}
+use Rattle.fx_judge.specs.Parts.{Part, Setting, parts_in}
+use Rattle.fx_judge.specs.Plans.{setting_at}
+use Rattle.fx_judge.specs.Typing.{admit, at_node, judge, judge_parts, onward, position}
+use Rattle.fx_scopes.specs.PlanView.{head_of}
+use Rattle.fx_infer.specs.Below.{forest_of, forest_from}
+
+-- parts are judged from the left: what is left, behind what is done, is the whole
+pub record GoesOn (p : Place) (s : Setting) (h : Head) (n : ℕ) (ts : Forest) (done : List Part) : Type 0 where
+  pub judged : judge_parts p s h n done (forest_from (length done) ts) ≡ judge_parts p s h n [] ts
+  pub told : (w rule : ℕ) (said : List ℕ) → HasToldBroken p s h n done (forest_from (length done) ts) w rule said
+      → HasToldBroken p s h n [] ts w rule said
+
+pub begins : (p : Place) (s : Setting) (h : Head) (n : ℕ) (ts : Forest) → GoesOn p s h n ts []
+begins p s h n ts = record { judged = refl; told = λ w rule said x. x }
+
+pub goes_on : (p : Place) (s : Setting) (h : Head) (n : ℕ) (ts : Forest) (done : List Part) (k : Tree) (q : Part) →
+    GoesOn p s h n ts done → forest_from (length done) ts ≡ more k (forest_from (suc (length done)) ts) →
+    judge p (setting_at p.names s h n done) k ≡ Ok q → GoesOn p s h n ts (done ++ q ∷ [])
+goes_on p s h n ts done k q g e j =
+    let len : length (done ++ q ∷ []) ≡ suc (length done) = length-append done (q ∷ []) ∙ omega arith in
+    let one : judge_parts p s h n done (forest_from (length done) ts) ≡ judge_parts p s h n (done ++ q ∷ []) (forest_from (suc (length done)) ts) =
+    ap (judge_parts p s h n done) e ∙ ap (λ r. onward r (λ a. judge_parts p s h n (done ++ a ∷ []) (forest_from (suc (length done)) ts))) j in
+    record {
+      judged = ap (λ i. judge_parts p s h n (done ++ q ∷ []) (forest_from i ts)) len ∙ sym one ∙ g.judged;
+      told = λ w rule said x. g.told w rule said
+          (subst (λ f. HasToldBroken p s h n done f w rule said) (sym e)
+          (inr (q, j, subst (λ i. HasToldBroken p s h n (done ++ q ∷ []) (forest_from i ts) w rule said) len x)));
+    }
+
+-- at the end all are judged
+pub ends : (p : Place) (s : Setting) (h : Head) (n : ℕ) (ts : Forest) (done : List Part) →
+    GoesOn p s h n ts done → forest_from (length done) ts ≡ none → judge_parts p s h n [] ts ≡ Ok done
+ends p s h n ts done g e = sym g.judged ∙ ap (judge_parts p s h n done) e
+
+-- a node begins at its position
+pub begins_at : (at : ℕ) (x : Node) → position (branch at x) ≡ at
+begins_at at (kind.Num z) = refl
+begins_at at (kind.Text cs) = refl
+begins_at at (kind.Truth b) = refl
+begins_at at (kind.Name x) = refl
+begins_at at (kind.Global x) = refl
+begins_at at (kind.Dot e x) = refl
+begins_at at (kind.Call x es) = refl
+begins_at at (kind.Neg e) = refl
+begins_at at (kind.Not e) = refl
+begins_at at (kind.Percent e) = refl
+begins_at at (kind.Pair o a b) = refl
+begins_at at (kind.Joined es) = refl
+begins_at at (kind.And es) = refl
+begins_at at (kind.Or es) = refl
+begins_at at (kind.Chain es) = refl
+begins_at at (kind.Alias e x) = refl
+begins_at at (kind.Rec fs) = refl
+begins_at at (kind.List es) = refl
+begins_at at (kind.Woven es) = refl
+
+-- a node, from its parts
+pub judged_as : (p : Place) (s : Setting) (e : Tree) (qs : List Part) (q : Part) →
+    judge_parts p s (head_of e) (parts_in (forest_of e)) [] (forest_of e) ≡ Ok qs → admit p s (head_of e) qs ≡ Ok q → judge p s e ≡ Ok q
+judged_as p s (node at h ts) qs q j a = ap (λ r. onward r (λ xs. at_node at (admit p s h xs))) j ∙ ap (at_node at) a
+
+pub told_here : (p : Place) (s : Setting) (e : Tree) (qs : List Part) (w rule : ℕ) (said : List ℕ) → w ≡ position e →
+    judge_parts p s (head_of e) (parts_in (forest_of e)) [] (forest_of e) ≡ Ok qs → admit p s (head_of e) qs ≡ Err rule →
+    said ≡ detail_of p s (head_of e) qs rule → IsToldBroken p s e w rule said
+told_here p s (node at h ts) qs w rule said k j a d = inl (k, qs, j, a, d)
+
+pub told_below : (p : Place) (s : Setting) (e : Tree) (w rule : ℕ) (said : List ℕ) →
+    HasToldBroken p s (head_of e) (parts_in (forest_of e)) [] (forest_of e) w rule said → IsToldBroken p s e w rule said
+told_below p s (node at h ts) w rule said x = inr x
+
+-- the head of a node that is seen whole
+pub headed : (w : Tree) (at : ℕ) (n m : Node) → branch at n ≡ w → n ≡ m → head_of w ≡ head_of (branch at m)
+headed w at n m e k = ap head_of (sym e) ∙ ap (λ x. head_of (branch at x)) k

@@ -1,0 +1,35 @@
+use Rattle.std.proofs.Common.{option_map}
+use Rattle.fx_data.specs.TypeView.{shape}
+use Rattle.fx_rules.specs.Rules.{number_of}
+use Rattle.fx_infer.specs.Written.{may_act, place_of}
+use Rattle.fx_infer.proofs.Wholes.{ends_admitted, ends_typed, ends_told, whole_broken}
+use Rattle.fx_infer.proofs.elaboration.elaborate.Goals as goal
+
+pub returns-clause-admitted : goal.returns-clause-admitted
+returns-clause-admitted c =
+    let w = c.args.cell.now in
+    ends_admitted (place_of c.args.names.now w) (may_act w.place) (option_map shape w.wanted) w.expr w.cell c.judged.result c.judged.ensures
+
+pub returns-clause-well_typed : goal.returns-clause-well_typed
+returns-clause-well_typed c =
+    let w = c.args.cell.now in
+    ends_typed (place_of c.args.names.now w) (may_act w.place) (option_map shape w.wanted) w.expr w.cell c.judged.result
+    (λ x h. c.admitted_is_typed.ensures.typed (place_of c.args.names.now w) (may_act w.place) (option_map shape w.wanted) w.expr x c.requires.lawful h)
+    c.judged.ensures
+
+pub returns-clause-broken : goal.returns-clause-broken
+returns-clause-broken c =
+    let w = c.args.cell.now in
+    let p = place_of c.args.names.now w in
+    λ b k. whole_broken p (may_act w.place) (option_map shape w.wanted) w.expr b.at (number_of b.rule) b.detail
+    (ends_told p (may_act w.place) (option_map shape w.wanted) w.expr w.cell c.judged.result b c.judged.ensures k).0
+
+pub returns-clause-told : goal.returns-clause-told
+returns-clause-told c =
+    let w = c.args.cell.now in
+    λ b k. (ends_told (place_of c.args.names.now w) (may_act w.place) (option_map shape w.wanted) w.expr w.cell c.judged.result b c.judged.ensures k).0
+
+pub returns-clause-cell : goal.returns-clause-cell
+returns-clause-cell c =
+    let w = c.args.cell.now in
+    λ b k. (ends_told (place_of c.args.names.now w) (may_act w.place) (option_map shape w.wanted) w.expr w.cell c.judged.result b c.judged.ensures k).1

@@ -1,0 +1,17 @@
+use Rattle.std.proofs.Common.{Err, inr, option_map, subst}
+use Rattle.fx_data.specs.TypeView.{shape}
+use Rattle.fx_judge.specs.Typing.{whole_of}
+use Rattle.fx_local.specs.Answers.{Answers}
+use Rattle.fx_local.specs.TypedView.{typed}
+use Rattle.fx_local.specs.declared.wrong.Wrong.{Wrong}
+use Rattle.fx_scopes.specs.PartView.{part}
+use Rattle.fx_infer.specs.Written.{place_of}
+use Rattle.fx_infer.proofs.elaboration.settled.Goals as goal
+
+pub returns-in-Err-Breaks : goal.returns-in-Err-Breaks
+returns-in-Err-Breaks c =
+    let w = c.args.cell.now in
+    let q = part c.args.whole in
+    let wrong = subst (λ (e : Wrong). Answers typed (whole_of (option_map shape w.wanted) q) (Err e)) c.in-Err-Breaks.field-0-is c.in-Err-Breaks.ensures in
+    λ b j. c.broken.ensures (place_of c.args.names.now w) b (option_map shape w.wanted) w.expr
+    (inr (c.begins-at.ensures, q, j, wrong, c.in_ok-detail.ensures))

@@ -1,0 +1,28 @@
+use Rattle.std.proofs.Common.{◌≡◌, ◌+◌, ◌-◌, ◌*◌, length, map}
+use Rattle.fx_syntax.specs.Tree.{tree_size}
+use Rattle.fx_judge.specs.Parts.{parts_in}
+use Rattle.fx_scopes.specs.MeaningView.{place}
+use Rattle.fx_scopes.specs.PartView.{part}
+use Rattle.fx_scopes.specs.PlanView.{head_of}
+use Rattle.fx_scopes.specs.SettingView.{setting}
+use Rattle.fx_infer.specs.Below.{forest_of}
+use Rattle.fx_infer.proofs.Goes.{GoesOn}
+use Rattle.fx_infer.proofs.judging.+judge.Given as goal
+
+abbrev pub decreases-judge : goal.decreases-judge
+decreases-judge l = 4 * tree_size l.whole.now + 1
+
+abbrev pub decreases-judge_parts : goal.decreases-judge_parts
+decreases-judge_parts l = 4 * tree_size l.whole.now
+
+abbrev pub decreases-judge_next : goal.decreases-judge_next
+decreases-judge_next l = 4 * tree_size l.next.now + 2
+
+abbrev pub invariant-judge_parts-loop-next : goal.invariant-judge_parts-loop-next
+invariant-judge_parts-loop-next l = record {
+  scopes : l.scopes ≡ l.fn.scopes;
+  goes : GoesOn (place l.at) (setting l.fn.scopes l.stand) (head_of l.whole) (parts_in (forest_of l.whole)) (forest_of l.whole) (map part l.done.items);
+}
+
+abbrev pub decreases-judge_parts-loop-next : goal.decreases-judge_parts-loop-next
+decreases-judge_parts-loop-next l = parts_in (forest_of l.whole) - length l.done.items

@@ -1,0 +1,24 @@
+-- Where a formula is written.
+use Rattle.std.specs.Prelude.{Bool, true, false}
+use Rattle.fx_data.specs.Types.{Shape, tables, no_columns}
+use Rattle.fx_names.specs.declared.names.Names.{Names}
+use Rattle.fx_typing.specs.Meaning.{Place}
+use Rattle.fx_infer.specs.declared.elaboration.PlaceKind.{PlaceKind}
+use Rattle.fx_infer.specs.declared.elaboration.PlaceKind.TheVariants.{Pure, Acting}
+use Rattle.fx_infer.specs.declared.elaboration.Written.{Written}
+
+abbrev pub may_act : PlaceKind → Bool
+may_act Pure = false
+may_act Acting = true
+
+abbrev pub place_of : Names → Written → Place
+place_of n w = record { names = n; screen = w.screen; gallery = w.item }
+
+-- a table type without columns, which stands for every table type
+abbrev pub is_any_table : Shape → Bool
+is_any_table (tables no_columns) = true
+is_any_table t = false
+
+abbrev pub is_tables : Shape → Bool
+is_tables (tables cs) = true
+is_tables t = false

@@ -1,0 +1,194 @@
+//! Typed trees of formulas.
+ghost use Rattle.std.specs.Prelude.{◌≡◌, ◌≤◌, [], Bool, Err, IfOk, Ok, Option, option_map};
+ghost use Rattle.fx_data.specs.TypeView.{shape};
+ghost use Rattle.fx_data.specs.Types.{Shape};
+ghost use Rattle.fx_judge.specs.Details.{IsToldBrokenWhole};
+ghost use Rattle.fx_judge.specs.Typing as typing;
+ghost use Rattle.fx_judge.specs.Typing.{context_of, judge_whole};
+ghost use Rattle.fx_names.specs.Lawful.{IsLawful};
+ghost use Rattle.fx_rules.specs.Rules.{number_of};
+ghost use Rattle.fx_rules.specs.declared.broken.Broken.{Broken};
+ghost use Rattle.fx_syntax.specs.Tree.{Tree};
+ghost use Rattle.fx_typing.specs.Meaning.{Place};
+ghost use Rattle.fx_typing.specs.WellTyped.{IsTyped};
+ghost use Rattle.fx_local.specs.Answers.{Answers};
+ghost use Rattle.fx_local.specs.TypedView.{typed};
+ghost use Rattle.fx_scopes.specs.PartView.{part};
+ghost use Rattle.fx_scopes.specs.SettingView.{setting};
+ghost use Rattle.fx_infer.specs.declared.ends.InferEnd.TheVariants as end;
+ghost use Rattle.fx_infer.specs.Below.{tree_depth};
+ghost use Rattle.fx_infer.specs.Ends.{Ends};
+ghost use Rattle.fx_infer.specs.Written.{is_any_table, is_tables, may_act, place_of};
+
+use crate::below::begins;
+use crate::ends::InferEnd;
+use crate::judging::judge;
+use fx_data::types::Ty;
+use fx_data::words::Words;
+use fx_details::{Flaw, Halt, wanted_detail};
+use fx_judge::admitted_is_typed;
+use fx_local::ways::{by_way, way_to};
+use fx_local::{Piece, Typed, Wrong};
+use fx_names::names::Names;
+use fx_rules::{Broken, Rule};
+use fx_scopes::{Grant, Part, Place as Standpoint, Scopes, Stand};
+use fx_syntax::expr::Expr;
+use std::alloc::Global;
+
+/// What the place of a formula allows.
+#[derive(Clone, Copy, Debug, PartialEq, Eq)]
+pub enum PlaceKind {
+    /// A value alone.
+    Pure,
+    /// A formula that may act.
+    Acting,
+}
+
+/// A formula where it is written.
+#[derive(Drop)]
+pub struct Written {
+    /// Its address, as `S.OnVisible`.
+    pub cell: Words,
+    /// The number of its screen.
+    pub screen: Option<u32>,
+    /// The number of the gallery whose item it sees.
+    pub item: Option<u32>,
+    /// The type that is wanted of it. A table type without columns stands for every table type.
+    pub wanted: Option<Ty>,
+    /// What its place allows.
+    pub place: PlaceKind,
+    pub expr: Expr,
+}
+
+// What is wanted of a formula: a table type without columns lets every table be.
+fn to_wanted(alloc: Global, wanted: &Option<Ty>, value: Typed) -> Result<Typed, Wrong>
+    ensures { Answers typed (typing.to_wanted (option_map shape wanted.now) (typed value)) result }
+{
+    let Some(ty) = wanted else {
+        return Ok(value);
+    };
+    if is_any_table(ty) && is_table(&value.ty) {
+        return Ok(value);
+    }
+    let way = way_to(alloc, &value.ty, ty)?;
+    by_way(alloc, way, value.core, ty)
+}
+
+// Whether a type is a table type without columns.
+fn is_any_table(ty: &Ty) -> bool
+    ensures { result ≡ is_any_table (shape ty.now) }
+{
+    match ty {
+        Ty::Tab(columns) => columns.len() == 0,
+        _ => false,
+    }
+}
+
+fn is_table(ty: &Ty) -> bool
+    ensures { result ≡ is_tables (shape ty.now) }
+{
+    matches!(ty, Ty::Tab(_))
+}
+
+// A whole formula, coerced to what is wanted of it.
+fn whole_of(alloc: Global, wanted: &Option<Ty>, whole: Part) -> Result<Typed, Wrong>
+    ensures { Answers typed (typing.whole_of (option_map shape wanted.now) (part whole.entry)) result }
+{
+    match whole {
+        Part::Piece(Piece::Value(_, value)) => to_wanted(alloc, wanted, value),
+        Part::Piece(Piece::Label(_)) | Part::Meant(_) | Part::Target(_, _) | Part::Assigned(_, _) =>
+            { Err(Wrong::Breaks(Rule::WrongType)) }
+    }
+}
+
+// A whole formula stands in no scope.
+fn outermost(place: PlaceKind) -> Stand
+    ensures { setting [] result ≡ typing.outermost (may_act place) }
+{
+    Stand {
+        catches: false,
+        grant: match place {
+            PlaceKind::Pure => Grant::Nothing,
+            PlaceKind::Acting => Grant::Acting,
+        },
+    }
+}
+
+// What is answered of a formula that is broken there.
+fn broken(alloc: Global, cell: &Words, flaw: Flaw) -> InferEnd
+    ensures { (p : Place) → (b : Bool) → (w : Option Shape) → (e : Tree)
+        → IsToldBrokenWhole p b w e flaw.at (number_of flaw.rule) flaw.detail
+        → Ends p b w e cell.now (Err result) }
+{
+    match cell.copy(alloc) {
+        Ok(cell) => InferEnd::Broken(Broken {
+            cell,
+            rule: flaw.rule,
+            at: flaw.at,
+            detail: flaw.detail,
+        }),
+        Err(_) => InferEnd::Memory,
+    }
+}
+
+// What is answered of a formula that is admitted as this part, before anything is wanted of it.
+fn settled(alloc: Global, names: &Names, cell: &Written, whole: Part) -> Result<Typed, InferEnd>
+    requires { IsLawful names.now }
+    ensures { (b : Bool)
+        → typing.judge (place_of names.now cell.now) (typing.outermost b) cell.now.expr ≡ Ok (part whole.entry)
+        → Ends (place_of names.now cell.now) b (option_map shape cell.now.wanted) cell.now.expr
+        cell.now.cell result }
+{
+    let detail = wanted_detail(alloc, names, &whole)?;
+    match whole_of(alloc, &cell.wanted, whole) {
+        Ok(value) => Ok(value),
+        Err(Wrong::Memory) => Err(InferEnd::Memory),
+        Err(Wrong::Breaks(rule)) => {
+            let at = begins(&cell.expr);
+            Err(broken(alloc, &cell.cell, Flaw { at, rule, detail }))
+        }
+    }
+}
+
+// What is answered of a formula.
+fn judged(alloc: Global, names: &Names, cell: &Written) -> Result<Typed, InferEnd>
+    requires lawful { IsLawful names.now }
+    requires shallow { tree_depth cell.now.expr ≤ 256 }
+    ensures { Ends (place_of names.now cell.now) (may_act cell.now.place)
+        (option_map shape cell.now.wanted) cell.now.expr cell.now.cell result }
+{
+    let at = Standpoint {
+        names,
+        screen: cell.screen,
+        gallery: cell.item,
+    };
+    let mut scopes = Scopes::new(alloc);
+    match judge(alloc, &at, &mut scopes, outermost(cell.place), &cell.expr) {
+        Ok(whole) => settled(alloc, names, cell, whole),
+        Err(Halt::Flawed(flaw)) => Err(broken(alloc, &cell.cell, flaw)),
+        Err(Halt::Memory) => Err(InferEnd::Memory),
+    }
+}
+
+/// The typed tree of a formula and its type, coerced to what is wanted of it; or the first of its nodes
+/// from the left that is broken while all its parts are admitted, with the rule that it breaks and what
+/// is said besides. At its top a formula is broken too where its type has no coercion to what is wanted.
+/// It has at most 256 nodes above one another.
+pub fn elaborate(alloc: Global, names: &Names, cell: &Written) -> Result<Typed, InferEnd>
+    requires lawful { IsLawful names.now }
+    requires shallow { tree_depth cell.now.expr ≤ 256 }
+    ensures admitted { IfOk result (λ t. judge_whole (place_of names.now cell.now) (may_act cell.now.place)
+        (option_map shape cell.now.wanted) cell.now.expr ≡ Ok (typed t)) }
+    ensures well_typed { IfOk result (λ t. IsTyped (context_of (place_of names.now cell.now)
+        (typing.outermost (may_act cell.now.place))) t.core (shape t.ty)) }
+    ensures broken { (b : Broken) → result ≡ Err (end.Broken b)
+        → judge_whole (place_of names.now cell.now) (may_act cell.now.place)
+        (option_map shape cell.now.wanted) cell.now.expr ≡ Err (b.at, number_of b.rule) }
+    ensures told { (b : Broken) → result ≡ Err (end.Broken b)
+        → IsToldBrokenWhole (place_of names.now cell.now) (may_act cell.now.place)
+        (option_map shape cell.now.wanted) cell.now.expr b.at (number_of b.rule) b.detail }
+    ensures cell { (b : Broken) → result ≡ Err (end.Broken b) → b.cell ≡ cell.now.cell }
+{
+    admitted_is_typed();
+    judged(alloc, names, cell)
+}

@@ -1,0 +1,108 @@
+//! Which nodes are admitted, as which parts.
+ghost use Rattle.std.specs.Prelude.{◌≡◌, ◌≤◌, ◌+◌, [], length, map};
+ghost use Rattle.fx_names.specs.Lawful.{IsLawful};
+ghost use Rattle.fx_judge.specs.Details.{HasToldBroken, IsToldBroken};
+ghost use Rattle.fx_judge.specs.Parts.{parts_in};
+ghost use Rattle.fx_judge.specs.Plans.{setting_at};
+ghost use Rattle.fx_judge.specs.Typing as typing;
+ghost use Rattle.fx_scopes.specs.MeaningView.{place};
+ghost use Rattle.fx_scopes.specs.PartView.{part};
+ghost use Rattle.fx_scopes.specs.PlanView.{head_of};
+ghost use Rattle.fx_scopes.specs.SettingView.{setting};
+ghost use Rattle.fx_infer.specs.Below.{forest_of, tree_depth};
+ghost use Rattle.fx_infer.specs.Judged.{Judged};
+
+use crate::admitting::admit;
+use crate::below::{begins, part_at, part_count};
+use fx_details::{Flaw, Halt, detail_of};
+use fx_local::Wrong;
+use fx_scopes::{Part, Place, Scopes, Stand, enter};
+use fx_syntax::expr::Expr;
+use std::alloc::Global;
+
+/// A node as a part of the whole, or the first node from the left that is broken while all its parts are
+/// admitted. The scopes are left as they were.
+#[cycle(judge)]
+pub fn judge<'a>(
+    alloc: Global,
+    at: &Place<'a>,
+    scopes: &mut Scopes,
+    stand: Stand,
+    whole: &Expr,
+) -> Result<Part<'a>, Halt>
+    requires lawful { IsLawful at.now.names.now }
+    requires shallow { length scopes.old + tree_depth whole.now ≤ 256 }
+    ensures scopes { scopes.new ≡ scopes.old }
+    ensures judged { Judged part (typing.judge (place at.now) (setting scopes.old stand) whole.now)
+        (IsToldBroken (place at.now) (setting scopes.old stand) whole.now) result }
+{
+    let parts = judge_parts(alloc, at, scopes, stand, whole)?;
+    match admit(alloc, at, scopes, stand, whole, parts) {
+        Ok(part) => Ok(part),
+        Err(Wrong::Memory) => Err(Halt::Memory),
+        Err(Wrong::Breaks(rule)) => {
+            let parts = judge_parts(alloc, at, scopes, stand, whole)?;
+            let detail = detail_of(alloc, at, scopes, stand, whole, parts, rule)?;
+            Err(Halt::Flawed(Flaw {
+                at: begins(whole),
+                rule,
+                detail,
+            }))
+        }
+    }
+}
+
+// The parts of a node, from the left, each where the ones before put it.
+#[cycle(judge)]
+fn judge_parts<'a>(
+    alloc: Global,
+    at: &Place<'a>,
+    scopes: &mut Scopes,
+    stand: Stand,
+    whole: &Expr,
+) -> Result<Vec<Part<'a>>, Halt>
+    requires lawful { IsLawful at.now.names.now }
+    requires shallow { length scopes.old + tree_depth whole.now ≤ 256 }
+    ensures scopes { scopes.new ≡ scopes.old }
+    ensures judged { Judged (λ qs. map part qs.items)
+        (typing.judge_parts (place at.now) (setting scopes.old stand) (head_of whole.now)
+        (parts_in (forest_of whole.now)) [] (forest_of whole.now))
+        (HasToldBroken (place at.now) (setting scopes.old stand) (head_of whole.now)
+        (parts_in (forest_of whole.now)) [] (forest_of whole.now)) result }
+{
+    let count = part_count(whole);
+    let mut done = Vec::new(alloc);
+    while let Some(next) = part_at(whole, done.len()) {
+        let part = judge_next(alloc, at, scopes, stand, whole, count, &done, next)?;
+        done.push(part)?;
+    }
+    Ok(done)
+}
+
+// The part behind the done ones, where these put it, of a node with so many parts.
+#[cycle(judge)]
+fn judge_next<'a>(
+    alloc: Global,
+    at: &Place<'a>,
+    scopes: &mut Scopes,
+    stand: Stand,
+    whole: &Expr,
+    count: usize,
+    done: &[Part<'a>],
+    next: &Expr,
+) -> Result<Part<'a>, Halt>
+    requires lawful { IsLawful at.now.names.now }
+    requires shallow { length scopes.old + (1 + tree_depth next.now) ≤ 256 }
+    ensures scopes { scopes.new ≡ scopes.old }
+    ensures judged { Judged part
+        (typing.judge (place at.now) (setting_at at.now.names.now (setting scopes.old stand)
+        (head_of whole.now) count (map part done.now)) next.now)
+        (IsToldBroken (place at.now) (setting_at at.now.names.now (setting scopes.old stand)
+        (head_of whole.now) count (map part done.now)) next.now) result }
+{
+    let around = scopes.len();
+    let inner = enter(alloc, at.names, scopes, stand, whole, count, done)?;
+    let answer = judge(alloc, at, scopes, inner, next);
+    scopes.cut(around);
+    answer
+}

@@ -1,0 +1,11 @@
+//! Which formulas are admitted, as which typed trees, and where and why others are broken.
+#![tactic(auto)]
+
+pub mod admitting;
+pub mod below;
+pub mod elaboration;
+pub mod ends;
+pub mod judging;
+
+pub use elaboration::{PlaceKind, Written, elaborate};
+pub use ends::InferEnd;
