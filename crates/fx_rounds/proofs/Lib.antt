@@ -1,0 +1,4 @@
+mod After
+mod Known
+mod Same
+mod Walked

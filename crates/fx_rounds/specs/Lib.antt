@@ -1,0 +1,5 @@
+pub mod CellView
+pub mod GivenView
+pub mod Limit
+pub mod SameTypes
+pub mod TypesView
