@@ -7,7 +7,7 @@ use Rattle.fx_data.specs.TypeView.{shape}
 use Rattle.fx_data.specs.Types.{Shape, blanks, numbers, texts, booleans, dates, records, tables, ColumnList, no_columns, column}
 use Rattle.fx_data.specs.declared.types.Ty.{Ty}
 use Rattle.fx_judge.specs.Rounds as rounds
-use Rattle.fx_judge.specs.Rounds.{Cell, AfterRounds, SameNames, first_types, next_types, types_in, items_type, items_types, formula_type, variable_join, collection_join, all_given}
+use Rattle.fx_judge.specs.Rounds.{Cell, AfterRounds, IsFinal, SameNames, first_types, next_types, types_in, items_type, items_types, formula_type, variable_join, collection_join, all_given}
 use Rattle.fx_names.specs.declared.names.Collection.{Collection}
 use Rattle.fx_names.specs.declared.names.ControlName.{ControlName}
 use Rattle.fx_names.specs.declared.names.Names.{Names}
@@ -51,7 +51,7 @@ shapes_one : (ts : List Shape) → same_shapes ts ts ≡ true
 shapes_one [] = refl
 shapes_one (t ∷ ts) = ap (λ b. b && same_shapes ts ts) (shape_one t) ∙ shapes_one ts
 
-pub types_same : (a b : rounds.Types) → same_types a b ≡ true → a ≡ b
+types_same : (a b : rounds.Types) → same_types a b ≡ true → a ≡ b
 types_same a b e =
     let p = both (same_shapes a.variables b.variables) _ e in
     let q = both (same_shapes a.collections b.collections) _ p.1 in
@@ -151,3 +151,8 @@ up_to P (suc n) f p (suc k) h = up_to (λ j. P (suc j)) n (λ j g. f (suc j) (om
 -- what is below all is below the last
 pub below_last : (k r n : ℕ) → k < n → n ≤ r → k < r
 below_last k r n h g = omega arith
+
+-- a round that keeps all types is the last
+pub is_final : (cs : List Cell) (n t : Names) (ts : Types) (k : ℕ) → k < 256 → AfterRounds cs n k t → types_view ts ≡ next_types cs t →
+    same_types (types_view ts) (types_in t) ≡ true → IsFinal cs n t
+is_final cs n t ts k l a e s = (k, l, a, sym e ∙ types_same (types_view ts) (types_in t) s)

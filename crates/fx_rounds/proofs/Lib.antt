@@ -1,4 +1,5 @@
 mod After
 mod Known
+mod Only
 mod Same
 mod Walked

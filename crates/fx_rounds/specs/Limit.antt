@@ -1,7 +1,13 @@
--- What is said where types still change after all rounds.
-use Rattle.std.specs.Prelude.{◌≡◌, codes}
+-- Whether the types come to an end, and what is said where they don't.
+use Rattle.std.specs.Prelude.{◌≡◌, List, codes}
+use Rattle.fx_judge.specs.Rounds.{Cell, StillChanges}
+use Rattle.fx_names.specs.declared.names.Names.{Names}
 use Rattle.fx_rules.specs.declared.broken.Broken.{Broken}
 use Rattle.fx_rules.specs.declared.rule.Rule.TheVariants as rule
+
+-- not each of 256 rounds changes a type
+abbrev pub Settles : List Cell → Names → Type 0
+Settles cs n = StillChanges cs n → ⊥
 
 -- the rule LimitPassed, of the app as a whole
 abbrev pub IsRoundsLimit : Broken → Type 0

@@ -7,7 +7,7 @@ ghost use Rattle.fx_judge.specs.Rounds.{IsFinal, StillChanges};
 ghost use Rattle.fx_names.specs.Lawful.{IsLawful};
 ghost use Rattle.fx_rules.specs.declared.broken.Broken.{Broken};
 ghost use Rattle.fx_rounds.specs.CellView.{cell};
-ghost use Rattle.fx_rounds.specs.Limit.{IsRoundsLimit};
+ghost use Rattle.fx_rounds.specs.Limit.{IsRoundsLimit, Settles};
 
 use crate::next::next_types;
 use crate::round_types::{are_types_of, first_types};
@@ -54,6 +54,7 @@ pub fn type_rounds(alloc: Global, names: Names, cells: &[Written]) -> Result<Nam
     requires shallow { All (λ (c : Written). tree_depth c.expr ≤ 256) cells.now }
     ensures types { IfOk result (λ m. IsFinal (map cell cells.now) names m) }
     ensures lawful { IfOk result IsLawful }
+    ensures settles { IfOk result (λ m. Settles (map cell cells.now) names) }
     ensures broken { (b : Broken) → result ≡ Err (end.Broken b) → StillChanges (map cell cells.now) names }
     ensures told { (b : Broken) → result ≡ Err (end.Broken b) → IsRoundsLimit b }
 {

@@ -3,7 +3,8 @@ use Rattle.fx_judge.specs.Rounds.{AfterRounds, next_types, types_in}
 use Rattle.fx_names.specs.declared.names.Names.{Names}
 use Rattle.fx_rounds.specs.CellView.{cell}
 use Rattle.fx_rounds.specs.TypesView.{types_view}
-use Rattle.fx_rounds.proofs.After.{after_next, first_fits, next_fits, below_last, types_differ, types_same, up_to}
+use Rattle.fx_rounds.proofs.After.{after_next, first_fits, next_fits, below_last, is_final, types_differ, up_to}
+use Rattle.fx_rounds.proofs.Only.{final_settles}
 use Rattle.fx_rounds.proofs.Same.{lawful_same}
 use Rattle.fx_rounds.proofs.rounds.type_rounds.Goals as goal
 
@@ -21,12 +22,15 @@ pub next_types-requires-clause-lawful : goal.next_types-requires-clause-lawful
 next_types-requires-clause-lawful c = c.loop-round.invariant.lawful
 
 pub returns-then-are_types_of-clause-types : goal.returns-then-are_types_of-clause-types
-returns-then-are_types_of-clause-types c = (
-  c.loop-round.round,
-  c.loop-round-test.true,
-  c.loop-round.invariant.after,
-  sym c.in_ok-next.ensures ∙ types_same (types_view c.in_ok-next.next) (types_in c.loop-round.typed) (sym c.are_types_of.ensures ∙ c.if-are_types_of.true),
-)
+returns-then-are_types_of-clause-types c =
+    is_final (map cell c.args.cells.now) c.args.names c.loop-round.typed c.in_ok-next.next c.loop-round.round
+    c.loop-round-test.true c.loop-round.invariant.after c.in_ok-next.ensures (sym c.are_types_of.ensures ∙ c.if-are_types_of.true)
+
+pub returns-then-are_types_of-clause-settles : goal.returns-then-are_types_of-clause-settles
+returns-then-are_types_of-clause-settles c =
+    final_settles (map cell c.args.cells.now) c.args.names c.loop-round.typed
+    (is_final (map cell c.args.cells.now) c.args.names c.loop-round.typed c.in_ok-next.next c.loop-round.round
+    c.loop-round-test.true c.loop-round.invariant.after c.in_ok-next.ensures (sym c.are_types_of.ensures ∙ c.if-are_types_of.true))
 
 pub returns-then-are_types_of-clause-lawful : goal.returns-then-are_types_of-clause-lawful
 returns-then-are_types_of-clause-lawful c = c.loop-round.invariant.lawful
