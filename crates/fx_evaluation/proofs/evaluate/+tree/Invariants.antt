@@ -1,0 +1,101 @@
+use Rattle.std.proofs.Common.{◌≡◌, ◌+◌, ◌*◌, ◌≤◌, length, map, take}
+use Rattle.fx_data.specs.ValueView.{fields_view, view}
+use Rattle.fx_data.specs.Values.{Data}
+use Rattle.fx_evaluation.specs.Courses.{IsWorth, going}
+use Rattle.fx_evaluation.specs.Moments.{Went, moment}
+use Rattle.fx_evaluation.specs.Parts.{AreFilled, AreSet, terms_of}
+use Rattle.fx_evaluation.specs.Scopes.{around}
+use Rattle.fx_fresh.specs.Around.{AreEach, AreValues}
+use Rattle.fx_fresh.specs.Fresh.{meaning, meanings}
+use Rattle.fx_table_calls.specs.Given.{AreGiven, given}
+use Rattle.fx_typed.specs.Term.{all, over, term_size, terms_size}
+use Rattle.fx_evaluation.proofs.evaluate.+tree.Given as goal
+
+abbrev pub decreases-tree : goal.decreases-tree
+decreases-tree g l = 8 * term_size l.core.now + 1
+
+abbrev pub decreases-node : goal.decreases-node
+decreases-node g l = 8 * term_size l.core.now
+
+abbrev pub decreases-within : goal.decreases-within
+decreases-within g l = 8 * (term_size l.part.now + term_size l.formula.now) + 5
+
+abbrev pub decreases-in_scope : goal.decreases-in_scope
+decreases-in_scope g l = 8 * term_size l.formula.now + 2
+
+abbrev pub decreases-catching : goal.decreases-catching
+decreases-catching g l = 8 * term_size l.formula.now + 2
+
+abbrev pub decreases-field_values : goal.decreases-field_values
+decreases-field_values g l = 8 * terms_size (all (terms_of l.fields.now)) + 2
+
+abbrev pub decreases-part_values : goal.decreases-part_values
+decreases-part_values g l = 8 * terms_size (all l.parts.now) + 2
+
+abbrev pub decreases-go_through : goal.decreases-go_through
+decreases-go_through g l = 8 * terms_size (all l.parts.now) + 2
+
+abbrev pub decreases-call_over : goal.decreases-call_over
+decreases-call_over g l = 8 * (term_size l.table.now + terms_size (all l.parts.now)) + 5
+
+abbrev pub decreases-part_answers : goal.decreases-part_answers
+decreases-part_answers g l = 8 * terms_size (all l.parts.now) + 4
+
+abbrev pub decreases-answer : goal.decreases-answer
+decreases-answer g l = 8 * term_size l.part.now + 4
+
+abbrev pub decreases-each : goal.decreases-each
+decreases-each g l = 8 * term_size l.formula.now + 3
+
+abbrev pub decreases-go_through-loop-part : goal.decreases-go_through-loop-part
+decreases-go_through-loop-part g l = terms_size (all l.rest)
+
+-- so far nothing has changed, and what is left decides
+abbrev pub invariant-go_through-loop-part : goal.invariant-go_through-loop-part
+invariant-go_through-loop-part g l = record {
+  went : Went
+      (moment (g.E.Env.fixed l.fn.env) (g.E.Env.faults l.fn.env) (g.E.Env.ticked l.fn.env) l.fn.scope l.fn.steps)
+      (moment (g.E.Env.fixed l.env) (g.E.Env.faults l.env) (g.E.Env.ticked l.env) l.scope l.steps);
+  parts : AreSet (g.E.Env.fixed l.fn.env).types l.fn.scope (going l.course) l.rest;
+  value : (v : Data) → IsWorth (going l.course) (meanings (all l.rest)) (around (g.E.Env.fixed l.fn.env).types (g.E.Env.fixed l.fn.env).told l.fn.scope) v
+      → IsWorth (going l.fn.course) (meanings (all l.parts)) (around (g.E.Env.fixed l.fn.env).types (g.E.Env.fixed l.fn.env).told l.fn.scope) v;
+  small : terms_size (all l.rest) ≤ terms_size (all l.parts);
+}
+
+-- the fields so far
+abbrev pub invariant-field_values-loop-name : goal.invariant-field_values-loop-name
+invariant-field_values-loop-name g l = record {
+  went : Went
+      (moment (g.E.Env.fixed l.fn.env) (g.E.Env.faults l.fn.env) (g.E.Env.ticked l.fn.env) l.fn.scope l.fn.steps)
+      (moment (g.E.Env.fixed l.env) (g.E.Env.faults l.env) (g.E.Env.ticked l.env) l.scope l.steps);
+  values : AreFilled (take l.name-index l.fields) (around (g.E.Env.fixed l.fn.env).types (g.E.Env.fixed l.fn.env).told l.fn.scope) (fields_view l.items.items);
+}
+
+-- the values so far
+abbrev pub invariant-part_values-loop-part : goal.invariant-part_values-loop-part
+invariant-part_values-loop-part g l = record {
+  went : Went
+      (moment (g.E.Env.fixed l.fn.env) (g.E.Env.faults l.fn.env) (g.E.Env.ticked l.fn.env) l.fn.scope l.fn.steps)
+      (moment (g.E.Env.fixed l.env) (g.E.Env.faults l.env) (g.E.Env.ticked l.env) l.scope l.steps);
+  values : AreValues (meanings (all (take l.part-index l.parts))) (around (g.E.Env.fixed l.fn.env).types (g.E.Env.fixed l.fn.env).told l.fn.scope) (map view l.values.items);
+}
+
+-- what the parts so far come to
+abbrev pub invariant-part_answers-loop-part : goal.invariant-part_answers-loop-part
+invariant-part_answers-loop-part g l = record {
+  went : Went
+      (moment (g.E.Env.fixed l.fn.env) (g.E.Env.faults l.fn.env) (g.E.Env.ticked l.fn.env) l.fn.scope l.fn.steps)
+      (moment (g.E.Env.fixed l.env) (g.E.Env.faults l.env) (g.E.Env.ticked l.env) l.scope l.steps);
+  count : length l.answers.items ≡ l.part-index;
+  answers : AreGiven (over l.fun) (length l.parts + 1) 1 (meanings (all (take l.part-index l.parts))) (around (g.E.Env.fixed l.fn.env).types (g.E.Env.fixed l.fn.env).told l.fn.scope) l.rows
+      (map given l.answers.items);
+}
+
+-- the values for the rows so far
+abbrev pub invariant-each-loop-row : goal.invariant-each-loop-row
+invariant-each-loop-row g l = record {
+  went : Went
+      (moment (g.E.Env.fixed l.fn.env) (g.E.Env.faults l.fn.env) (g.E.Env.ticked l.fn.env) l.fn.scope l.fn.steps)
+      (moment (g.E.Env.fixed l.env) (g.E.Env.faults l.env) (g.E.Env.ticked l.env) l.scope l.steps);
+  values : AreEach (meaning l.formula) (around (g.E.Env.fixed l.fn.env).types (g.E.Env.fixed l.fn.env).told l.fn.scope) (take l.row-index l.rows) (map view l.values.items);
+}

@@ -1,0 +1,77 @@
+//! The environment of named formulas: the values that are kept of those before, and the day.
+ghost use Rattle.std.specs.Prelude.{◌≡◌, option_map};
+ghost use Rattle.fx_data.specs.ValueView.{view};
+ghost use Rattle.fx_evaluation.specs.Kept.{KeptIsNamed, fixed_by, kept_of};
+
+use crate::environment::{Env, Stop};
+use fx_data::{Ty, Value};
+use fx_functions::Source;
+use fx_names::Schema;
+use fx_steps::Steps;
+use std::alloc::Global;
+use std::sync::ledger::Ledger;
+
+/// What is kept of a cell.
+#[derive(Drop)]
+pub struct KeptCell {
+    /// The cell's number.
+    pub cell: u32,
+    pub value: Value,
+    pub ty: Ty,
+}
+
+/// The values that are kept, the day, and the app's tables. A cell has a type here where its value is
+/// kept and fits it.
+#[derive(Drop)]
+pub struct Kept<'a> {
+    pub alloc: Global,
+    pub cells: &'a [KeptCell],
+    pub today: &'a Value,
+    pub schema: &'a Schema,
+    pub limit: u32,
+}
+
+impl Env for Kept<'_> {
+    ghost fixed = { λ k. fixed_by k.cells.now (view k.today.now) k.schema.now k.limit };
+
+    ghost faults = { λ k. 0 };
+
+    ghost ticked = { λ k. 0 };
+
+    fn read<L: Ledger>(&mut self, source: Source, _steps: &mut Steps<L>) -> Result<Value, Stop> {
+        match source {
+            Source::Cell(cell) => match kept_cell(self.cells, cell) {
+                Some(kept) => Ok(kept.value.copy(self.alloc)?),
+                None => unreachable!(),
+            },
+            Source::Today => Ok(self.today.copy(self.alloc)?),
+            _ => unreachable!(),
+        }
+    }
+
+    fn schema(&self) -> &Schema {
+        self.schema
+    }
+
+    fn limit(&self) -> u32 {
+        self.limit
+    }
+}
+
+/// A law, and no work: over values that are kept and the day of a moment, the value of a tree outside of
+/// all scopes is its value where cells have the values that are kept, at that moment.
+pub fn kept_is_named()
+    ensures { KeptIsNamed }
+{}
+
+// What is kept of the cell of this number.
+fn kept_cell(cells: &[KeptCell], cell: u32) -> Option<&KeptCell>
+    ensures { option_map (λ c. c.now) result ≡ kept_of cell cells.now }
+{
+    for kept in cells {
+        if kept.cell == cell {
+            return Some(kept);
+        }
+    }
+    None
+}
