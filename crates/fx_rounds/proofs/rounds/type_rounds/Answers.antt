@@ -24,13 +24,13 @@ next_types-requires-clause-lawful c = c.loop-round.invariant.lawful
 pub returns-then-are_types_of-clause-types : goal.returns-then-are_types_of-clause-types
 returns-then-are_types_of-clause-types c =
     is_final (map cell c.args.cells.now) c.args.names c.loop-round.typed c.in_ok-next.next c.loop-round.round
-    c.loop-round-test.true c.loop-round.invariant.after c.in_ok-next.ensures (sym c.are_types_of.ensures ∙ c.if-are_types_of.true)
+    (omega (arith, c.loop-round-test.true)) c.loop-round.invariant.after c.in_ok-next.ensures (sym c.are_types_of.ensures ∙ c.if-are_types_of.true)
 
 pub returns-then-are_types_of-clause-settles : goal.returns-then-are_types_of-clause-settles
 returns-then-are_types_of-clause-settles c =
     final_settles (map cell c.args.cells.now) c.args.names c.loop-round.typed
     (is_final (map cell c.args.cells.now) c.args.names c.loop-round.typed c.in_ok-next.next c.loop-round.round
-    c.loop-round-test.true c.loop-round.invariant.after c.in_ok-next.ensures (sym c.are_types_of.ensures ∙ c.if-are_types_of.true))
+    (omega (arith, c.loop-round-test.true)) c.loop-round.invariant.after c.in_ok-next.ensures (sym c.are_types_of.ensures ∙ c.if-are_types_of.true))
 
 pub returns-then-are_types_of-clause-lawful : goal.returns-then-are_types_of-clause-lawful
 returns-then-are_types_of-clause-lawful c = c.loop-round.invariant.lawful
