@@ -11,3 +11,6 @@ pub mod typed_names;
 pub mod walking;
 
 pub use rounds::type_rounds;
+
+#[cfg(test)]
+mod tests;
