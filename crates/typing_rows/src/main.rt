@@ -1,0 +1,86 @@
+//! Reads formulas, one a line, and writes each with its type and its typed tree, or with the rule that it breaks.
+//! The first word of a line is where the formula stands; `context.rt` says what it may name. An empty line and
+//! one of `#` are written as they are.
+#![tactic(auto)]
+
+ghost use Rattle.std.specs.Prelude.{◌≤◌};
+ghost use Rattle.fx_infer.specs.Below.{tree_depth};
+
+mod context;
+mod place;
+mod stop;
+mod tree;
+mod types;
+
+use crate::context::context;
+use crate::place::placed;
+use crate::stop::Stop;
+use crate::tree::{DEPTH, tree_text};
+use crate::types::type_text;
+use fx_base::Memory;
+use fx_infer::{InferEnd, Written, elaborate};
+use fx_lawful::is_lawful;
+use fx_names::names::Names;
+use fx_rules::line as broken_line;
+use std::alloc::Global;
+use std::io::{self, ErrorKind};
+
+fn main(rt: HostRuntime) -> io::Result<()> {
+    let names = match context(rt.alloc()) {
+        Ok(names) => names,
+        Err(_) => return Err(ErrorKind::OutOfMemory.into()),
+    };
+    for line in rt.lines(rt.alloc()) {
+        let line = line?;
+        let row = row(rt.alloc(), &names, line.as_str())?;
+        println!(rt; "{row}")?;
+    }
+    Ok(())
+}
+
+/// What is written of a line.
+fn row(alloc: Global, names: &Names, line: &str) -> io::Result<String> {
+    if line.is_empty() || line.starts_with("#") {
+        return Ok(String::from_str(alloc, line)?);
+    }
+    match answered(alloc, names, line) {
+        Ok(text) => Ok(text),
+        Err(Memory) => Err(ErrorKind::OutOfMemory.into()),
+    }
+}
+
+/// A formula with what is answered of it.
+fn answered(alloc: Global, names: &Names, line: &str) -> Result<String, Memory> {
+    match answer(alloc, names, line) {
+        Ok(answer) => Ok(format!(in alloc; "{line} -> {answer}")?),
+        Err(Stop::NoRow) => Ok(format!(in alloc; "{line} is no row of this table")?),
+        Err(Stop::Memory) => Err(Memory),
+    }
+}
+
+/// The type and the tree of a formula, or the rule that it breaks.
+fn answer(alloc: Global, names: &Names, line: &str) -> Result<String, Stop> {
+    let Some((place, text)) = line.split_once(" ") else {
+        return Err(Stop::NoRow);
+    };
+    let cell = placed(alloc, place, text)?;
+    judged(alloc, names, &cell)
+}
+
+/// The type and the tree of a formula where it is written, or the rule that it breaks.
+fn judged(alloc: Global, names: &Names, cell: &Written) -> Result<String, Stop>
+    requires { tree_depth cell.now.expr ≤ 64 }
+{
+    if !is_lawful(names) {
+        return Err(Stop::NoRow);
+    }
+    match elaborate(alloc, names, cell) {
+        Ok(typed) => {
+            let ty = type_text(alloc, &typed.ty, DEPTH)?;
+            let tree = tree_text(alloc, &typed.core, DEPTH)?;
+            Ok(format!(in alloc; "{ty} by {tree}")?)
+        }
+        Err(InferEnd::Broken(broken)) => Ok(broken_line(alloc, &broken)?),
+        Err(InferEnd::Memory) => Err(Stop::Memory),
+    }
+}
