@@ -1,0 +1,5 @@
+pub mod Walks
+pub mod Given
+pub mod ThingSteps
+pub mod BreakSteps
+pub mod Lawful

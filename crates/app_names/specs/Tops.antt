@@ -1,0 +1,21 @@
+-- Trees of formulas, and the names in a set.
+use Rattle.std.specs.Prelude.{ℕ, Bool, List}
+use Rattle.std.specs.BTreeSet.{BTreeSet, contains}
+use Rattle.std.specs.Cmp.Lexicographic.{slice_cmp}
+use Rattle.std.specs.Ordering.{nat_cmp}
+use Rattle.fx_functions.specs.declared.signatures.Signature.{Signature}
+use Rattle.fx_syntax.specs.Tree.{Tree, node, Forest}
+use Rattle.app_names.specs.declared.declarations.Declared.{Declared}
+use Rattle.app_names.specs.Declarations.{declared_at}
+
+-- the parts of a tree
+abbrev pub below : Tree → Forest
+below (node at h ts) = ts
+
+-- what a tree declares at its top
+abbrev pub declared_here : List Signature → Tree → List Declared
+declared_here functions (node at h ts) = declared_at functions at h ts
+
+-- the set has this name
+abbrev pub has : BTreeSet (List ℕ) → List ℕ → Bool
+has given = contains (slice_cmp nat_cmp) given

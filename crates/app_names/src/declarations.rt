@@ -1,0 +1,164 @@
+//! The variables and collections that formulas declare.
+ghost use Rattle.std.specs.Prelude.{◌≡◌, ◌++◌, OnOk, option_map};
+ghost use Rattle.fx_syntax.specs.Tree.{forest, parts_of};
+ghost use Rattle.app_names.specs.Declarations as table;
+ghost use Rattle.app_names.specs.Declarations.{declared_among, declared_in};
+ghost use Rattle.app_names.specs.Tops.{below, declared_here};
+
+use fx_base::Memory;
+use fx_data::words::Words;
+use fx_functions::functions::Acting;
+use fx_functions::signatures::{SigShape, Signature, signature_in};
+use fx_syntax::expr::{Expr, Node};
+use std::alloc::Global;
+
+/// What a value is given to.
+#[derive(Clone, Copy, Debug, PartialEq, Eq)]
+pub enum Thing {
+    Variable,
+    Collection,
+}
+
+/// A name that a call declares.
+#[derive(Drop)]
+pub struct Declared {
+    pub thing: Thing,
+    pub name: Words,
+    /// The byte of the text at which the call begins.
+    pub at: u32,
+}
+
+// What a function declares.
+fn declared_by(shape: Option<SigShape>) -> Option<Thing>
+    ensures { result ≡ table.declared_by shape }
+{
+    match shape {
+        Some(SigShape::Act(Acting::Set)) => Some(Thing::Variable),
+        Some(SigShape::Act(Acting::Collect)) => Some(Thing::Collection),
+        Some(SigShape::Act(Acting::ClearCollect)) => Some(Thing::Collection),
+        _ => None,
+    }
+}
+
+// How a function is called.
+fn called_as(functions: &[Signature], name: &Words) -> Option<SigShape>
+    ensures { result ≡ table.called_as functions.now name.now }
+{
+    signature_in(functions, name.as_str()).map(|signature| signature.shape)
+}
+
+// The name that stands first among the parts of a call.
+fn first_name(parts: &[Expr]) -> Option<&Words>
+    ensures { option_map (λ w. w.now) result ≡ table.first_name (forest parts.now) }
+{
+    match parts {
+        [] => None,
+        [first, ..] => match &first.node {
+            Node::Name(name) => Some(name),
+            Node::Global(name) => Some(name),
+            _ => None,
+        },
+    }
+}
+
+// Adds what a node declares itself.
+fn declare_here(
+    alloc: Global,
+    functions: &[Signature],
+    whole: &Expr,
+    found: &mut Vec<Declared>,
+) -> Result<(), Memory>
+    ensures { OnOk result (found.new.items ≡ found.old.items ++ declared_here functions.now whole.now) }
+{
+    let Node::Call(function, parts) = &whole.node else {
+        return Ok(());
+    };
+    match (
+        declared_by(called_as(functions, function)),
+        first_name(parts.as_slice()),
+    ) {
+        (Some(thing), Some(name)) => {
+            let name = name.copy(alloc)?;
+            let at = whole.at;
+            found.push(Declared { thing, name, at })?;
+            Ok(())
+        }
+        _ => Ok(()),
+    }
+}
+
+/// Adds what a tree declares, by the functions of a table: a node before its parts.
+#[cycle(declare)]
+pub fn declare(
+    alloc: Global,
+    functions: &[Signature],
+    whole: &Expr,
+    found: &mut Vec<Declared>,
+) -> Result<(), Memory>
+    ensures { OnOk result (found.new.items ≡ found.old.items ++ declared_in functions.now whole.now) }
+{
+    declare_here(alloc, functions, whole, found)?;
+    declare_below(alloc, functions, whole, found)
+}
+
+// Adds what the parts of a tree declare.
+#[cycle(declare)]
+fn declare_below(
+    alloc: Global,
+    functions: &[Signature],
+    whole: &Expr,
+    found: &mut Vec<Declared>,
+) -> Result<(), Memory>
+    ensures { OnOk result (found.new.items ≡ found.old.items ++ declared_among functions.now (below whole.now)) }
+{
+    match &whole.node {
+        Node::Num(_) | Node::Text(_) | Node::Truth(_) | Node::Name(_) | Node::Global(_) => Ok(()),
+        Node::Dot(part, _) | Node::Neg(part) | Node::Not(part) => {
+            declare(alloc, functions, part, found)
+        }
+        Node::Percent(part) | Node::Alias(part, _) => declare(alloc, functions, part, found),
+        Node::Pair(_, left, right) => {
+            declare(alloc, functions, left, found)?;
+            declare(alloc, functions, right, found)
+        }
+        Node::Call(_, parts) | Node::Joined(parts) | Node::And(parts) | Node::Or(parts) => {
+            declare_all(alloc, functions, parts.as_slice(), found)
+        }
+        Node::Chain(parts) | Node::List(parts) | Node::Woven(parts) => {
+            declare_all(alloc, functions, parts.as_slice(), found)
+        }
+        Node::Rec(fields) => declare_fields(alloc, functions, fields.as_slice(), found),
+    }
+}
+
+// Adds what formulas declare.
+#[cycle(declare)]
+fn declare_all(
+    alloc: Global,
+    functions: &[Signature],
+    parts: &[Expr],
+    found: &mut Vec<Declared>,
+) -> Result<(), Memory>
+    ensures { OnOk result (found.new.items ≡ found.old.items ++ declared_among functions.now (forest parts.now)) }
+{
+    for part in parts {
+        declare(alloc, functions, part, found)?;
+    }
+    Ok(())
+}
+
+// Adds what the formulas of fields declare.
+#[cycle(declare)]
+fn declare_fields(
+    alloc: Global,
+    functions: &[Signature],
+    fields: &[(Words, Expr)],
+    found: &mut Vec<Declared>,
+) -> Result<(), Memory>
+    ensures { OnOk result (found.new.items ≡ found.old.items ++ declared_among functions.now (parts_of fields.now)) }
+{
+    for (_, part) in fields {
+        declare(alloc, functions, part, found)?;
+    }
+    Ok(())
+}

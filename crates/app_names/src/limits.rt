@@ -1,0 +1,128 @@
+//! Limits of the names of an app's formulas.
+ghost use Rattle.std.specs.Prelude.{◌≡◌, IfOk, length, option_map};
+ghost use Rattle.std.specs.List.{find};
+ghost use Rattle.std.specs.Str.{IsAscii};
+ghost use Rattle.app_names.specs.NameRules as rules;
+
+use crate::broken::{counted, in_app, in_formula};
+use crate::declarations::Declared;
+use fx_base::Memory;
+use fx_data::words::Words;
+use fx_parser::Named;
+use fx_rules::{Broken, Rule};
+use std::alloc::Global;
+
+/// The most bytes of a formula.
+pub const MOST_FORMULA_BYTES: usize = 8_192;
+
+/// The most characters of a name.
+pub const MOST_NAME_LENGTH: usize = 64;
+
+/// The most formulas of an app.
+pub const MOST_CELLS: usize = 2_000;
+
+/// The most variables and collections of an app.
+pub const MOST_VARIABLES: usize = 1_000;
+
+// A limit that is passed, with the number that was counted.
+fn passed(alloc: Global, most: usize, count: usize, limit: &str) -> Result<Option<Words>, Memory>
+    requires { IsAscii limit.now }
+    ensures { IfOk result (λ o. o ≡ rules.passed most count limit.now) }
+{
+    if count > most {
+        Ok(Some(counted(alloc, limit, count)?))
+    } else {
+        Ok(None)
+    }
+}
+
+fn length_of(name: &Words) -> usize
+    ensures { result ≡ length name.now }
+{
+    name.as_str().chars().count()
+}
+
+fn is_long(name: &Words) -> bool
+    ensures { result ≡ rules.is_long name.now }
+{
+    length_of(name) > MOST_NAME_LENGTH
+}
+
+fn long_name(alloc: Global, name: &Words) -> Result<Words, Memory>
+    ensures { IfOk result (λ w. w ≡ rules.long_name name.now) }
+{
+    counted(alloc, "name", length_of(name))
+}
+
+// The first of these whose name is too long.
+fn first_long(new: &[Declared]) -> Option<&Declared>
+    ensures { option_map (λ d. d.now) result ≡ find (λ d. rules.is_long d.name) new.now }
+{
+    new.iter().find(|one| is_long(&one.name))
+}
+
+// A formula's text that is too long.
+fn long_formula(alloc: Global, formula: &Named) -> Result<Option<Broken>, Memory>
+    ensures { IfOk result (λ o. o ≡ rules.long_formula formula.now) }
+{
+    let bytes = formula.text.as_str().len();
+    match passed(alloc, MOST_FORMULA_BYTES, bytes, "formula")? {
+        Some(detail) => {
+            let rule = Rule::LimitPassed;
+            Ok(Some(in_formula(alloc, formula, rule, formula.at, detail)?))
+        }
+        None => Ok(None),
+    }
+}
+
+// A formula's name that is too long, or else one that it declares.
+fn long_names(alloc: Global, new: &[Declared], formula: &Named) -> Result<Option<Broken>, Memory>
+    ensures { IfOk result (λ o. o ≡ rules.long_names new.now formula.now) }
+{
+    if is_long(&formula.name) {
+        let detail = long_name(alloc, &formula.name)?;
+        let broken = in_formula(alloc, formula, Rule::LimitPassed, formula.at, detail)?;
+        return Ok(Some(broken));
+    }
+    match first_long(new) {
+        Some(one) => {
+            let detail = long_name(alloc, &one.name)?;
+            Ok(Some(in_formula(alloc, formula, Rule::LimitPassed, one.at, detail)?))
+        }
+        None => Ok(None),
+    }
+}
+
+/// The first limit that a formula passes, which declares these things anew.
+pub fn limit_break(
+    alloc: Global,
+    new: &[Declared],
+    formula: &Named,
+) -> Result<Option<Broken>, Memory>
+    ensures { IfOk result (λ o. o ≡ rules.limit_break new.now formula.now) }
+{
+    match long_formula(alloc, formula)? {
+        Some(broken) => Ok(Some(broken)),
+        None => long_names(alloc, new, formula),
+    }
+}
+
+// The first limit that an app passes of so many cells and things that are declared.
+fn app_limit(alloc: Global, cells: usize, things: usize) -> Result<Option<Words>, Memory>
+    ensures { IfOk result (λ o. o ≡ rules.app_limit cells things) }
+{
+    match passed(alloc, MOST_CELLS, cells, "cells")? {
+        Some(detail) => Ok(Some(detail)),
+        None => passed(alloc, MOST_VARIABLES, things, "variables"),
+    }
+}
+
+/// The whole app has too many cells, or else too many variables and collections.
+pub fn app_break(alloc: Global, cells: usize, things: usize) -> Result<Option<Broken>, Memory>
+    ensures { IfOk result (λ o. o ≡ rules.app_break cells things) }
+{
+    match app_limit(alloc, cells, things)? {
+        Some(detail) => Ok(Some(in_app(alloc, Rule::LimitPassed, detail)?)),
+        None => Ok(None),
+    }
+}

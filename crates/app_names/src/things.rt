@@ -1,0 +1,114 @@
+//! The things that formulas declare, each once.
+ghost use Rattle.std.specs.Prelude.{◌≡◌, ◌++◌, [], IfOk, OnOk};
+ghost use Rattle.std.specs.List.{list_any};
+ghost use Rattle.app_names.specs.Declarations as table;
+ghost use Rattle.app_names.specs.Declarations.{is_formula, new_behind, things_behind};
+ghost use Rattle.app_names.specs.Tops.{has};
+
+use crate::declarations::{Declared, Thing, declare};
+use fx_base::Memory;
+use fx_data::words::Words;
+use fx_functions::signatures::Signature;
+use fx_parser::Named;
+use std::alloc::Global;
+use std::collections::BTreeSet;
+
+/// The names of formulas.
+pub fn names_in(alloc: Global, cells: &[Named]) -> Result<BTreeSet<Words>, Memory>
+    ensures { IfOk result (λ s. has s ≡ is_formula cells.now) }
+{
+    let mut names = BTreeSet::new(alloc);
+    for cell in cells {
+        names.insert(cell.name.copy(alloc)?)?;
+    }
+    Ok(names)
+}
+
+/// What a formula declares: never a name that formulas have.
+pub fn declared_of(
+    alloc: Global,
+    functions: &[Signature],
+    formulas: &BTreeSet<Words>,
+    formula: &Named,
+) -> Result<Vec<Declared>, Memory>
+    ensures { IfOk result (λ v. v.items ≡ table.declared_of functions.now (has formulas.now) formula.now) }
+{
+    let mut found = Vec::new(alloc);
+    declare(alloc, functions, &formula.expr, &mut found)?;
+    let mut declared = Vec::new(alloc);
+    for one in found {
+        if !formulas.contains(&one.name) {
+            declared.push(one)?;
+        }
+    }
+    Ok(declared)
+}
+
+fn is_kind(one: Thing, other: Thing) -> bool
+    ensures { result ≡ table.is_kind one other }
+{
+    match (one, other) {
+        (Thing::Variable, Thing::Variable) => true,
+        (Thing::Collection, Thing::Collection) => true,
+        _ => false,
+    }
+}
+
+// Whether two declare one thing.
+fn is_thing(one: &Declared, other: &Declared) -> bool
+    ensures { result ≡ table.is_thing one.now other.now }
+{
+    is_kind(one.thing, other.thing) && one.name.is(&other.name)
+}
+
+// Whether a thing is among these.
+fn is_among(one: &Declared, things: &[Declared]) -> bool
+    ensures { result ≡ list_any (table.is_thing one.now) things.now }
+{
+    things.iter().any(|other| is_thing(one, other))
+}
+
+/// The things that are declared here first, behind these.
+pub fn new_behind(
+    alloc: Global,
+    before: &[Declared],
+    all: Vec<Declared>,
+) -> Result<Vec<Declared>, Memory>
+    ensures { IfOk result (λ v. v.items ≡ new_behind before.now all.items) }
+{
+    let mut new = Vec::new(alloc);
+    for one in all {
+        if !is_among(&one, before) && !is_among(&one, &new) {
+            new.push(one)?;
+        }
+    }
+    Ok(new)
+}
+
+/// Adds things behind others.
+pub fn put_behind(things: &mut Vec<Declared>, new: Vec<Declared>) -> Result<(), Memory>
+    ensures { OnOk result (things.new.items ≡ things.old.items ++ new.items) }
+{
+    for one in new {
+        things.push(one)?;
+    }
+    Ok(())
+}
+
+/// All things that cells declare, in the order of their first declaration.
+pub fn things_of(
+    alloc: Global,
+    functions: &[Signature],
+    formulas: &BTreeSet<Words>,
+    cells: &[Named],
+) -> Result<Vec<Declared>, Memory>
+    ensures { IfOk result (λ v. v.items ≡ things_behind functions.now (has formulas.now) [] cells.now) }
+{
+    let mut things = Vec::new(alloc);
+    for cell in cells {
+        let declared = declared_of(alloc, functions, formulas, cell)?;
+        let new = new_behind(alloc, &things, declared)?;
+        put_behind(&mut things, new)?;
+    }
+    Ok(things)
+}
