@@ -1,0 +1,11 @@
+pub mod Tellings
+pub mod KnownLines
+pub mod Distinct
+pub mod Settled
+pub mod ReadySteps
+pub mod BreakLists
+pub mod Bareness
+pub mod Writes
+pub mod Behind
+pub mod Loads
+pub mod Ended

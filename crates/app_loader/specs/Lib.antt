@@ -1,0 +1,5 @@
+pub mod Cells
+pub mod Writing
+pub mod Admitted
+pub mod Bare
+pub mod Judged

@@ -1,0 +1,11 @@
+//! An app.
+
+use app_lines::Lines;
+use fx_names::Names;
+
+/// An app of named formulas: these in the order of their lines, and the names that they may use.
+#[derive(Drop)]
+pub struct App {
+    pub lines: Lines,
+    pub names: Names,
+}
