@@ -190,9 +190,9 @@ in_order lines cells others functions b bs n c f e h =
     let same = one_order lines others cells h.in_order c in
     let past : [] ≡ b ∷ bs = sym h.unbroken ∙ breaks_alike n.signatures.now functions (h.named.signatures ∙ sym f) others ∙ ap (name_breaks functions) same ∙ e in cc
 
-misnamed_one : (lines cells others : List Named) (functions twice : List Signature) → AreCells lines cells → AreCells lines others → map entry functions ≡ entries → map entry twice ≡ entries
-    → name_breaks functions cells ≡ name_breaks twice others
-misnamed_one lines cells others functions twice c d f g = ap (name_breaks functions) (one_order lines cells others c d) ∙ breaks_alike functions twice (f ∙ sym g) others
+both_misnamed : (lines cells others : List Named) (fs gs : List Signature) → AreCells lines cells → AreCells lines others → map entry fs ≡ entries → map entry gs ≡ entries
+    → name_breaks fs cells ≡ name_breaks gs others
+both_misnamed lines cells others fs gs c d f g = ap (name_breaks fs) (one_order lines cells others c d) ∙ breaks_alike fs gs (f ∙ sym g) others
 
 settles : (lines cells others : List Named) (n m : Names) → AreNamedLines lines cells n → StillChanges (map cell_of cells) n → AreTypedLines lines others m → ⊥
 settles lines cells others n m h still t =
@@ -217,7 +217,7 @@ some_none : (b : Broken) (bs : List Broken) → b ∷ bs ≡ [] → ⊥
 some_none b bs e = cc
 
 lines_refused : {lines : List Named} {v w : Result App (List Broken)} → JudgedLines lines v → JudgedLines lines w → SameRefusal v w
-lines_refused (misnamed lines cells f b bs c g e) (misnamed _ others k d ds h j q) = sym e ∙ misnamed_one lines cells others f k c h g j ∙ q
+lines_refused (misnamed lines cells f b bs c g e) (misnamed _ others k d ds h j q) = sym e ∙ both_misnamed lines cells others f k c h g j ∙ q
 lines_refused (misnamed lines cells f b bs c g e) (unsettling _ others k h still) = absurd (in_order lines cells others f b bs k c g e h)
 lines_refused (misnamed lines cells f b bs c g e) (refused _ others k d ds u y) = absurd (in_order lines cells others f b bs u.first c g e u.named)
 lines_refused (misnamed lines cells f b bs c g e) (unordered _ others k d ds u fine y) = absurd (in_order lines cells others f b bs u.first c g e u.named)

@@ -5,7 +5,7 @@ use Rattle.std.specs.Str.{IsUtf8}
 use Rattle.app_laws.specs.Laws.{formula_named}
 use Rattle.app_lines.specs.declared.formula.Formula.{Formula}
 use Rattle.app_loader.proofs.Distinct.{lines_apart}
-use Rattle.app_loader.proofs.Settled.{IsIn, moved}
+use Rattle.app_loader.proofs.Settled.{IsIn, is_in, moved}
 use Rattle.app_loader.specs.Admitted.{AreBreaks, AreLoaded, AreLoadedBehind, Breaks, IsAdmitted, IsLoaded, UsesLater, judged, lines_before, names_at, names_behind}
 use Rattle.app_loader.specs.Bare.{AreApart, IsNone}
 use Rattle.app_loader.specs.Cells.{cell_of}
@@ -72,10 +72,6 @@ place_behind m before (k ∷ ns) (f ∷ fs) n l (inr h) =
 place_of : (m : Names) (lines : List Named) (fs : List Formula) (n : Named) → AreLoaded m lines fs → IsIn n lines → HasPlace m lines n
 place_of m lines fs n l h = place_behind m [] lines fs n l h
 
-in_middle : (before more : List Named) (n : Named) → IsIn n (before ++ n ∷ more)
-in_middle [] more n = inl refl
-in_middle (k ∷ before) more n = inr (in_middle before more n)
-
 -- a name that none of them has is that of none
 has_other_name : (ns : List Named) (x : List ℕ) (n : Named) → IsNone x ns → IsIn n ns → n.name ≡ x → ⊥
 has_other_name [] x n a h e = h
@@ -90,7 +86,7 @@ cut_at [] more n a = ap (λ b. if b then [] else n ∷ lines_before n.name more)
 cut_at (k ∷ before) more n a = by (bytes_eq k.name n.name) refl (cut_at before more n a.1)
   where
     by : (b : Bool) → bytes_eq k.name n.name ≡ b → lines_before n.name (before ++ n ∷ more) ≡ before → (if b then [] else k ∷ lines_before n.name (before ++ n ∷ more)) ≡ k ∷ before
-    by true q e = absurd (has_other_name (before ++ n ∷ more) k.name n a.0 (in_middle before more n) (sym (same_name k.name n.name q)))
+    by true q e = absurd (has_other_name (before ++ n ∷ more) k.name n a.0 (is_in (before ++ n ∷ more) before more n refl) (sym (same_name k.name n.name q)))
     by false q e = ap (λ us. k ∷ us) e
 
 -- ---- where the table of functions stands doesn't matter

@@ -2,6 +2,7 @@
 use Rattle.std.proofs.Common.{inl, inr, ◌≡◌, ℕ, zero, suc, ◌+◌, ◌-◌, ◌≤◌, List, [], ◌∷◌, map, refl, ap, sym, subst, ◌∙◌, arith}
 use Rattle.std.proofs.lemmas.Bool.{cases_lt}
 use Rattle.std.specs.Borrow.{Bor}
+use Rattle.std.specs.List.{filter}
 use Rattle.app_names.specs.AppNames.{AreNames, as_collection, as_variable, is_collection, is_variable}
 use Rattle.app_names.specs.declared.declarations.Declared.{Declared}
 use Rattle.app_verdicts.proofs.Functions.{things_alike}
@@ -20,7 +21,6 @@ use Rattle.fx_names.specs.declared.names.Names.{Names}
 use Rattle.fx_names.specs.declared.names.Variable.{Variable}
 use Rattle.fx_parser.specs.declared.entries.Named.{Named}
 use Rattle.fx_sig.specs.Entries.{entry}
-use Rattle.std.specs.List.{filter}
 
 -- types that are seen as one are one
 columns_one : (cs ds : List (List ℕ × Shape)) → column_list cs ≡ column_list ds → cs ≡ ds

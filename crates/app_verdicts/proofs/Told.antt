@@ -4,32 +4,19 @@ use Rattle.std.specs.Borrow.{Bor}
 use Rattle.app_verdicts.proofs.Judging.{admit_alike, as_called, deep_alike, node_alike, part_alike, parts_alike, setting_alike}
 use Rattle.fx_data.specs.Types.{Shape}
 use Rattle.fx_functions.specs.declared.signatures.Signature.{Signature}
+use Rattle.fx_infer.proofs.Breaks.{told_broken, told_parts}
 use Rattle.fx_judge.specs.Details.{HasToldBroken, IsToldBroken, IsToldBrokenWhole, call_limit, call_names, column_in, commas, counted, detail_of, head_name, no_variable, stuck_in, takes_table, unjoined, wanted_detail}
 use Rattle.fx_judge.specs.Parts.{Part, Setting, parts_in}
 use Rattle.fx_judge.specs.Plans.{depth_of, setting_at}
-use Rattle.fx_judge.specs.Typing.{admit, at_node, judge, judge_parts, onward, outermost}
+use Rattle.fx_judge.specs.Typing.{judge, judge_parts, outermost}
 use Rattle.fx_names.specs.declared.names.Names.{Names}
 use Rattle.fx_sig.specs.Entries.{entry}
 use Rattle.fx_syntax.specs.Tree.{Tree, node, Forest, none, more, Head}
 use Rattle.fx_syntax.specs.Tree as tree
 use Rattle.fx_typing.specs.Meaning.{Place}
 
--- ---- what is told is what breaks
+-- ---- one thing is said
 module _ (p : Place) where
-  mutual
-    told_breaks : (u : Setting) (e : Tree) (w r : ℕ) (said : List ℕ) → IsToldBroken p u e w r said → judge p u e ≡ Err (w, r)
-    told_breaks u (node at h ts) w r said (inl x) =
-        ap (λ z. onward z (λ qs. at_node at (admit p u h qs))) x.2 ∙ ap (at_node at) x.3 ∙ ap (λ (k : ℕ). Err (k, r)) (sym x.0)
-    told_breaks u (node at h ts) w r said (inr x) =
-        ap (λ z. onward z (λ qs. at_node at (admit p u h qs))) (among_breaks u h (parts_in ts) [] ts w r said x)
-
-    among_breaks : (u : Setting) (h : Head) (n : ℕ) (done : List Part) (ts : Forest) (w r : ℕ) (said : List ℕ) → HasToldBroken p u h n done ts w r said → judge_parts p u h n done ts ≡ Err (w, r)
-    among_breaks u h n done none w r said x = absurd x
-    among_breaks u h n done (more k ks) w r said (inl x) =
-        ap (λ z. onward z (λ q. judge_parts p u h n (done ++ q ∷ []) ks)) (told_breaks (setting_at p.names u h n done) k w r said x)
-    among_breaks u h n done (more k ks) w r said (inr x) =
-        ap (λ z. onward z (λ q. judge_parts p u h n (done ++ q ∷ []) ks)) x.1 ∙ among_breaks u h n (done ++ x.0 ∷ []) ks w r said x.2
-
   one_or_other : {A B : Type 0} (a : A) (b : B) (r : Result A B) → r ≡ Ok a → r ≡ Err b → ⊥
   one_or_other a b r e k = let both : Ok a ≡ Err b = sym e ∙ k in cc
 
@@ -42,26 +29,26 @@ module _ (p : Place) where
         let parts : x.1 ≡ y.1 = one_value x.1 y.1 (judge_parts p u h (parts_in ts) [] ts) x.2 y.2 in
         x.4 ∙ ap (λ qs. detail_of p u h qs r) parts ∙ sym y.4
     told_once u (node at h ts) w r said other (inl x) (inr y) =
-        absurd (one_or_other x.1 (w, r) (judge_parts p u h (parts_in ts) [] ts) x.2 (among_breaks u h (parts_in ts) [] ts w r other y))
+        absurd (one_or_other x.1 (w, r) (judge_parts p u h (parts_in ts) [] ts) x.2 (told_parts p u h (parts_in ts) [] ts w r other y))
     told_once u (node at h ts) w r said other (inr x) (inl y) =
-        absurd (one_or_other y.1 (w, r) (judge_parts p u h (parts_in ts) [] ts) y.2 (among_breaks u h (parts_in ts) [] ts w r said x))
+        absurd (one_or_other y.1 (w, r) (judge_parts p u h (parts_in ts) [] ts) y.2 (told_parts p u h (parts_in ts) [] ts w r said x))
     told_once u (node at h ts) w r said other (inr x) (inr y) = among_once u h (parts_in ts) [] ts w r said other x y
 
     among_once : (u : Setting) (h : Head) (n : ℕ) (done : List Part) (ts : Forest) (w r : ℕ) (said other : List ℕ) → HasToldBroken p u h n done ts w r said → HasToldBroken p u h n done ts w r other → said ≡ other
     among_once u h n done none w r said other x y = absurd x
     among_once u h n done (more k ks) w r said other (inl x) (inl y) = told_once (setting_at p.names u h n done) k w r said other x y
     among_once u h n done (more k ks) w r said other (inl x) (inr y) =
-        absurd (one_or_other y.0 (w, r) (judge p (setting_at p.names u h n done) k) y.1 (told_breaks (setting_at p.names u h n done) k w r said x))
+        absurd (one_or_other y.0 (w, r) (judge p (setting_at p.names u h n done) k) y.1 (told_broken p (setting_at p.names u h n done) k w r said x))
     among_once u h n done (more k ks) w r said other (inr x) (inl y) =
-        absurd (one_or_other x.0 (w, r) (judge p (setting_at p.names u h n done) k) x.1 (told_breaks (setting_at p.names u h n done) k w r other y))
+        absurd (one_or_other x.0 (w, r) (judge p (setting_at p.names u h n done) k) x.1 (told_broken p (setting_at p.names u h n done) k w r other y))
     among_once u h n done (more k ks) w r said other (inr x) (inr y) =
         let part : x.0 ≡ y.0 = one_value x.0 y.0 (judge p (setting_at p.names u h n done) k) x.1 y.1 in
         among_once u h n (done ++ y.0 ∷ []) ks w r said other (subst (λ q. HasToldBroken p u h n (done ++ q ∷ []) ks w r said) part x.2) y.2
 
   pub whole_once : (acts : Bool) (wanted : Option Shape) (e : Tree) (w r : ℕ) (said other : List ℕ) → IsToldBrokenWhole p acts wanted e w r said → IsToldBrokenWhole p acts wanted e w r other → said ≡ other
   whole_once acts wanted e w r said other (inl x) (inl y) = told_once (outermost acts) e w r said other x y
-  whole_once acts wanted e w r said other (inl x) (inr y) = absurd (one_or_other y.1 (w, r) (judge p (outermost acts) e) y.2 (told_breaks (outermost acts) e w r said x))
-  whole_once acts wanted e w r said other (inr x) (inl y) = absurd (one_or_other x.1 (w, r) (judge p (outermost acts) e) x.2 (told_breaks (outermost acts) e w r other y))
+  whole_once acts wanted e w r said other (inl x) (inr y) = absurd (one_or_other y.1 (w, r) (judge p (outermost acts) e) y.2 (told_broken p (outermost acts) e w r said x))
+  whole_once acts wanted e w r said other (inr x) (inl y) = absurd (one_or_other x.1 (w, r) (judge p (outermost acts) e) x.2 (told_broken p (outermost acts) e w r other y))
   whole_once acts wanted e w r said other (inr x) (inr y) =
       let part : x.1 ≡ y.1 = one_value x.1 y.1 (judge p (outermost acts) e) x.2 y.2 in
       x.4 ∙ ap (wanted_detail p.names) part ∙ sym y.4
