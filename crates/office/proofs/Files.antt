@@ -1,20 +1,19 @@
 -- The JSON of app files.
-use Rattle.std.proofs.Common.{◌≡◌, ℕ, suc, ◌==◌, false, List, [], ◌∷◌, length, Some, None, Result, Err, inl, String, refl, ap, sym, ◌∙◌, subst, arith}
+use Rattle.std.proofs.Common.{◌≡◌, ℕ, suc, ◌==◌, false, List, [], ◌∷◌, length, Some, None, Ok, Err, String, refl, ap, sym, ◌∙◌, subst, arith}
 use Rattle.std.proofs.lemmas.Bool.Decides.{nat_tests}
 use Rattle.std.specs.declared.alloc.Global.{Global}
 use Rattle.serde_json.specs.Data.{Data, Members, array, boolean, null, number, object, string}
 use Rattle.serde_json.specs.Events.{members_len}
 use Rattle.serde_json.specs.Find.{as_object}
-use Rattle.serde_json.specs.Read.{read}
 use Rattle.serde_json.specs.View.{items_view, members_view}
 use Rattle.serde_json.specs.declared.value.Value.{Value}
-use Rattle.fx_parser.specs.declared.entries.Named.{Named}
+use Rattle.app_loader.proofs.Tellings.{tells_weaker}
+use Rattle.app_loader.specs.Judged.{Judged, Tells}
+use Rattle.app_loader.specs.declared.app.App.{App}
+use Rattle.app_verdicts.specs.Verdicts.{IsOneVerdict}
 use Rattle.fx_rules.specs.declared.broken.Broken.{Broken}
 use Rattle.fx_rules.specs.declared.end.AppEnd.{AppEnd}
-use Rattle.fx_named.specs.Judged.{IsSame, Judged, Tells}
-use Rattle.fx_named.proofs.OneVerdict.{judged_one}
-use Rattle.fx_named.proofs.Tellings.{tells_this, tells_weaker}
-use Rattle.office.specs.AppFile.{HasJson, JudgedApp, JudgedData, app_form, formulas_text, is_empty_list, is_json, is_one_screen, member_count, no_app, no_json, other_form}
+use Rattle.office.specs.AppFile.{HasJson, IsOneApp, JudgedApp, JudgedData, app_form, formulas_text, is_empty_list, is_json, is_one_screen, member_count, no_app, no_json, other_form}
 
 nonzero : (n : ℕ) → (suc n == 0) ≡ false
 nonzero n = grind (arith, nat_tests)
@@ -50,33 +49,32 @@ pub count_is : (ms : List (String Global × Value)) (d : Data) → Some (members
 count_is ms d e = sym (length_view ms) ∙ count_view (members_view ms) d e
 
 -- what ends tell of the JSON, and of the file
-pub tells_form : (root : Data) (text : List ℕ) → Some text ≡ formulas_text root → (e : AppEnd) → Tells (λ b. Judged text (Err b)) e → Tells (λ b. JudgedData root (Err b)) e
-tells_form root text form = tells_weaker (λ b. Judged text (Err b)) (λ b. JudgedData root (Err b)) (λ b h. app_form root text (Err b) (sym form) h)
+pub tells_form : (root : Data) (text : List ℕ) → Some text ≡ formulas_text root → (e : AppEnd) → Tells (λ bs. Judged text (Err bs)) e → Tells (λ bs. JudgedData root (Err bs)) e
+tells_form root text form = tells_weaker (λ bs. Judged text (Err bs)) (λ bs. JudgedData root (Err bs)) (λ bs h. app_form root text (Err bs) (sym form) h)
 
-pub tells_other : (root : Data) → None ≡ formulas_text root → (e : AppEnd) → Tells (λ b. b ≡ no_app) e → Tells (λ b. JudgedData root (Err b)) e
-tells_other root none e h = tells_this (λ b. JudgedData root (Err b)) no_app (other_form root (sym none)) e h
+tells_this : (P : List Broken → Type 0) (all : List Broken) → P all → (e : AppEnd) → Tells (λ bs. bs ≡ all) e → Tells P e
+tells_this P all h = tells_weaker (λ bs. bs ≡ all) P (λ bs is. subst P (sym is) h)
 
-pub tells_json : (file : List ℕ) (root : Data) → HasJson file root → (e : AppEnd) → Tells (λ b. JudgedData root (Err b)) e → Tells (λ b. JudgedApp file (Err b)) e
-tells_json file root json = tells_weaker (λ b. JudgedData root (Err b)) (λ b. JudgedApp file (Err b)) (λ b h. is_json file root (Err b) json h)
+pub tells_other : (root : Data) → None ≡ formulas_text root → (e : AppEnd) → Tells (λ bs. bs ≡ no_app) e → Tells (λ bs. JudgedData root (Err bs)) e
+tells_other root none e h = tells_this (λ bs. JudgedData root (Err bs)) no_app (other_form root (sym none)) e h
 
-pub tells_none : (file : List ℕ) → ((root : Data) → HasJson file root → ⊥) → (e : AppEnd) → Tells (λ b. b ≡ no_app) e → Tells (λ b. JudgedApp file (Err b)) e
-tells_none file none e h = tells_this (λ b. JudgedApp file (Err b)) no_app (no_json file none) e h
+pub tells_json : (file : List ℕ) (root : Data) → HasJson file root → (e : AppEnd) → Tells (λ bs. JudgedData root (Err bs)) e → Tells (λ bs. JudgedApp file (Err bs)) e
+tells_json file root json = tells_weaker (λ bs. JudgedData root (Err bs)) (λ bs. JudgedApp file (Err bs)) (λ bs h. is_json file root (Err bs) json h)
 
--- a file has one verdict at most
-pub data_one : {root : Data} {v w : Result (List Named) Broken} → JudgedData root v → JudgedData root w → IsSame v w
-data_one (other_form root p) (other_form _ q) = inl refl
-data_one (other_form root p) (app_form _ text w q h) = cc
-data_one (app_form root text v p h) (other_form _ q) = cc
-data_one (app_form root text v p h) (app_form _ words w q k) =
+pub tells_none : (file : List ℕ) → ((root : Data) → HasJson file root → ⊥) → (e : AppEnd) → Tells (λ bs. bs ≡ no_app) e → Tells (λ bs. JudgedApp file (Err bs)) e
+tells_none file none e h = tells_this (λ bs. JudgedApp file (Err bs)) no_app (no_json file none) e h
+
+-- no file is both an app and refused
+data_one : IsOneVerdict → (root : Data) (a : App) (bs : List Broken) → JudgedData root (Ok a) → JudgedData root (Err bs) → ⊥
+data_one once root a bs (app_form _ text _ p h) (other_form _ q) = let none : Some text ≡ None = sym p ∙ q in cc
+data_one once root a bs (app_form _ text _ p h) (app_form _ words _ q k) =
     let e : Some text ≡ Some words = sym p ∙ q in
     let same : text ≡ words = cc in
-    judged_one (subst (λ t. Judged t v) same h) k
+    once words a bs (subst (λ t. Judged t (Ok a)) same h) k
 
-pub app_one : {file : List ℕ} {v w : Result (List Named) Broken} → JudgedApp file v → JudgedApp file w → IsSame v w
-app_one (no_json file p) (no_json _ q) = inl refl
-app_one (no_json file p) (is_json _ root w q h) = absurd (p root q)
-app_one (is_json file root v p h) (no_json _ q) = absurd (q root p)
-app_one (is_json file root v p h) (is_json _ other w q k) =
+pub one_app : IsOneVerdict → IsOneApp
+one_app once file a bs (is_json _ root _ p h) (no_json _ q) = absurd (q root p)
+one_app once file a bs (is_json _ root _ p h) (is_json _ other _ q k) =
     let e : Some root ≡ Some other = sym p.json ∙ q.json in
     let same : root ≡ other = cc in
-    data_one (subst (λ d. JudgedData d v) same h) k
+    data_one once other a bs (subst (λ d. JudgedData d (Ok a)) same h) k

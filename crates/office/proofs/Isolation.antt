@@ -1,6 +1,6 @@
 -- What sessions have to do with one another.
-use Rattle.std.proofs.Common.{◌≡◌, ◌≢◌, ◌||◌, ℕ, inl, inr, Bool, true, false, cond, nat_le, bytes_eq, List, [], ◌∷◌, length, Result, Err, refl, ap, sym, ◌∙◌}
-use Rattle.std.specs.Bool.{Decides}
+use Rattle.std.proofs.Common.{◌≡◌, ◌≢◌, ◌||◌, ℕ, inl, inr, Bool, true, false, cond, nat_le, bytes_eq, List, [], ◌∷◌, length, Result, Ok, Err, refl, ap, sym, ◌∙◌, subst}
+use Rattle.std.specs.Bool.{Decides, MatchBool}
 use Rattle.std.proofs.lemmas.List.Folds.{list_any-append}
 use Rattle.std.proofs.lemmas.Slice.Eq.{bytes_eq-Decides}
 use Rattle.app_wire.specs.Framing.{Asked}
@@ -11,13 +11,16 @@ use Rattle.app_wire.specs.declared.head.Method.TheVariants.{Get, Put, Post, Dele
 use Rattle.app_wire.specs.declared.route.Place.{Place}
 use Rattle.app_wire.specs.declared.route.Place.TheVariants.{Session, Named}
 use Rattle.app_wire.specs.declared.route.Route.{Route}
+use Rattle.app_wire.specs.declared.route.Route.TheVariants.{Begin, Named as Shown}
 use Rattle.app_wire.specs.declared.route.RouteEnd.{RouteEnd}
-use Rattle.app_wire.specs.declared.route.RouteEnd.TheVariants.{Memory}
+use Rattle.app_wire.specs.declared.route.RouteEnd.TheVariants.{NoRoute, WrongMethod, Memory}
 use Rattle.app_wire.proofs.Callers.{one_place}
+use Rattle.fx_fresh.specs.Unique.{OneNaming}
 use Rattle.view_text.specs.ReplyText.{ok_text}
-use Rattle.office.specs.NamedReply.{named_body}
+use Rattle.office.proofs.Replies.{one_body}
+use Rattle.office.specs.NamedReply.{IsNamedBody}
 use Rattle.office.specs.State.{State, is_live, most_sessions, opened}
-use Rattle.office.specs.Step.{Step, begins, carried_out, shows}
+use Rattle.office.specs.Step.{IsReplyTo, Shows, Step, begins, state_after}
 
 -- another session than the one that is opened
 opened_others : (s : State) (name other : List ℕ) → bytes_eq name other ≡ false → is_live (opened s name) other ≡ is_live s other
@@ -42,23 +45,16 @@ begins_others s name other differ = by (is_live s name) (nat_le most_sessions (l
     by false true = refl
     by false false = opened_others s name other (apart name other differ)
 
-shows_all : (s : State) (name : List ℕ) → (shows s name).0 ≡ s
-shows_all s name = by (is_live s name)
-  where
-    by : (v : Bool) → (cond {A = State × List ℕ} v (s, reply 200 (named_body s.app)) (s, refusal 11)).0 ≡ s
-    by true = refl
-    by false = refl
-
 -- by the route of a path
 route_others : (place : Place) (method : Method) (name : List ℕ) (s : State) (other : List ℕ) → other ≢ name
-    → is_live (carried_out (route_at place method name) s).0 other ≡ is_live s other
-unfolding carried_out
+    → is_live (state_after (route_at place method name) s) other ≡ is_live s other
+unfolding state_after
 route_others Session Put name s other differ = begins_others s name other differ
 route_others Session Get name s other differ = refl
 route_others Session Post name s other differ = refl
 route_others Session Delete name s other differ = refl
 route_others Session Other name s other differ = refl
-route_others Named Get name s other differ = ap (λ t. is_live t other) (shows_all s name)
+route_others Named Get name s other differ = refl
 route_others Named Put name s other differ = refl
 route_others Named Post name s other differ = refl
 route_others Named Delete name s other differ = refl
@@ -77,38 +73,52 @@ pub leaves_others : (old new : State) (moment : ℕ) (request : Asked) (said : L
     → Step old moment request said new → IsPathOf request.path place name → other ≢ name → is_live new other ≡ is_live old other
 leaves_others old new moment request said place name other step path differ =
     let route = route_is request.method request.path step.route place name path step.known step.routed in
-    ap (λ (p : State × List ℕ). is_live p.0 other) (step.done ∙ ap (λ r. carried_out r old) route)
+    ap (λ (s : State). is_live s other) (step.left ∙ ap (λ r. state_after r old) route)
     ∙ route_others place request.method name old other differ
 
-shows_alike : (a b : State) (name : List ℕ) → a.app ≡ b.app → is_live a name ≡ is_live b name → (shows a name).1 ≡ (shows b name).1
-shows_alike a b name app live = by (is_live a name) (is_live b name) live
+-- what is shown of one app, at one moment
+shows_alike : OneNaming → (moment : ℕ) (a b : State) (name said said' : List ℕ) → a.app ≡ b.app → is_live a name ≡ is_live b name
+    → Shows moment a name said → Shows moment b name said' → said ≡ said'
+shows_alike once moment a b name said said' app live = by (is_live a name) (is_live b name) live
   where
-    by : (v w : Bool) → v ≡ w → (cond {A = State × List ℕ} v (a, reply 200 (named_body a.app)) (a, refusal 11)).1 ≡ (cond {A = State × List ℕ} w (b, reply 200 (named_body b.app)) (b, refusal 11)).1
-    by true true e = ap (λ x. reply 200 (named_body x)) app
-    by false false e = refl
-    by true false e = cc
-    by false true e = cc
+    by : (v w : Bool) → v ≡ w
+        → MatchBool v ((body : List ℕ) × IsNamedBody moment a.app body × (said ≡ reply 200 body)) (said ≡ refusal 11)
+        → MatchBool w ((body : List ℕ) × IsNamedBody moment b.app body × (said' ≡ reply 200 body)) (said' ≡ refusal 11)
+        → said ≡ said'
+    by true true e h k = h.2 ∙ ap (reply 200) (one_body once moment a.app h.0 k.0 h.1 (subst (λ fs. IsNamedBody moment fs k.0) (sym app) k.1)) ∙ sym k.2
+    by false false e h k = h ∙ sym k
+    by true false e h k = cc
+    by false true e h k = cc
 
-route_alike : (place : Place) (method : Method) (name : List ℕ) (a b : State) → method ≢ Put → a.app ≡ b.app → is_live a name ≡ is_live b name
-    → (carried_out (route_at place method name) a).1 ≡ (carried_out (route_at place method name) b).1
-unfolding carried_out
-route_alike Session Put name a b other app live = absurd (other refl)
-route_alike Session Get name a b other app live = refl
-route_alike Session Post name a b other app live = refl
-route_alike Session Delete name a b other app live = refl
-route_alike Session Other name a b other app live = refl
-route_alike Named Get name a b other app live = shows_alike a b name app live
-route_alike Named Put name a b other app live = refl
-route_alike Named Post name a b other app live = refl
-route_alike Named Delete name a b other app live = refl
-route_alike Named Other name a b other app live = refl
+route_alike : OneNaming → (place : Place) (method : Method) (name : List ℕ) (moment : ℕ) (a b : State) (said said' : List ℕ) → method ≢ Put → a.app ≡ b.app → is_live a name ≡ is_live b name
+    → IsReplyTo (route_at place method name) moment a said → IsReplyTo (route_at place method name) moment b said' → said ≡ said'
+unfolding IsReplyTo
+route_alike once Session Put name moment a b said said' other app live h k = absurd (other refl)
+route_alike once Session Get name moment a b said said' other app live h k = h ∙ sym k
+route_alike once Session Post name moment a b said said' other app live h k = h ∙ sym k
+route_alike once Session Delete name moment a b said said' other app live h k = h ∙ sym k
+route_alike once Session Other name moment a b said said' other app live h k = h ∙ sym k
+route_alike once Named Get name moment a b said said' other app live h k = shows_alike once moment a b name said said' app live h k
+route_alike once Named Put name moment a b said said' other app live h k = h ∙ sym k
+route_alike once Named Post name moment a b said said' other app live h k = h ∙ sym k
+route_alike once Named Delete name moment a b said said' other app live h k = h ∙ sym k
+route_alike once Named Other name moment a b said said' other app live h k = h ∙ sym k
 
-pub is_alone : (a b new new' : State) (moment : ℕ) (request : Asked) (said said' : List ℕ) (place : Place) (name : List ℕ)
+-- one reply to a request, by its route
+pub one_reply : OneNaming → (route : Result Route RouteEnd) (moment : ℕ) (s : State) (said said' : List ℕ)
+    → IsReplyTo route moment s said → IsReplyTo route moment s said' → said ≡ said'
+unfolding IsReplyTo
+one_reply once (Err NoRoute) moment s said said' h k = h ∙ sym k
+one_reply once (Err WrongMethod) moment s said said' h k = h ∙ sym k
+one_reply once (Err Memory) moment s said said' h k = h ∙ sym k
+one_reply once (Ok (Begin name)) moment s said said' h k = h ∙ sym k
+one_reply once (Ok (Shown name)) moment s said said' h k = shows_alike once moment s s name said said' refl refl h k
+
+pub is_alone : OneNaming → (a b new new' : State) (moment : ℕ) (request : Asked) (said said' : List ℕ) (place : Place) (name : List ℕ)
     → IsPathOf request.path place name → request.method ≢ Put → a.app ≡ b.app → is_live a name ≡ is_live b name
     → Step a moment request said new → Step b moment request said' new' → said ≡ said'
-is_alone a b new new' moment request said said' place name path other app live one two =
+is_alone once a b new new' moment request said said' place name path other app live one two =
     let first = route_is request.method request.path one.route place name path one.known one.routed in
     let second = route_is request.method request.path two.route place name path two.known two.routed in
-    ap (λ (p : State × List ℕ). p.1) (one.done ∙ ap (λ r. carried_out r a) first)
-    ∙ route_alike place request.method name a b other app live
-    ∙ sym (ap (λ (p : State × List ℕ). p.1) (two.done ∙ ap (λ r. carried_out r b) second))
+    route_alike once place request.method name moment a b said said' other app live
+    (subst (λ r. IsReplyTo r moment a said) first one.replied) (subst (λ r. IsReplyTo r moment b said') second two.replied)

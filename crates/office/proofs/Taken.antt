@@ -1,9 +1,9 @@
 -- How much is taken of a conversation past a request.
-use Rattle.std.proofs.Common.{◌≡◌, ℕ, zero, suc, ◌+◌, ◌-◌, ◌<◌, ◌≤◌, ◌⊎◌, inl, inr, List, [], ◌∷◌, ◌++◌, length, take, drop, refl, ap, sym, ◌∙◌, subst, append_assoc, arith}
+use Rattle.std.proofs.Common.{◌≡◌, ℕ, zero, suc, ◌≤◌, ◌⊎◌, inl, inr, List, [], ◌∷◌, ◌++◌, length, take, drop, refl, ap, sym, ◌∙◌, subst, append_assoc, arith}
 use Rattle.std.proofs.lemmas.List.{length-append, length-drop, take-append-le}
 use Rattle.app_wire.specs.Doorway.{Doorway}
 use Rattle.app_wire.specs.Framing.{Asked, EndsBlank, IsOpen, IsWhole, asked}
-use Rattle.app_wire.specs.NextRequest.{FindsNext, ReadsLittle}
+use Rattle.app_wire.specs.NextRequest.{FindsNext}
 use Rattle.app_wire.specs.declared.framer.Request.{Request}
 use Rattle.app_wire.specs.declared.next.Found.TheVariants as next
 

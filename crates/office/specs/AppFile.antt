@@ -1,14 +1,15 @@
 -- The app file.
-use Rattle.std.specs.Prelude.{◌≡◌, ◌≤◌, ◌==◌, ◌&&◌, ℕ, Bool, true, false, List, Option, Some, None, Result, Err, length, codes, bytes_eq, is_some, option_and_then, if◌then◌else◌}
+use Rattle.std.specs.Prelude.{◌≡◌, ◌≤◌, ◌==◌, ◌&&◌, ℕ, Bool, true, false, List, [], ◌∷◌, Option, Some, None, Result, Ok, Err, length, codes, bytes_eq, is_some, option_and_then, if◌then◌else◌}
 use Rattle.std.specs.Str.{IsUtf8}
 use Rattle.serde_json.specs.Data.{Data, object, Items, no_items, item}
 use Rattle.serde_json.specs.Events.{members_len}
 use Rattle.serde_json.specs.Find.{as_array, as_str, get}
 use Rattle.serde_json.specs.Read.{read}
-use Rattle.fx_parser.specs.declared.entries.Named.{Named}
+use Rattle.app_loader.specs.Judged.{Judged}
+use Rattle.app_loader.specs.declared.app.App.{App}
+use Rattle.app_names.specs.NameRules.{in_app}
 use Rattle.fx_rules.specs.declared.broken.Broken.{Broken}
 use Rattle.fx_rules.specs.declared.rule.Rule.TheVariants.{NotBuilt}
-use Rattle.fx_named.specs.Judged.{Judged, in_app}
 
 -- how many members an object has
 abbrev pub member_count : Data → ℕ
@@ -58,16 +59,21 @@ pub record HasJson (file : List ℕ) (root : Data) : Type 0 where
   pub utf8 : IsUtf8 file
   pub json : read file ≡ Some root
 
--- the break of a file that is no app
-abbrev pub no_app : Broken
-no_app = in_app NotBuilt (codes "app")
+-- what is broken of a file that is no app: this alone
+abbrev pub no_app : List Broken
+no_app = in_app NotBuilt (codes "app") ∷ []
 
 -- JSON, judged: it is of no app that is built, or its text of named formulas is judged.
-pub data JudgedData : Data → Result (List Named) Broken → Type 0 where
+pub data JudgedData : Data → Result App (List Broken) → Type 0 where
   other_form : (root : Data) → formulas_text root ≡ None → JudgedData root (Err no_app)
-  app_form : (root : Data) (text : List ℕ) (v : Result (List Named) Broken) → formulas_text root ≡ Some text → Judged text v → JudgedData root v
+  app_form : (root : Data) (text : List ℕ) (v : Result App (List Broken)) → formulas_text root ≡ Some text → Judged text v → JudgedData root v
 
--- Files, judged: they are apps of these named formulas, or this is the first thing that is wrong.
-pub data JudgedApp : List ℕ → Result (List Named) Broken → Type 0 where
+-- Files, judged: they are apps of these named formulas under these names, or these are the breaks of the first stage that
+-- has any.
+pub data JudgedApp : List ℕ → Result App (List Broken) → Type 0 where
   no_json : (file : List ℕ) → ((root : Data) → HasJson file root → ⊥) → JudgedApp file (Err no_app)
-  is_json : (file : List ℕ) (root : Data) (v : Result (List Named) Broken) → HasJson file root → JudgedData root v → JudgedApp file v
+  is_json : (file : List ℕ) (root : Data) (v : Result App (List Broken)) → HasJson file root → JudgedData root v → JudgedApp file v
+
+-- no file is both an app and refused
+abbrev pub IsOneApp : Type 0
+IsOneApp = (file : List ℕ) (a : App) (bs : List Broken) → JudgedApp file (Ok a) → JudgedApp file (Err bs) → ⊥

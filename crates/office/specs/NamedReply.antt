@@ -1,13 +1,13 @@
 -- The reply that shows the named formulas.
-use Rattle.std.specs.Prelude.{ℕ, List, map, codes, encode_utf8_all}
+use Rattle.std.specs.Prelude.{◌≡◌, ℕ, List, map, codes, encode_utf8_all}
 use Rattle.serde_json.specs.Data as json
 use Rattle.serde_json.specs.Data.{string, array, object, member, no_members}
 use Rattle.serde_json.specs.View.{items_of}
 use Rattle.serde_json.specs.Written.{compact_text}
+use Rattle.app_lines.specs.declared.formula.Formula.{Formula}
 use Rattle.fx_data.specs.Values.{Data}
 use Rattle.fx_data.specs.ValueView.{view}
-use Rattle.fx_eval.specs.Values.{values_of}
-use Rattle.fx_parser.specs.declared.entries.Named.{Named as Formula}
+use Rattle.named_values.specs.Valued.{AreValues}
 use Rattle.view_text.specs.JsonText.{tagged, value_data}
 use Rattle.view_text.specs.declared.replies.Named.{Named}
 
@@ -15,9 +15,13 @@ use Rattle.view_text.specs.declared.replies.Named.{Named}
 abbrev pub pair_data : List ℕ × Data → json.Data
 pair_data p = object (member (codes "name") (string (encode_utf8_all p.0)) (member (codes "value") (value_data p.1) no_members))
 
--- `{"named":[..]}`: each named formula of the app with its value, evaluated afresh
-unfoldable pub named_body : List Formula → List ℕ
-named_body app = compact_text (tagged (codes "named") (array (items_of (map pair_data (values_of app)))))
+-- `{"named":[..]}`: these names with their values, in order
+unfoldable pub named_body : List (List ℕ × Data) → List ℕ
+named_body values = compact_text (tagged (codes "named") (array (items_of (map pair_data values))))
+
+-- the body at a moment: each named formula of the app with its value, evaluated afresh
+abbrev pub IsNamedBody : ℕ → List Formula → List ℕ → Type 0
+IsNamedBody moment app body = (values : List (List ℕ × Data)) × AreValues moment app values × (body ≡ named_body values)
 
 -- a row of the reply, as its name and its value
 abbrev pub shown : Named → List ℕ × Data

@@ -1,17 +1,17 @@
 -- The office between two requests.
 use Rattle.std.specs.Prelude.{ℕ, Bool, List, [], ◌∷◌, ◌++◌, bytes_eq}
 use Rattle.std.specs.List.{list_any}
-use Rattle.fx_parser.specs.declared.entries.Named.{Named}
-use Rattle.office.specs.declared.app.App.{App}
+use Rattle.app_lines.specs.declared.formula.Formula.{Formula}
+use Rattle.app_loader.specs.declared.app.App.{App}
 use Rattle.office.specs.declared.machine.Office.{Office}
 
--- an app is its named formulas, in order
-abbrev pub formulas_of : App → List Named
-formulas_of a = a.formulas.items
+-- the named formulas of an app, in the order of their lines
+abbrev pub formulas_of : App → List Formula
+formulas_of a = a.lines
 
 -- the app's named formulas, and the names of the live sessions in the order in which they were opened
 pub record State : Type 0 where
-  pub app : List Named
+  pub app : List Formula
   pub sessions : List (List ℕ)
 
 -- the state of the program's office
@@ -19,7 +19,7 @@ abbrev pub state_of : Office → State
 state_of o = record { app = formulas_of o.app; sessions = o.sessions.items }
 
 -- an office that serves this app, with no session
-abbrev pub started : List Named → State
+abbrev pub started : List Formula → State
 started app = record { app = app; sessions = [] }
 
 -- the most sessions that live at a time

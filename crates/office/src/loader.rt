@@ -1,12 +1,12 @@
 //! Apps from their files.
 ghost use Rattle.std.specs.Prelude.{◌≡◌, Err, IfErr, IfOk, Ok, codes, option_map};
-ghost use Rattle.fx_named.specs.Judged.{Judged, Tells};
+ghost use Rattle.app_loader.specs.Judged.{Tells};
 ghost use Rattle.serde_json.specs.Find.{as_array};
 ghost use Rattle.serde_json.specs.View.{items_view, view};
 ghost use Rattle.office.specs.AppFile.{JudgedApp, JudgedData, formulas_text, is_bare_screen, is_empty_list, is_one_screen, is_text, items_at, member_count, no_app, text_at};
-ghost use Rattle.office.specs.State.{formulas_of};
 
-use crate::app::App;
+use app_loader::refusing::in_app;
+use app_loader::{App, load_named};
 use fx_rules::{AppEnd, Rule};
 use serde_json::Value as Json;
 use std::alloc::Global;
@@ -15,10 +15,10 @@ use std::alloc::Global;
 const MOST_BYTES: usize = 4_194_304;
 
 /// The app of a file: JSON with the format `pfx-1`, named formulas, and one screen without controls. Every other file is
-/// refused, and one with formulas that break a rule.
+/// refused, and one whose formulas break a rule is refused with the breaks of the first stage that has any.
 pub fn load(alloc: Global, bytes: &[u8]) -> Result<App, AppEnd>
-    ensures app { IfOk result (λ a. JudgedApp bytes.now (Ok (formulas_of a))) }
-    ensures refused { IfErr result (Tells (λ b. JudgedApp bytes.now (Err b))) }
+    ensures app { IfOk result (λ a. JudgedApp bytes.now (Ok a)) }
+    ensures refused { IfErr result (Tells (λ bs. JudgedApp bytes.now (Err bs))) }
 {
     if bytes.len() > MOST_BYTES {
         return Err(no_app(alloc));
@@ -35,29 +35,20 @@ pub fn load(alloc: Global, bytes: &[u8]) -> Result<App, AppEnd>
 
 /// That a file is no app.
 fn no_app(alloc: Global) -> AppEnd
-    ensures { Tells (λ b. b ≡ no_app) result }
+    ensures { Tells (λ bs. bs ≡ no_app) result }
 {
-    fx_named::in_app(alloc, Rule::NotBuilt, "app")
+    in_app(alloc, Rule::NotBuilt, "app")
 }
 
 /// The app that a file's JSON is.
 fn app_in(alloc: Global, root: &Json) -> Result<App, AppEnd>
-    ensures app { IfOk result (λ a. JudgedData (view root.now) (Ok (formulas_of a))) }
-    ensures refused { IfErr result (Tells (λ b. JudgedData (view root.now) (Err b))) }
+    ensures app { IfOk result (λ a. JudgedData (view root.now) (Ok a)) }
+    ensures refused { IfErr result (Tells (λ bs. JudgedData (view root.now) (Err bs))) }
 {
     match formulas_text(root) {
         Some(text) => load_named(alloc, text.as_bytes()),
         None => Err(no_app(alloc)),
     }
-}
-
-/// The app of a text of named formulas. A text that breaks a rule is refused.
-pub fn load_named(alloc: Global, bytes: &[u8]) -> Result<App, AppEnd>
-    ensures app { IfOk result (λ a. Judged bytes.now (Ok (formulas_of a))) }
-    ensures refused { IfErr result (Tells (λ b. Judged bytes.now (Err b))) }
-{
-    let formulas = fx_named::load_named(alloc, bytes)?;
-    Ok(App { formulas })
 }
 
 /// The text of the named formulas, where the JSON is an app of the form that is built.

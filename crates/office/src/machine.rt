@@ -2,11 +2,12 @@
 ghost use Rattle.std.specs.Prelude.{◌≡◌, ◌≤◌, IfOk, IsTrue, OnErr, vec_len};
 ghost use Rattle.app_wire.specs.Framing.{asked};
 ghost use Rattle.office.specs.State.{formulas_of, is_live, most_sessions, started, state_of};
-ghost use Rattle.office.specs.Step.{Answered, IsReply, begins, said, shows};
-ghost use Rattle.office.specs.Carried.{Carries, IsStep};
+ghost use Rattle.office.specs.Step.{Answered, IsReply, Shows, Step, begins, said};
+ghost use Rattle.office.specs.Carried.{Carries};
 
-use crate::app::App;
+use crate::named::named_body;
 use crate::reply::Reply;
+use app_loader::App;
 use app_wire::framer::Request;
 use app_wire::route::{Route, RouteEnd};
 use app_wire::routes::Routes;
@@ -49,26 +50,31 @@ impl Office {
         &mut self,
         request: &Request,
         moment: u64,
-        _steps: &mut Steps<L>,
+        steps: &mut Steps<L>,
     ) -> Reply
         ensures answered { Answered (state_of self.old) moment (asked request.now) (said result) (state_of self.new) }
         ensures whole { IsReply result }
     {
-        match self.carry_out(request) {
+        match self.carry_out(request, moment, steps) {
             Ok(reply) => reply,
             Err(Memory) => Reply::fixed(self.alloc, 26, 507),
         }
     }
 
     /// Does what the request asks for. On want of memory nothing changes.
-    fn carry_out(&mut self, request: &Request) -> Result<Reply, Memory>
-        ensures step { IfOk result (λ r. IsStep (state_of self.old) (asked request.now) (said r) (state_of self.new)) }
+    fn carry_out<L: Ledger>(
+        &mut self,
+        request: &Request,
+        moment: u64,
+        steps: &mut Steps<L>,
+    ) -> Result<Reply, Memory>
+        ensures step { IfOk result (λ r. Step (state_of self.old) moment (asked request.now) (said r) (state_of self.new)) }
         ensures whole { IfOk result IsReply }
         ensures err { OnErr result (state_of self.new ≡ state_of self.old) }
     {
         match self.routes.route(self.alloc, request) {
             Ok(Route::Begin(name)) => self.begin(name),
-            Ok(Route::Named(name)) => self.show(&name),
+            Ok(Route::Named(name)) => self.show(&name, moment, steps),
             Err(RouteEnd::NoRoute) => Ok(Reply::fixed(self.alloc, 7, 404)),
             Err(RouteEnd::WrongMethod) => Ok(Reply::fixed(self.alloc, 8, 405)),
             Err(RouteEnd::Memory) => Err(Memory),
@@ -92,15 +98,20 @@ impl Office {
         Ok(reply)
     }
 
-    /// Shows the named formulas to a live session.
-    fn show(&self, name: &Words) -> Result<Reply, Memory>
-        ensures done { IfOk result (λ r. Carries (shows (state_of self.now) name.now) (said r) (state_of self.now)) }
+    /// Shows the named formulas to a live session, evaluated afresh.
+    fn show<L: Ledger>(
+        &self,
+        name: &Words,
+        moment: u64,
+        steps: &mut Steps<L>,
+    ) -> Result<Reply, Memory>
+        ensures done { IfOk result (λ r. Shows moment (state_of self.now) name.now (said r)) }
         ensures whole { IfOk result IsReply }
     {
         if !self.is_live(name) {
             return Reply::refused(self.alloc, 11, 404);
         }
-        let body = self.app.named_body(self.alloc)?;
+        let body = named_body(self.alloc, &self.app, moment, steps)?;
         Reply::accepted(self.alloc, &body)
     }
 

@@ -1,5 +1,5 @@
-use Rattle.office.proofs.Files.{app_one}
+use Rattle.office.proofs.Files.{one_app}
 use Rattle.office.proofs.laws.one_app.Goals as goal
 
 pub returns : goal.returns
-returns c = λ file v w p q. app_one p q
+returns c = one_app c.one_verdict.ensures

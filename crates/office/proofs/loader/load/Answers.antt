@@ -3,7 +3,6 @@ use Rattle.std.proofs.lemmas.Result.{IfErr-weaker, IfOk-weaker}
 use Rattle.serde_json.specs.Read.{read}
 use Rattle.serde_json.specs.View.{view}
 use Rattle.office.specs.AppFile.{HasJson, is_json}
-use Rattle.office.specs.State.{formulas_of}
 use Rattle.office.proofs.Files.{tells_json, tells_none}
 use Rattle.office.proofs.loader.load.Goals as goal
 
@@ -19,7 +18,7 @@ pub returns-in-Ok-from_str-clause-app : goal.returns-in-Ok-from_str-clause-app
 returns-in-Ok-from_str-clause-app c =
     let json : read c.args.bytes.now ≡ Some (view c.in-Ok-from_str.root) = subst (λ t. read t ≡ Some (view c.in-Ok-from_str.root)) c.in-Ok.ensures.cases.0 c.in-Ok-from_str.ensures.ok in
     let is : HasJson c.args.bytes.now (view c.in-Ok-from_str.root) = record { short = c.if-bytes-gt-MOST_BYTES.false; utf8 = c.in-Ok.ensures.cases.1; json = json } in
-    IfOk-weaker c.app_in.result _ _ (λ a h. is_json _ _ (Ok (formulas_of a)) is h) c.app_in.ensures.app
+    IfOk-weaker c.app_in.result _ _ (λ a h. is_json _ _ (Ok a) is h) c.app_in.ensures.app
 
 pub returns-in-Ok-from_str-clause-refused : goal.returns-in-Ok-from_str-clause-refused
 returns-in-Ok-from_str-clause-refused c =

@@ -1,7 +1,7 @@
 use Rattle.std.proofs.Common.{◌≡◌, map}
-use Rattle.fx_eval.specs.NamedValues.{seen}
+use Rattle.named_values.specs.Valued.{seen}
 use Rattle.office.specs.NamedReply.{shown}
-use Rattle.office.proofs.app.rows_of.Given as goal
+use Rattle.office.proofs.named.rows_of.Given as goal
 
 abbrev pub invariant-loop-named : goal.invariant-loop-named
 invariant-loop-named l = map shown l.rows.items ≡ map seen l.yielded
