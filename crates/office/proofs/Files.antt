@@ -1,5 +1,5 @@
 -- The JSON of app files.
-use Rattle.std.proofs.Common.{◌≡◌, ℕ, suc, ◌==◌, false, List, [], ◌∷◌, length, Some, None, Ok, Err, String, refl, ap, sym, ◌∙◌, subst, arith}
+use Rattle.std.proofs.Common.{◌≡◌, ◌⊎◌, inl, inr, ℕ, suc, ◌==◌, false, List, [], ◌∷◌, length, Some, None, Result, Err, String, refl, ap, sym, ◌∙◌, subst, arith}
 use Rattle.std.proofs.lemmas.Bool.Decides.{nat_tests}
 use Rattle.std.specs.declared.alloc.Global.{Global}
 use Rattle.serde_json.specs.Data.{Data, Members, array, boolean, null, number, object, string}
@@ -10,10 +10,10 @@ use Rattle.serde_json.specs.declared.value.Value.{Value}
 use Rattle.app_loader.proofs.Tellings.{tells_weaker}
 use Rattle.app_loader.specs.Judged.{Judged, Tells}
 use Rattle.app_loader.specs.declared.app.App.{App}
-use Rattle.app_verdicts.specs.Verdicts.{IsOneVerdict}
+use Rattle.app_verdicts.specs.Verdicts.{IsOneAppOfAText, IsOneRefusalOfAText, IsOneVerdict}
 use Rattle.fx_rules.specs.declared.broken.Broken.{Broken}
 use Rattle.fx_rules.specs.declared.end.AppEnd.{AppEnd}
-use Rattle.office.specs.AppFile.{HasJson, IsOneApp, JudgedApp, JudgedData, app_form, formulas_text, is_empty_list, is_json, is_one_screen, member_count, no_app, no_json, other_form}
+use Rattle.office.specs.AppFile.{HasJson, IsOneApp, IsOneAppOfAFile, IsOneRefusalOfAFile, JudgedApp, JudgedData, app_form, formulas_text, is_empty_list, is_json, is_one_screen, member_count, no_app, no_json, other_form}
 
 nonzero : (n : ℕ) → (suc n == 0) ≡ false
 nonzero n = grind (arith, nat_tests)
@@ -64,17 +64,37 @@ tells_json file root json = tells_weaker (λ bs. JudgedData root (Err bs)) (λ b
 pub tells_none : (file : List ℕ) → ((root : Data) → HasJson file root → ⊥) → (e : AppEnd) → Tells (λ bs. bs ≡ no_app) e → Tells (λ bs. JudgedApp file (Err bs)) e
 tells_none file none e h = tells_this (λ bs. JudgedApp file (Err bs)) no_app (no_json file none) e h
 
--- no file is both an app and refused
-data_one : IsOneVerdict → (root : Data) (a : App) (bs : List Broken) → JudgedData root (Ok a) → JudgedData root (Err bs) → ⊥
-data_one once root a bs (app_form _ text _ p h) (other_form _ q) = let none : Some text ≡ None = sym p ∙ q in cc
-data_one once root a bs (app_form _ text _ p h) (app_form _ words _ q k) =
+-- two verdicts are both that of what is no app, or those of one text
+abbrev AreOfOne : Result App (List Broken) → Result App (List Broken) → Type 0
+AreOfOne v w = ((v ≡ Err no_app) × (w ≡ Err no_app)) ⊎ ((text : List ℕ) × Judged text v × Judged text w)
+
+data_one : {root : Data} {v w : Result App (List Broken)} → JudgedData root v → JudgedData root w → AreOfOne v w
+data_one (other_form root p) (other_form _ q) = inl (refl, refl)
+data_one (other_form root p) (app_form _ text w q h) = let e : None ≡ Some text = sym p ∙ q in cc
+data_one (app_form root text v p h) (other_form _ q) = let e : Some text ≡ None = sym p ∙ q in cc
+data_one (app_form root text v p h) (app_form _ words w q k) =
     let e : Some text ≡ Some words = sym p ∙ q in
     let same : text ≡ words = cc in
-    once words a bs (subst (λ t. Judged t (Ok a)) same h) k
+    inr (words, subst (λ t. Judged t v) same h, k)
 
-pub one_app : IsOneVerdict → IsOneApp
-one_app once file a bs (is_json _ root _ p h) (no_json _ q) = absurd (q root p)
-one_app once file a bs (is_json _ root _ p h) (is_json _ other _ q k) =
+file_one : {file : List ℕ} {v w : Result App (List Broken)} → JudgedApp file v → JudgedApp file w → AreOfOne v w
+file_one (no_json file p) (no_json _ q) = inl (refl, refl)
+file_one (no_json file p) (is_json _ root w q h) = absurd (p root q)
+file_one (is_json file root v p h) (no_json _ q) = absurd (q root p)
+file_one (is_json file root v p h) (is_json _ other w q k) =
     let e : Some root ≡ Some other = sym p.json ∙ q.json in
     let same : root ≡ other = cc in
-    data_one once other a bs (subst (λ d. JudgedData d (Ok a)) same h) k
+    data_one (subst (λ d. JudgedData d v) same h) k
+
+-- a file has one verdict where a text has
+pub one_app : IsOneVerdict → IsOneApp
+one_app once file a bs p q =
+    elim (file_one p q) [ inl h ↦ (let e = h.0 in cc) | inr h ↦ once h.0 a bs h.1 h.2 ]
+
+pub one_app_of_a_file : IsOneAppOfAText → IsOneAppOfAFile
+one_app_of_a_file once file a b p q =
+    elim (file_one p q) [ inl h ↦ (let e = h.0 in cc) | inr h ↦ once h.0 a b h.1 h.2 ]
+
+pub one_refusal_of_a_file : IsOneRefusalOfAText → IsOneRefusalOfAFile
+one_refusal_of_a_file once file bs cs p q =
+    elim (file_one p q) [ inl h ↦ inl (let e = h.0 in let f = h.1 in cc) | inr h ↦ once h.0 bs cs h.1 h.2 ]

@@ -8,6 +8,7 @@ use Rattle.serde_json.specs.Read.{read}
 use Rattle.app_loader.specs.Judged.{Judged}
 use Rattle.app_loader.specs.declared.app.App.{App}
 use Rattle.app_names.specs.NameRules.{in_app}
+use Rattle.app_verdicts.specs.Verdicts.{AreSameBreaks, IsSameApp}
 use Rattle.fx_rules.specs.declared.broken.Broken.{Broken}
 use Rattle.fx_rules.specs.declared.rule.Rule.TheVariants.{NotBuilt}
 
@@ -77,3 +78,11 @@ pub data JudgedApp : List ℕ → Result App (List Broken) → Type 0 where
 -- no file is both an app and refused
 abbrev pub IsOneApp : Type 0
 IsOneApp = (file : List ℕ) (a : App) (bs : List Broken) → JudgedApp file (Ok a) → JudgedApp file (Err bs) → ⊥
+
+-- a file that is an app is one app
+abbrev pub IsOneAppOfAFile : Type 0
+IsOneAppOfAFile = (file : List ℕ) (a b : App) → JudgedApp file (Ok a) → JudgedApp file (Ok b) → IsSameApp a b
+
+-- of a file that is refused the same breaks are told
+abbrev pub IsOneRefusalOfAFile : Type 0
+IsOneRefusalOfAFile = (file : List ℕ) (bs cs : List Broken) → JudgedApp file (Err bs) → JudgedApp file (Err cs) → AreSameBreaks bs cs

@@ -1,10 +1,10 @@
 //! Laws of the office.
-ghost use Rattle.office.specs.AppFile.{IsOneApp};
+ghost use Rattle.office.specs.AppFile.{IsOneApp, IsOneAppOfAFile, IsOneRefusalOfAFile};
 ghost use Rattle.office.specs.Answers.{IsSilent};
 ghost use Rattle.office.specs.Isolation.{IsAlone, LeavesOthers};
 ghost use Rattle.office.specs.Step.{IsOneAnswer};
 
-use app_verdicts::one_verdict;
+use app_verdicts::{one_app_of_a_text, one_refusal_of_a_text, one_verdict};
 use fx_fresh::one_naming;
 
 /// No file is both an app and refused.
@@ -12,6 +12,21 @@ pub fn one_app()
     ensures { IsOneApp }
 {
     one_verdict();
+}
+
+/// A file that is an app is one app. Only the place in memory of the table of functions is left open.
+pub fn one_app_of_a_file()
+    ensures { IsOneAppOfAFile }
+{
+    one_app_of_a_text();
+}
+
+/// Of a file that is refused the same breaks are told. Only the place that is named in formulas that are too deep is left
+/// open.
+pub fn one_refusal_of_a_file()
+    ensures { IsOneRefusalOfAFile }
+{
+    one_refusal_of_a_text();
 }
 
 /// A request has one answer: the state before it, its moment and its bytes determine the state after it and the reply,
