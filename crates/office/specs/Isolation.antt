@@ -14,7 +14,8 @@ LeavesOthers =
     → Step old moment request said new → IsPathOf request.path place name → other ≢ name
     → is_live new other ≡ is_live old other
 
--- offices with the same app in which a session is live, or isn't, answer its requests alike, PUT aside, which counts sessions
+-- Offices with the same app in which a session is live, or isn't, answer its requests alike at one moment, PUT aside, which
+-- counts sessions.
 abbrev pub IsAlone : Type 0
 IsAlone =
     (a b new new' : State) (moment : ℕ) (request : Asked) (said said' : List ℕ) (place : Place) (name : List ℕ)

@@ -47,7 +47,8 @@ pub fn leaves_others()
     ensures { LeavesOthers }
 {}
 
-/// What is shown to a session depends on the app and on whether the session is live, and on no other session.
+/// What is shown to a session depends on the app, on the moment and on whether the session is live, and on no other
+/// session.
 pub fn is_alone()
     ensures { IsAlone }
 {
