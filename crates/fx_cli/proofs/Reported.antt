@@ -1,24 +1,23 @@
 -- How a run ends where the first bytes of its file are told.
-use Rattle.std.proofs.Common.{◌≡◌, ◌≢◌, ℕ, ◌⊎◌, inl, inr, List, [], Option, Some, None, Result, Ok, Err, append-nil, flat_map, refl, ap, sym, ◌∙◌, subst}
+use Rattle.std.proofs.Common.{◌≡◌, ◌≢◌, ℕ, ◌⊎◌, inl, inr, List, [], Option, Some, None, Result, Ok, Err, String, refl, ap, sym, ◌∙◌, subst}
 use Rattle.std.proofs.lemmas.Bool.{cases_eq}
+use Rattle.std.specs.declared.alloc.Global.{Global}
+use Rattle.app_loader.specs.declared.app.App.{App}
+use Rattle.app_loader.specs.Judged.{Judged}
+use Rattle.app_loader.specs.Judged as judged
+use Rattle.app_verdicts.specs.Verdicts.{IsOneVerdict}
 use Rattle.fx_base.specs.Faults.{Rose}
-use Rattle.fx_parser.specs.declared.entries.Named.{Named}
-use Rattle.fx_rules.specs.BrokenText.{ended_line}
 use Rattle.fx_rules.specs.declared.broken.Broken.{Broken as Break}
 use Rattle.fx_rules.specs.declared.end.AppEnd.{AppEnd}
 use Rattle.fx_rules.specs.declared.end.AppEnd.TheVariants as end
-use Rattle.fx_named.specs.Judged.{Judged}
-use Rattle.fx_named.specs.Judged as judged
-use Rattle.fx_named.proofs.OneVerdict.{judged_one}
-use Rattle.office.specs.AppFile.{JudgedApp}
-use Rattle.office.proofs.Files.{app_one}
+use Rattle.office.specs.AppFile.{IsOneApp, JudgedApp}
 use Rattle.fx_cli.specs.declared.replay.ReplayEnd.{ReplayEnd}
 use Rattle.fx_cli.specs.declared.replay.ReplayEnd.TheVariants as replay
 use Rattle.fx_cli.specs.declared.report.Report.{Report}
 use Rattle.fx_cli.specs.declared.report.Report.TheVariants.{Shown, Broken, Usage, OutOfMemory, Unread, Replayed}
 use Rattle.fx_cli.specs.declared.words.Form.{Form}
 use Rattle.fx_cli.specs.declared.words.Form.TheVariants.{View, Replay}
-use Rattle.fx_cli.specs.Report.{EndsWith, HasFile, IsRefusal, JudgedAs, Reports, Takes, Wanted, no_replay, status_of}
+use Rattle.fx_cli.specs.Report.{EndsWith, HasFile, IsRefusal, JudgedAs, Reports, Takes, Wanted, no_replay, no_show, status_of}
 use Rattle.fx_cli.specs.Telling.{Contents}
 
 abbrev form_in : Form → Wanted → Form
@@ -47,7 +46,7 @@ same_bytes told asked old new wanted form bytes read has takes =
     cc
 
 -- what was read is what is told, and is judged as it is
-moved : {F : Type 0} (told : F → Option Contents) (asked : F → List (List ℕ)) (old new : F) (wanted : Wanted) (form other : Form) (bytes read : List ℕ) (v : Result (List Named) Break)
+moved : {F : Type 0} (told : F → Option Contents) (asked : F → List (List ℕ)) (old new : F) (wanted : Wanted) (form other : Form) (bytes read : List ℕ) (v : Result App (List Break))
     → HasFile told old wanted form bytes → Takes told asked old new wanted other read → JudgedAs other read v → JudgedAs form bytes v
 moved told asked old new wanted form other bytes read v has takes is =
     let same : other ≡ form = same_form wanted other form takes.name has.name takes.asks.is_wanted has.is_wanted in
@@ -55,36 +54,37 @@ moved told asked old new wanted form other bytes read v has takes is =
     let bytes_are = same_bytes told asked old new wanted form bytes read has taken in
     subst (λ (bs : List ℕ). JudgedAs form bs v) bytes_are (subst (λ (f : Form). JudgedAs f read v) same is)
 
-differ : (form : Form) (bytes : List ℕ) (ns : List Named) (b : Break) → JudgedAs form bytes (Ok ns) → JudgedAs form bytes (Err b) → ⊥
-differ View bytes ns b p q = judged_one p q
-differ Replay bytes ns b p q = app_one p q
+-- none is both accepted and refused
+differ : IsOneVerdict → IsOneApp → (form : Form) (bytes : List ℕ) (a : App) (bs : List Break) → JudgedAs form bytes (Ok a) → JudgedAs form bytes (Err bs) → ⊥
+differ texts apps View bytes a bs p q = texts bytes a bs p q
+differ texts apps Replay bytes a bs p q = apps bytes a bs p q
 
 -- formulas end with 0
-pub built_at : {F : Type 0} (told : F → Option Contents) (asked : F → List (List ℕ)) (faults : F → ℕ) (old new : F) (ends : List Named → ReplayEnd → Type 0) (wanted : Wanted) (r : Report)
-    (sink_rose : Type 0) (bytes : List ℕ) (ns : List Named)
-    → Reports told asked faults old new ends wanted r → HasFile told old wanted View bytes → Judged bytes (Ok ns)
+pub built_at : IsOneVerdict → IsOneApp → {F : Type 0} (told : F → Option Contents) (asked : F → List (List ℕ)) (faults : F → ℕ) (old new : F) (shows : App → String Global → Type 0) (ends : App → ReplayEnd → Type 0) (wanted : Wanted) (r : Report)
+    (sink_rose : Type 0) (bytes : List ℕ) (a : App)
+    → Reports told asked faults old new shows ends wanted r → HasFile told old wanted View bytes → Judged bytes (Ok a)
     → EndsWith 0 (status_of r) (Rose (faults old) (faults new)) sink_rose
-built_at told asked faults old new ends wanted (Shown text) s bytes ns h has is = inl refl
-built_at told asked faults old new ends wanted (Broken text) s bytes ns h has is =
-    absurd (differ View bytes ns h.2 is (moved told asked old new wanted View h.0 bytes h.1 (Err h.2) has h.3 h.4))
-built_at told asked faults old new ends wanted Usage s bytes ns h has is = let some = has.is_wanted in cc
-built_at told asked faults old new ends wanted OutOfMemory s bytes ns h has is = inr (inl refl)
-built_at told asked faults old new ends wanted (Unread text) s bytes ns h has is = inr (inr (inl h.3))
-built_at told asked faults old new ends wanted (Replayed end) s bytes ns h has is = absurd (not_both wanted has.name h.2.name has.is_wanted h.2.asks.is_wanted)
+built_at texts apps told asked faults old new shows ends wanted (Shown text) s bytes a h has is = inl refl
+built_at texts apps told asked faults old new shows ends wanted (Broken text) s bytes a h has is =
+    absurd (differ texts apps View bytes a h.2 is (moved told asked old new wanted View h.0 bytes h.1 (Err h.2) has h.3 h.4))
+built_at texts apps told asked faults old new shows ends wanted Usage s bytes a h has is = let some = has.is_wanted in cc
+built_at texts apps told asked faults old new shows ends wanted OutOfMemory s bytes a h has is = inr (inl refl)
+built_at texts apps told asked faults old new shows ends wanted (Unread text) s bytes a h has is = inr (inr (inl h.3))
+built_at texts apps told asked faults old new shows ends wanted (Replayed end) s bytes a h has is = absurd (not_both wanted has.name h.2.name has.is_wanted h.2.asks.is_wanted)
 
 -- a file that breaks a rule ends with 1
-pub refused_at : {F : Type 0} (told : F → Option Contents) (asked : F → List (List ℕ)) (faults : F → ℕ) (old new : F) (ends : List Named → ReplayEnd → Type 0) (wanted : Wanted) (r : Report)
-    (sink_rose : Type 0) (form : Form) (bytes : List ℕ) (b : Break)
-    → Reports told asked faults old new ends wanted r → HasFile told old wanted form bytes → JudgedAs form bytes (Err b)
+pub refused_at : IsOneVerdict → IsOneApp → {F : Type 0} (told : F → Option Contents) (asked : F → List (List ℕ)) (faults : F → ℕ) (old new : F) (shows : App → String Global → Type 0) (ends : App → ReplayEnd → Type 0) (wanted : Wanted) (r : Report)
+    (sink_rose : Type 0) (form : Form) (bytes : List ℕ) (bs : List Break)
+    → Reports told asked faults old new shows ends wanted r → HasFile told old wanted form bytes → JudgedAs form bytes (Err bs)
     → EndsWith 1 (status_of r) (Rose (faults old) (faults new)) sink_rose
-refused_at told asked faults old new ends wanted (Shown text) s form bytes b h has is =
-    absurd (differ form bytes h.1 b (moved told asked old new wanted form View bytes h.0 (Ok h.1) has h.2 h.3) is)
-refused_at told asked faults old new ends wanted (Broken text) s form bytes b h has is = inl refl
-refused_at told asked faults old new ends wanted Usage s form bytes b h has is = let some = has.is_wanted in cc
-refused_at told asked faults old new ends wanted OutOfMemory s form bytes b h has is = inr (inl refl)
-refused_at told asked faults old new ends wanted (Unread text) s form bytes b h has is = inr (inr (inl h.3))
-refused_at told asked faults old new ends wanted (Replayed end) s form bytes b h has is =
-    absurd (differ form bytes h.1 b (moved told asked old new wanted form Replay bytes h.0 (Ok h.1) has h.2 h.3) is)
+refused_at texts apps told asked faults old new shows ends wanted (Shown text) s form bytes bs h has is =
+    absurd (differ texts apps form bytes h.1 bs (moved told asked old new wanted form View bytes h.0 (Ok h.1) has h.2 h.3) is)
+refused_at texts apps told asked faults old new shows ends wanted (Broken text) s form bytes bs h has is = inl refl
+refused_at texts apps told asked faults old new shows ends wanted Usage s form bytes bs h has is = let some = has.is_wanted in cc
+refused_at texts apps told asked faults old new shows ends wanted OutOfMemory s form bytes bs h has is = inr (inl refl)
+refused_at texts apps told asked faults old new shows ends wanted (Unread text) s form bytes bs h has is = inr (inr (inl h.3))
+refused_at texts apps told asked faults old new shows ends wanted (Replayed end) s form bytes bs h has is =
+    absurd (differ texts apps form bytes h.1 bs (moved told asked old new wanted form Replay bytes h.0 (Ok h.1) has h.2 h.3) is)
 
 -- an app is replayed up to an end
 ends_at : (end : ReplayEnd) (files_rose sink_rose : Type 0) → (status_of (Replayed end) ≡ 6) ⊎ (status_of (Replayed end) ≡ 9) ⊎ EndsWith 0 (status_of (Replayed end)) files_rose sink_rose
@@ -92,43 +92,53 @@ ends_at replay.Done f s = inr (inr (inl refl))
 ends_at replay.Fault f s = inl refl
 ends_at replay.Full f s = inr (inl refl)
 
-pub replayed_at : {F : Type 0} (told : F → Option Contents) (asked : F → List (List ℕ)) (faults : F → ℕ) (old new : F) (ends : List Named → ReplayEnd → Type 0) (wanted : Wanted) (r : Report)
-    (sink_rose : Type 0) (bytes : List ℕ) (ns : List Named)
-    → Reports told asked faults old new ends wanted r → HasFile told old wanted Replay bytes → JudgedApp bytes (Ok ns)
+pub replayed_at : IsOneVerdict → IsOneApp → {F : Type 0} (told : F → Option Contents) (asked : F → List (List ℕ)) (faults : F → ℕ) (old new : F) (shows : App → String Global → Type 0) (ends : App → ReplayEnd → Type 0) (wanted : Wanted) (r : Report)
+    (sink_rose : Type 0) (bytes : List ℕ) (a : App)
+    → Reports told asked faults old new shows ends wanted r → HasFile told old wanted Replay bytes → JudgedApp bytes (Ok a)
     → (status_of r ≡ 6) ⊎ (status_of r ≡ 9) ⊎ EndsWith 0 (status_of r) (Rose (faults old) (faults new)) sink_rose
-replayed_at told asked faults old new ends wanted (Shown text) s bytes ns h has is = absurd (not_both wanted h.2.name has.name h.2.asks.is_wanted has.is_wanted)
-replayed_at told asked faults old new ends wanted (Broken text) s bytes ns h has is =
-    absurd (differ Replay bytes ns h.2 is (moved told asked old new wanted Replay h.0 bytes h.1 (Err h.2) has h.3 h.4))
-replayed_at told asked faults old new ends wanted Usage s bytes ns h has is = let some = has.is_wanted in cc
-replayed_at told asked faults old new ends wanted OutOfMemory s bytes ns h has is = inr (inr (inr (inl refl)))
-replayed_at told asked faults old new ends wanted (Unread text) s bytes ns h has is = inr (inr (inr (inr (inl h.3))))
-replayed_at told asked faults old new ends wanted (Replayed end) s bytes ns h has is = ends_at end (Rose (faults old) (faults new)) s
+replayed_at texts apps told asked faults old new shows ends wanted (Shown text) s bytes a h has is = absurd (not_both wanted h.2.name has.name h.2.asks.is_wanted has.is_wanted)
+replayed_at texts apps told asked faults old new shows ends wanted (Broken text) s bytes a h has is =
+    absurd (differ texts apps Replay bytes a h.2 is (moved told asked old new wanted Replay h.0 bytes h.1 (Err h.2) has h.3 h.4))
+replayed_at texts apps told asked faults old new shows ends wanted Usage s bytes a h has is = let some = has.is_wanted in cc
+replayed_at texts apps told asked faults old new shows ends wanted OutOfMemory s bytes a h has is = inr (inr (inr (inl refl)))
+replayed_at texts apps told asked faults old new shows ends wanted (Unread text) s bytes a h has is = inr (inr (inr (inr (inl h.3))))
+replayed_at texts apps told asked faults old new shows ends wanted (Replayed end) s bytes a h has is = ends_at end (Rose (faults old) (faults new)) s
 
 -- a file was read, and is refused
-pub reports_refused : {F : Type 0} (told : F → Option Contents) (asked : F → List (List ℕ)) (faults : F → ℕ) (old new : F) (ends : List Named → ReplayEnd → Type 0) (form : Form) (name bytes : List ℕ) (e : AppEnd) (r : Report)
-    → Takes told asked old new (Some (form, name)) form bytes → judged.Tells (λ b. JudgedAs form bytes (Err b)) e → IsRefusal e r → Reports told asked faults old new ends (Some (form, name)) r
-reports_refused told asked faults old new ends form name bytes (end.Refused all) (Broken text) takes tells is =
-    (form, bytes, tells.0, takes, tells.2, is ∙ ap (flat_map ended_line) tells.1 ∙ append-nil (ended_line tells.0))
-reports_refused told asked faults old new ends form name bytes e OutOfMemory takes tells is = refl
-reports_refused told asked faults old new ends form name bytes e r takes tells is = absurd is
+pub reports_refused : {F : Type 0} (told : F → Option Contents) (asked : F → List (List ℕ)) (faults : F → ℕ) (old new : F) (shows : App → String Global → Type 0) (ends : App → ReplayEnd → Type 0) (form : Form) (name bytes : List ℕ) (e : AppEnd) (r : Report)
+    → Takes told asked old new (Some (form, name)) form bytes → judged.Tells (λ bs. JudgedAs form bytes (Err bs)) e → IsRefusal e r → Reports told asked faults old new shows ends (Some (form, name)) r
+reports_refused told asked faults old new shows ends form name bytes (end.Refused all) (Broken text) takes tells is =
+    (form, bytes, all.items, takes, tells, is)
+reports_refused told asked faults old new shows ends form name bytes e OutOfMemory takes tells is = refl
+reports_refused told asked faults old new shows ends form name bytes e r takes tells is = absurd is
 
 -- a view replays nothing
-viewed_by : {F : Type 0} (told : F → Option Contents) (asked : F → List (List ℕ)) (faults : F → ℕ) (old new : F) (ends : List Named → ReplayEnd → Type 0) (w : Wanted) (r : Report)
-    → Reports told asked faults old new no_replay w r → Reports told asked faults old new ends w r
-viewed_by told asked faults old new ends w (Shown text) h = h
-viewed_by told asked faults old new ends w (Broken text) h = h
-viewed_by told asked faults old new ends w Usage h = h
-viewed_by told asked faults old new ends w OutOfMemory h = h
-viewed_by told asked faults old new ends w (Unread text) h = h
-viewed_by told asked faults old new ends w (Replayed end) h = absurd h.4
+viewed_by : {F : Type 0} (told : F → Option Contents) (asked : F → List (List ℕ)) (faults : F → ℕ) (old new : F) (shows : App → String Global → Type 0) (ends : App → ReplayEnd → Type 0) (w : Wanted) (r : Report)
+    → Reports told asked faults old new shows no_replay w r → Reports told asked faults old new shows ends w r
+viewed_by told asked faults old new shows ends w (Shown text) h = h
+viewed_by told asked faults old new shows ends w (Broken text) h = h
+viewed_by told asked faults old new shows ends w Usage h = h
+viewed_by told asked faults old new shows ends w OutOfMemory h = h
+viewed_by told asked faults old new shows ends w (Unread text) h = h
+viewed_by told asked faults old new shows ends w (Replayed end) h = absurd h.4
 
-pub viewed : {F : Type 0} (told : F → Option Contents) (asked : F → List (List ℕ)) (faults : F → ℕ) (old new : F) (ends : List Named → ReplayEnd → Type 0) (v w : Wanted) (r : Report)
-    → v ≡ w → Reports told asked faults old new no_replay v r → Reports told asked faults old new ends w r
-viewed told asked faults old new ends v w r e h = subst (λ (x : Wanted). Reports told asked faults old new ends x r) e (viewed_by told asked faults old new ends v r h)
+pub viewed : {F : Type 0} (told : F → Option Contents) (asked : F → List (List ℕ)) (faults : F → ℕ) (old new : F) (shows : App → String Global → Type 0) (ends : App → ReplayEnd → Type 0) (v w : Wanted) (r : Report)
+    → v ≡ w → Reports told asked faults old new shows no_replay v r → Reports told asked faults old new shows ends w r
+viewed told asked faults old new shows ends v w r e h = subst (λ (x : Wanted). Reports told asked faults old new shows ends x r) e (viewed_by told asked faults old new shows ends v r h)
 
-pub wanted_so : {F : Type 0} (told : F → Option Contents) (asked : F → List (List ℕ)) (faults : F → ℕ) (old new : F) (ends : List Named → ReplayEnd → Type 0) (v w : Wanted) (r : Report)
-    → v ≡ w → Reports told asked faults old new ends v r → Reports told asked faults old new ends w r
-wanted_so told asked faults old new ends v w r e h = subst (λ (x : Wanted). Reports told asked faults old new ends x r) e h
+-- a replay shows nothing
+replayed_by : {F : Type 0} (told : F → Option Contents) (asked : F → List (List ℕ)) (faults : F → ℕ) (old new : F) (shows : App → String Global → Type 0) (ends : App → ReplayEnd → Type 0) (w : Wanted) (r : Report)
+    → Reports told asked faults old new no_show ends w r → Reports told asked faults old new shows ends w r
+replayed_by told asked faults old new shows ends w (Shown text) h = absurd h.4
+replayed_by told asked faults old new shows ends w (Broken text) h = h
+replayed_by told asked faults old new shows ends w Usage h = h
+replayed_by told asked faults old new shows ends w OutOfMemory h = h
+replayed_by told asked faults old new shows ends w (Unread text) h = h
+replayed_by told asked faults old new shows ends w (Replayed end) h = h
+
+pub replayed_so : {F : Type 0} (told : F → Option Contents) (asked : F → List (List ℕ)) (faults : F → ℕ) (old new : F) (shows : App → String Global → Type 0) (ends : App → ReplayEnd → Type 0) (v w : Wanted) (r : Report)
+    → v ≡ w → Reports told asked faults old new no_show ends v r → Reports told asked faults old new shows ends w r
+replayed_so told asked faults old new shows ends v w r e h = subst (λ (x : Wanted). Reports told asked faults old new shows ends x r) e (replayed_by told asked faults old new shows ends v r h)
 
 -- a status is that of the report, or 7 by a fault of the sink
 pub or_fault : (wanted status reported : ℕ) (files_rose sink_rose : Type 0) → (status ≢ 7 → status ≡ reported) → (status ≡ 7 → sink_rose)

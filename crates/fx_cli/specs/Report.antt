@@ -1,12 +1,14 @@
 -- What a run says before it ends, and when.
-use Rattle.std.specs.Prelude.{◌≡◌, ℕ, ◌+◌, ◌++◌, [], ◌∷◌, ◌⊎◌, List, Option, Some, None, IsSome, Result, Ok, Err, codes, flat_map, option_map, string_bytes, take}
+use Rattle.std.specs.Prelude.{◌≡◌, ℕ, ◌+◌, ◌++◌, [], ◌∷◌, ◌⊎◌, List, Option, Some, None, IsSome, Result, Ok, Err, String, codes, flat_map, option_map, string_bytes, take}
+use Rattle.std.specs.declared.alloc.Global.{Global}
 use Rattle.fx_base.specs.Faults.{Rose}
-use Rattle.fx_parser.specs.declared.entries.Named.{Named}
+use Rattle.app_loader.specs.declared.app.App.{App}
+use Rattle.app_loader.specs.Judged.{Judged, longest}
+use Rattle.app_wire.specs.Moments.{Tick}
 use Rattle.fx_rules.specs.BrokenText.{ended_line}
 use Rattle.fx_rules.specs.declared.broken.Broken.{Broken as Break}
 use Rattle.fx_rules.specs.declared.end.AppEnd.{AppEnd}
 use Rattle.fx_rules.specs.declared.end.AppEnd.TheVariants as end
-use Rattle.fx_named.specs.Judged.{Judged, longest}
 use Rattle.office.specs.AppFile.{JudgedApp, most_bytes}
 use Rattle.fx_cli.specs.declared.replay.ReplayEnd.{ReplayEnd}
 use Rattle.fx_cli.specs.declared.replay.ReplayEnd.TheVariants as replay
@@ -14,7 +16,6 @@ use Rattle.fx_cli.specs.declared.report.Report.{Report}
 use Rattle.fx_cli.specs.declared.report.Report.TheVariants.{Shown, Broken, Usage, OutOfMemory, Unread, Replayed}
 use Rattle.fx_cli.specs.declared.words.Form.{Form}
 use Rattle.fx_cli.specs.declared.words.Form.TheVariants.{View, Replay}
-use Rattle.fx_cli.specs.Plain.{shown}
 use Rattle.fx_cli.specs.Telling.{AreFirst, Contents}
 
 unfoldable pub usage_text : List ℕ
@@ -61,26 +62,31 @@ pub record HasFile {F : Type 0} (told : F → Option Contents) (files : F) (want
   pub first : option_map (take (most_read form)) (contents name) ≡ Some bytes
 
 -- the bytes of a file, judged as its form is: a text of named formulas, or an app file
-abbrev pub JudgedAs : Form → List ℕ → Result (List Named) Break → Type 0
+abbrev pub JudgedAs : Form → List ℕ → Result App (List Break) → Type 0
 JudgedAs View = Judged
 JudgedAs Replay = JudgedApp
 
--- When a run that wants this makes each report. A replay of an app ended so, as `ends` says.
+-- When a run that wants this makes each report. The values of an app were shown so, as `shows` says, and a replay of an app
+-- ended so, as `ends` says.
 abbrev pub Reports : {F : Type 0} (told : F → Option Contents) (asked : F → List (List ℕ)) (faults : F → ℕ) (old new : F)
-    (ends : List Named → ReplayEnd → Type 0) → Wanted → Report → Type 0
-Reports told asked faults old new ends wanted (Shown text) =
-    (bytes : List ℕ) × (formulas : List Named) × Takes told asked old new wanted View bytes × Judged bytes (Ok formulas) × (string_bytes text ≡ shown formulas)
-Reports told asked faults old new ends wanted (Broken text) =
-    (form : Form) × (bytes : List ℕ) × (b : Break) × Takes told asked old new wanted form bytes × JudgedAs form bytes (Err b) × (string_bytes text ≡ ended_line b)
-Reports told asked faults old new ends wanted Usage = wanted ≡ None
-Reports told asked faults old new ends wanted OutOfMemory = IsSome wanted
-Reports told asked faults old new ends wanted (Unread text) =
+    (shows : App → String Global → Type 0) (ends : App → ReplayEnd → Type 0) → Wanted → Report → Type 0
+Reports told asked faults old new shows ends wanted (Shown text) =
+    (bytes : List ℕ) × (app : App) × Takes told asked old new wanted View bytes × Judged bytes (Ok app) × shows app text
+Reports told asked faults old new shows ends wanted (Broken text) =
+    (form : Form) × (bytes : List ℕ) × (bs : List Break) × Takes told asked old new wanted form bytes × JudgedAs form bytes (Err bs)
+    × (string_bytes text ≡ flat_map ended_line bs)
+Reports told asked faults old new shows ends wanted Usage = wanted ≡ None
+Reports told asked faults old new shows ends wanted OutOfMemory = IsSome wanted
+Reports told asked faults old new shows ends wanted (Unread text) =
     (form : Form) × (name : List ℕ) × AsksFor asked old new wanted form name × Rose (faults old) (faults new) × (string_bytes text ≡ unread_text name)
-Reports told asked faults old new ends wanted (Replayed end) =
-    (bytes : List ℕ) × (formulas : List Named) × Takes told asked old new wanted Replay bytes × JudgedApp bytes (Ok formulas) × ends formulas end
+Reports told asked faults old new shows ends wanted (Replayed end) =
+    (bytes : List ℕ) × (app : App) × Takes told asked old new wanted Replay bytes × JudgedApp bytes (Ok app) × ends app end
 
--- nothing was replayed
-abbrev pub no_replay : List Named → ReplayEnd → Type 0
+-- nothing was shown, and nothing was replayed
+abbrev pub no_show : App → String Global → Type 0
+no_show app text = ⊥
+
+abbrev pub no_replay : App → ReplayEnd → Type 0
 no_replay app end = ⊥
 
 -- no conversation was begun
@@ -92,6 +98,19 @@ IsIdle Usage = Unit {0}
 IsIdle OutOfMemory = Unit {0}
 IsIdle (Unread text) = Unit {0}
 
+-- nothing was evaluated
+abbrev pub IsTimeless : Report → Type 0
+IsTimeless (Broken text) = Unit {0}
+IsTimeless Usage = Unit {0}
+IsTimeless (Unread text) = Unit {0}
+IsTimeless (Shown text) = ⊥
+IsTimeless OutOfMemory = ⊥
+IsTimeless (Replayed end) = ⊥
+
+-- a clock was left alone, or was read once
+abbrev pub IsReadOnceAtMost : {C : Type 0} → (C → Option (List ℕ)) → C → C → Type 0
+IsReadOnceAtMost told old new = (new ≡ old) ⊎ ((moment : ℕ) × Tick moment (told old) (told new))
+
 -- it says that a file of this name could not be read, or memory ran out
 abbrev pub IsUnread : List ℕ → Report → Type 0
 IsUnread name (Unread text) = string_bytes text ≡ unread_text name
@@ -100,6 +119,12 @@ IsUnread name (Shown text) = ⊥
 IsUnread name (Broken text) = ⊥
 IsUnread name Usage = ⊥
 IsUnread name (Replayed end) = ⊥
+
+-- it shows a text of which this holds, or memory ran out
+abbrev pub IsShowing : (List ℕ → Type 0) → Report → Type 0
+IsShowing P (Shown text) = P (string_bytes text)
+IsShowing P OutOfMemory = Unit {0}
+IsShowing P r = ⊥
 
 -- it tells of the breaks that an end has, or memory ran out
 abbrev pub IsRefusal : AppEnd → Report → Type 0

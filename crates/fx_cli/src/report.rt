@@ -1,19 +1,21 @@
 //! What a run says before it ends.
-ghost use Rattle.std.specs.Prelude.{◌≡◌, ◌≤◌, Err, IfErr, IfOk, List, None, Ok, Some};
+ghost use Rattle.std.specs.Prelude.{◌≡◌, ◌≤◌, Err, IfErr, IfOk, List, None, Ok, Some, string_bytes};
+ghost use Rattle.app_loader.specs.Judged.{Tells};
+ghost use Rattle.app_loader.specs.declared.app.App.{App as Loaded};
 ghost use Rattle.fx_base.specs.Faults.{Rose};
-ghost use Rattle.fx_named.specs.Judged.{Tells};
-ghost use Rattle.fx_parser.specs.declared.entries.Named.{Named};
 ghost use Rattle.office.specs.AppFile.{JudgedApp};
-ghost use Rattle.office.specs.State.{started, state_of};
+ghost use Rattle.office.specs.State.{formulas_of, started, state_of};
 ghost use Rattle.fx_cli.specs.Held.{Replayed};
-ghost use Rattle.fx_cli.specs.Report.{IsIdle, IsRefusal, IsUnread, Reports, fault_text, limit_text, memory_text, no_replay, status_of, status_of_end, text_of, text_of_end, unread_text, usage_text};
-ghost use Rattle.fx_cli.specs.Words.{wanted};
+ghost use Rattle.fx_cli.specs.Plain.{IsShown, IsShownNow};
+ghost use Rattle.fx_cli.specs.Report.{IsIdle, IsReadOnceAtMost, IsRefusal, IsShowing, IsTimeless, IsUnread, Reports, fault_text, limit_text, memory_text, no_replay, no_show, status_of, status_of_end, text_of, text_of_end, unread_text, usage_text};
+ghost use Rattle.fx_cli.specs.Words.{IsForm, wanted};
 ghost use Rattle.fx_cli.specs.declared.words.Form.TheVariants.{Replay, View};
 
 use crate::files::{FileEnd, Files};
 use crate::replay::{ReplayEnd, replay};
 use crate::view::view_text;
 use crate::words::{Form, form_of};
+use app_loader::{App, load_named};
 use app_wire::clock::Clock;
 use app_wire::doors::Doors;
 use fx_base::Memory;
@@ -134,24 +136,37 @@ pub fn carry_out<D: Doors, F: Files, C: Clock, L: Ledger>(
     steps: &mut Steps<L>,
 ) -> Report
     ensures reports { Reports F.told F.asked F.faults files.old files.new
-        (λ app end. Replayed (D.single doors.old) (started app) (C.told clock.old) (C.told clock.new) (D.told doors.old) (D.told doors.new) end) (wanted words.now) result }
+        (λ app text. IsShownNow (C.told clock.old) (C.told clock.new) (formulas_of app) (string_bytes text))
+        (λ app end. Replayed (D.single doors.old) (started (formulas_of app)) (C.told clock.old) (C.told clock.new) (D.told doors.old) (D.told doors.new) end) (wanted words.now) result }
     ensures cause { result ≡ Report.Replayed ReplayEnd.Fault → Rose (D.faults doors.old) (D.faults doors.new) }
-    ensures idle { IsIdle result → (doors.new ≡ doors.old) × (clock.new ≡ clock.old) }
+    ensures idle { IsIdle result → doors.new ≡ doors.old }
+    ensures timeless { IsTimeless result → clock.new ≡ clock.old }
+    ensures clock { IsForm View words.now → IsReadOnceAtMost C.told clock.old clock.new }
+    ensures replay_clock { IsForm Replay words.now → result ≡ Report.OutOfMemory → clock.new ≡ clock.old }
     ensures later { F.faults files.old ≤ F.faults files.new }
     ensures doors_later { D.faults doors.old ≤ D.faults doors.new }
     ensures told { F.told files.new ≡ F.told files.old }
     ensures untouched { wanted words.now ≡ None → files.new ≡ files.old }
 {
     match form_of(words) {
-        Some((Form::View, name)) => view_file(alloc, name, files),
+        Some((Form::View, name)) => view_file(alloc, name, files, clock, steps),
         Some((Form::Replay, name)) => replay_file(alloc, name, doors, files, clock, steps),
         None => Report::Usage,
     }
 }
 
-/// Views a file.
-fn view_file<F: Files>(alloc: Global, name: &str, files: &mut F) -> Report
-    ensures reports { Reports F.told F.asked F.faults files.old files.new no_replay (Some (View, name.now)) result }
+/// Views a file. The clock is read once, where the file is accepted.
+fn view_file<F: Files, C: Clock, L: Ledger>(
+    alloc: Global,
+    name: &str,
+    files: &mut F,
+    clock: &mut C,
+    steps: &mut Steps<L>,
+) -> Report
+    ensures reports { Reports F.told F.asked F.faults files.old files.new
+        (λ app text. IsShownNow (C.told clock.old) (C.told clock.new) (formulas_of app) (string_bytes text)) no_replay (Some (View, name.now)) result }
+    ensures timeless { IsTimeless result → clock.new ≡ clock.old }
+    ensures clock { IsReadOnceAtMost C.told clock.old clock.new }
     ensures later { F.faults files.old ≤ F.faults files.new }
     ensures told { F.told files.new ≡ F.told files.old }
 {
@@ -160,9 +175,19 @@ fn view_file<F: Files>(alloc: Global, name: &str, files: &mut F) -> Report
         Err(FileEnd::Memory) => return Report::OutOfMemory,
         Err(FileEnd::Failed) => return unread(alloc, name),
     };
-    match view_text(alloc, &source) {
-        Ok(text) => Report::Shown(text),
+    match load_named(alloc, &source) {
+        Ok(app) => shown(alloc, &app, clock.now(), steps),
         Err(end) => refused(alloc, end),
+    }
+}
+
+/// The values of an app's formulas at a moment.
+fn shown<L: Ledger>(alloc: Global, app: &App, moment: u64, steps: &mut Steps<L>) -> Report
+    ensures { IsShowing (IsShown moment (formulas_of app.now)) result }
+{
+    match view_text(alloc, &app.lines, moment, steps) {
+        Ok(text) => Report::Shown(text),
+        Err(Memory) => Report::OutOfMemory,
     }
 }
 
@@ -175,8 +200,8 @@ fn replay_file<D: Doors, F: Files, C: Clock, L: Ledger>(
     clock: &mut C,
     steps: &mut Steps<L>,
 ) -> Report
-    ensures reports { Reports F.told F.asked F.faults files.old files.new
-        (λ app end. Replayed (D.single doors.old) (started app) (C.told clock.old) (C.told clock.new) (D.told doors.old) (D.told doors.new) end) (Some (Replay, name.now)) result }
+    ensures reports { Reports F.told F.asked F.faults files.old files.new no_show
+        (λ app end. Replayed (D.single doors.old) (started (formulas_of app)) (C.told clock.old) (C.told clock.new) (D.told doors.old) (D.told doors.new) end) (Some (Replay, name.now)) result }
     ensures cause { result ≡ Report.Replayed ReplayEnd.Fault → Rose (D.faults doors.old) (D.faults doors.new) }
     ensures idle { IsIdle result → (doors.new ≡ doors.old) × (clock.new ≡ clock.old) }
     ensures later { F.faults files.old ≤ F.faults files.new }
@@ -196,8 +221,8 @@ fn replay_file<D: Doors, F: Files, C: Clock, L: Ledger>(
 
 /// An office that serves the app of a file.
 fn office_of(alloc: Global, file: &[u8]) -> Result<Office, AppEnd>
-    ensures office { IfOk result (λ o. (formulas : List Named) × JudgedApp file.now (Ok formulas) × (state_of o ≡ started formulas)) }
-    ensures refused { IfErr result (Tells (λ b. JudgedApp file.now (Err b))) }
+    ensures office { IfOk result (λ o. (app : Loaded) × JudgedApp file.now (Ok app) × (state_of o ≡ started (formulas_of app))) }
+    ensures refused { IfErr result (Tells (λ bs. JudgedApp file.now (Err bs))) }
 {
     let app = load(alloc, file)?;
     match Office::new(alloc, app) {

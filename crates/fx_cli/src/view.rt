@@ -1,32 +1,26 @@
 //! What `view` prints: each formula of a text with its value.
-ghost use Rattle.std.specs.Prelude.{◌≡◌, ◌++◌, Err, IfErr, IfOk, List, Ok, OnOk, flat_map, map, string_bytes};
-ghost use Rattle.fx_cli.specs.Plain.{line_of, shown};
-ghost use Rattle.fx_eval.specs.NamedValues.{seen};
-ghost use Rattle.fx_named.specs.Judged.{Judged, Tells};
-ghost use Rattle.fx_parser.specs.declared.entries.Named.{Named};
+ghost use Rattle.std.specs.Prelude.{◌≡◌, ◌++◌, IfOk, OnOk, flat_map, map, string_bytes};
+ghost use Rattle.fx_cli.specs.Plain.{IsShown, line_of};
+ghost use Rattle.named_values.specs.Valued.{seen};
 
+use app_lines::Lines;
 use fx_base::Memory;
-use fx_eval::{NamedValue, values_of};
-use fx_named::load_named;
-use fx_parser::Named;
-use fx_rules::AppEnd;
+use fx_steps::Steps;
+use named_values::{NamedValue, values_of};
 use std::alloc::Global;
+use std::sync::ledger::Ledger;
 use view_text::plain;
 
-/// A line for each formula of the text, in order: its name and its value.
-pub fn view_text(alloc: Global, source: &[u8]) -> Result<String, AppEnd>
-    ensures ok { IfOk result (λ text. (formulas : List Named) × Judged source.now (Ok formulas) × (string_bytes text ≡ shown formulas)) }
-    ensures err { IfErr result (Tells (λ b. Judged source.now (Err b))) }
+/// A line for each formula, in order: its name and its value at a moment, in seconds since 1970-01-01 UTC.
+pub fn view_text<L: Ledger>(
+    alloc: Global,
+    lines: &Lines,
+    moment: u64,
+    steps: &mut Steps<L>,
+) -> Result<String, Memory>
+    ensures { IfOk result (λ text. IsShown moment lines.now (string_bytes text)) }
 {
-    let formulas = load_named(alloc, source)?;
-    Ok(lines_text(alloc, &formulas)?)
-}
-
-/// The lines of formulas.
-fn lines_text(alloc: Global, formulas: &[Named]) -> Result<String, Memory>
-    ensures { IfOk result (λ text. string_bytes text ≡ shown formulas.now) }
-{
-    let values = values_of(alloc, formulas)?;
+    let values = values_of(alloc, lines, moment, steps)?;
     values_text(alloc, &values)
 }
 
