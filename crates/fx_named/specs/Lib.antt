@@ -1,4 +1,0 @@
-pub mod Forms
-pub mod Tops
-pub mod Breaks
-pub mod Judged
