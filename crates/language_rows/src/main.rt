@@ -1,17 +1,16 @@
-//! A table of formula files with what is loaded and evaluated of each. Standard input holds the files one after another: a
-//! line that begins with `== ` names the next one, and the lines behind it are its text, of which the last line feed is left
-//! out. Lines before the first name are passed over. For each file the line of its name is written, then `status 0` and each
-//! formula with the plain form of its value, or `status 1` and the rules that the text breaks. The moment is 1704067200, in
-//! 2024-01-01.
+//! A table of formula files with what `view` says of each. Standard input holds the files one after another: a line that
+//! begins with `== ` names the next one, and the lines behind it are its text, of which the last line feed is left out. Lines
+//! before the first name are passed over. For each file the line of its name is written, then the status with which `view`
+//! ends, and what it wrote: each formula with the plain form of its value, or the rules that the text breaks. The moment is
+//! 1704067200, in 2024-01-01.
 #![tactic(auto)]
 
 mod sheet;
 mod views;
 
 use crate::sheet::Sheet;
-use crate::views::{View, viewed};
-use fx_base::Memory;
-use std::io::{self, ErrorKind};
+use crate::views::viewed;
+use std::{io, str};
 
 fn main(rt: HostRuntime) -> io::Result<()> {
     let mut sheet = Sheet::new(rt.alloc());
@@ -38,9 +37,8 @@ fn print_view(rt: &(impl Print + AllocGlobal), sheet: &Sheet) -> io::Result<()> 
     }
     let name = sheet.name.as_str();
     println!(rt; "{name}")?;
-    match viewed(rt.alloc(), sheet.bytes.as_slice()) {
-        Ok(View::Values(text)) => print!(rt; "status 0\n{text}"),
-        Ok(View::Breaks(text)) => print!(rt; "status 1\n{text}"),
-        Err(Memory) => Err(ErrorKind::OutOfMemory.into()),
-    }
+    let ended = viewed(rt.alloc(), sheet.bytes.as_slice())?;
+    let status = ended.status;
+    let written = str::from_utf8(&ended.written).unwrap_or("no text\n");
+    print!(rt; "status {status}\n{written}")
 }

@@ -1,50 +1,84 @@
-//! What formula files say.
+//! Runs of `view` in memory.
 ghost use Rattle.std.specs.Prelude.{◌≡◌, ◌<◌};
 
-use app_lines::Lines;
-use app_loader::load_named;
-use fx_base::Memory;
-use fx_rules::{AppEnd, lines as broken_lines};
+use app_wire::clock::ListClock;
+use app_wire::memory::MemoryDoors;
+use fx_cli::memory::{MemoryFiles, MemorySink};
+use fx_cli::run;
 use fx_steps::Steps;
-use named_values::values_of;
-use std::alloc::Global;
+use std::alloc::{AllocError, Global};
 use std::marker::Brand;
 use std::sync::ledger::{Blank, Ledger};
-use view_text::plain;
 
-/// The moment of all evaluations, in seconds since 1970-01-01.
+/// The name of the one file.
+const FILE: &str = "f";
+
+/// The moment of all runs, in seconds since 1970-01-01.
 const MOMENT: u64 = 1_704_067_200;
 
-/// What a file says.
+/// How a run ended, and what it wrote.
 #[derive(Drop)]
-pub enum View {
-    /// Each formula with its value.
-    Values(String),
-    /// The rules that it breaks.
-    Breaks(String),
+pub struct Ended {
+    pub status: u8,
+    pub written: Vec<u8>,
 }
 
-/// What a file of these bytes says.
-pub fn viewed(alloc: Global, bytes: &[u8]) -> Result<View, Memory> {
-    match load_named(alloc, bytes) {
-        Ok(app) => Ok(View::Values(shown::<Brand>(alloc, &app.lines, Blank::new(1))?)),
-        Err(AppEnd::Refused(breaks)) => Ok(View::Breaks(broken_lines(alloc, &breaks)?)),
-        Err(AppEnd::Memory) => Err(Memory),
-    }
+/// A run of `view` on a file of these bytes.
+pub fn viewed(alloc: Global, bytes: &[u8]) -> Result<Ended, AllocError> {
+    let words = words(alloc)?;
+    let mut files = files(alloc, bytes)?;
+    let mut out = MemorySink::new(alloc, Vec::new(alloc));
+    let mut clock = clock(alloc)?;
+    let status = status::<Brand>(
+        alloc,
+        &words,
+        &mut files,
+        &mut out,
+        &mut clock,
+        Blank::new(1),
+    );
+    Ok(Ended {
+        status,
+        written: Vec::from_slice(alloc, out.written())?,
+    })
 }
 
-/// Each formula with the plain form of its value.
-fn shown<L: Ledger>(alloc: Global, lines: &Lines, blank: Blank) -> Result<String, Memory>
+/// The status that a run ends with. There is no conversation.
+fn status<L: Ledger>(
+    alloc: Global,
+    words: &[String],
+    files: &mut MemoryFiles,
+    out: &mut MemorySink,
+    clock: &mut ListClock,
+    blank: Blank,
+) -> u8
     requires name { blank.name ≡ L.name }
     requires parts { blank.parts ≡ L.parts }
     requires some { 0 < L.parts }
 {
+    let mut doors = MemoryDoors::new(alloc, Vec::new(alloc), 1, false, Vec::new(alloc));
     let mut steps = Steps::<L>::new(blank);
-    let mut text = String::new(alloc);
-    for named in values_of(alloc, lines, MOMENT, &mut steps)? {
-        let name = named.name.as_str();
-        let value = plain(alloc, &named.value)?;
-        text.push_str(format!(in alloc; "{name} = {value}\n")?.as_str())?;
-    }
-    Ok(text)
+    run(alloc, words, &mut doors, files, out, clock, &mut steps).0
+}
+
+fn words(alloc: Global) -> Result<Vec<String>, AllocError> {
+    let mut words = Vec::new(alloc);
+    words.push(String::from_str(alloc, "view")?)?;
+    words.push(String::from_str(alloc, FILE)?)?;
+    Ok(words)
+}
+
+fn files(alloc: Global, bytes: &[u8]) -> Result<MemoryFiles, AllocError> {
+    let mut files = Vec::new(alloc);
+    files.push((
+        String::from_str(alloc, FILE)?,
+        Vec::from_slice(alloc, bytes)?,
+    ))?;
+    Ok(MemoryFiles::new(alloc, files, Vec::new(alloc)))
+}
+
+fn clock(alloc: Global) -> Result<ListClock, AllocError> {
+    let mut moments = Vec::new(alloc);
+    moments.push(MOMENT)?;
+    Ok(ListClock::new(moments))
 }
