@@ -9,9 +9,9 @@ use Rattle.fx_functions.specs.declared.sources.Source.TheVariants as source
 use Rattle.fx_names.specs.Controls.{input_type}
 use Rattle.fx_names.specs.declared.names.ControlName.{ControlName}
 use Rattle.fx_names.specs.declared.names.Names.{Names}
-use Rattle.fx_typed.specs.Term.{Term, of, nil, cons, all, read, list, act}
+use Rattle.fx_typed.specs.Term.{Term, of, nil, cons, read, list, act}
 use Rattle.fx_typing.specs.Columns.{field_in}
-use Rattle.fx_typing.specs.Local.{coerced, by_way, firsts, put_first}
+use Rattle.fx_typing.specs.Local.{coerced, by_way, firsts}
 use Rattle.fx_typing.specs.WellTyped.{Context, context_for, inside, target_source, IsNumbered, IsNamedRow, AreNamedRows, LeavesId, IsChange, AreChanges, IsFilterOf, HasColumns, IsDone, IsTyped}
 use Rattle.fx_typing.specs.Ways.{way}
 use Rattle.fx_typing.proofs.Rules.{Typed}
@@ -25,7 +25,7 @@ use Rattle.fx_judge.proofs.Filters.{in_row, filter_typed, filter_made}
 use Rattle.fx_judge.proofs.Frame.{AllTyped}
 use Rattle.fx_judge.proofs.Names.{found, read_typed}
 use Rattle.fx_judge.proofs.Operators.{then_ok}
-use Rattle.fx_judge.proofs.Steps.{put_ok, ok_is, coerced_typed, came, EachTyped, values_typed, typed_by}
+use Rattle.fx_judge.proofs.Steps.{lowest_ok, ok_is, coerced_typed, came, EachTyped, values_typed, typed_by}
 
 -- a row that is named for a change
 abbrev NamesRow : Context → Target → ColumnList → Term × Shape → Type 0
@@ -70,11 +70,10 @@ rows_named_typed : (c : Context) (t : Target) (cs : ColumnList) (xs ys : List (T
     AllTyped c ys × AreNamedRows t cs (types_of ys)
 rows_named_typed c t cs [] ys h e = let k : [] ≡ ys = cc in subst (λ (zs : List (Term × Shape)). AllTyped c zs × AreNamedRows t cs (types_of zs)) k (tt, tt)
 rows_named_typed c t cs (x ∷ xs) ys h e =
-    let a = then_ok (row_named t cs x) (λ y. put_first y (rows_named_by t cs xs)) ys e in
-    let b = put_ok a.0 (rows_named_by t cs xs) ys a.2 in
+    let a = lowest_ok _ (row_named t cs x) (rows_named_by t cs xs) ys e in
     let one = row_named_typed c t cs x.0 x.1 a.0 h.0 a.1 in
-    let more = rows_named_typed c t cs xs b.0 h.1 b.1 in
-    subst (λ (zs : List (Term × Shape)). AllTyped c zs × AreNamedRows t cs (types_of zs)) (sym b.2) ((one.0, more.0), (one.1, more.1))
+    let more = rows_named_typed c t cs xs a.2 h.1 a.3 in
+    subst (λ (zs : List (Term × Shape)). AllTyped c zs × AreNamedRows t cs (types_of zs)) a.4 ((one.0, more.0), (one.1, more.1))
 
 -- a change
 abbrev ChangesRow : Context → Target → ColumnList → Term × Shape → Type 0
@@ -115,22 +114,20 @@ changes_typed : (c : Context) (t : Target) (cs : ColumnList) (xs ys : List (Term
     AllTyped c ys × AreChanges t cs (types_of ys)
 changes_typed c t cs [] ys h e = let k : [] ≡ ys = cc in subst (λ (zs : List (Term × Shape)). AllTyped c zs × AreChanges t cs (types_of zs)) k (tt, tt)
 changes_typed c t cs (x ∷ xs) ys h e =
-    let a = then_ok (change_of t cs x) (λ y. put_first y (changes_of t cs xs)) ys e in
-    let b = put_ok a.0 (changes_of t cs xs) ys a.2 in
+    let a = lowest_ok _ (change_of t cs x) (changes_of t cs xs) ys e in
     let one = change_typed c t cs x.0 x.1 a.0 h.0 a.1 in
-    let more = changes_typed c t cs xs b.0 h.1 b.1 in
-    subst (λ (zs : List (Term × Shape)). AllTyped c zs × AreChanges t cs (types_of zs)) (sym b.2) ((one.0, more.0), (one.1, more.1))
+    let more = changes_typed c t cs xs a.2 h.1 a.3 in
+    subst (λ (zs : List (Term × Shape)). AllTyped c zs × AreChanges t cs (types_of zs)) a.4 ((one.0, more.0), (one.1, more.1))
 
 -- `Patch` and `Remove`
 patch_to_typed : (c : Context) (t : Target) (cs : ColumnList) (xs : List (Term × Shape)) (y : Term × Shape) → HasColumns c t cs → AllTyped c xs → patch_to (t, cs) xs ≡ Ok y → Typed c y
 patch_to_typed c t cs [] y has h e = absurd cc
 patch_to_typed c t cs (base ∷ changes) y has h e =
-    let a = then_ok (row_named t cs base) _ y e in
-    let b = then_ok (changes_of t cs changes) (λ ys. Ok (of (act (deed.Patch t)) (cons a.0.0 (all (firsts ys))), records cs)) y a.2 in
+    let a = lowest_ok _ (row_named t cs base) (changes_of t cs changes) y e in
     let one = row_named_typed c t cs base.0 base.1 a.0 h.0 a.1 in
-    let more = changes_typed c t cs changes b.0 h.1 b.1 in
-    subst (Typed c) (ok_is _ y b.2) (
-    typed_by c (act (deed.Patch t)) (a.0 ∷ b.0) (records cs) (λ n i. refl) (one.0, more.0) (cs, has, one.1, more.1, refl)
+    let more = changes_typed c t cs changes a.2 h.1 a.3 in
+    subst (Typed c) a.4 (
+    typed_by c (act (deed.Patch t)) (a.0 ∷ a.2) (records cs) (λ n i. refl) (one.0, more.0) (cs, has, one.1, more.1, refl)
     )
 
 pub patch_typed : (n : Names) (c : Context) (x : List ℕ) (qs : List Part) (y : Term × Shape) → Of n c → EachTyped c qs → patch_of n x qs ≡ Ok y → Typed c y

@@ -20,13 +20,13 @@ use Rattle.fx_typing.specs.WellTyped.{Context, AreAll, target_source, HasColumns
 use Rattle.fx_typing.specs.Ways.{way}
 use Rattle.fx_typing.proofs.Rules.{Typed}
 use Rattle.fx_judge.specs.Builds.{types_of}
-use Rattle.fx_judge.specs.Deeds.{done_by, joins_to, given, by_name, if_known, by_rows, set_to, set_of, put_given, give_one, give_all, given_sources, given_terms, update_of, rows_of, rows_given, collect_to, collect_of, clear_by, clear_of}
+use Rattle.fx_judge.specs.Deeds.{done_by, joins_to, given, by_name, if_known, by_rows, set_to, set_of, give_one, give_all, given_sources, given_terms, update_of, rows_of, rows_given, collect_to, collect_of, clear_by, clear_of}
 use Rattle.fx_judge.specs.Parts.{Part, target, assigned, values}
 use Rattle.fx_judge.specs.Targets.{global_variable, screen_variable, collection_named, table_named, rows_named}
 use Rattle.fx_judge.proofs.Frame.{AllTyped}
 use Rattle.fx_judge.proofs.Names.{or_cases, global_read, context_read, gathered_read, table_read}
 use Rattle.fx_judge.proofs.Operators.{then_ok}
-use Rattle.fx_judge.proofs.Steps.{put_ok, ok_is, option_map_some, came, EachTyped, values_typed, typed_by}
+use Rattle.fx_judge.proofs.Steps.{put_ok, lowest_ok, ok_is, option_map_some, came, EachTyped, values_typed, typed_by}
 
 -- the surroundings of these names
 abbrev pub Of : Names → Context → Type 0
@@ -105,27 +105,25 @@ abbrev Gave : Context → List (Source × Term) → Type 0
 Gave c gs =
     (ys : List (Term × Shape)) × (firsts ys ≡ given_terms gs) × AllTyped c ys × (map c.sources (given_sources gs) ≡ map (λ u. Some u) (types_of ys))
 
-put_given_ok : (k : ℕ) (y : Term × Shape) (r : Result (List (Source × Term)) ℕ) (gs : List (Source × Term)) → put_given k y r ≡ Ok gs →
-    (hs : List (Source × Term)) × (r ≡ Ok hs) × ((source.Context k, y.0) ∷ hs ≡ gs)
-put_given_ok k y (Ok hs) gs e = (hs, refl, cc)
-put_given_ok k y (Err i) gs e = absurd cc
+abbrev GaveOne : Context → Source × Term → Type 0
+GaveOne c g = (y : Term × Shape) × (y.0 ≡ g.1) × Typed c y × (c.sources g.0 ≡ Some y.1)
 
 all_given_typed : (n : Names) (c : Context) (s : Option ℕ) (ms : List (List ℕ)) (xs : List (Term × Shape)) (gs : List (Source × Term)) → Of n c → AllTyped c xs →
     give_all n s ms xs ≡ Ok gs → Gave c gs
 all_given_typed n c s [] xs gs here h e = let k : [] ≡ gs = cc in subst (Gave c) k ([], refl, tt, refl)
 all_given_typed n c s (m ∷ ms) [] gs here h e = let k : [] ≡ gs = cc in subst (Gave c) k ([], refl, tt, refl)
-all_given_typed n c s (m ∷ ms) (x ∷ xs) gs here h e = by_variable (screen_variable n s m) refl e (λ hs i. all_given_typed n c s ms xs hs here h.1 i)
+all_given_typed n c s (m ∷ ms) (x ∷ xs) gs here h e =
+    let a = lowest_ok _ (give_one (screen_variable n s m) x) (give_all n s ms xs) gs e in
+    let one = by_variable (screen_variable n s m) refl a.0 a.1 in
+    let more = all_given_typed n c s ms xs a.2 here h.1 a.3 in
+    subst (Gave c) a.4 (one.0 ∷ more.0, λ k. one.1 k ∷ more.1 k, (one.2, more.2), λ k. one.3 k ∷ more.3 k)
   where
-    by_variable : (o : Option (ℕ × Variable)) → screen_variable n s m ≡ o → give_one o x (give_all n s ms xs) ≡ Ok gs →
-        ((hs : List (Source × Term)) → give_all n s ms xs ≡ Ok hs → Gave c hs) → Gave c gs
-    by_variable (Some v) i j more =
-        let g = then_ok (given (shape v.1.ty) x) (λ y. put_given v.0 y (give_all n s ms xs)) gs j in
-        let w = given_typed c (shape v.1.ty) x g.0 h.0 g.1 in
-        let p = put_given_ok v.0 g.0 (give_all n s ms xs) gs g.2 in
-        let r = more p.0 p.1 in
-        let one : c.sources (source.Context v.0) ≡ Some g.0.1 = here (source.Context v.0) ∙ context_read n s m v i ∙ ap (λ u. Some u) (sym w.1) in
-        subst (Gave c) p.2 (g.0 ∷ r.0, ap (λ ts. g.0.0 ∷ ts) r.1, (w.0, r.2), λ k. one k ∷ r.3 k)
-    by_variable None i j more = absurd cc
+    by_variable : (o : Option (ℕ × Variable)) → screen_variable n s m ≡ o → (g : Source × Term) → give_one o x ≡ Ok g → GaveOne c g
+    by_variable (Some v) i g j =
+        let r = then_ok (given (shape v.1.ty) x) (λ y. Ok (source.Context v.0, y.0)) g j in
+        let w = given_typed c (shape v.1.ty) x r.0 h.0 r.1 in
+        subst (GaveOne c) (ok_is _ g r.2) (r.0, refl, w.0, here (source.Context v.0) ∙ context_read n s m v i ∙ ap (λ u. Some u) (sym w.1))
+    by_variable None i g j = absurd cc
 
 pub update_typed : (n : Names) (c : Context) (s : Option ℕ) (qs : List Part) (y : Term × Shape) → Of n c → EachTyped c qs → update_of n s qs ≡ Ok y → Typed c y
 update_typed n c (Some s) (assigned ms xs ∷ []) y here h e =

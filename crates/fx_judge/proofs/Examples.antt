@@ -4,9 +4,12 @@ use Rattle.std.specs.Prelude.{Some, None, pos, codes}
 use Rattle.fx_data.specs.Types.{blanks, numbers, texts, booleans, records, tables, no_columns, column}
 use Rattle.fx_data.specs.Values.{number, text, boolean, tab, no_rows}
 use Rattle.fx_functions.specs.declared.functions.Fun.TheVariants as fun
+use Rattle.fx_functions.specs.declared.deeds.Target.TheVariants as rows
+use Rattle.fx_functions.specs.declared.functions.Form.TheVariants as form
 use Rattle.fx_functions.specs.declared.functions.Acting.TheVariants as acts
 use Rattle.fx_functions.specs.declared.signatures.SigShape.TheVariants as sig
 use Rattle.fx_functions.specs.declared.literals.SortOrder.TheVariants as order
+use Rattle.fx_functions.specs.Rows.{row_of, form_row, takes_count}
 use Rattle.fx_syntax.specs.declared.expr.Op.TheVariants as op
 use Rattle.fx_syntax.specs.Tree.{Tree, node, Forest, none, more, Head}
 use Rattle.fx_syntax.specs.Tree as tree
@@ -17,6 +20,7 @@ use Rattle.fx_typing.specs.Meaning.{Place, written_or}
 use Rattle.fx_judge.specs.Parts.{piece, plainly}
 use Rattle.fx_judge.specs.Plans.{setting_by, plan_call}
 use Rattle.fx_judge.specs.Calls.{called_by}
+use Rattle.fx_judge.specs.Deeds.{rows_named_by}
 use Rattle.fx_judge.specs.Typing.{judge, outermost, judge_whole}
 
 -- 1 < "x" is of wrong types, at the operator's first token
@@ -106,3 +110,14 @@ told p c = refl
 pub unwritten_items : written_or control.Gallery (codes "Items") blanks None ≡ (of (const (tab no_rows)) nil, tables no_columns)
 unfolding lib.Utf8.encode
 unwritten_items = refl
+
+-- a removed row without ID breaks rule 12, and one that is no record rule 6: the lower is told
+pub lowest_of_rows : (c d : Term) → rows_named_by (rows.Table 0) no_columns ((c, records no_columns) ∷ (d, numbers) ∷ []) ≡ Err 6
+lowest_of_rows c d = refl
+
+-- texts are joined in any number
+pub many_joined : takes_count (row_of fun.Concatenation) 300 ≡ true
+many_joined = refl
+
+pub many_required : takes_count (form_row form.All) 300 ≡ true
+many_required = refl

@@ -10,7 +10,7 @@ use Rattle.fx_typing.specs.WellTyped.{Context, Standing, plain, standing_at, con
 use Rattle.fx_typing.proofs.Rules.{Typed}
 use Rattle.fx_typing.proofs.Same.{way_same}
 use Rattle.fx_judge.specs.Builds.{types_of}
-use Rattle.fx_judge.specs.Parts.{Part, piece, meant, target, assigned, Setting, plainly, as_part, put_value, values}
+use Rattle.fx_judge.specs.Parts.{Part, piece, meant, target, assigned, Setting, plainly, as_part, put_value, values, lowest}
 use Rattle.fx_judge.specs.Plans.{Plan, scopes_for, is_catching, setting_by, plan_at}
 use Rattle.fx_judge.specs.Typing.{context_of}
 use Rattle.fx_judge.proofs.Places.{or_false}
@@ -22,6 +22,12 @@ ok_is a b e = cc
 pub put_ok : (x : Term × Shape) (r : Result (List (Term × Shape)) ℕ) (xs : List (Term × Shape)) → put_first x r ≡ Ok xs → (ys : List (Term × Shape)) × (r ≡ Ok ys) × (xs ≡ x ∷ ys)
 put_ok x (Ok ys) xs e = (ys, refl, sym cc)
 put_ok x (Err n) xs e = absurd cc
+
+pub lowest_ok : {A B C : Type 0} (f : A → B → C) (p : Result A ℕ) (q : Result B ℕ) (z : C) → lowest f p q ≡ Ok z → (a : A) × (p ≡ Ok a) × (b : B) × (q ≡ Ok b) × (f a b ≡ z)
+lowest_ok f (Ok a) (Ok b) z e = (a, refl, b, refl, ok_is (f a b) z e)
+lowest_ok f (Ok a) (Err k) z e = absurd cc
+lowest_ok f (Err k) (Ok b) z e = absurd cc
+lowest_ok f (Err k) (Err j) z e = absurd cc
 
 put_value_ok : (x : Term × Shape) (r : Result (List (Term × Shape)) ℕ) (xs : List (Term × Shape)) → put_value x r ≡ Ok xs → (ys : List (Term × Shape)) × (r ≡ Ok ys) × (xs ≡ x ∷ ys)
 put_value_ok x (Ok ys) xs e = (ys, refl, sym cc)

@@ -22,7 +22,7 @@ use Rattle.fx_typing.specs.Columns.{and_then, field_in, row_columns}
 use Rattle.fx_typing.specs.Local.{value, coerced, by_way, firsts, put_first, made}
 use Rattle.fx_typing.specs.WellTyped.{target_source}
 use Rattle.fx_typing.specs.Ways.{way, same_shape}
-use Rattle.fx_judge.specs.Parts.{Part, target, assigned, pieces, values}
+use Rattle.fx_judge.specs.Parts.{Part, target, assigned, pieces, values, lowest, all_or_lowest}
 use Rattle.fx_judge.specs.Targets.{global_variable, screen_variable, collection_named, screen_named, control_named, rows_named}
 
 -- a deed, which answers true
@@ -66,16 +66,12 @@ abbrev pub set_of : Names → List ℕ → List Part → Result (Term × Shape) 
 set_of n x qs = and_then (values qs) (λ xs. if_known (global_variable n x) (λ v. set_to v xs))
 
 -- `UpdateContext`: the variables of the formula's screen, in the order in which they are written
-abbrev pub put_given : ℕ → Term × Shape → Result (List (Source × Term)) ℕ → Result (List (Source × Term)) ℕ
-put_given k y (Ok gs) = Ok ((source.Context k, y.0) ∷ gs)
-put_given k y (Err e) = Err e
-
-abbrev pub give_one : Option (ℕ × Variable) → Term × Shape → Result (List (Source × Term)) ℕ → Result (List (Source × Term)) ℕ
-give_one (Some v) x more = and_then (given (shape v.1.ty) x) (λ y. put_given v.0 y more)
-give_one None x more = Err 15
+abbrev pub give_one : Option (ℕ × Variable) → Term × Shape → Result (Source × Term) ℕ
+give_one (Some v) x = and_then (given (shape v.1.ty) x) (λ y. Ok (source.Context v.0, y.0))
+give_one None x = Err 15
 
 abbrev pub give_all : Names → Option ℕ → List (List ℕ) → List (Term × Shape) → Result (List (Source × Term)) ℕ
-give_all n s (m ∷ ms) (x ∷ xs) = give_one (screen_variable n s m) x (give_all n s ms xs)
+give_all n s (m ∷ ms) (x ∷ xs) = lowest (λ g gs. g ∷ gs) (give_one (screen_variable n s m) x) (give_all n s ms xs)
 give_all n s _ _ = Ok []
 
 abbrev pub given_sources : List (Source × Term) → List Source
@@ -147,8 +143,7 @@ row_named (rows.Gathered k) cs (c, blanks) = Ok (coerced c (records cs), records
 row_named t cs x = Err 6
 
 abbrev pub rows_named_by : Target → ColumnList → List (Term × Shape) → Result (List (Term × Shape)) ℕ
-rows_named_by t cs [] = Ok []
-rows_named_by t cs (x ∷ xs) = and_then (row_named t cs x) (λ y. put_first y (rows_named_by t cs xs))
+rows_named_by t cs xs = all_or_lowest (row_named t cs) xs
 
 -- a change: a record of some of the columns, ID aside on a table, as a table of one row. One of type Blank
 -- has no fields.
@@ -165,14 +160,13 @@ change_of t cs (c, blanks) = Ok (row_of_one (coerced c (records no_columns)) no_
 change_of t cs x = Err 6
 
 abbrev pub changes_of : Target → ColumnList → List (Term × Shape) → Result (List (Term × Shape)) ℕ
-changes_of t cs [] = Ok []
-changes_of t cs (x ∷ xs) = and_then (change_of t cs x) (λ y. put_first y (changes_of t cs xs))
+changes_of t cs xs = all_or_lowest (change_of t cs) xs
 
 -- `Patch`, which answers the whole row, and `Remove`
 abbrev pub patch_to : Target × ColumnList → List (Term × Shape) → Result (Term × Shape) ℕ
 patch_to r (base ∷ changes) =
-    and_then (row_named r.0 r.1 base) (λ b. and_then (changes_of r.0 r.1 changes)
-    (λ ys. Ok (of (act (deed.Patch r.0)) (cons b.0 (all (firsts ys))), records r.1)))
+    lowest (λ b ys. (of (act (deed.Patch r.0)) (cons b.0 (all (firsts ys))), records r.1))
+    (row_named r.0 r.1 base) (changes_of r.0 r.1 changes)
 patch_to r xs = Err 7
 
 abbrev pub patch_of : Names → List ℕ → List Part → Result (Term × Shape) ℕ

@@ -1,5 +1,5 @@
 -- The parts of a node as they were judged, and where a node stands.
-use Rattle.std.specs.Prelude.{ℕ, suc, List, [], ◌∷◌, Bool, true, false, ◌&&◌, nat_lt, Option, None, Result, Ok, Err, if◌then◌else◌}
+use Rattle.std.specs.Prelude.{ℕ, suc, min, List, [], ◌∷◌, Bool, true, false, ◌&&◌, nat_lt, Option, None, Result, Ok, Err, if◌then◌else◌}
 use Rattle.fx_data.specs.Types.{Shape}
 use Rattle.fx_syntax.specs.Tree.{Forest, none, more}
 use Rattle.fx_typed.specs.Term.{Term}
@@ -72,6 +72,18 @@ values (q ∷ qs) = Err 6
 abbrev pub unless : {A : Type 0} → Bool → ℕ → Result A ℕ → Result A ℕ
 unless b k (Ok x) = if b then Err k else Ok x
 unless b k (Err e) = if b && nat_lt k e then Err k else Err e
+
+-- two things as one, or the lowest rule that one of them breaks
+abbrev pub lowest : {A B C : Type 0} → (A → B → C) → Result A ℕ → Result B ℕ → Result C ℕ
+lowest f (Ok a) (Ok b) = Ok (f a b)
+lowest f (Ok a) (Err k) = Err k
+lowest f (Err e) (Ok b) = Err e
+lowest f (Err e) (Err k) = Err (min e k)
+
+-- things in turn, each as its part makes it, or the lowest rule that one of them breaks
+abbrev pub all_or_lowest : {A B : Type 0} → (A → Result B ℕ) → List A → Result (List B) ℕ
+all_or_lowest f [] = Ok []
+all_or_lowest f (x ∷ xs) = lowest (λ y ys. y ∷ ys) (f x) (all_or_lowest f xs)
 
 -- how many parts there are
 abbrev pub parts_in : Forest → ℕ
