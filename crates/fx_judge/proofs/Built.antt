@@ -99,10 +99,10 @@ list_parts c t n done [] h = refl
 list_parts c t n done (x ∷ xs) h = (x.1, seconds xs, refl, h.0, list_parts c t n (done ++ x.1 ∷ []) xs h.1)
 
 list_by_typed : (c : Context) (t : Shape) (xs : List (Term × Shape)) (x : Term × Shape) → is_rows t ≡ false → AllTyped c xs →
-    and_then (rows_to t xs) (λ ys. bounded (Ok (list_by t ys))) ≡ Ok x → Typed c x
+    and_then (rows_to t xs) (λ ys. Ok (list_by t ys)) ≡ Ok x → Typed c x
 list_by_typed c t xs x i h e =
-    let a = then_ok (rows_to t xs) (λ ys. bounded (Ok (list_by t ys))) x e in
-    let k = bounded_ok (Ok (list_by t a.0)) x a.2 in
+    let a = then_ok (rows_to t xs) (λ ys. Ok (list_by t ys)) x e in
+    let k : Ok (list_by t a.0) ≡ Ok x = a.2 in
     let y : list_by t a.0 ≡ x = cc in
     let rows = rows_typed c t xs a.0 a.1 h in
     subst (Typed c) y (

@@ -1,7 +1,7 @@
 -- Formulas as the definitions judge them, worked out by hand.
-use Rattle.std.proofs.Common.{◌≡◌, [], ◌∷◌, true, false, Ok, Err, refl}
+use Rattle.std.proofs.Common.{◌≡◌, ℕ, zero, suc, List, [], ◌∷◌, true, false, Ok, Err, refl}
 use Rattle.std.specs.Prelude.{Some, None, pos, codes}
-use Rattle.fx_data.specs.Types.{blanks, numbers, texts, booleans, records, tables, no_columns, column}
+use Rattle.fx_data.specs.Types.{Shape, ColumnList, blanks, numbers, texts, booleans, records, tables, no_columns, column}
 use Rattle.fx_data.specs.Values.{number, text, boolean, tab, no_rows}
 use Rattle.fx_functions.specs.declared.functions.Fun.TheVariants as fun
 use Rattle.fx_functions.specs.declared.deeds.Target.TheVariants as rows
@@ -21,6 +21,7 @@ use Rattle.fx_judge.specs.Parts.{piece, plainly}
 use Rattle.fx_judge.specs.Plans.{setting_by, plan_call}
 use Rattle.fx_judge.specs.Calls.{called_by}
 use Rattle.fx_judge.specs.Deeds.{rows_named_by}
+use Rattle.fx_judge.specs.Details.{acted_at, call_limit, counted}
 use Rattle.fx_judge.specs.Typing.{judge, outermost, judge_whole}
 
 -- 1 < "x" is of wrong types, at the operator's first token
@@ -121,3 +122,35 @@ many_joined = refl
 
 pub many_required : takes_count (form_row form.All) 300 ≡ true
 many_required = refl
+
+-- a table of records that are nine deep passes the limit of types
+abbrev deep : ℕ → Shape
+deep zero = numbers
+deep (suc n) = records (column (codes "A") (deep n) no_columns)
+
+pub deep_table : (p : Place) (c : Term) → call_limit p (outermost false) (Some sig.Table) (plainly (c, deep 9) ∷ []) ≡ counted (codes "type") 9
+unfolding lib.Utf8.encode
+deep_table p c = refl
+
+-- the base of a patch needs its ID alone, and a change can't set it
+abbrev stock : ColumnList
+stock = column (codes "ID") numbers (column (codes "Name") texts no_columns)
+
+abbrev alone : List ℕ → Shape
+alone x = records (column x numbers no_columns)
+
+pub no_such_column : (c d : Term) →
+    acted_at acts.Patch (rows.Table 0) stock ((c, records (column (codes "Foo") numbers (column (codes "ID") numbers no_columns))) ∷ (d, alone (codes "Bar")) ∷ []) ≡ Some (codes "Bar")
+no_such_column c d = refl
+
+pub no_id : (c d : Term) → acted_at acts.Patch (rows.Table 0) stock ((c, alone (codes "Foo")) ∷ (d, alone (codes "Bar")) ∷ []) ≡ Some (codes "ID")
+no_id c d = refl
+
+pub id_first : (c d e : Term) →
+    acted_at acts.Patch (rows.Table 0) stock ((c, alone (codes "ID")) ∷ (d, alone (codes "ID")) ∷ (e, alone (codes "Foo")) ∷ []) ≡ Some (codes "ID")
+id_first c d e = refl
+
+-- the name of a variable has none for its rows
+pub aliased_variable : (p : Place) → judge p (setting_by p.names (outermost true) (plan_call true (Some (sig.Act acts.Set)) 2 []) [])
+    (node 4 (tree.alias (codes "X")) (more (node 4 tree.list none) none)) ≡ Err (4, 6)
+aliased_variable p = refl

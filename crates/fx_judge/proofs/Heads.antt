@@ -12,7 +12,7 @@ use Rattle.fx_typing.specs.Local.{value, label}
 use Rattle.fx_typing.specs.Meaning.{Place, Meaning, valued, controlled, screened, enumerated, in_globals, meaning_of, named}
 use Rattle.fx_typing.proofs.Rules.{Typed}
 use Rattle.fx_judge.specs.Builds.{record_of, list_of, are_distinct}
-use Rattle.fx_judge.specs.Parts.{Grant, nothing, acting, an_alias, a_column, a_target, a_meaning, on_screen, Part, piece, meant, target, assigned, Setting, may_act, plainly, as_part, values, unless}
+use Rattle.fx_judge.specs.Parts.{Grant, nothing, acting, an_alias, a_column, a_target, aliased_target, a_meaning, on_screen, Part, piece, meant, target, assigned, Setting, may_act, plainly, as_part, values, unless}
 use Rattle.fx_judge.specs.Typing.{context_of, constant, left_of_dot, name_by, global_by, dot_by, alias_by, assigned_of, record_as, chain_by, admit}
 use Rattle.fx_judge.proofs.Frame.{AllTyped, PartTyped, PartsTypedAt, IsMeant, AreMeant}
 use Rattle.fx_judge.proofs.Names.{Fitting, in_globals_typed, meaning_typed, named_typed, dotted_typed}
@@ -72,6 +72,7 @@ name_by_sound : (p : Place) (s : Setting) (g : Grant) (x : List ℕ) (o : Option
     ((m : Meaning) → o ≡ Some m → Fitting p.names (context_of p s) m) → name_by g x o ≡ Ok q → IsSound p s q
 name_by_sound p s a_column x o q h e = label_sound p s x q e
 name_by_sound p s a_target x o q h e = target_sound p s None x q e
+name_by_sound p s aliased_target x o q h e = target_sound p s None x q e
 name_by_sound p s (a_meaning b) x o q h e = meaning_sound p s o q h e
 name_by_sound p s nothing x o q h e = named_sound p s o q h e
 name_by_sound p s acting x o q h e = named_sound p s o q h e
@@ -81,6 +82,7 @@ name_by_sound p s (on_screen b) x o q h e = named_sound p s o q h e
 global_by_sound : (p : Place) (s : Setting) (g : Grant) (x : List ℕ) (o : Option Meaning) (q : Part) →
     ((m : Meaning) → o ≡ Some m → Fitting p.names (context_of p s) m) → global_by g x o ≡ Ok q → IsSound p s q
 global_by_sound p s a_target x o q h e = target_sound p s None x q e
+global_by_sound p s aliased_target x o q h e = target_sound p s None x q e
 global_by_sound p s (a_meaning b) x o q h e = meaning_sound p s o q h e
 global_by_sound p s nothing x o q h e = named_sound p s o q h e
 global_by_sound p s acting x o q h e = named_sound p s o q h e
@@ -112,8 +114,8 @@ dot_sound p x law s qs q e t m =
 
 alias_by_sound : (p : Place) (s : Setting) (g : Grant) (x : List ℕ) (qs : List Part) (q : Part) → EachTyped (context_of p s) qs → alias_by g x qs ≡ Ok q → IsSound p s q
 alias_by_sound p s an_alias x (piece (value a c t) ∷ []) q h e = let k : piece (value (Some x) c t) ≡ q = cc in subst (IsSound p s) k (h.0, tt)
-alias_by_sound p s a_target x (piece (value a c t) ∷ []) q h e = let k : piece (value (Some x) c t) ≡ q = cc in subst (IsSound p s) k (h.0, tt)
-alias_by_sound p s a_target x (target None y ∷ []) q h e = target_sound p s (Some x) y q e
+alias_by_sound p s aliased_target x (piece (value a c t) ∷ []) q h e = let k : piece (value (Some x) c t) ≡ q = cc in subst (IsSound p s) k (h.0, tt)
+alias_by_sound p s aliased_target x (target None y ∷ []) q h e = target_sound p s (Some x) y q e
 alias_by_sound p s g x qs q h e = absurd cc
 
 pub alias_sound : (p : Place) (x : List ℕ) → IsSoundAt p (tree.alias x)
@@ -135,6 +137,7 @@ record_as_sound p s acting ns xs q h e = as_part_sound p s (record_of ns xs) q e
 record_as_sound p s an_alias ns xs q h e = as_part_sound p s (record_of ns xs) q e (λ y i. record_typed (context_of p s) ns xs y h i)
 record_as_sound p s a_column ns xs q h e = as_part_sound p s (record_of ns xs) q e (λ y i. record_typed (context_of p s) ns xs y h i)
 record_as_sound p s a_target ns xs q h e = as_part_sound p s (record_of ns xs) q e (λ y i. record_typed (context_of p s) ns xs y h i)
+record_as_sound p s aliased_target ns xs q h e = as_part_sound p s (record_of ns xs) q e (λ y i. record_typed (context_of p s) ns xs y h i)
 record_as_sound p s (a_meaning b) ns xs q h e = as_part_sound p s (record_of ns xs) q e (λ y i. record_typed (context_of p s) ns xs y h i)
 
 pub rec_sound : (p : Place) (ns : List (List ℕ)) → IsSoundAt p (tree.rec ns)

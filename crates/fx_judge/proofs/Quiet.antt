@@ -32,7 +32,7 @@ use Rattle.fx_typing.specs.WellTyped.{Standing, plain}
 use Rattle.fx_judge.specs.Builds.{bounded_by, bounded, is_bounded, put_field, put_fields, field_names, field_parts, are_distinct, record_by, record_of, rows_to, list_by, list_as, list_of, table_of, as_record, with_of, blank_record}
 use Rattle.fx_judge.specs.Calls.{literal_in, function_by, made_literal, defaults_of, called_by, called_with, called}
 use Rattle.fx_judge.specs.Deeds.{by_name, by_rows, acted}
-use Rattle.fx_judge.specs.Parts.{Grant, nothing, acting, a_target, a_meaning, on_screen, Part, piece, target, assigned, Setting, may_act, pieces, values, unless, parts_in}
+use Rattle.fx_judge.specs.Parts.{Grant, nothing, acting, aliased_target, a_meaning, on_screen, Part, piece, target, assigned, Setting, may_act, pieces, values, unless, parts_in}
 use Rattle.fx_judge.specs.Plans.{Plan, planned, if_acting, grant_of, plan_by_row, pick, plan_either, plan_literal, plan_with, first_then, plan_act, plan_call, called_as, alias_grant, field_grant, plan_at, setting_at}
 use Rattle.fx_judge.specs.Targets.{rows_named}
 use Rattle.fx_judge.specs.Typing.{dot_by, assigned_of, record_as, paired_by, woven_by, chain_by, is_too_deep, admit, at_node, judge, judge_parts, outermost, to_wanted, whole_of, position, judge_whole}
@@ -93,10 +93,9 @@ rows_quiet t (x ∷ xs) h =
     then_quiet TreeQuiet AllQuiet (by_way (way x.1 t) x.0 t) (λ y. put_first y (rows_to t xs)) (by_way_quiet (way x.1 t) x.0 t h.0)
     (λ y k. put_quiet y (rows_to t xs) k (rows_quiet t xs h.1))
 
-rows_made : (t : Shape) (xs : List (Term × Shape)) → AllQuiet xs → Made TreeQuiet (and_then (rows_to t xs) (λ ys. bounded (Ok (list_by t ys))))
+rows_made : (t : Shape) (xs : List (Term × Shape)) → AllQuiet xs → Made TreeQuiet (and_then (rows_to t xs) (λ ys. Ok (list_by t ys)))
 rows_made t xs h =
-    then_quiet AllQuiet TreeQuiet (rows_to t xs) (λ ys. bounded (Ok (list_by t ys))) (rows_quiet t xs h)
-    (λ ys k. bounded_quiet (Ok (list_by t ys)) (tree_quiet (term.list t) ys refl k))
+    then_quiet AllQuiet TreeQuiet (rows_to t xs) (λ ys. Ok (list_by t ys)) (rows_quiet t xs h) (λ ys k. tree_quiet (term.list t) ys refl k)
 
 list_as_quiet : (o : Option Shape) (xs : List (Term × Shape)) → AllQuiet xs → Made TreeQuiet (list_as o xs)
 list_as_quiet None xs h = tt
@@ -109,8 +108,10 @@ list_as_quiet (Some dates) xs h = rows_made dates xs h
 list_as_quiet (Some (records cs)) xs h = rows_made (records cs) xs h
 
 list_quiet : (xs : List (Term × Shape)) → AllQuiet xs → Made TreeQuiet (list_of xs)
-list_quiet [] h = list_as_quiet (Some (records no_columns)) [] h
-list_quiet (x ∷ xs) h = list_as_quiet (join_all (Some blanks) (x ∷ xs)) (x ∷ xs) h
+list_quiet [] h = bounded_quiet (list_as (Some (records no_columns)) []) (list_as_quiet (Some (records no_columns)) [] h)
+list_quiet (x ∷ xs) h =
+    let joined = join_all (Some blanks) (x ∷ xs) in
+    bounded_quiet (list_as joined (x ∷ xs)) (list_as_quiet joined (x ∷ xs) h)
 
 -- calls
 as_record_quiet : (c : Term) (t : Shape) → deeds.acts c ≡ false → Made (λ k. deeds.acts k ≡ false) (as_record (c, t))
@@ -257,7 +258,7 @@ calm_call (Some sig.Today) n done = refl
 calm_call None n done = refl
 
 calm_alias : (g : Grant) → may_do (alias_grant g) ≡ false
-calm_alias a_target = refl
+calm_alias aliased_target = refl
 calm_alias g = refl
 
 calm_field : (g : Grant) → may_do g ≡ false → may_do (field_grant g) ≡ false

@@ -26,7 +26,7 @@ use Rattle.fx_typing.specs.Meaning.{Place, Scope, Meaning, valued, controlled, s
 use Rattle.fx_typing.specs.Ways.{Way, same, changed, refused, way, is_scalar, is_comparable}
 use Rattle.fx_typing.specs.WellTyped.{answered, head_by, head_of}
 use Rattle.fx_judge.specs.Calls.{made_if}
-use Rattle.fx_judge.specs.Parts.{Grant, nothing, acting, an_alias, a_column, a_target, a_meaning, on_screen, Part, piece, meant, target, assigned, as_part, pieces, put_value, values, unless}
+use Rattle.fx_judge.specs.Parts.{Grant, nothing, acting, an_alias, a_column, a_target, aliased_target, a_meaning, on_screen, Part, piece, meant, target, assigned, as_part, pieces, put_value, values, unless}
 use Rattle.fx_judge.specs.Typing.{left_of_dot, name_by, global_by, dot_by, alias_by}
 
 -- trees in which nothing acts
@@ -309,6 +309,7 @@ named_quiet None h = tt
 pub name_by_quiet : (g : Grant) (x : List ℕ) (o : Option Meaning) → IfMeant o → Made PartQuiet (name_by g x o)
 name_by_quiet a_column x o h = tt
 name_by_quiet a_target x o h = tt
+name_by_quiet aliased_target x o h = tt
 name_by_quiet (a_meaning b) x o h = left_quiet o h
 name_by_quiet nothing x o h = named_quiet o h
 name_by_quiet acting x o h = named_quiet o h
@@ -318,6 +319,7 @@ name_by_quiet (on_screen b) x o h = named_quiet o h
 pub global_by_quiet : (g : Grant) (x : List ℕ) (o : Option Meaning) → IfMeant o → Made PartQuiet (global_by g x o)
 global_by_quiet a_column x o h = named_quiet o h
 global_by_quiet a_target x o h = tt
+global_by_quiet aliased_target x o h = tt
 global_by_quiet (a_meaning b) x o h = left_quiet o h
 global_by_quiet nothing x o h = named_quiet o h
 global_by_quiet acting x o h = named_quiet o h
@@ -368,6 +370,6 @@ dot_by_quiet p x qs h = tt
 
 pub alias_by_quiet : (g : Grant) (x : List ℕ) (qs : List Part) → EachQuiet qs → Made PartQuiet (alias_by g x qs)
 alias_by_quiet an_alias x (piece (value a c t) ∷ []) h = h.0
-alias_by_quiet a_target x (piece (value a c t) ∷ []) h = h.0
-alias_by_quiet a_target x (target None y ∷ []) h = tt
+alias_by_quiet aliased_target x (piece (value a c t) ∷ []) h = h.0
+alias_by_quiet aliased_target x (target None y ∷ []) h = tt
 alias_by_quiet g x qs h = tt

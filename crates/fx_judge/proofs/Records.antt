@@ -9,7 +9,7 @@ use Rattle.fx_typed.specs.Term as term
 use Rattle.fx_typing.specs.Local.{join_all, firsts}
 use Rattle.fx_typing.specs.WellTyped.{Context, IsBelowNames, NamesRise, columns_by, last_type}
 use Rattle.fx_typing.proofs.Rules.{Typed}
-use Rattle.fx_judge.specs.Builds.{bounded, put_field, put_fields, field_names, field_parts, types_of, are_distinct, record_by, record_of, list_of}
+use Rattle.fx_judge.specs.Builds.{list_as, bounded, put_field, put_fields, field_names, field_parts, types_of, are_distinct, record_by, record_of, list_of}
 use Rattle.fx_judge.specs.Typing.{chain_as, chain_by}
 use Rattle.fx_judge.proofs.Built.{bounded_ok, list_as_typed}
 use Rattle.fx_judge.proofs.Frame.{AllTyped}
@@ -90,8 +90,10 @@ record_typed c ns xs y h e = by_test (are_distinct ns) e
 
 -- rows
 pub list_typed : (c : Context) (xs : List (Term × Shape)) (y : Term × Shape) → AllTyped c xs → list_of xs ≡ Ok y → Typed c y
-list_typed c [] y h e = list_as_typed c (Some (records no_columns)) [] y h e
-list_typed c (x ∷ xs) y h e = list_as_typed c (join_all (Some blanks) (x ∷ xs)) (x ∷ xs) y h e
+list_typed c [] y h e = list_as_typed c (Some (records no_columns)) [] y h (bounded_ok (list_as (Some (records no_columns)) []) y e)
+list_typed c (x ∷ xs) y h e =
+    let joined = join_all (Some blanks) (x ∷ xs) in
+    list_as_typed c joined (x ∷ xs) y h (bounded_ok (list_as joined (x ∷ xs)) y e)
 
 -- formulas in turn
 pub chain_typed : (c : Context) (xs : List (Term × Shape)) (y : Term × Shape) → AllTyped c xs → chain_by xs ≡ Ok y → Typed c y

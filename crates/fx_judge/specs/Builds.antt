@@ -94,14 +94,14 @@ list_by t ys = (of (list t) (all (firsts ys)), tables (row_columns t))
 abbrev pub list_as : Option Shape → List (Term × Shape) → Result (Term × Shape) ℕ
 list_as None xs = Err 6
 list_as (Some (tables cs)) xs = Err 6
-list_as (Some t) xs = and_then (rows_to t xs) (λ ys. bounded (Ok (list_by t ys)))
+list_as (Some t) xs = and_then (rows_to t xs) (λ ys. Ok (list_by t ys))
 
 -- `[..]`: of type Blank alone it has values; without rows it has no columns
 abbrev pub list_of : List (Term × Shape) → Result (Term × Shape) ℕ
-list_of [] = list_as (Some (records no_columns)) []
-list_of (x ∷ xs) = list_as (join_all (Some blanks) (x ∷ xs)) (x ∷ xs)
+list_of [] = bounded (list_as (Some (records no_columns)) [])
+list_of (x ∷ xs) = bounded (list_as (join_all (Some blanks) (x ∷ xs)) (x ∷ xs))
 
--- `Table`: records, where one of type Blank is one without columns
+-- `Table`: records, where one of type Blank is one without columns. As of every call, its limits are its caller's.
 abbrev pub table_of : List (Term × Shape) → Result (Term × Shape) ℕ
 table_of xs = list_as (join_all (Some (records no_columns)) xs) xs
 

@@ -1,9 +1,11 @@
 -- What is said besides the rule that a node breaks.
-use Rattle.std.specs.Prelude.{◌≡◌, ◌⊎◌, ◌==◌, ℕ, suc, List, [], ◌∷◌, ◌++◌, Bool, true, false, not, nat_le, max, codes, length, Option, Some, None, Result, Ok, Err, if◌then◌else◌}
+use Rattle.std.specs.Prelude.{◌≡◌, ◌⊎◌, ◌==◌, ℕ, suc, List, [], ◌∷◌, ◌++◌, Bool, true, false, nat_le, max, codes, length, Option, Some, None, is_some, unwrap_or, Result, Ok, Err, if◌then◌else◌}
 use Rattle.std.specs.Fmt.{decimal}
 use Rattle.fx_data.specs.TypeView.{shape}
 use Rattle.fx_data.specs.Types.{Shape, blanks, numbers, texts, booleans, dates, records, tables, ColumnList, no_columns, column}
 use Rattle.fx_functions.specs.declared.deeds.Target.{Target}
+use Rattle.fx_functions.specs.declared.deeds.Target.TheVariants as rows
+use Rattle.fx_functions.specs.declared.functions.Acting.{Acting}
 use Rattle.fx_functions.specs.declared.functions.Acting.TheVariants as acts
 use Rattle.fx_functions.specs.declared.rows.Answer.{Answer}
 use Rattle.fx_functions.specs.declared.rows.Answer.TheVariants as answer
@@ -15,18 +17,19 @@ use Rattle.fx_functions.specs.Rows.{row_of}
 use Rattle.fx_names.specs.declared.names.Collection.{Collection}
 use Rattle.fx_names.specs.declared.names.Names.{Names}
 use Rattle.fx_names.specs.declared.names.Variable.{Variable}
+use Rattle.fx_names.specs.SourceTypes.{item_columns}
 use Rattle.fx_syntax.specs.Tree.{Tree, node, Forest, none, more, Head}
 use Rattle.fx_syntax.specs.Tree as tree
 use Rattle.fx_typed.specs.Term.{Term}
-use Rattle.fx_typing.specs.Columns.{field_in, with_new, with_none, with_renamed, is_one_of, row_columns}
+use Rattle.fx_typing.specs.Columns.{field_in, without, with_new, with_none, with_renamed, is_one_of, row_columns}
 use Rattle.fx_typing.specs.Local.{Piece, value, label, join_all}
-use Rattle.fx_typing.specs.Meaning.{Place}
+use Rattle.fx_typing.specs.Meaning.{Place, or_else}
 use Rattle.fx_judge.specs.Builds.{type_depth, columns_count, record_by, put_fields}
 use Rattle.fx_judge.specs.Calls.{called_by}
 use Rattle.fx_judge.specs.Deeds.{joins_to, rows_of}
 use Rattle.fx_judge.specs.Parts.{Part, piece, meant, target, assigned, Setting, values, parts_in}
 use Rattle.fx_judge.specs.Plans.{called_as, pick, depth_of, setting_at}
-use Rattle.fx_judge.specs.Targets.{global_variable, screen_variable, collection_named, rows_named, target_columns}
+use Rattle.fx_judge.specs.Targets.{global_variable, screen_variable, collection_named, rows_named}
 use Rattle.fx_judge.specs.Typing.{judge, judge_parts, admit, is_too_deep, outermost, whole_of, position}
 
 -- ---- texts
@@ -164,20 +167,37 @@ stuck_by answer.Renamed (value a c (tables cs) ∷ ps) = stuck_renamed ps cs
 stuck_by answer.Renamed (value a c t ∷ ps) = stuck_renamed ps no_columns
 stuck_by a ps = codes "Kind"
 
--- the first column of a change or of a row that the target hasn't; ID is none of a change
-abbrev pub first_more : ColumnList → ColumnList → List ℕ
-first_more cs no_columns = codes "ID"
-first_more cs (column n t ds) = unless_there (field_in n cs) n (first_more cs ds)
+-- the first field of a record that is none of some columns
+abbrev pub first_more : ColumnList → ColumnList → Option (List ℕ)
+first_more cs no_columns = None
+first_more cs (column n t ds) = if is_some (field_in n cs) then first_more cs ds else Some n
 
-abbrev pub is_short : ColumnList → Shape → Bool
-is_short cs (records ds) = not (joins_to (records cs) (records ds))
-is_short cs t = false
+-- the column by which a row isn't named: of a table its ID, which it lacks; of a collection one more
+abbrev pub unnamed_at : Target → ColumnList → Shape → Option (List ℕ)
+unnamed_at (rows.Table k) cs (records ds) = if is_some (field_in (codes "ID") ds) then None else Some (codes "ID")
+unnamed_at (rows.Gathered k) cs (records ds) = first_more cs ds
+unnamed_at t cs u = None
 
--- of several changes the first that has one
-abbrev pub more_in : ColumnList → List (Term × Shape) → List ℕ
-more_in cs [] = codes "ID"
-more_in cs ((c, records ds) ∷ xs) = if is_short cs (records ds) then first_more cs ds else more_in cs xs
-more_in cs (x ∷ xs) = more_in cs xs
+-- the column that a change can't set: one more, which ID of a table is as well
+abbrev pub unset_at : Target → ColumnList → Shape → Option (List ℕ)
+unset_at (rows.Table k) cs (records ds) = first_more (without (codes "ID") cs) ds
+unset_at (rows.Gathered k) cs (records ds) = first_more cs ds
+unset_at t cs u = None
+
+-- of several values the first that has one
+abbrev pub first_at : (Shape → Option (List ℕ)) → List (Term × Shape) → Option (List ℕ)
+first_at f [] = None
+first_at f (x ∷ xs) = or_else (f x.1) (first_at f xs)
+
+-- the column of an acting call on these rows, of its arguments from the left
+abbrev pub acted_at : Acting → Target → ColumnList → List (Term × Shape) → Option (List ℕ)
+acted_at acts.Patch t cs (base ∷ changes) = or_else (unnamed_at t cs base.1) (first_at (unset_at t cs) changes)
+acted_at acts.Remove t cs xs = first_at (unnamed_at t cs) xs
+acted_at a t cs xs = first_at (unset_at t cs) xs
+
+abbrev pub acted_on : Option (Target × Shape) → Acting → List (Term × Shape) → Option (List ℕ)
+acted_on (Some r) a xs = acted_at a r.0 (item_columns r.1) xs
+acted_on None a xs = None
 
 -- ---- what doesn't join to a variable
 abbrev pub given_names : List ℕ → Shape → Shape → List ℕ
@@ -230,7 +250,7 @@ named_twice n h qs = []
 
 -- rule 12: a field, a property or a member behind a dot; a column of a call
 abbrev pub column_in : Names → Option SigShape → List Part → List ℕ
-column_in n (Some (sig.Act a)) (target b x ∷ qs) = more_in (target_columns n x) (or_none (values qs))
+column_in n (Some (sig.Act a)) (target b x ∷ qs) = unwrap_or (acted_on (rows_named n x) a (or_none (values qs))) []
 column_in n s qs = stuck_in s qs
 
 abbrev pub unknown_column : Names → Head → List Part → List ℕ

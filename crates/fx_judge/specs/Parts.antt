@@ -7,14 +7,15 @@ use Rattle.fx_typing.specs.Local.{Piece, value, label}
 use Rattle.fx_typing.specs.Meaning.{Scope, Meaning}
 
 -- what a place allows: a value alone, or one that acts; the name of the rows by `As`, the name of a
--- column, or the name of what changes; left of a dot a name that is no value, and a value that acts
--- where the whole acts; the variables of a screen with their values
+-- column, or the name of what changes, alone or with a name for its rows by `As`; left of a dot a name that
+-- is no value, and a value that acts where the whole acts; the variables of a screen with their values
 pub data Grant : Type 0 where
   nothing : Grant
   acting : Grant
   an_alias : Grant
   a_column : Grant
   a_target : Grant
+  aliased_target : Grant
   a_meaning : Bool → Grant
   on_screen : Bool → Grant
 

@@ -18,7 +18,7 @@ use Rattle.fx_syntax.specs.Tree as tree
 use Rattle.fx_typing.specs.Local.{value}
 use Rattle.fx_typing.specs.Meaning.{Scope}
 use Rattle.fx_typing.specs.WellTyped.{Standing, plain, inside, bound, catching, standing_of, row_type}
-use Rattle.fx_judge.specs.Parts.{Grant, nothing, acting, an_alias, a_column, a_target, a_meaning, on_screen, Part, piece, target, Setting, may_act}
+use Rattle.fx_judge.specs.Parts.{Grant, nothing, acting, an_alias, a_column, a_target, aliased_target, a_meaning, on_screen, Part, piece, target, Setting, may_act}
 use Rattle.fx_judge.specs.Targets.{target_columns}
 
 -- how a part is judged: what it stands in, and what its place allows
@@ -80,8 +80,8 @@ abbrev pub plan_act : Bool → Acting → ℕ → Plan
 plan_act b acts.Set i = first_then a_target plain (if_acting b) i
 plan_act b acts.UpdateContext i = first_then (on_screen b) plain nothing i
 plan_act b acts.Collect i = first_then a_target plain (if_acting b) i
-plan_act b acts.RemoveIf i = first_then a_target inside nothing i
-plan_act b acts.UpdateIf i = first_then a_target inside nothing i
+plan_act b acts.RemoveIf i = first_then aliased_target inside nothing i
+plan_act b acts.UpdateIf i = first_then aliased_target inside nothing i
 plan_act b acts.Notify i = planned plain nothing
 plan_act b a i = first_then a_target plain nothing i
 
@@ -103,9 +103,9 @@ shape_in None = None
 abbrev pub called_as : Names → List ℕ → Option SigShape
 called_as n x = shape_in (signature_in n.signatures.now (encode_utf8_all x))
 
--- the parts of an alias stand for what it names
+-- the part of an alias stands for what it names
 abbrev pub alias_grant : Grant → Grant
-alias_grant a_target = a_target
+alias_grant aliased_target = aliased_target
 alias_grant g = nothing
 
 -- the fields of the variables of a screen may act

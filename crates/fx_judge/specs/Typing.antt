@@ -18,7 +18,7 @@ use Rattle.fx_typing.specs.WellTyped.{Context, last_type}
 use Rattle.fx_typing.specs.Ways.{way}
 use Rattle.fx_judge.specs.Builds.{types_of, record_of, list_of, are_distinct}
 use Rattle.fx_judge.specs.Calls.{called, made_if}
-use Rattle.fx_judge.specs.Parts.{Grant, nothing, acting, an_alias, a_column, a_target, a_meaning, on_screen, Part, piece, meant, target, assigned, Setting, may_act, plainly, as_part, pieces, values, unless, parts_in}
+use Rattle.fx_judge.specs.Parts.{Grant, nothing, acting, an_alias, a_column, a_target, aliased_target, a_meaning, on_screen, Part, piece, meant, target, assigned, Setting, may_act, plainly, as_part, pieces, values, unless, parts_in}
 use Rattle.fx_judge.specs.Plans.{setting_at, opens_rows, depth_of}
 
 -- a constant
@@ -34,12 +34,14 @@ left_of_dot None = Err 4
 abbrev pub name_by : Grant → List ℕ → Option Meaning → Result Part ℕ
 name_by a_column x m = Ok (piece (label x))
 name_by a_target x m = Ok (target None x)
+name_by aliased_target x m = Ok (target None x)
 name_by (a_meaning b) x m = left_of_dot m
 name_by g x m = as_part (named m)
 
 -- `[@Name]` names no column
 abbrev pub global_by : Grant → List ℕ → Option Meaning → Result Part ℕ
 global_by a_target x m = Ok (target None x)
+global_by aliased_target x m = Ok (target None x)
 global_by (a_meaning b) x m = left_of_dot m
 global_by g x m = as_part (named m)
 
@@ -52,8 +54,8 @@ dot_by p x qs = Err 6
 -- a table with a name for its rows, which stands at the first place of a call over it
 abbrev pub alias_by : Grant → List ℕ → List Part → Result Part ℕ
 alias_by an_alias x (piece (value a c t) ∷ []) = Ok (piece (value (Some x) c t))
-alias_by a_target x (piece (value a c t) ∷ []) = Ok (piece (value (Some x) c t))
-alias_by a_target x (target None y ∷ []) = Ok (target (Some x) y)
+alias_by aliased_target x (piece (value a c t) ∷ []) = Ok (piece (value (Some x) c t))
+alias_by aliased_target x (target None y ∷ []) = Ok (target (Some x) y)
 alias_by g x qs = Err 6
 
 -- a record; or variables of a screen with their values

@@ -19,6 +19,7 @@ grant g.Acting = parts.acting
 grant g.AnAlias = parts.an_alias
 grant g.AColumn = parts.a_column
 grant g.ATarget = parts.a_target
+grant g.AliasedTarget = parts.aliased_target
 grant (g.AMeaning b) = parts.a_meaning b
 grant (g.OnScreen b) = parts.on_screen b
 

@@ -32,6 +32,8 @@ pub enum Grant {
     AColumn,
     /// The name of what changes.
     ATarget,
+    /// The name of what changes, which may have a name for its rows by `As`.
+    AliasedTarget,
     /// Left of a dot: also a name that is no value, and a value that acts where the whole may.
     AMeaning(bool),
     /// The variables of a screen with their values, which act where the whole may.
@@ -223,9 +225,12 @@ fn plan_act(acts: bool, acting: Acting, place: usize) -> Plan
             Grant::Nothing,
             place,
         ),
-        Acting::RemoveIf | Acting::UpdateIf => {
-            first_then(Grant::ATarget, Standing::Inside, Grant::Nothing, place)
-        }
+        Acting::RemoveIf | Acting::UpdateIf => first_then(
+            Grant::AliasedTarget,
+            Standing::Inside,
+            Grant::Nothing,
+            place,
+        ),
         Acting::Notify => planned(Standing::Plain, Grant::Nothing),
         Acting::Clear
         | Acting::ClearCollect
@@ -279,12 +284,12 @@ pub fn plan_at(names: &Names, whole: Grant, head: &Expr, count: usize, done: &[P
     }
 }
 
-// The parts of an alias stand for what it names.
+// The part of an alias stands for what it names.
 fn alias_grant(whole: Grant) -> Grant
     ensures { grant result ≡ plans.alias_grant (grant whole) }
 {
     match whole {
-        Grant::ATarget => Grant::ATarget,
+        Grant::AliasedTarget => Grant::AliasedTarget,
         _ => Grant::Nothing,
     }
 }
