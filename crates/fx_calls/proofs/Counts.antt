@@ -1,5 +1,5 @@
 -- How many columns there are.
-use Rattle.std.proofs.Common.{◌≡◌, ◌⊎◌, inl, inr, ℕ, suc, ◌≤◌, nat_le, Bool, true, ◌&&◌, List, [], ◌∷◌, length, refl, ap}
+use Rattle.std.proofs.Common.{◌≡◌, ◌⊎◌, inl, inr, ℕ, suc, ◌≤◌, nat_le, ◌&&◌, List, [], ◌∷◌, length, refl, ap}
 use Rattle.std.proofs.lemmas.Bool.{le-leb}
 use Rattle.fx_data.specs.Types.{Shape, column_list}
 use Rattle.fx_data.specs.TypeView.{shape}

@@ -1,5 +1,5 @@
 -- How fields are put in rising order, and what a record of them is.
-use Rattle.std.proofs.Common.{◌≡◌, ℕ, zero, suc, ◌+◌, ◌<◌, ◌≤◌, List, [], ◌∷◌, ◌++◌, length, take, map, Result, Ok, Err, refl, sym, ap, ◌∙◌, subst, append-nil, length-append, arith}
+use Rattle.std.proofs.Common.{◌≡◌, ℕ, suc, ◌+◌, ◌<◌, ◌≤◌, List, [], ◌∷◌, ◌++◌, length, take, map, Result, Ok, Err, refl, sym, ap, ◌∙◌, subst, append-nil, length-append, arith}
 use Rattle.std.specs.List.{insert}
 use Rattle.std.proofs.Math.ListN.{set}
 use Rattle.std.specs.Ordering.{nat_cmp, match_ordering}
@@ -9,7 +9,7 @@ use Rattle.std.specs.declared.cmp.Ordering.{Ordering}
 use Rattle.std.specs.declared.cmp.Ordering.TheVariants.{Less, Equal, Greater}
 use Rattle.fx_data.specs.Rising.{IsBelow, IsBelowAll, AreRising}
 use Rattle.fx_data.specs.Types.{Shape, records, column_list}
-use Rattle.fx_data.specs.TypeView.{shape, columns_view}
+use Rattle.fx_data.specs.TypeView.{columns_view}
 use Rattle.fx_data.specs.declared.types.Ty.{Ty}
 use Rattle.fx_typed.specs.Term.{Term, of, rec, all, names_of, parts_of}
 use Rattle.fx_typing.specs.Local.{firsts}

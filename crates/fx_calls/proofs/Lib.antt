@@ -1,5 +1,6 @@
 pub mod Counts
 pub mod Exits
 pub mod Fields
+pub mod Kept
 pub mod Rows
 pub mod Walks

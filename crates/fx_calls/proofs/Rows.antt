@@ -1,5 +1,5 @@
 -- Rows that change, one step after another.
-use Rattle.std.proofs.Common.{◌≡◌, ℕ, List, [], ◌∷◌, Option, Some, None, Result, Ok, Err, refl, sym, ap, ◌∙◌, subst}
+use Rattle.std.proofs.Common.{◌≡◌, ℕ, List, ◌∷◌, Option, Some, None, Result, Ok, Err, refl, ap, ◌∙◌}
 use Rattle.fx_data.specs.Types.{Shape, blanks, numbers, texts, booleans, dates, records, tables, ColumnList}
 use Rattle.fx_functions.specs.declared.deeds.Deed.TheVariants as deed
 use Rattle.fx_functions.specs.declared.deeds.Target.{Target}
@@ -7,6 +7,7 @@ use Rattle.fx_typed.specs.Term.{Term, of, all, act}
 use Rattle.fx_typing.specs.Columns.{and_then}
 use Rattle.fx_typing.specs.Local.{firsts}
 use Rattle.fx_judge.specs.Deeds.{by_rows, row_named, changes_of, patch_to}
+use Rattle.fx_judge.specs.Parts.{lowest}
 use Rattle.fx_local.specs.Answers.{Answers}
 use Rattle.fx_local.specs.declared.wrong.Wrong.{Wrong}
 use Rattle.fx_rules.specs.Rules.{number_of}
@@ -47,8 +48,9 @@ pub patch_is : (r : Target × ColumnList) (base : Term × Shape) (changes : List
 patch_is r base changes = by (row_named r.0 r.1 base) (changes_of r.0 r.1 changes)
   where
     by : (b : Result (Term × Shape) ℕ) (ys : Result (List (Term × Shape)) ℕ) →
-        and_then b (λ b. and_then ys (λ ys. patching r (b.0 ∷ firsts ys)))
-        ≡ and_then (and_then b (λ b. and_then ys (λ ys. Ok (b.0 ∷ firsts ys)))) (patching r)
+        lowest (λ (b : Term × Shape) ys. (of (act (deed.Patch r.0)) (all (b.0 ∷ firsts ys)), records r.1)) b ys
+        ≡ and_then (lowest (λ (b : Term × Shape) ys. b.0 ∷ firsts ys) b ys) (patching r)
     by (Ok b) (Ok ys) = refl
     by (Ok b) (Err e) = refl
-    by (Err e) ys = refl
+    by (Err e) (Ok ys) = refl
+    by (Err e) (Err k) = refl

@@ -1,17 +1,10 @@
 -- How a walk over parts goes on, and where it stops.
-use Rattle.std.proofs.Common.{◌≡◌, ℕ, List, [], ◌∷◌, ◌++◌, map, Option, Some, None, Result, Ok, Err, refl, sym, ap, ◌∙◌}
+use Rattle.std.proofs.Common.{◌≡◌, ℕ, List, [], ◌∷◌, ◌++◌, map, Result, Ok, Err, refl, sym, ap, ◌∙◌}
 use Rattle.fx_data.specs.Types.{Shape}
-use Rattle.fx_data.specs.TypeView.{shape}
-use Rattle.fx_functions.specs.declared.sources.Source.{Source}
-use Rattle.fx_functions.specs.declared.sources.Source.TheVariants as source
-use Rattle.fx_names.specs.declared.names.Names.{Names}
-use Rattle.fx_names.specs.declared.names.Variable.{Variable}
 use Rattle.fx_typed.specs.Term.{Term}
 use Rattle.fx_typing.specs.Columns.{and_then}
 use Rattle.fx_typing.specs.Local.{value, label, put_first}
-use Rattle.fx_judge.specs.Deeds.{given, give_one, give_all, put_given}
 use Rattle.fx_judge.specs.Parts.{Part, piece, meant, target, assigned, values, put_value}
-use Rattle.fx_judge.specs.Targets.{screen_variable}
 use Rattle.fx_local.proofs.Stops.{stops}
 use Rattle.fx_local.specs.Answers.{Answers}
 use Rattle.fx_local.specs.declared.wrong.Wrong.{Wrong}
@@ -70,34 +63,3 @@ values_step (piece (label x)) qs = refl
 values_step (meant m) qs = refl
 values_step (target a x) qs = refl
 values_step (assigned ns xs) qs = refl
-
--- a variable that is given a value, before others
-give_err : (o : Option (ℕ × Variable)) (x : Term × Shape) (r : Result (List (Source × Term)) ℕ) (e : ℕ) → give_one o x (Ok []) ≡ Err e → give_one o x r ≡ Err e
-give_err None x r e h = h
-give_err (Some v) x r e h = by (given (shape v.1.ty) x) h
-  where
-    by : (q : Result (Term × Shape) ℕ) → and_then q (λ y. put_given v.0 y (Ok [])) ≡ Err e → and_then q (λ y. put_given v.0 y r) ≡ Err e
-    by (Ok y) h = cc
-    by (Err d) h = h
-
-give_ok : (o : Option (ℕ × Variable)) (x : Term × Shape) (r : Result (List (Source × Term)) ℕ) (g : Source × Term) → give_one o x (Ok []) ≡ Ok (g ∷ []) → give_one o x r ≡ behind (g ∷ []) r
-give_ok None x r g h = cc
-give_ok (Some v) x r g h = by (given (shape v.1.ty) x) r h
-  where
-    by : (q : Result (Term × Shape) ℕ) (r : Result (List (Source × Term)) ℕ) → and_then q (λ y. put_given v.0 y (Ok [])) ≡ Ok (g ∷ []) → and_then q (λ y. put_given v.0 y r) ≡ behind (g ∷ []) r
-    by (Ok y) (Ok gs) h = let q : (source.Context v.0, y.0) ≡ g = cc in ap (λ z. Ok (z ∷ gs)) q
-    by (Ok y) (Err d) h = refl
-    by (Err d) r h = cc
-
--- one more variable
-pub gives : (n : Names) (s : Option ℕ) (done new : List (Source × Term)) (g : Source × Term) (m : List ℕ) (names rest : List (List ℕ)) (x : Term × Shape) (all left : List (Term × Shape)) (whole : Result (List (Source × Term)) ℕ) → names ≡ m ∷ rest → all ≡ x ∷ left → give_one (screen_variable n s m) x (Ok []) ≡ Ok (g ∷ []) → new ≡ done ++ g ∷ [] → behind done (give_all n s names all) ≡ whole → behind new (give_all n s rest left) ≡ whole
-gives n s done new g m names rest x all left whole e f h push inv =
-    ap (λ l. behind l (give_all n s rest left)) push
-    ∙ further done g (give_all n s rest left)
-    ∙ ap (behind done) (sym (ap (λ l. give_all n s l all) e ∙ ap (give_all n s (m ∷ rest)) f ∙ give_ok (screen_variable n s m) x (give_all n s rest left) g h))
-    ∙ inv
-
--- a variable that is given none
-pub refuses : (n : Names) (s : Option ℕ) (done : List (Source × Term)) (m : List ℕ) (names rest : List (List ℕ)) (x : Term × Shape) (all left : List (Term × Shape)) (whole : Result (List (Source × Term)) ℕ) (k : ℕ) → names ≡ m ∷ rest → all ≡ x ∷ left → give_one (screen_variable n s m) x (Ok []) ≡ Err k → behind done (give_all n s names all) ≡ whole → whole ≡ Err k
-refuses n s done m names rest x all left whole k e f h inv =
-    sym inv ∙ ap (behind done) (ap (λ l. give_all n s l all) e ∙ ap (give_all n s (m ∷ rest)) f ∙ give_err (screen_variable n s m) x (give_all n s rest left) k h)

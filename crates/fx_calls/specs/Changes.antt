@@ -10,7 +10,7 @@ use Rattle.fx_functions.specs.declared.deeds.Deed.TheVariants as deed
 use Rattle.fx_typing.specs.Columns.{and_then}
 use Rattle.fx_typing.specs.Local.{firsts}
 use Rattle.fx_judge.specs.Deeds.{filter_of, done_by, row_named, rows_named_by, changes_of}
-use Rattle.fx_judge.specs.Parts.{Part}
+use Rattle.fx_judge.specs.Parts.{Part, lowest}
 use Rattle.fx_judge.specs.Targets.{rows_named}
 use Rattle.fx_calls.specs.declared.changing.Changing.{Changing}
 
@@ -33,8 +33,7 @@ unless_broken (Some rule) r = Err (number_of rule)
 
 -- the trees of a row that is patched and of what changes in it
 abbrev pub patched : Target × ColumnList → Term × Shape → List (Term × Shape) → Result (List Term) ℕ
-patched r base changes =
-    and_then (row_named r.0 r.1 base) (λ b. and_then (changes_of r.0 r.1 changes) (λ ys. Ok (b.0 ∷ firsts ys)))
+patched r base changes = lowest (λ b ys. b.0 ∷ firsts ys) (row_named r.0 r.1 base) (changes_of r.0 r.1 changes)
 
 -- the rows that are removed
 abbrev pub removed : Target × ColumnList → List (Term × Shape) → Result (Term × Shape) ℕ

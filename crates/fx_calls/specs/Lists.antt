@@ -1,5 +1,5 @@
 -- Parts one after another.
-use Rattle.std.specs.Prelude.{List, ◌∷◌, ◌++◌, ℕ, Option, Some, None, Result, Ok, Err}
+use Rattle.std.specs.Prelude.{List, ◌∷◌, ◌++◌, ℕ, Some, None, Result, Ok, Err}
 use Rattle.fx_data.specs.Types.{Shape}
 use Rattle.fx_typed.specs.Term.{Term}
 use Rattle.fx_typing.specs.Local.{value}

@@ -13,6 +13,7 @@ ghost use Rattle.fx_calls.specs.Changes.{unless_broken};
 
 use crate::given::{alone, joins_to};
 use crate::lists::come_to;
+use crate::lowest::keep;
 use fx_base::Memory;
 use fx_data::types::{Columns, Ty};
 use fx_data::words::Words;
@@ -165,17 +166,16 @@ pub fn row_named(alloc: Global, rows: &Changing, named: Typed) -> Result<Typed, 
     }
 }
 
-/// Rows that are named for a change, in turn, or the rule that the first wrong one breaks.
+/// Rows that are named for a change, in turn, or the lowest rule that one of them breaks.
 pub fn all_named(alloc: Global, rows: &Changing, named: Vec<Typed>) -> Result<Vec<Typed>, Wrong>
     ensures { Answers (λ xs. map typed xs.items)
         (deeds.rows_named_by rows.now.target (column_list rows.now.columns) (map typed named.items)) result }
 {
-    let mut found = Vec::new(alloc);
+    let mut found = Ok(Vec::new(alloc));
     for one in named {
-        let next = row_named(alloc, rows, one)?;
-        found.push(next)?;
+        found = keep(found, row_named(alloc, rows, one));
     }
-    Ok(found)
+    found
 }
 
 // Whether fields leave the number of a table's row as it is.
@@ -248,15 +248,14 @@ pub fn change_of(alloc: Global, rows: &Changing, change: Typed) -> Result<Typed,
     }
 }
 
-/// What changes in a row, in turn, or the rule that the first wrong change breaks.
+/// What changes in a row, in turn, or the lowest rule that one of the changes breaks.
 pub fn changes_of(alloc: Global, rows: &Changing, changes: Vec<Typed>) -> Result<Vec<Typed>, Wrong>
     ensures { Answers (λ xs. map typed xs.items)
         (deeds.changes_of rows.now.target (column_list rows.now.columns) (map typed changes.items)) result }
 {
-    let mut found = Vec::new(alloc);
+    let mut found = Ok(Vec::new(alloc));
     for one in changes {
-        let next = change_of(alloc, rows, one)?;
-        found.push(next)?;
+        found = keep(found, change_of(alloc, rows, one));
     }
-    Ok(found)
+    found
 }

@@ -7,5 +7,6 @@ pub mod gathering;
 pub mod given;
 pub mod limits;
 pub mod lists;
+pub mod lowest;
 pub mod patching;
 pub mod records;

@@ -92,7 +92,7 @@ fn list_as(alloc: Global, row: Option<Ty>, parts: Vec<Typed>) -> Result<Typed, W
         None | Some(Ty::Tab(_)) => Err(Wrong::Breaks(Rule::WrongType)),
         Some(row) => {
             let parts = rows_to(alloc, &row, parts)?;
-            bounded(list_by(alloc, row, parts)?)
+            Ok(list_by(alloc, row, parts)?)
         }
     }
 }
@@ -101,7 +101,8 @@ fn list_as(alloc: Global, row: Option<Ty>, parts: Vec<Typed>) -> Result<Typed, W
 fn empty_list(alloc: Global) -> Result<Typed, Wrong>
     ensures { Answers typed (builds.list_of []) result }
 {
-    list_as(alloc, Some(Ty::Rec(Columns::new(alloc))), Vec::new(alloc))
+    let table = list_as(alloc, Some(Ty::Rec(Columns::new(alloc))), Vec::new(alloc))?;
+    bounded(table)
 }
 
 // `[..]` of one row or more.
@@ -110,7 +111,8 @@ fn full_list(alloc: Global, parts: Vec<Typed>) -> Result<Typed, Wrong>
     ensures { Answers typed (builds.list_of (map typed parts.items)) result }
 {
     let row = joined(alloc, Some(Ty::Blank), parts.as_slice())?;
-    list_as(alloc, row, parts)
+    let table = list_as(alloc, row, parts)?;
+    bounded(table)
 }
 
 /// `[..]`: a table of values or of records. Of type Blank alone it has values, and without rows it has
@@ -125,7 +127,7 @@ pub fn list_of(alloc: Global, parts: Vec<Typed>) -> Result<Typed, Wrong>
 }
 
 /// `Table`: a table of records, of which one of type Blank is one without columns. The rule is
-/// `WrongType` or `LimitPassed`.
+/// `WrongType`.
 pub fn table_of(alloc: Global, parts: Vec<Typed>) -> Result<Typed, Wrong>
     ensures { Answers typed (builds.table_of (map typed parts.items)) result }
 {

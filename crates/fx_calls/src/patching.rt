@@ -10,6 +10,7 @@ use crate::changing::{Changing, all_named, changes_of, row_named};
 use crate::few::first;
 use crate::given::done_by;
 use crate::lists::cores_of;
+use crate::lowest::both;
 use fx_base::Memory;
 use fx_data::types::Ty;
 use fx_functions::deeds::Deed;
@@ -41,8 +42,9 @@ fn patched(
 ) -> Result<CoreArgs, Wrong>
     ensures { Answers (λ cs. cs) (patched (changing_view rows.now) (typed base) (map typed changes.items)) result }
 {
-    let base = row_named(alloc, rows, base)?;
-    let changes = changes_of(alloc, rows, changes)?;
+    let base = row_named(alloc, rows, base);
+    let changes = changes_of(alloc, rows, changes);
+    let (base, changes) = both(base, changes)?;
     Ok(cores_behind(alloc, base.core, changes)?)
 }
 
@@ -57,7 +59,8 @@ fn patch_by(alloc: Global, rows: Changing, base: Typed, changes: Vec<Typed>) -> 
     })
 }
 
-/// `Patch` of these rows: the row, then what changes. The rule is `WrongCount` where there is no row.
+/// `Patch` of these rows: the row, then what changes, or the lowest rule that one of them breaks. The rule
+/// is `WrongCount` where there is no row.
 pub fn patch_to(alloc: Global, rows: Changing, parts: Vec<Typed>) -> Result<Typed, Wrong>
     ensures { Answers typed (deeds.patch_to (changing_view rows) (map typed parts.items)) result }
 {
@@ -67,7 +70,7 @@ pub fn patch_to(alloc: Global, rows: Changing, parts: Vec<Typed>) -> Result<Type
     }
 }
 
-/// `Remove` of some of these rows, or the rule that the first wrong one breaks.
+/// `Remove` of some of these rows, or the lowest rule that one of them breaks.
 pub fn remove_to(alloc: Global, rows: &Changing, named: Vec<Typed>) -> Result<Typed, Wrong>
     ensures { Answers typed (removed (changing_view rows.now) (map typed named.items)) result }
 {

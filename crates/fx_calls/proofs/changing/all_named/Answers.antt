@@ -1,30 +1,24 @@
-use Rattle.std.proofs.Common.{◌≡◌, ◌∷◌, List, map, rules, Vec, Global}
-use Rattle.std.proofs.lemmas.Result.{err_from_is_err_and}
-use Rattle.fx_data.specs.Types.{ColumnList, column_list}
-use Rattle.fx_functions.specs.declared.deeds.Target.{Target}
+use Rattle.std.proofs.Common.{◌≡◌, ◌∷◌, map, rules, arith, ap, Vec, Global}
+use Rattle.std.proofs.lemmas.List.{nil_from_length}
+use Rattle.fx_data.specs.Types.{column_list}
 use Rattle.fx_judge.specs.Deeds.{rows_named_by, row_named}
 use Rattle.fx_local.specs.declared.typed.Typed.{Typed}
 use Rattle.fx_local.specs.TypedView.{typed}
-use Rattle.fx_calls.proofs.Walks.{Steps, walk, halts, after_first}
+use Rattle.fx_calls.proofs.Kept.{keeps_on, kept_all}
 use Rattle.fx_calls.proofs.changing.all_named.Goals as goal
-
-steps : (t : Target) (cs : ColumnList) → Steps (rows_named_by t cs) (row_named t cs)
-steps t cs x xs = after_first (row_named t cs x) (rows_named_by t cs xs)
 
 pub loop-one-preserved : goal.loop-one-preserved
 loop-one-preserved c =
-    let t = c.args.rows.now.target in
-    let cs = column_list c.args.rows.now.columns in
+    let f = row_named c.args.rows.now.target (column_list c.args.rows.now.columns) in
     let s : c.loop-one.one-iterator.rest.items ≡ c.in-Some.one ∷ c.next.new.self.rest.items = search rules in
-    walk (rows_named_by t cs) (row_named t cs) (steps t cs) typed typed c.loop-one.found.items _ c.in-Some.one c.in_ok-next.next _
-    c.next.new.self.rest.items _ s c.in_ok-next.ensures c.in_ok-push.ensures.items c.loop-one.invariant
+    keeps_on f (λ (xs : Vec Typed Global). map typed xs.items) c.loop-one.found c.keep-found.result (typed c.in-Some.one) _ (map typed c.next.new.self.rest.items) _
+    (ap (map typed) s) (λ p h. c.keep-found.ensures p (f (typed c.in-Some.one)) h c.row_named.ensures) c.loop-one.invariant
 
-pub returns-in_err-next : goal.returns-in_err-next
-returns-in_err-next c =
-    let p = err_from_is_err_and c.from_residual.result c.from_residual.ensures.1 in
+pub returns : goal.returns
+returns c =
     let t = c.args.rows.now.target in
     let cs = column_list c.args.rows.now.columns in
-    let s : c.loop-one.one-iterator.rest.items ≡ c.in-Some.one ∷ c.next.new.self.rest.items = search rules in
-    rw (p.1, p.2)
-    (halts (rows_named_by t cs) (row_named t cs) (steps t cs) typed typed (λ (x : Vec Typed Global). map typed x.items) c.loop-one.found.items c.in-Some.one _
-    c.next.new.self.rest.items _ c.in_err-next.field-0.0 s c.loop-one.invariant c.in_err-next.ensures)
+    let done = c.in-None.ensures.steps in
+    let n = nil_from_length c.loop-one.one-iterator.rest.items (omega arith) in
+    kept_all (row_named t cs) (λ (xs : Vec Typed Global). map typed xs.items) c.loop-one.found (map typed c.loop-one.one-iterator.rest.items)
+    (rows_named_by t cs (map typed c.args.named.items)) (ap (map typed) n) c.loop-one.invariant

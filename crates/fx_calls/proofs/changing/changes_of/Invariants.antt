@@ -1,12 +1,11 @@
-use Rattle.std.proofs.Common.{◌≡◌, map}
-use Rattle.fx_data.specs.TypeView.{shape}
+use Rattle.std.proofs.Common.{map}
 use Rattle.fx_data.specs.Types.{column_list}
-use Rattle.fx_judge.specs.Deeds.{changes_of}
+use Rattle.fx_judge.specs.Deeds.{changes_of, change_of}
 use Rattle.fx_local.specs.TypedView.{typed}
-use Rattle.fx_calls.specs.Lists.{behind}
+use Rattle.fx_calls.proofs.Kept.{Keeps}
 use Rattle.fx_calls.proofs.changing.changes_of.Given as goal
 
 abbrev pub invariant-loop-one : goal.invariant-loop-one
 invariant-loop-one l =
-    behind (map typed l.found.items) (changes_of l.rows.target (column_list l.rows.columns) (map typed l.one-iterator.rest.items))
-    ≡ changes_of l.rows.target (column_list l.rows.columns) (map typed l.fn.changes.items)
+    Keeps (change_of l.rows.target (column_list l.rows.columns)) (λ xs. map typed xs.items) l.found (map typed l.one-iterator.rest.items)
+    (changes_of l.rows.target (column_list l.rows.columns) (map typed l.fn.changes.items))

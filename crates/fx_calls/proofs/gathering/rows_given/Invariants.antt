@@ -1,6 +1,5 @@
 use Rattle.std.proofs.Common.{◌≡◌, map}
 use Rattle.fx_data.specs.TypeView.{shape}
-use Rattle.fx_data.specs.Types.{column_list}
 use Rattle.fx_judge.specs.Deeds.{rows_given}
 use Rattle.fx_local.specs.TypedView.{typed}
 use Rattle.fx_calls.specs.Lists.{behind}

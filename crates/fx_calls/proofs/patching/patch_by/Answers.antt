@@ -1,4 +1,4 @@
-use Rattle.std.proofs.Common.{◌≡◌, ℕ, ◌∷◌, Err, List, Ok, Result, map, ap, sym, ◌∙◌}
+use Rattle.std.proofs.Common.{ℕ, ◌∷◌, Err, List, Ok, Result, map, ap, sym, ◌∙◌}
 use Rattle.fx_data.specs.Types.{Shape, records}
 use Rattle.std.proofs.lemmas.Result.{err_from_is_err_and}
 use Rattle.fx_local.specs.TypedView.{typed}

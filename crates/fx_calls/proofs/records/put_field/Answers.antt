@@ -1,4 +1,4 @@
-use Rattle.std.proofs.Common.{◌≡◌, Result, Ok, Err, map, ap, ◌∙◌, arith}
+use Rattle.std.proofs.Common.{◌≡◌, Ok, Err, map, ap, ◌∙◌, arith}
 use Rattle.fx_calls.specs.Fields.{field_view, place_in}
 use Rattle.fx_calls.proofs.Fields.{found, missing}
 use Rattle.fx_calls.proofs.records.put_field.Goals as goal

@@ -1,8 +1,8 @@
-use Rattle.std.proofs.Common.{◌≡◌, arith, subst, sym, List, ℕ}
+use Rattle.std.proofs.Common.{arith, subst, sym, List, ℕ}
 use Rattle.fx_data.specs.Rising.{AreRising}
 use Rattle.fx_data.specs.TypeView.{columns_view}
 use Rattle.fx_data.specs.declared.types.Ty.{Ty}
-use Rattle.fx_calls.proofs.Fields.{columns_in, cores_in, rising_columns, all_columns, all_cores, record_is}
+use Rattle.fx_calls.proofs.Fields.{rising_columns, all_columns, all_cores, record_is}
 use Rattle.fx_calls.proofs.records.record_by.Goals as goal
 
 pub from_rising-requires : goal.from_rising-requires
