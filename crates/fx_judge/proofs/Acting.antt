@@ -10,9 +10,10 @@ use Rattle.fx_typed.specs.Term.{Term}
 use Rattle.fx_typing.specs.Meaning.{Place, Scope}
 use Rattle.fx_typing.specs.WellTyped.{Context, plain, inside}
 use Rattle.fx_typing.proofs.Rules.{Typed}
+use Rattle.fx_judge.specs.Breaks.{could_act}
 use Rattle.fx_judge.specs.Calls.{called_by}
 use Rattle.fx_judge.specs.Deeds.{by_name, set_of, collect_of, clear_of, patch_of, remove_of, remove_if, update_if, navigate_of, notify_of, reset_of, acted}
-use Rattle.fx_judge.specs.Parts.{Grant, nothing, a_target, on_screen, Part, target, Setting, may_act, values}
+use Rattle.fx_judge.specs.Parts.{Grant, nothing, a_target, on_screen, Part, target, Setting, may_act, values, unless}
 use Rattle.fx_judge.specs.Plans.{Plan, if_acting, first_then, plan_act, plan_call, called_as, plan_at, first_row, setting_by}
 use Rattle.fx_judge.specs.Targets.{target_columns}
 use Rattle.fx_judge.specs.Typing.{context_of}
@@ -132,4 +133,5 @@ module _ (p : Place) (s : Setting) (x : List ℕ) (qs : List Part) (y : Term × 
 pub acting_typed : (p : Place) (s : Setting) (x : List ℕ) (qs : List Part) (a : Acting) (y : Term × Shape) → PartsTypedAt p s (tree.call x) (length qs) [] qs →
     called_as p.names x ≡ Some (sig.Act a) → called_by p s (sig.Act a) qs ≡ Ok y → Typed (context_of p s) y
 acting_typed p s x qs a y t e m =
-    acts_typed p s x qs y a e t (within_limit (not (may_act s.grant)) 9 (acted p.names p.screen a qs) y m)
+    let one = within_limit (not (may_act s.grant)) 9 (unless (not (could_act a qs)) 6 (acted p.names p.screen a qs)) y m in
+    acts_typed p s x qs y a e t (within_limit (not (could_act a qs)) 6 (acted p.names p.screen a qs) y one)

@@ -1,6 +1,6 @@
 -- What calls make of well typed arguments is well typed.
 use Rattle.std.proofs.Common.{◌≡◌, ℕ, zero, suc, ◌+◌, ◌<◌, ◌≤◌, ◌++◌, List, [], ◌∷◌, Bool, true, false, nat_lt, nat_le, nat_eq, length, take, drop, encode_utf8_all, Result, Ok, Err, refl, ap, sym, subst, ◌∙◌, arith, if◌then◌else◌}
-use Rattle.std.specs.Prelude.{Option, Some, None, option_map}
+use Rattle.std.specs.Prelude.{Option, Some, None, is_some, option_map}
 use Rattle.std.proofs.lemmas.Bool.{leb-true, lt-ltb}
 use Rattle.std.proofs.lemmas.List.{length-take}
 use Rattle.fx_data.specs.Types.{Shape, dates, tables}
@@ -22,6 +22,7 @@ use Rattle.fx_typing.specs.Local.{value, made}
 use Rattle.fx_typing.specs.Meaning.{Place}
 use Rattle.fx_typing.specs.WellTyped.{Standing, plain, standing_of}
 use Rattle.fx_typing.proofs.Rules.{Typed}
+use Rattle.fx_judge.specs.Breaks.{taken_at, mistells}
 use Rattle.fx_judge.specs.Builds.{bounded}
 use Rattle.fx_judge.specs.Calls.{literal_in, made_if, function_by, made_literal, called_by, called_with, called}
 use Rattle.fx_judge.specs.Parts.{nothing, Part, piece, Setting, may_act, piece_of, pieces, unless}
@@ -191,7 +192,9 @@ call_placed s o n d = (plan_call (may_act s.grant) o n d).standing
 
 shape_typed : (p : Place) (s : Setting) (k : SigShape) (qs : List Part) (x : Term × Shape) → PartsStand p s (call_placed s (Some k) (length qs)) [] qs →
     called_by p s k qs ≡ Ok x → ((a : Acting) → k ≡ sig.Act a → Typed (context_of p s) x) → Typed (context_of p s) x
-shape_typed p s (sig.One f) qs x t e acts = function_law p s f qs x t e
+shape_typed p s (sig.One f) qs x t e acts =
+    let one = within_limit (is_some (taken_at f qs)) 5 (unless (mistells f qs) 6 (made f (pieces qs))) x e in
+    function_law p s f qs x t (within_limit (mistells f qs) 6 (made f (pieces qs)) x one)
 shape_typed p s (sig.Either f g) qs x t e acts = function_law p s (pick f g qs) qs x (either_stand p s (may_act s.grant) f g (length qs) qs t) e
 shape_typed p s (sig.Literal f) qs x t e acts = literal_typed p s (may_act s.grant) f qs x t e
 shape_typed p s (sig.Form f) qs x t e acts = form_law p s f qs x t e

@@ -1,5 +1,5 @@
 -- Changes of rows, and what is told to the user, are well typed.
-use Rattle.std.proofs.Common.{◌≡◌, ℕ, zero, suc, ◌<◌, List, [], ◌∷◌, Bool, true, false, not, is_some, length, codes, bytes_eq, option_and_then, slice_get, Option, Some, None, Result, Ok, Err, refl, ap, sym, subst, ◌∙◌, arith, if◌then◌else◌}
+use Rattle.std.proofs.Common.{◌≡◌, ℕ, zero, suc, ◌<◌, List, [], ◌∷◌, Bool, true, false, ◌&&◌, not, is_some, length, codes, bytes_eq, option_and_then, slice_get, Option, Some, None, Result, Ok, Err, refl, ap, sym, subst, ◌∙◌, arith, if◌then◌else◌}
 use Rattle.fx_data.specs.Types.{Shape, blanks, numbers, texts, booleans, records, tables, ColumnList, no_columns, column}
 use Rattle.fx_value.specs.Join.{join_of}
 use Rattle.fx_functions.specs.declared.deeds.Deed.TheVariants as deed
@@ -17,12 +17,13 @@ use Rattle.fx_typing.specs.Ways.{way}
 use Rattle.fx_typing.proofs.Rules.{Typed}
 use Rattle.fx_typing.proofs.Same.{shape_same}
 use Rattle.fx_judge.specs.Builds.{types_of}
-use Rattle.fx_judge.specs.Deeds.{done_by, is_type, joins_to, fields_join, when_columns, by_id, row_named, rows_named_by, leaves_id, row_of_one, change_of, changes_of, patch_to, patch_of, remove_of, filter_of, remove_if, update_to, update_if, navigate_of, notify_of, reset_by, reset_of}
+use Rattle.fx_judge.specs.Deeds.{done_by, is_type, joins_to, misfit, settable, when_columns, by_id, row_named, rows_named_by, leaves_id, row_of_one, change_of, changes_of, patch_to, patch_of, remove_of, filter_of, remove_if, update_to, update_if, navigate_of, notify_of, reset_by, reset_of}
 use Rattle.fx_judge.specs.Parts.{Part, target, values, pieces}
 use Rattle.fx_judge.specs.Targets.{screen_named, control_named, rows_named, columns_or_none, target_columns}
 use Rattle.fx_judge.proofs.Deeds.{Of, if_known_ok, by_rows_ok, has_columns}
 use Rattle.fx_judge.proofs.Filters.{in_row, filter_typed, filter_made}
 use Rattle.fx_judge.proofs.Frame.{AllTyped}
+use Rattle.fx_judge.proofs.Functions.{both_true}
 use Rattle.fx_judge.proofs.Names.{found, read_typed}
 use Rattle.fx_judge.proofs.Operators.{then_ok}
 use Rattle.fx_judge.proofs.Steps.{lowest_ok, ok_is, coerced_typed, came, EachTyped, values_typed, typed_by}
@@ -39,14 +40,10 @@ when_columns_ok : (cs ds : ColumnList) (r : Result (Term × Shape) ℕ) (y : Ter
     (join_of (records cs) (records ds) ≡ Some (records cs)) × (r ≡ Ok y)
 when_columns_ok cs ds r y e = by_test (joins_to (records cs) (records ds)) refl e
   where
-    never : (b : Bool) → ◌≡◌ {A = Result (Term × Shape) ℕ} (if b then Err 12 else Err 6) (Ok y) → ⊥
-    never true i = cc
-    never false i = cc
-
-    by_test : (b : Bool) → joins_to (records cs) (records ds) ≡ b → (if b then r else (if fields_join cs ds then Err 12 else Err 6)) ≡ Ok y →
+    by_test : (b : Bool) → joins_to (records cs) (records ds) ≡ b → (if b then r else Err (misfit cs ds)) ≡ Ok y →
         (join_of (records cs) (records ds) ≡ Some (records cs)) × (r ≡ Ok y)
     by_test true i j = (type_is (join_of (records cs) (records ds)) (records cs) i, j)
-    by_test false i j = absurd (never (fields_join cs ds) j)
+    by_test false i j = absurd cc
 
 by_id_named : (c : Context) (k : ℕ) (cs : ColumnList) (m : Term) (ds : ColumnList) (o : Option Shape) (y : Term × Shape) → IsTyped c m (records ds) →
     field_in (codes "ID") ds ≡ o → by_id m ds o ≡ Ok y → NamesRow c (rows.Table k) cs y
@@ -95,14 +92,15 @@ row_of_one_typed : (c : Context) (m : Term) (ds : ColumnList) → IsTyped c m (r
 row_of_one_typed c m ds h = typed_by c (list (records ds)) ((m, records ds) ∷ []) (tables ds) (λ n i. refl) (h, tt) ((refl, tt), refl)
 
 change_typed : (c : Context) (t : Target) (cs : ColumnList) (m : Term) (u : Shape) (y : Term × Shape) → IsTyped c m u → change_of t cs (m, u) ≡ Ok y → ChangesRow c t cs y
-change_typed c t cs m (records ds) y h e =
-    let w = when_columns_ok cs ds (if leaves_id t ds then Ok (row_of_one m ds) else Err 12) y e in
-    by_test (leaves_id t ds) refl w.0 w.1
+change_typed c t cs m (records ds) y h e = by_test (joins_to (records cs) (records ds) && leaves_id t ds) refl e
   where
-    by_test : (b : Bool) → leaves_id t ds ≡ b → join_of (records cs) (records ds) ≡ Some (records cs) →
-        if◌then◌else◌ {A = Result (Term × Shape) ℕ} b (Ok (row_of_one m ds)) (Err 12) ≡ Ok y → ChangesRow c t cs y
-    by_test true i j k = subst (ChangesRow c t cs) (ok_is _ y k) (row_of_one_typed c m ds h, (j, leaves t ds i))
-    by_test false i j k = absurd cc
+    by_test : (b : Bool) → (joins_to (records cs) (records ds) && leaves_id t ds) ≡ b →
+        if◌then◌else◌ {A = Result (Term × Shape) ℕ} b (Ok (row_of_one m ds)) (Err (misfit (settable t cs) ds)) ≡ Ok y → ChangesRow c t cs y
+    by_test true i k =
+        let both = both_true (joins_to (records cs) (records ds)) (leaves_id t ds) i in
+        let joined = type_is (join_of (records cs) (records ds)) (records cs) both.0 in
+        subst (ChangesRow c t cs) (ok_is _ y k) (row_of_one_typed c m ds h, (joined, leaves t ds both.1))
+    by_test false i k = absurd cc
 change_typed c t cs m blanks y h e =
     subst (ChangesRow c t cs) (ok_is _ y e) (
       row_of_one_typed c (coerced m (records no_columns)) no_columns (coerced_typed c m blanks (records no_columns) refl h),

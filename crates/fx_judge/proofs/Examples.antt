@@ -1,5 +1,5 @@
 -- Formulas as the definitions judge them, worked out by hand.
-use Rattle.std.proofs.Common.{◌≡◌, ℕ, zero, suc, List, [], ◌∷◌, true, false, Ok, Err, refl}
+use Rattle.std.proofs.Common.{◌≡◌, inl, ℕ, zero, suc, List, [], ◌∷◌, true, false, Ok, Err, refl}
 use Rattle.std.specs.Prelude.{Some, None, pos, codes}
 use Rattle.fx_data.specs.Types.{Shape, ColumnList, blanks, numbers, texts, booleans, records, tables, no_columns, column}
 use Rattle.fx_data.specs.Values.{number, text, boolean, tab, no_rows}
@@ -14,14 +14,15 @@ use Rattle.fx_syntax.specs.declared.expr.Op.TheVariants as op
 use Rattle.fx_syntax.specs.Tree.{Tree, node, Forest, none, more, Head}
 use Rattle.fx_syntax.specs.Tree as tree
 use Rattle.fx_typed.specs.Term.{Term, of, nil, cons, const, call, over, coerce, rec, list, dot, row, chain}
-use Rattle.fx_typing.specs.Local.{value}
+use Rattle.fx_typing.specs.Local.{value, label}
 use Rattle.fx_names.specs.declared.controls.Control.TheVariants as control
 use Rattle.fx_typing.specs.Meaning.{Place, written_or}
-use Rattle.fx_judge.specs.Parts.{piece, plainly}
+use Rattle.fx_judge.specs.Parts.{Part, piece, target, plainly}
 use Rattle.fx_judge.specs.Plans.{setting_by, plan_call}
-use Rattle.fx_judge.specs.Calls.{called_by}
-use Rattle.fx_judge.specs.Deeds.{rows_named_by}
-use Rattle.fx_judge.specs.Details.{acted_at, call_limit, counted}
+use Rattle.fx_judge.specs.Calls.{made_or_lowest, called_by}
+use Rattle.fx_judge.specs.Breaks.{taken_at, could_act}
+use Rattle.fx_judge.specs.Deeds.{rows_named_by, change_of}
+use Rattle.fx_judge.specs.Details.{acted_at, call_limit, counted, IsToldBrokenWhole}
 use Rattle.fx_judge.specs.Typing.{judge, outermost, judge_whole}
 
 -- 1 < "x" is of wrong types, at the operator's first token
@@ -149,6 +150,60 @@ no_id c d = refl
 pub id_first : (c d e : Term) →
     acted_at acts.Patch (rows.Table 0) stock ((c, alone (codes "ID")) ∷ (d, alone (codes "ID")) ∷ (e, alone (codes "Foo")) ∷ []) ≡ Some (codes "ID")
 id_first c d e = refl
+
+-- what a change gives to ID is no column of it, whatever its type: rule 12
+pub id_of_text : (c : Term) → change_of (rows.Table 0) stock (c, records (column (codes "ID") texts no_columns)) ≡ Err 12
+id_of_text c = refl
+
+-- and rule 6 where a column is given a table besides
+pub id_and_table : (c : Term) →
+    change_of (rows.Table 0) stock (c, records (column (codes "ID") texts (column (codes "Name") (tables no_columns) no_columns))) ≡ Err 6
+id_and_table c = refl
+
+-- new names of columns: the first one that is taken, also where another part breaks rule 6 or 12
+abbrev stocked : Term → Part
+stocked c = plainly (c, tables stock)
+
+abbrev named : List ℕ → Part
+named x = piece (label x)
+
+pub renamed_to_taken : (c : Term) → taken_at fun.RenameColumns (stocked c ∷ named (codes "Size") ∷ named (codes "Name") ∷ []) ≡ Some (codes "Name")
+renamed_to_taken c = refl
+
+pub renamed_in_turn : (c : Term) →
+    taken_at fun.RenameColumns (stocked c ∷ named (codes "Name") ∷ named (codes "A") ∷ named (codes "ID") ∷ named (codes "Name") ∷ []) ≡ None
+renamed_in_turn c = refl
+
+pub added_behind_wrong : (c d : Term) →
+    taken_at fun.AddColumns (stocked c ∷ plainly (d, numbers) ∷ plainly (d, numbers) ∷ named (codes "Name") ∷ plainly (d, numbers) ∷ []) ≡ Some (codes "Name")
+added_behind_wrong c d = refl
+
+pub added_twice : (c d : Term) →
+    taken_at fun.AddColumns (stocked c ∷ named (codes "A") ∷ plainly (d, numbers) ∷ named (codes "A") ∷ plainly (d, numbers) ∷ []) ≡ Some (codes "A")
+added_twice c d = refl
+
+-- a column that isn't there under a new name is rule 12 all the same
+pub renamed_unknown : (c : Term) → made_or_lowest fun.RenameColumns (stocked c ∷ named (codes "Size") ∷ named (codes "A") ∷ []) ≡ Err 12
+renamed_unknown c = refl
+
+-- an error whose Message is a record breaks rule 6, and one without Kind rule 12
+pub mistold : (c : Term) → made_or_lowest fun.Error (plainly (c, records (column (codes "Message") (records no_columns) no_columns)) ∷ []) ≡ Err 6
+mistold c = refl
+
+pub without_a_kind : (c : Term) → made_or_lowest fun.Error (plainly (c, records (column (codes "Message") texts no_columns)) ∷ []) ≡ Err 12
+without_a_kind c = refl
+
+-- what is no row can't be changed, whatever the name names
+pub no_row : (c d : Term) → could_act acts.Patch (target None (codes "Foo") ∷ plainly (c, records no_columns) ∷ plainly (d, numbers) ∷ []) ≡ false
+no_row c d = refl
+
+pub no_condition : (c : Term) → could_act acts.RemoveIf (target None (codes "Foo") ∷ plainly (c, texts) ∷ []) ≡ false
+no_condition c = refl
+
+-- calls of `And` and `Or` have their names
+pub and_of_none : (p : Place) → IsToldBrokenWhole p false None (node 0 tree.all none) 0 7 (counted (codes "And") 0)
+unfolding lib.Utf8.encode
+and_of_none p = inl (inl (refl, [], refl, refl, refl))
 
 -- the name of a variable has none for its rows
 pub aliased_variable : (p : Place) → judge p (setting_by p.names (outermost true) (plan_call true (Some (sig.Act acts.Set)) 2 []) [])

@@ -1,5 +1,5 @@
 -- What acts stands only where the place of a formula lets it act.
-use Rattle.std.proofs.Common.{◌≡◌, ℕ, zero, suc, ◌++◌, List, [], ◌∷◌, Bool, true, false, not, nat_le, nat_lt, nat_eq, length, take, drop, encode_utf8_all, Option, Some, None, Result, Ok, Err, Ordering, Less, Equal, Greater, nat_cmp, refl, sym, subst, if◌then◌else◌}
+use Rattle.std.proofs.Common.{◌≡◌, ℕ, zero, suc, ◌++◌, List, [], ◌∷◌, Bool, true, false, not, nat_le, nat_lt, nat_eq, length, take, drop, encode_utf8_all, Option, Some, None, is_some, Result, Ok, Err, Ordering, Less, Equal, Greater, nat_cmp, refl, sym, subst, if◌then◌else◌}
 use Rattle.std.specs.Cmp.Lexicographic.{slice_cmp}
 use Rattle.std.specs.Ordering.{match_ordering}
 use Rattle.fx_data.specs.Types.{Shape, blanks, numbers, texts, booleans, dates, records, tables, ColumnList, no_columns}
@@ -24,13 +24,14 @@ use Rattle.fx_typed.specs.Term.{Term, of, nil, cons, Top, within}
 use Rattle.fx_typed.specs.Term as term
 use Rattle.fx_typing.specs.Acts as deeds
 use Rattle.fx_typing.specs.Columns.{and_then}
-use Rattle.fx_typing.specs.Local.{value, by_way, join_all, put_first}
+use Rattle.fx_typing.specs.Local.{value, by_way, join_all, put_first, made}
 use Rattle.fx_typing.specs.Meaning.{Place, in_globals, meaning_of}
 use Rattle.fx_typing.specs.Operators.{function_of}
 use Rattle.fx_typing.specs.Ways.{way}
 use Rattle.fx_typing.specs.WellTyped.{Standing, plain}
 use Rattle.fx_judge.specs.Builds.{bounded_by, bounded, is_bounded, put_field, put_fields, field_names, field_parts, are_distinct, record_by, record_of, rows_to, list_by, list_as, list_of, table_of, as_record, with_of, blank_record}
-use Rattle.fx_judge.specs.Calls.{literal_in, function_by, made_literal, defaults_of, called_by, called_with, called}
+use Rattle.fx_judge.specs.Breaks.{taken_at, mistells, could_act}
+use Rattle.fx_judge.specs.Calls.{literal_in, function_by, made_literal, made_or_lowest, defaults_of, called_by, called_with, called}
 use Rattle.fx_judge.specs.Deeds.{by_name, by_rows, acted}
 use Rattle.fx_judge.specs.Parts.{Grant, nothing, acting, aliased_target, a_meaning, on_screen, Part, piece, target, assigned, Setting, may_act, pieces, values, unless, parts_in}
 use Rattle.fx_judge.specs.Plans.{Plan, planned, if_acting, grant_of, plan_by_row, pick, plan_either, plan_literal, plan_with, first_then, plan_act, plan_call, called_as, alias_grant, field_grant, plan_at, setting_at}
@@ -144,8 +145,13 @@ by_name_quiet : (qs : List Part) (go : List ℕ → List Part → Result (Term �
 by_name_quiet (target None x ∷ qs) go h = h x qs
 by_name_quiet qs go h = tt
 
+made_or_lowest_quiet : (f : Fun) (qs : List Part) → EachQuiet qs → Made TreeQuiet (made_or_lowest f qs)
+made_or_lowest_quiet f qs h =
+    let one = unless_quiet TreeQuiet (mistells f qs) 6 (made f (pieces qs)) (made_quiet f (pieces qs) (pieces_quiet qs h)) in
+    unless_quiet TreeQuiet (is_some (taken_at f qs)) 5 (unless (mistells f qs) 6 (made f (pieces qs))) one
+
 called_by_quiet : (p : Place) (s : Setting) (k : SigShape) (qs : List Part) → may_act s.grant ≡ false → EachQuiet qs → Made TreeQuiet (called_by p s k qs)
-called_by_quiet p s (sig.One f) qs e h = made_quiet f (pieces qs) (pieces_quiet qs h)
+called_by_quiet p s (sig.One f) qs e h = made_or_lowest_quiet f qs h
 called_by_quiet p s (sig.Either f g) qs e h = made_quiet (pick f g qs) (pieces qs) (pieces_quiet qs h)
 called_by_quiet p s (sig.Literal f) qs e h = made_literal_quiet f qs h
 called_by_quiet p s (sig.Form f) qs e h = formed_quiet f (pieces qs) (pieces_quiet qs h)
@@ -153,7 +159,7 @@ called_by_quiet p s sig.With qs e h = then_quiet AllQuiet TreeQuiet (values qs) 
 called_by_quiet p s sig.Table qs e h = then_quiet AllQuiet TreeQuiet (values qs) table_of (values_quiet qs h) (λ xs k. list_as_quiet (join_all (Some (records no_columns)) xs) xs k)
 called_by_quiet p s sig.Today qs e h = refl
 called_by_quiet p s sig.Defaults qs e h = by_name_quiet qs (defaults_of p.names) (λ x rs. by_rows_quiet (rows_named p.names x) (λ r. Ok (blank_record r.1)) (λ r. refl))
-called_by_quiet p s (sig.Act a) qs e h = unless_refuses TreeQuiet (may_act s.grant) 9 (acted p.names p.screen a qs) e
+called_by_quiet p s (sig.Act a) qs e h = unless_refuses TreeQuiet (may_act s.grant) 9 (unless (not (could_act a qs)) 6 (acted p.names p.screen a qs)) e
 
 called_with_quiet : (p : Place) (s : Setting) (o : Option Signature) (qs : List Part) → may_act s.grant ≡ false → EachQuiet qs → Made TreeQuiet (called_with p s o qs)
 called_with_quiet p s (Some f) qs e h =

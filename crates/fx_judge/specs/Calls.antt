@@ -1,6 +1,7 @@
 -- Which calls are admitted.
-use Rattle.std.specs.Prelude.{ℕ, List, [], ◌∷◌, not, nat_le, nat_eq, suc, length, take, drop, Option, Some, None, Result, Ok, Err, encode_utf8_all, if◌then◌else◌}
+use Rattle.std.specs.Prelude.{ℕ, List, [], ◌∷◌, not, nat_le, nat_eq, suc, length, take, drop, Option, Some, None, is_some, Result, Ok, Err, encode_utf8_all, if◌then◌else◌}
 use Rattle.fx_data.specs.Types.{Shape, dates}
+use Rattle.fx_functions.specs.declared.functions.Acting.{Acting}
 use Rattle.fx_functions.specs.declared.functions.Fun.{Fun}
 use Rattle.fx_functions.specs.declared.signatures.SigShape.{SigShape}
 use Rattle.fx_functions.specs.declared.signatures.SigShape.TheVariants as sig
@@ -14,6 +15,7 @@ use Rattle.fx_typed.specs.Term.{Term, of, nil, read}
 use Rattle.fx_typing.specs.Columns.{and_then, label_of}
 use Rattle.fx_typing.specs.Local.{Piece, value, made, formed}
 use Rattle.fx_typing.specs.Meaning.{Place}
+use Rattle.fx_judge.specs.Breaks.{taken_at, mistells, could_act}
 use Rattle.fx_judge.specs.Builds.{bounded, table_of, with_of, blank_record}
 use Rattle.fx_judge.specs.Deeds.{by_name, by_rows, acted}
 use Rattle.fx_judge.specs.Parts.{Part, Setting, may_act, unless, pieces, values}
@@ -40,12 +42,20 @@ made_literal f ps =
     else (if nat_eq (length ps) (suc (row_of f).most)
     then made_if (function_by f (literal_in (drop (row_of f).most ps))) (take (row_of f).most ps) else Err 7)
 
+-- a function of these parts, or the lowest rule that they break
+abbrev pub made_or_lowest : Fun → List Part → Result (Term × Shape) ℕ
+made_or_lowest f qs = unless (is_some (taken_at f qs)) 5 (unless (mistells f qs) 6 (made f (pieces qs)))
+
+-- an acting call that could be one of its parts, and that stands where its place lets it act
+abbrev pub acted_or_lowest : Place → Setting → Acting → List Part → Result (Term × Shape) ℕ
+acted_or_lowest p s a qs =
+    unless (not (may_act s.grant)) 9 (unless (not (could_act a qs)) 6 (acted p.names p.screen a qs))
+
 abbrev pub defaults_of : Names → List ℕ → List Part → Result (Term × Shape) ℕ
 defaults_of n x qs = by_rows (rows_named n x) (λ r. Ok (blank_record r.1))
 
--- an acting call stands only where its place lets it act
 abbrev pub called_by : Place → Setting → SigShape → List Part → Result (Term × Shape) ℕ
-called_by p s (sig.One f) qs = made f (pieces qs)
+called_by p s (sig.One f) qs = made_or_lowest f qs
 called_by p s (sig.Either f g) qs = made (pick f g qs) (pieces qs)
 called_by p s (sig.Literal f) qs = made_literal f (pieces qs)
 called_by p s (sig.Form f) qs = formed f (pieces qs)
@@ -53,7 +63,7 @@ called_by p s sig.With qs = and_then (values qs) with_of
 called_by p s sig.Table qs = and_then (values qs) table_of
 called_by p s sig.Today qs = Ok (of (read source.Today) nil, dates)
 called_by p s sig.Defaults qs = by_name qs (defaults_of p.names)
-called_by p s (sig.Act a) qs = unless (not (may_act s.grant)) 9 (acted p.names p.screen a qs)
+called_by p s (sig.Act a) qs = acted_or_lowest p s a qs
 
 -- a function of the table, with as many parts as it takes
 abbrev pub called_with : Place → Setting → Option Signature → List Part → Result (Term × Shape) ℕ

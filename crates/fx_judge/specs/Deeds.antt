@@ -18,7 +18,7 @@ use Rattle.fx_names.specs.declared.names.ControlName.{ControlName}
 use Rattle.fx_names.specs.declared.names.Names.{Names}
 use Rattle.fx_names.specs.declared.names.Variable.{Variable}
 use Rattle.fx_typed.specs.Term.{Term, of, nil, cons, all, read, list, act}
-use Rattle.fx_typing.specs.Columns.{and_then, field_in, row_columns}
+use Rattle.fx_typing.specs.Columns.{and_then, field_in, without, row_columns}
 use Rattle.fx_typing.specs.Local.{value, coerced, by_way, firsts, put_first, made}
 use Rattle.fx_typing.specs.WellTyped.{target_source}
 use Rattle.fx_typing.specs.Ways.{way, same_shape}
@@ -120,10 +120,12 @@ abbrev pub fields_join : ColumnList → ColumnList → Bool
 fields_join cs no_columns = true
 fields_join cs (column n u ds) = joins_column (field_in n cs) u && fields_join cs ds
 
--- a record of some of the columns
+-- the rule of a record that isn't one of some of the columns: one column more, or one of another type
+abbrev pub misfit : ColumnList → ColumnList → ℕ
+misfit cs ds = if fields_join cs ds then 12 else 6
+
 abbrev pub when_columns : ColumnList → ColumnList → Result (Term × Shape) ℕ → Result (Term × Shape) ℕ
-when_columns cs ds r =
-    if joins_to (records cs) (records ds) then r else (if fields_join cs ds then Err 12 else Err 6)
+when_columns cs ds r = if joins_to (records cs) (records ds) then r else Err (misfit cs ds)
 
 -- a row that is named for a change: on a table by its ID, in a collection by all that it has. One of type
 -- Blank is a blank record.
@@ -145,8 +147,12 @@ row_named t cs x = Err 6
 abbrev pub rows_named_by : Target → ColumnList → List (Term × Shape) → Result (List (Term × Shape)) ℕ
 rows_named_by t cs xs = all_or_lowest (row_named t cs) xs
 
--- a change: a record of some of the columns, ID aside on a table, as a table of one row. One of type Blank
--- has no fields.
+-- the columns that a change may set: of a table all but its ID
+abbrev pub settable : Target → ColumnList → ColumnList
+settable (rows.Table k) cs = without (codes "ID") cs
+settable (rows.Gathered k) cs = cs
+
+-- a change: a record of some of these, as a table of one row. One of type Blank has no fields.
 abbrev pub leaves_id : Target → ColumnList → Bool
 leaves_id (rows.Table k) ds = not (is_some (field_in (codes "ID") ds))
 leaves_id (rows.Gathered k) ds = true
@@ -155,7 +161,8 @@ abbrev pub row_of_one : Term → ColumnList → Term × Shape
 row_of_one c ds = (of (list (records ds)) (cons c nil), tables ds)
 
 abbrev pub change_of : Target → ColumnList → Term × Shape → Result (Term × Shape) ℕ
-change_of t cs (c, records ds) = when_columns cs ds (if leaves_id t ds then Ok (row_of_one c ds) else Err 12)
+change_of t cs (c, records ds) =
+    if joins_to (records cs) (records ds) && leaves_id t ds then Ok (row_of_one c ds) else Err (misfit (settable t cs) ds)
 change_of t cs (c, blanks) = Ok (row_of_one (coerced c (records no_columns)) no_columns)
 change_of t cs x = Err 6
 

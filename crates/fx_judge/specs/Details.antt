@@ -21,12 +21,13 @@ use Rattle.fx_names.specs.SourceTypes.{item_columns}
 use Rattle.fx_syntax.specs.Tree.{Tree, node, Forest, none, more, Head}
 use Rattle.fx_syntax.specs.Tree as tree
 use Rattle.fx_typed.specs.Term.{Term}
-use Rattle.fx_typing.specs.Columns.{field_in, without, with_new, with_none, with_renamed, is_one_of, row_columns}
+use Rattle.fx_typing.specs.Columns.{field_in, with_none, with_renamed, is_one_of, row_columns}
 use Rattle.fx_typing.specs.Local.{Piece, value, label, join_all}
 use Rattle.fx_typing.specs.Meaning.{Place, or_else}
+use Rattle.fx_judge.specs.Breaks.{taken_at}
 use Rattle.fx_judge.specs.Builds.{type_depth, columns_count, record_by, put_fields}
 use Rattle.fx_judge.specs.Calls.{called_by}
-use Rattle.fx_judge.specs.Deeds.{joins_to, rows_of}
+use Rattle.fx_judge.specs.Deeds.{joins_to, rows_of, settable}
 use Rattle.fx_judge.specs.Parts.{Part, piece, meant, target, assigned, Setting, values, parts_in}
 use Rattle.fx_judge.specs.Plans.{called_as, pick, depth_of, setting_at}
 use Rattle.fx_judge.specs.Targets.{global_variable, screen_variable, collection_named, rows_named}
@@ -53,7 +54,7 @@ commas (x ∷ y ∷ ys) = x ++ (codes ", " ++ commas (y ∷ ys))
 abbrev pub counted : List ℕ → ℕ → List ℕ
 counted x n = x ++ (codes " " ++ decimal n)
 
--- what a node is called: by its name, and a chain by its mark
+-- what a node is called: by its name or the name of its call, and a chain by its mark
 abbrev pub head_name : Head → List ℕ
 head_name (tree.name x) = x
 head_name (tree.global x) = x
@@ -61,6 +62,8 @@ head_name (tree.dot x) = x
 head_name (tree.call x) = x
 head_name (tree.alias x) = x
 head_name tree.chain = codes ";"
+head_name tree.all = codes "And"
+head_name tree.any = codes "Or"
 head_name h = []
 
 -- ---- wrong types: those of all parts that have one
@@ -134,11 +137,7 @@ abbrev pub or_stuck : Result ColumnList ℕ → List ℕ → (ColumnList → Lis
 or_stuck (Ok cs) x go = go cs
 or_stuck (Err e) x go = x
 
--- the name at which columns can't be added, left out, shown or named anew, in turn
-abbrev pub stuck_added : List Piece → ColumnList → List ℕ
-stuck_added (label x ∷ value a c t ∷ ps) cs = or_stuck (with_new x t cs) x (stuck_added ps)
-stuck_added ps cs = []
-
+-- the name at which columns can't be left out, shown or named anew, in turn
 abbrev pub stuck_dropped : List Piece → ColumnList → List ℕ
 stuck_dropped (label x ∷ ps) cs = or_stuck (with_none x cs) x (stuck_dropped ps)
 stuck_dropped ps cs = []
@@ -157,8 +156,6 @@ stuck_renamed (label x ∷ label y ∷ ps) cs =
 stuck_renamed ps cs = []
 
 abbrev pub stuck_by : Answer → List Piece → List ℕ
-stuck_by answer.Added (value a c (tables cs) ∷ ps) = stuck_added ps cs
-stuck_by answer.Added (value a c t ∷ ps) = stuck_added ps no_columns
 stuck_by answer.Dropped (value a c (tables cs) ∷ ps) = stuck_dropped ps cs
 stuck_by answer.Dropped (value a c t ∷ ps) = stuck_dropped ps no_columns
 stuck_by answer.Shown (value a c (tables cs) ∷ ps) = stuck_shown ps cs
@@ -180,8 +177,7 @@ unnamed_at t cs u = None
 
 -- the column that a change can't set: one more, which ID of a table is as well
 abbrev pub unset_at : Target → ColumnList → Shape → Option (List ℕ)
-unset_at (rows.Table k) cs (records ds) = first_more (without (codes "ID") cs) ds
-unset_at (rows.Gathered k) cs (records ds) = first_more cs ds
+unset_at t cs (records ds) = first_more (settable t cs) ds
 unset_at t cs u = None
 
 -- of several values the first that has one
@@ -238,14 +234,19 @@ all_pieces [] = []
 all_pieces (piece q ∷ qs) = q ∷ all_pieces qs
 all_pieces (q ∷ qs) = all_pieces qs
 
--- rule 5, and rule 12 of a call of a pure function: the name at which it is stuck
+-- rule 5 of a call: the first new name that is taken
+abbrev pub taken_in : Option SigShape → List Part → List ℕ
+taken_in (Some (sig.One f)) qs = unwrap_or (taken_at f qs) []
+taken_in s qs = []
+
+-- rule 12 of a call of a pure function: the name at which it is stuck
 abbrev pub stuck_in : Option SigShape → List Part → List ℕ
 stuck_in (Some (sig.One f)) qs = stuck_by (row_of f).answer (all_pieces qs)
 stuck_in s qs = []
 
 abbrev pub named_twice : Names → Head → List Part → List ℕ
 named_twice n (tree.rec ns) qs = twice_after [] ns
-named_twice n (tree.call x) qs = stuck_in (called_as n x) qs
+named_twice n (tree.call x) qs = taken_in (called_as n x) qs
 named_twice n h qs = []
 
 -- rule 12: a field, a property or a member behind a dot; a column of a call

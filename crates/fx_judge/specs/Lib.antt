@@ -3,6 +3,7 @@ pub mod Plans
 pub mod Builds
 pub mod Targets
 pub mod Deeds
+pub mod Breaks
 pub mod Calls
 pub mod Typing
 pub mod Rounds
