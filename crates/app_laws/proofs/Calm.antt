@@ -9,7 +9,7 @@ use Rattle.fx_functions.specs.declared.signatures.SigShape.{SigShape}
 use Rattle.fx_functions.specs.declared.signatures.SigShape.TheVariants as sig
 use Rattle.fx_functions.specs.Rows.{row_of, form_row, takes_at}
 use Rattle.fx_judge.proofs.Quiet.{may_do}
-use Rattle.fx_judge.specs.Parts.{Grant, nothing, acting, a_target, a_meaning, on_screen, Part, may_act}
+use Rattle.fx_judge.specs.Parts.{Grant, nothing, acting, aliased_target, a_meaning, on_screen, Part, may_act}
 use Rattle.fx_judge.specs.Plans.{Plan, planned, if_acting, grant_of, plan_by_row, pick, plan_either, plan_literal, plan_with, first_then, plan_act, plan_call, called_as, alias_grant, field_grant, plan_at}
 use Rattle.fx_names.specs.declared.names.Names.{Names}
 use Rattle.fx_syntax.specs.Tree.{Head}
@@ -75,7 +75,7 @@ calm_call (Some sig.Today) n done = refl
 calm_call None n done = refl
 
 calm_alias : (g : Grant) → may_do (alias_grant g) ≡ false
-calm_alias a_target = refl
+calm_alias aliased_target = refl
 calm_alias g = refl
 
 calm_field : (g : Grant) → may_do g ≡ false → may_do (field_grant g) ≡ false

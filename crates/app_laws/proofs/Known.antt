@@ -7,7 +7,7 @@ use Rattle.fx_data.specs.TypeView.{shape}
 use Rattle.fx_data.specs.Types.{Shape, tables}
 use Rattle.fx_functions.specs.declared.sources.Source.TheVariants as source
 use Rattle.fx_judge.proofs.Frame.{at_node_ok, onward_ok}
-use Rattle.fx_judge.specs.Parts.{Grant, nothing, acting, an_alias, a_column, a_target, a_meaning, on_screen, Part, Setting, parts_in}
+use Rattle.fx_judge.specs.Parts.{Grant, nothing, acting, an_alias, a_column, a_target, aliased_target, a_meaning, on_screen, Part, Setting, parts_in}
 use Rattle.fx_judge.specs.Plans.{setting_at}
 use Rattle.fx_judge.specs.Typing.{admit, at_node, global_by, judge, judge_parts, judge_whole, name_by, onward, outermost, position, whole_of}
 use Rattle.fx_names.specs.declared.names.FormulaName.{FormulaName}
@@ -105,6 +105,7 @@ module _ (m : Names) (few : List FormulaName) (law : HasNoThings m) (known : Are
   name_known g x (Some y) o k q e = ap (name_by g x) (k y refl) ∙ e
   name_known a_column x None o k q e = e
   name_known a_target x None o k q e = e
+  name_known aliased_target x None o k q e = e
   name_known (a_meaning b) x None o k q e = absurd cc
   name_known nothing x None o k q e = absurd cc
   name_known acting x None o k q e = absurd cc
@@ -114,6 +115,7 @@ module _ (m : Names) (few : List FormulaName) (law : HasNoThings m) (known : Are
   from_globals : (g : Grant) (x : List ℕ) (f o : Option Meaning) → ((y : Meaning) → f ≡ Some y → o ≡ Some y) → (q : Part) → global_by g x f ≡ Ok q → global_by g x o ≡ Ok q
   from_globals g x (Some y) o k q e = ap (global_by g x) (k y refl) ∙ e
   from_globals a_target x None o k q e = e
+  from_globals aliased_target x None o k q e = e
   from_globals (a_meaning b) x None o k q e = absurd cc
   from_globals a_column x None o k q e = absurd cc
   from_globals nothing x None o k q e = absurd cc

@@ -244,10 +244,9 @@ rows_lawful t (x ∷ xs) l h =
     then_quiet TreeLawful AllTrees (by_way (way x.1 t) x.0 t) (λ y. put_first y (rows_to t xs)) (by_way_lawful (way x.1 t) x.0 t l h.0)
     (λ y k. put_lawful y (rows_to t xs) k (rows_lawful t xs l h.1))
 
-rows_made : (t : Shape) (xs : List (Term × Shape)) → IsLawfulType t → AllTrees xs → Made TreeLawful (and_then (rows_to t xs) (λ ys. bounded (Ok (list_by t ys))))
+rows_made : (t : Shape) (xs : List (Term × Shape)) → IsLawfulType t → AllTrees xs → Made TreeLawful (and_then (rows_to t xs) (λ ys. Ok (list_by t ys)))
 rows_made t xs l h =
-    then_quiet AllTrees TreeLawful (rows_to t xs) (λ ys. bounded (Ok (list_by t ys))) (rows_lawful t xs l h)
-    (λ ys k. bounded_lawful (Ok (list_by t ys)) (tree_lawful (term.list t) ys l k))
+    then_quiet AllTrees TreeLawful (rows_to t xs) (λ ys. Ok (list_by t ys)) (rows_lawful t xs l h) (λ ys k. tree_lawful (term.list t) ys l k)
 
 list_as_lawful : (o : Option Shape) (xs : List (Term × Shape)) → IfLawful o → AllTrees xs → Made TreeLawful (list_as o xs)
 list_as_lawful None xs l h = tt
@@ -260,8 +259,11 @@ list_as_lawful (Some dates) xs l h = rows_made dates xs l h
 list_as_lawful (Some (records cs)) xs l h = rows_made (records cs) xs l h
 
 pub list_lawful : (xs : List (Term × Shape)) → AllWith xs → Made TreeLawful (list_of xs)
-list_lawful [] h = list_as_lawful (Some (records no_columns)) [] tt tt
-list_lawful (x ∷ xs) h = list_as_lawful (join_all (Some blanks) (x ∷ xs)) (x ∷ xs) (joined_lawful (Some blanks) (x ∷ xs) tt (types_of (x ∷ xs) h)) (trees_of (x ∷ xs) h)
+list_lawful [] h = bounded_lawful (list_as (Some (records no_columns)) []) (list_as_lawful (Some (records no_columns)) [] tt tt)
+list_lawful (x ∷ xs) h =
+    let joined = join_all (Some blanks) (x ∷ xs) in
+    bounded_lawful (list_as joined (x ∷ xs))
+    (list_as_lawful joined (x ∷ xs) (joined_lawful (Some blanks) (x ∷ xs) tt (types_of (x ∷ xs) h)) (trees_of (x ∷ xs) h))
 
 pub table_lawful : (xs : List (Term × Shape)) → AllWith xs → Made TreeLawful (table_of xs)
 table_lawful xs h = list_as_lawful (join_all (Some (records no_columns)) xs) xs (joined_lawful (Some (records no_columns)) xs tt (types_of xs h)) (trees_of xs h)

@@ -1,5 +1,5 @@
 -- A formula that is admitted where there are formulas alone is a lawful tree.
-use Rattle.std.proofs.Common.{◌≡◌, ℕ, suc, ◌++◌, List, [], ◌∷◌, Bool, true, false, ◌&&◌, length, map, codes, bytes_eq, encode_utf8_all, option_map, Option, Some, None, Result, Ok, Err, refl, ap, sym, subst, ◌∙◌, if◌then◌else◌}
+use Rattle.std.proofs.Common.{◌≡◌, ℕ, suc, ◌++◌, List, [], ◌∷◌, Bool, true, false, not, ◌&&◌, length, map, codes, bytes_eq, encode_utf8_all, option_map, Option, Some, None, is_some, Result, Ok, Err, refl, ap, sym, subst, ◌∙◌, if◌then◌else◌}
 use Rattle.app_laws.specs.Laws.{AdmittedIsLawful, HasFormulasAlone, alone}
 use Rattle.fx_data.specs.TypeView.{shape}
 use Rattle.fx_data.specs.Types.{Shape, records, tables}
@@ -9,6 +9,7 @@ use Rattle.fx_fresh.specs.Sound.{AreLawfulTypes, IsLawfulContext, IsLawfulTree, 
 use Rattle.fx_functions.specs.declared.deeds.Target.{Target}
 use Rattle.fx_functions.specs.declared.deeds.Target.TheVariants as rows
 use Rattle.fx_functions.specs.declared.functions.Form.TheVariants as form
+use Rattle.fx_functions.specs.declared.functions.Fun.{Fun}
 use Rattle.fx_functions.specs.declared.functions.Fun.TheVariants as fun
 use Rattle.fx_functions.specs.declared.literals.Enumeration.{Enumeration}
 use Rattle.fx_functions.specs.declared.signatures.SigShape.{SigShape}
@@ -21,10 +22,11 @@ use Rattle.fx_judge.proofs.Frame.{PartTyped, at_node_ok, judged_typed, onward_ok
 use Rattle.fx_judge.proofs.Quiet.{may_do}
 use Rattle.fx_judge.proofs.QuietParts.{Made, if_quiet, then_quiet, unless_quiet, unless_refuses}
 use Rattle.fx_judge.proofs.Whole.{sound_locally}
+use Rattle.fx_judge.specs.Breaks.{could_act, mistells, taken_at}
 use Rattle.fx_judge.specs.Builds.{bounded, blank_record}
-use Rattle.fx_judge.specs.Calls.{called, called_by, called_with, defaults_of}
+use Rattle.fx_judge.specs.Calls.{called, called_by, called_with, defaults_of, made_or_lowest}
 use Rattle.fx_judge.specs.Deeds.{acted, by_name, by_rows}
-use Rattle.fx_judge.specs.Parts.{Grant, nothing, acting, an_alias, a_column, a_target, a_meaning, on_screen, Part, piece, meant, target, assigned, as_part, Setting, may_act, parts_in, pieces, unless, values}
+use Rattle.fx_judge.specs.Parts.{Grant, nothing, acting, an_alias, a_column, a_target, aliased_target, a_meaning, on_screen, Part, piece, meant, target, assigned, as_part, Setting, may_act, parts_in, pieces, unless, values}
 use Rattle.fx_judge.specs.Plans.{first_record, first_row, pick, plan_at, record_type, scopes_for, setting_at}
 use Rattle.fx_judge.specs.Targets.{columns_or_none, rows_named, target_columns}
 use Rattle.fx_judge.specs.Typing.{admit, alias_by, assigned_of, at_node, chain_by, context_of, dot_by, global_by, is_too_deep, judge, judge_parts, left_of_dot, name_by, outermost, paired_by, position, record_as, whole_of, woven_by}
@@ -42,7 +44,7 @@ use Rattle.fx_syntax.specs.Tree.{Tree, node, Forest, none, more, Head}
 use Rattle.fx_syntax.specs.Tree as tree
 use Rattle.fx_typed.specs.Term.{Term, of, nil, row}
 use Rattle.fx_typing.specs.Columns.{and_then, field_in, field_of}
-use Rattle.fx_typing.specs.Local.{value, label}
+use Rattle.fx_typing.specs.Local.{value, label, made}
 use Rattle.fx_typing.specs.Meaning.{Meaning, Scope, valued, controlled, screened, enumerated, behind_scopes, field_at, field_read, first_error, in_context, in_globals, in_scope_by, in_scopes, is_global, is_on, known_field, meaning_of, member_of, named, or_else, place_of, reserved, this_item, this_record, whole_by}
 use Rattle.fx_typing.specs.Operators.{function_of}
 use Rattle.fx_typing.specs.WellTyped.{Context, Standing, bound, catching, inside, plain, row_type}
@@ -151,6 +153,7 @@ module _ (m : Names) (law : HasFormulasAlone m) where
   name_by_lawful : (g : Grant) (x : List ℕ) (o : Option Meaning) → IfMeant o → Made PartTree (name_by g x o)
   name_by_lawful a_column x o h = tt
   name_by_lawful a_target x o h = tt
+  name_by_lawful aliased_target x o h = tt
   name_by_lawful (a_meaning b) x o h = left_lawful o h
   name_by_lawful nothing x o h = named_lawful o h
   name_by_lawful acting x o h = named_lawful o h
@@ -160,6 +163,7 @@ module _ (m : Names) (law : HasFormulasAlone m) where
   global_by_lawful : (g : Grant) (x : List ℕ) (o : Option Meaning) → IfMeant o → Made PartTree (global_by g x o)
   global_by_lawful a_column x o h = named_lawful o h
   global_by_lawful a_target x o h = tt
+  global_by_lawful aliased_target x o h = tt
   global_by_lawful (a_meaning b) x o h = left_lawful o h
   global_by_lawful nothing x o h = named_lawful o h
   global_by_lawful acting x o h = named_lawful o h
@@ -189,8 +193,8 @@ module _ (m : Names) (law : HasFormulasAlone m) where
 
   alias_lawful : (g : Grant) (x : List ℕ) (qs : List Part) → EachLawful qs → Made PartTree (alias_by g x qs)
   alias_lawful an_alias x (piece (value a c t) ∷ []) h = h.0.0
-  alias_lawful a_target x (piece (value a c t) ∷ []) h = h.0.0
-  alias_lawful a_target x (target None y ∷ []) h = tt
+  alias_lawful aliased_target x (piece (value a c t) ∷ []) h = h.0.0
+  alias_lawful aliased_target x (target None y ∷ []) h = tt
   alias_lawful g x qs h = tt
 
   -- ---- calls
@@ -214,8 +218,13 @@ module _ (m : Names) (law : HasFormulasAlone m) where
   defaults_lawful (assigned ns xs ∷ qs) = tt
   defaults_lawful [] = tt
 
+  made_or_lowest_lawful : (f : Fun) (qs : List Part) → EachLawful qs → Made TreeLawful (made_or_lowest f qs)
+  made_or_lowest_lawful f qs h =
+      let one = unless_quiet TreeLawful (mistells f qs) 6 (made f (pieces qs)) (made_lawful f (pieces qs) (pieces_lawful qs h)) in
+      unless_quiet TreeLawful (is_some (taken_at f qs)) 5 (unless (mistells f qs) 6 (made f (pieces qs))) one
+
   called_by_lawful : (s : Setting) (k : SigShape) (qs : List Part) → may_act s.grant ≡ false → EachLawful qs → Made TreeLawful (called_by (alone m) s k qs)
-  called_by_lawful s (sig.One f) qs e h = made_lawful f (pieces qs) (pieces_lawful qs h)
+  called_by_lawful s (sig.One f) qs e h = made_or_lowest_lawful f qs h
   called_by_lawful s (sig.Either f g) qs e h = made_lawful (pick f g qs) (pieces qs) (pieces_lawful qs h)
   called_by_lawful s (sig.Literal f) qs e h = made_literal_lawful f (pieces qs) (pieces_lawful qs h)
   called_by_lawful s (sig.Form f) qs e h = formed_lawful f (pieces qs) (pieces_lawful qs h)
@@ -223,7 +232,7 @@ module _ (m : Names) (law : HasFormulasAlone m) where
   called_by_lawful s sig.Table qs e h = then_quiet AllWith TreeLawful (values qs) _ (values_lawful qs h) (λ xs k. table_lawful xs k)
   called_by_lawful s sig.Today qs e h = (tt, tt)
   called_by_lawful s sig.Defaults qs e h = defaults_lawful qs
-  called_by_lawful s (sig.Act a) qs e h = unless_refuses TreeLawful (may_act s.grant) 9 (acted m None a qs) e
+  called_by_lawful s (sig.Act a) qs e h = unless_refuses TreeLawful (may_act s.grant) 9 (unless (not (could_act a qs)) 6 (acted m None a qs)) e
 
   called_with_lawful : (s : Setting) (o : Option Signature) (qs : List Part) → may_act s.grant ≡ false → EachLawful qs → Made TreeLawful (called_with (alone m) s o qs)
   called_with_lawful s (Some f) qs e h =

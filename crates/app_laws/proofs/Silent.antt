@@ -1,5 +1,5 @@
 -- A formula that is admitted where nothing may act declares nothing.
-use Rattle.std.proofs.Common.{inl, inr, ◌⊎◌, ◌≡◌, ℕ, ◌++◌, List, [], ◌∷◌, Bool, false, length, encode_utf8_all, Option, Some, None, option_map, Result, Ok, Err, refl, ap, ◌∙◌}
+use Rattle.std.proofs.Common.{inl, inr, ◌⊎◌, ◌≡◌, ℕ, ◌++◌, List, [], ◌∷◌, Bool, false, not, length, encode_utf8_all, Option, Some, None, option_map, Result, Ok, Err, refl, ap, ◌∙◌}
 use Rattle.app_laws.specs.Laws.{AdmittedDeclaresNothing, alone}
 use Rattle.app_names.specs.Declarations.{declaration, declared_among, declared_at, declared_by, declared_in, first_name}
 use Rattle.app_names.specs.declared.declarations.Declared.{Declared}
@@ -13,6 +13,7 @@ use Rattle.fx_judge.proofs.Frame.{at_node_ok, onward_ok}
 use Rattle.app_laws.proofs.Calm.{act_of, calm_at}
 use Rattle.fx_judge.proofs.Quiet.{may_do}
 use Rattle.fx_judge.proofs.QuietParts.{Made, if_quiet, then_quiet, unless_quiet, unless_refuses}
+use Rattle.fx_judge.specs.Breaks.{could_act}
 use Rattle.fx_judge.specs.Builds.{bounded, bounded_by}
 use Rattle.fx_judge.specs.Calls.{called_by, called_with}
 use Rattle.fx_judge.specs.Deeds.{acted}
@@ -34,7 +35,7 @@ bounded_never r h = then_quiet Never Never r bounded_by h (λ x k. absurd k)
 
 -- a function that declares makes nothing where nothing may act
 refuses : (p : Place) (s : Setting) (k : SigShape) (qs : List Part) → may_act s.grant ≡ false → (declared_by (Some k) ≡ None) ⊎ Made Never (called_by p s k qs)
-refuses p s (sig.Act a) qs e = inr (unless_refuses Never (may_act s.grant) 9 (acted p.names p.screen a qs) e)
+refuses p s (sig.Act a) qs e = inr (unless_refuses Never (may_act s.grant) 9 (unless (not (could_act a qs)) 6 (acted p.names p.screen a qs)) e)
 refuses p s k qs e = inl refl
 
 never_made : (r : Result (Term × Shape) ℕ) (q : Part) → Made Never r → as_part r ≡ Ok q → ⊥
