@@ -1,8 +1,9 @@
 //! Rows that are named for a change, and what changes in them.
-ghost use Rattle.std.specs.Prelude.{◌≡◌, Err, IfOk, Ok, Result, codes, if◌then◌else◌, map, ℕ};
+ghost use Rattle.std.specs.Prelude.{◌≡◌, ◌&&◌, IfOk, Ok, Result, codes, map, ℕ};
 ghost use Rattle.fx_data.specs.TypeView.{shape};
 ghost use Rattle.fx_data.specs.Types.{Shape, column, column_list, no_columns, numbers, records};
 ghost use Rattle.fx_judge.specs.Deeds as deeds;
+ghost use Rattle.fx_rules.specs.Rules.{number_of};
 ghost use Rattle.fx_typed.specs.Term.{Term};
 ghost use Rattle.fx_typing.specs.Columns.{field_in};
 ghost use Rattle.fx_typing.specs.Local as local;
@@ -18,7 +19,7 @@ use fx_base::Memory;
 use fx_data::types::{Columns, Ty};
 use fx_data::words::Words;
 use fx_functions::deeds::Target;
-use fx_local::columns::field_in;
+use fx_local::columns::{field_in, without};
 use fx_local::typed::Typed;
 use fx_local::ways::coerced;
 use fx_local::wrong::Wrong;
@@ -48,6 +49,25 @@ fn fields_join(alloc: Global, columns: &Columns, fields: &Columns) -> Result<boo
 }
 
 // The rule that fields break which are not some of the columns: `UnknownColumn` or `WrongType`.
+fn misfit(alloc: Global, columns: &Columns, fields: &Columns) -> Result<Rule, Memory>
+    ensures { IfOk result (λ r. number_of r ≡ deeds.misfit (column_list columns.now) (column_list fields.now)) }
+{
+    if fields_join(alloc, columns, fields)? {
+        return Ok(Rule::UnknownColumn);
+    }
+    Ok(Rule::WrongType)
+}
+
+// Whether fields are some of the columns.
+fn are_columns(alloc: Global, columns: &Columns, fields: &Columns) -> Result<bool, Memory>
+    ensures { IfOk result (λ b. b ≡ deeds.joins_to (records (column_list columns.now)) (records (column_list fields.now))) }
+{
+    let row = Ty::Rec(columns.copy(alloc)?);
+    let own = Ty::Rec(fields.copy(alloc)?);
+    joins_to(alloc, &row, &own)
+}
+
+// The rule that fields break, if they are not some of the columns.
 fn broken_by_fields(
     alloc: Global,
     columns: &Columns,
@@ -56,15 +76,10 @@ fn broken_by_fields(
     ensures { IfOk result (λ o. (r : Result (Term × Shape) ℕ)
         → deeds.when_columns (column_list columns.now) (column_list fields.now) r ≡ unless_broken o r) }
 {
-    let row = Ty::Rec(columns.copy(alloc)?);
-    let own = Ty::Rec(fields.copy(alloc)?);
-    if joins_to(alloc, &row, &own)? {
+    if are_columns(alloc, columns, fields)? {
         return Ok(None);
     }
-    if fields_join(alloc, columns, fields)? {
-        return Ok(Some(Rule::UnknownColumn));
-    }
-    Ok(Some(Rule::WrongType))
+    Ok(Some(misfit(alloc, columns, fields)?))
 }
 
 // The name of the column that numbers the rows of a table.
@@ -202,27 +217,53 @@ fn row_of_one(alloc: Global, core: Core, fields: Columns) -> Result<Typed, Memor
     })
 }
 
-// A record that leaves the number of a row as it is, as a table of one row.
-fn changed(alloc: Global, target: Target, core: Core, fields: Columns) -> Result<Typed, Wrong>
-    ensures { Answers typed (if deeds.leaves_id target (column_list fields)
-        then Ok (deeds.row_of_one core (column_list fields)) else Err 12) result }
+/// The columns that a change may set: of a table all but `ID`.
+pub fn settable(alloc: Global, rows: &Changing) -> Result<Columns, Memory>
+    ensures { IfOk result (λ cs. column_list cs ≡ deeds.settable rows.now.target (column_list rows.now.columns)) }
 {
-    if !leaves_id(alloc, target, &fields)? {
-        return Err(Wrong::Breaks(Rule::UnknownColumn));
+    let columns = rows.columns.copy(alloc)?;
+    match rows.target {
+        Target::Table(_) => {
+            let id = id_name(alloc)?;
+            Ok(without(&id, columns))
+        }
+        Target::Gathered(_) => Ok(columns),
     }
-    Ok(row_of_one(alloc, core, fields)?)
+}
+
+// Whether a change of these fields is one of the rows.
+fn is_change(alloc: Global, rows: &Changing, fields: &Columns) -> Result<bool, Memory>
+    ensures { IfOk result (λ b. b ≡ (deeds.joins_to (records (column_list rows.now.columns)) (records (column_list fields.now))
+        && deeds.leaves_id rows.now.target (column_list fields.now))) }
+{
+    Ok(are_columns(alloc, &rows.columns, fields)? && leaves_id(alloc, rows.target, fields)?)
+}
+
+// The rule that a change of these fields breaks, if it breaks one: `UnknownColumn` or `WrongType`.
+fn broken_by_change(
+    alloc: Global,
+    rows: &Changing,
+    fields: &Columns,
+) -> Result<Option<Rule>, Memory>
+    ensures { IfOk result (λ o. (c : Term)
+        → deeds.change_of rows.now.target (column_list rows.now.columns) (c, records (column_list fields.now))
+        ≡ unless_broken o (Ok (deeds.row_of_one c (column_list fields.now)))) }
+{
+    if is_change(alloc, rows, fields)? {
+        return Ok(None);
+    }
+    let columns = settable(alloc, rows)?;
+    Ok(Some(misfit(alloc, &columns, fields)?))
 }
 
 // A record of some of the columns, as a change.
 fn change_by(alloc: Global, rows: &Changing, core: Core, fields: Columns) -> Result<Typed, Wrong>
-    ensures { Answers typed (deeds.when_columns (column_list rows.now.columns) (column_list fields)
-        (if deeds.leaves_id rows.now.target (column_list fields)
-        then Ok (deeds.row_of_one core (column_list fields)) else Err 12)) result }
+    ensures { Answers typed (deeds.change_of rows.now.target (column_list rows.now.columns) (core, records (column_list fields))) result }
 {
-    let broken = broken_by_fields(alloc, &rows.columns, &fields)?;
+    let broken = broken_by_change(alloc, rows, &fields)?;
     match broken {
         Some(rule) => Err(Wrong::Breaks(rule)),
-        None => changed(alloc, rows.target, core, fields),
+        None => Ok(row_of_one(alloc, core, fields)?),
     }
 }
 
