@@ -1,8 +1,11 @@
 //! Variables that are given values.
-ghost use Rattle.std.specs.Prelude.{◌≡◌, ◌∷◌, [], Ok, Some, map};
+ghost use Rattle.std.specs.Prelude.{◌≡◌, ◌∷◌, ◌++◌, [], List, Result, Some, map, ℕ};
+ghost use Rattle.fx_functions.specs.declared.sources.Source.{Source as GivenSource};
 ghost use Rattle.fx_judge.specs.Deeds as deeds;
 ghost use Rattle.fx_judge.specs.Targets.{screen_variable};
+ghost use Rattle.fx_judge.specs.Parts as parts;
 ghost use Rattle.fx_names.specs.Lawful.{IsLawful};
+ghost use Rattle.fx_typed.specs.Term.{Term};
 ghost use Rattle.fx_local.specs.Answers.{Answers};
 ghost use Rattle.fx_local.specs.TypedView.{typed};
 ghost use Rattle.fx_scopes.specs.PartView.{part};
@@ -10,6 +13,7 @@ ghost use Rattle.fx_scopes.specs.PartView.{part};
 use crate::values::values;
 use fx_calls::few::one;
 use fx_calls::given::{alone, context_given, done_by, given};
+use fx_calls::lowest::both;
 use fx_data::words::Words;
 use fx_functions::deeds::Deed;
 use fx_functions::sources::Source;
@@ -59,7 +63,7 @@ fn give_one(
     value: Typed,
 ) -> Result<(Source, Core), Wrong>
     requires { IsLawful names.now }
-    ensures { Answers (λ g. g ∷ []) (deeds.give_one (screen_variable names.now screen name.now) (typed value) (Ok [])) result }
+    ensures { Answers (λ g. g) (deeds.give_one (screen_variable names.now screen name.now) (typed value)) result }
 {
     let Some((number, variable)) = screen_variable(names, screen, name) else {
         return Err(Wrong::Breaks(Rule::NotAVariable));
@@ -68,7 +72,20 @@ fn give_one(
     Ok((Source::Context(number), value.core))
 }
 
-// The variables of these names of a screen, with their values.
+// One variable more with its value, or the lowest rule that is broken.
+fn keep(
+    kept: Result<Vec<(Source, Core)>, Wrong>,
+    next: Result<(Source, Core), Wrong>,
+) -> Result<Vec<(Source, Core)>, Wrong>
+    ensures { (p : Result (List (GivenSource × Term)) ℕ) (q : Result (GivenSource × Term) ℕ) → Answers (λ gs. gs.items) p kept → Answers (λ g. g) q next
+        → Answers (λ gs. gs.items) (parts.lowest (λ gs g. gs ++ g ∷ []) p q) result }
+{
+    let (mut all, last) = both(kept, next)?;
+    all.push(last)?;
+    Ok(all)
+}
+
+// The variables of these names of a screen, with their values, or the lowest rule that one breaks.
 fn give_all(
     alloc: Global,
     names: &Names,
@@ -79,16 +96,15 @@ fn give_all(
     requires { IsLawful names.now }
     ensures { Answers (λ gs. gs.items) (deeds.give_all names.now screen variables.items (map typed values.items)) result }
 {
-    let mut given = Vec::new(alloc);
+    let mut given = Ok(Vec::new(alloc));
     let mut left = values.into_iter();
     for name in variables {
         let Some(value) = left.next() else {
-            return Ok(given);
+            return given;
         };
-        let next = give_one(alloc, names, screen, &name, value)?;
-        given.push(next)?;
+        given = keep(given, give_one(alloc, names, screen, &name, value));
     }
-    Ok(given)
+    given
 }
 
 // `UpdateContext` of this part, on this screen.

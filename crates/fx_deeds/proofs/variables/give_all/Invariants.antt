@@ -1,10 +1,12 @@
-use Rattle.std.proofs.Common.{◌≡◌, map}
+use Rattle.std.proofs.Common.{map, Vec, Global}
+use Rattle.fx_functions.specs.declared.sources.Source.{Source}
 use Rattle.fx_judge.specs.Deeds.{give_all}
 use Rattle.fx_local.specs.TypedView.{typed}
-use Rattle.fx_calls.specs.Lists.{behind}
+use Rattle.fx_typed.specs.declared.trees.Core.{Core}
+use Rattle.fx_deeds.proofs.Gives.{Gives}
 use Rattle.fx_deeds.proofs.variables.give_all.Given as goal
 
 abbrev pub invariant-loop-name : goal.invariant-loop-name
 invariant-loop-name l =
-    behind l.given.items (give_all l.names l.screen l.name-iterator.rest.items (map typed l.left.rest.items))
-    ≡ give_all l.names l.screen l.fn.variables.items (map typed l.fn.values.items)
+    Gives l.names l.screen (λ (gs : Vec (Source × Core) Global). gs.items) l.given l.name-iterator.rest.items (map typed l.left.rest.items)
+    (give_all l.names l.screen l.fn.variables.items (map typed l.fn.values.items))
