@@ -1,10 +1,9 @@
 -- Columns that are told in pairs.
 use Rattle.std.proofs.Common.{◌≡◌, ℕ, ◌-◌, ◌≤◌, List, [], ◌∷◌, length, map, take, drop, get_or, true, Option, Some, None, is_some, option_map, Ok, refl, sym, ap, ◌∙◌, arith}
 use Rattle.fx_data.specs.Types.{Shape, ColumnList}
-use Rattle.fx_typed.specs.Term.{Term}
-use Rattle.fx_typing.specs.Columns.{field_in, with_new, with_renamed}
-use Rattle.fx_typing.specs.Local.{Piece, value, label}
-use Rattle.fx_judge.specs.Details.{or_stuck, stuck_added, stuck_renamed, unless_there}
+use Rattle.fx_typing.specs.Columns.{field_in, with_renamed}
+use Rattle.fx_typing.specs.Local.{Piece, label}
+use Rattle.fx_judge.specs.Details.{or_stuck, stuck_renamed, unless_there}
 
 take_all : {A : Type 0} (xs : List A) → take (length xs) xs ≡ xs
 take_all [] = refl
@@ -21,17 +20,6 @@ pair_split f (x ∷ []) a b h p q = absurd (omega arith)
 pair_split f (x ∷ y ∷ xs) a b h p q =
     ap (λ z. f z ∷ f y ∷ map f xs) (sym p) ∙ ap (λ z. f a ∷ f z ∷ map f xs) (sym q)
     ∙ ap (λ ys. f a ∷ f b ∷ map f ys) (sym (behind_pair x y xs))
-
--- one column more
-pub added_step : {A : Type 0} (f : A → Piece) (xs : List A) (a b : A) (x : List ℕ) (o : Option (List ℕ)) (c : Term) (t : Shape) (cs ds : ColumnList) →
-    2 ≤ length xs → a ≡ get_or xs 0 a → b ≡ get_or xs 1 b → f a ≡ label x → f b ≡ value o c t → with_new x t cs ≡ Ok ds →
-    stuck_added (map f (take (length xs - 2) (drop 2 xs))) ds ≡ stuck_added (map f xs) cs
-added_step f xs a b x o c t cs ds h p q e k w =
-    let rest = map f (take (length xs - 2) (drop 2 xs)) in
-    sym (ap (λ ps. stuck_added ps cs) (pair_split f xs a b h p q)
-    ∙ ap (λ z. stuck_added (z ∷ f b ∷ rest) cs) e
-    ∙ ap (λ z. stuck_added (label x ∷ z ∷ rest) cs) k
-    ∙ ap (λ r. or_stuck r x (stuck_added rest)) w)
 
 -- one column under a new name
 pub renamed_step : {A : Type 0} (f : A → Piece) (xs : List A) (a b : A) (x y : List ℕ) (t : Shape) (cs ds : ColumnList) →

@@ -1,2 +1,1 @@
-pub mod FirstColumns
 pub mod Gaps

@@ -1,6 +1,7 @@
 //! What is said of a broken node besides the rule that it breaks.
 #![tactic(auto)]
 
+pub mod acted;
 pub mod borrowed;
 pub mod details;
 pub mod flaw;

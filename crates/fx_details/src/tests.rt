@@ -21,7 +21,7 @@ use fx_typed::make;
 use std::alloc::Global;
 use std::test::Fail;
 
-static SIGNATURES: [Signature; 6] = [
+static SIGNATURES: [Signature; 7] = [
     Signature {
         name: "Filter",
         shape: SigShape::One(Fun::Filter),
@@ -55,6 +55,13 @@ static SIGNATURES: [Signature; 6] = [
         shape: SigShape::Act(Acting::Set),
         least: 2,
         most: 2,
+        acts: true,
+    },
+    Signature {
+        name: "Patch",
+        shape: SigShape::Act(Acting::Patch),
+        least: 3,
+        most: 255,
         acts: true,
     },
     Signature {
@@ -150,6 +157,7 @@ fn node_of(alloc: Global, name: &str) -> Result<Expr, Memory> {
     let node = match name {
         "[]" => Node::List(Args::new(alloc)),
         ";" => Node::Chain(Args::new(alloc)),
+        "And" => Node::And(Args::new(alloc)),
         "Home" => Node::Name(Words::of(alloc, name)?),
         _ => Node::Call(Words::of(alloc, name)?, Args::new(alloc)),
     };
@@ -265,6 +273,12 @@ fn parts_are_told_by_rule(rt: HostRuntime) -> Result<(), Fail> {
             [Table, Missing, Missing],
             "Filter 1",
         ),
+        (
+            Rule::WrongCount,
+            "And",
+            [Missing, Missing, Missing],
+            "And 0",
+        ),
         (Rule::NoFunction, "Foo", [Number, Missing, Missing], "Foo"),
         (Rule::BehaviourInPure, ";", [Number, Number, Missing], ";"),
         (
@@ -278,6 +292,12 @@ fn parts_are_told_by_rule(rt: HostRuntime) -> Result<(), Fail> {
             "DropColumns",
             [Table, Column("Foo"), Missing],
             "Foo",
+        ),
+        (
+            Rule::UnknownColumn,
+            "Patch",
+            [Target("Stock"), Change, Change],
+            "ID",
         ),
         (
             Rule::UnknownColumn,

@@ -97,7 +97,8 @@ pub fn word_counted(alloc: Global, text: &str, number: usize) -> Result<Words, M
     counted(alloc, &name, number)
 }
 
-/// What a node is called: by its name, and a chain by its mark. Other nodes have no name.
+/// What a node is called: by its name or the name of its call, and a chain by its mark. Other nodes
+/// have no name.
 pub fn head_name(alloc: Global, whole: &Expr) -> Result<Words, Memory>
     ensures { IfOk result (λ w. w ≡ told.head_name (head_of whole.now)) }
 {
@@ -108,6 +109,8 @@ pub fn head_name(alloc: Global, whole: &Expr) -> Result<Words, Memory>
         | Node::Call(name, _)
         | Node::Alias(_, name) => name.copy(alloc),
         Node::Chain(_) => word(alloc, ";"),
+        Node::And(_) => word(alloc, "And"),
+        Node::Or(_) => word(alloc, "Or"),
         _ => nothing(alloc),
     }
 }
