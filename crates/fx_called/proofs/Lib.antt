@@ -1,3 +1,4 @@
 pub mod Blanks
+pub mod InTurn
 pub mod Literals
 pub mod Named

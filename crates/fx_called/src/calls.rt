@@ -17,6 +17,8 @@ ghost use Rattle.fx_scopes.specs.MeaningView.{place};
 ghost use Rattle.fx_scopes.specs.PartView.{part};
 ghost use Rattle.fx_scopes.specs.SettingView.{setting};
 
+use crate::fitting::{could_act, mistells};
+use crate::taken::taken_at;
 use fx_base::Memory;
 use fx_calls::limits::bounded;
 use fx_calls::lists::{table_of, with_of};
@@ -26,7 +28,7 @@ use fx_data::words::Words;
 use fx_deeds::deeds::acted;
 use fx_deeds::rows::find_rows;
 use fx_deeds::values::{named_first, pieces, values};
-use fx_functions::functions::Fun;
+use fx_functions::functions::{Acting, Fun};
 use fx_functions::literals::with_literal;
 use fx_functions::rows::{is_within, row_of};
 use fx_functions::signatures::{SigShape, Signature, signature_in};
@@ -135,6 +137,38 @@ pub fn unless(breaks: bool, rule: Rule, made: Result<Typed, Wrong>) -> Result<Ty
     }
 }
 
+// A call of a function, or the lowest rule that its parts break.
+fn made_or_lowest(alloc: Global, fun: Fun, all: Vec<Part>) -> Result<Typed, Wrong>
+    ensures { Answers typed (calls.made_or_lowest fun (map part all.entry.items)) result }
+{
+    let is_taken = taken_at(alloc, fun, all.as_slice())?.is_some();
+    let is_mistold = mistells(alloc, fun, all.as_slice())?;
+    let found = made(alloc, fun, pieces(alloc, all)?);
+    unless(
+        is_taken,
+        Rule::NameTwice,
+        unless(is_mistold, Rule::WrongType, found),
+    )
+}
+
+// An acting call, where it stands, or the lowest rule that it breaks.
+fn acted_or_lowest(
+    alloc: Global,
+    at: &Place,
+    stand: Stand,
+    acting: Acting,
+    all: Vec<Part>,
+) -> Result<Typed, Wrong>
+    requires { IsLawful at.now.names.now }
+    ensures { (ss : List meaning.Scope)
+        → Answers typed (calls.acted_or_lowest (place at.now) (setting ss stand) acting (map part all.entry.items)) result }
+{
+    let fits = could_act(alloc, acting, all.as_slice())?;
+    let found = acted(alloc, at.names, at.screen, acting, all);
+    let found = unless(!fits, Rule::WrongType, found);
+    unless(!stand.grant.may_act(), Rule::BehaviourInPure, found)
+}
+
 /// A call of a function of this shape, of these parts, where it stands, or the rule that is broken.
 pub fn called_by(
     alloc: Global,
@@ -148,7 +182,7 @@ pub fn called_by(
         → Answers typed (calls.called_by (place at.now) (setting ss stand) shape (map part all.entry.items)) result }
 {
     match shape {
-        SigShape::One(fun) => made(alloc, fun, pieces(alloc, all)?),
+        SigShape::One(fun) => made_or_lowest(alloc, fun, all),
         SigShape::Either(scalars, rows) => {
             let fun = pick(scalars, rows, all.as_slice());
             made(alloc, fun, pieces(alloc, all)?)
@@ -162,10 +196,7 @@ pub fn called_by(
             ty: Ty::Date,
         }),
         SigShape::Defaults => defaults_of(alloc, at.names, all),
-        SigShape::Act(acting) => {
-            let found = acted(alloc, at.names, at.screen, acting, all);
-            unless(!stand.grant.may_act(), Rule::BehaviourInPure, found)
-        }
+        SigShape::Act(acting) => acted_or_lowest(alloc, at, stand, acting, all),
     }
 }
 

@@ -2,5 +2,8 @@
 #![tactic(auto)]
 
 pub mod calls;
+pub mod fitting;
+pub mod taken;
 
 pub use calls::{called, called_by, unless};
+pub use taken::taken_at;

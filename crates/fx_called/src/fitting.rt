@@ -1,0 +1,141 @@
+//! Parts of a wrong type, whatever else a call breaks.
+ghost use Rattle.std.specs.Prelude.{◌≡◌, ◌∷◌, [], IfOk, codes, map, not};
+ghost use Rattle.fx_data.specs.TypeView.{shape};
+ghost use Rattle.fx_data.specs.Types.{column_list};
+ghost use Rattle.fx_functions.specs.declared.functions.Acting.TheVariants as acts;
+ghost use Rattle.fx_functions.specs.declared.functions.Fun.TheVariants as fun;
+ghost use Rattle.fx_judge.specs.Breaks as breaks;
+ghost use Rattle.fx_judge.specs.Parts as parts;
+ghost use Rattle.fx_typing.specs.Columns.{field_in, is_told_or_missing};
+ghost use Rattle.fx_typing.specs.Ways.{is_open, way};
+ghost use Rattle.fx_scopes.specs.PartView.{part};
+
+use fx_base::Memory;
+use fx_data::types::{Columns, Ty};
+use fx_data::words::Words;
+use fx_functions::functions::{Acting, Fun};
+use fx_local::Piece;
+use fx_local::columns::field_in;
+use fx_local::ways::{Way, way_to};
+use fx_scopes::Part;
+use std::alloc::Global;
+
+// Whether a type comes to another.
+fn is_open(alloc: Global, from: &Ty, to: &Ty) -> Result<bool, Memory>
+    ensures { IfOk result (λ b. b ≡ is_open (way (shape from.now) (shape to.now))) }
+{
+    match way_to(alloc, from, to)? {
+        Way::Same | Way::Changed => Ok(true),
+        Way::Refused => Ok(false),
+    }
+}
+
+// The name of the field that tells of an error.
+fn message_name(alloc: Global) -> Result<Words, Memory>
+    ensures { IfOk result (λ w. w ≡ codes "Message") }
+{
+    Ok(Words::of(alloc, "Message")?)
+}
+
+// Whether fields have a `Message` that is no text.
+fn has_no_text(alloc: Global, columns: &Columns) -> Result<bool, Memory>
+    ensures { IfOk result (λ b. b ≡ not (is_told_or_missing (field_in (codes "Message") (column_list columns.now)))) }
+{
+    let message = message_name(alloc)?;
+    match field_in(&message, columns) {
+        Some(told) => Ok(!is_open(alloc, told, &Ty::Text)?),
+        None => Ok(false),
+    }
+}
+
+// Whether a part is a record with a `Message` that is no text.
+fn tells_no_text(alloc: Global, one: &Part) -> Result<bool, Memory>
+    ensures { IfOk result (λ b. b ≡ breaks.mistells fun.Error (part one.now ∷ [])) }
+{
+    match one {
+        Part::Piece(Piece::Value(_, value)) => match &value.ty {
+            Ty::Rec(columns) => has_no_text(alloc, columns),
+            _ => Ok(false),
+        },
+        _ => Ok(false),
+    }
+}
+
+/// Whether an error is told with a `Message` that is no text.
+pub fn mistells(alloc: Global, fun: Fun, all: &[Part]) -> Result<bool, Memory>
+    ensures { IfOk result (λ b. b ≡ breaks.mistells fun (map part all.now)) }
+{
+    match (fun, all) {
+        (Fun::Error, [one]) => tells_no_text(alloc, one),
+        _ => Ok(false),
+    }
+}
+
+// Whether a part can be a row or a change.
+fn could_be_row(one: &Part) -> bool
+    ensures { result ≡ breaks.could_be_row (part one.now) }
+{
+    match one {
+        Part::Piece(Piece::Value(_, value)) => matches!(value.ty, Ty::Rec(_) | Ty::Blank),
+        _ => false,
+    }
+}
+
+// Whether all parts can be rows or changes.
+fn could_be_rows(all: &[Part]) -> bool
+    ensures { result ≡ breaks.all_could breaks.could_be_row (map part all.now) }
+{
+    for one in all {
+        if !could_be_row(one) {
+            return false;
+        }
+    }
+    true
+}
+
+// Whether a part can be a condition.
+fn could_be_condition(alloc: Global, one: &Part) -> Result<bool, Memory>
+    ensures { IfOk result (λ b. b ≡ breaks.could_be_condition (part one.now)) }
+{
+    match one {
+        Part::Piece(Piece::Value(_, value)) => is_open(alloc, &value.ty, &Ty::Boolean),
+        _ => Ok(false),
+    }
+}
+
+// Whether all parts can be conditions.
+fn could_be_conditions(alloc: Global, all: &[Part]) -> Result<bool, Memory>
+    ensures { IfOk result (λ b. b ≡ breaks.all_could breaks.could_be_condition (map part all.now)) }
+{
+    for one in all {
+        if !could_be_condition(alloc, one)? {
+            return Ok(false);
+        }
+    }
+    Ok(true)
+}
+
+// Whether parts can be a condition and changes.
+fn could_update(alloc: Global, all: &[Part]) -> Result<bool, Memory>
+    ensures { (q : parts.Part) → IfOk result (λ b. b ≡ breaks.could_act acts.UpdateIf (q ∷ map part all.now)) }
+{
+    let Some((condition, changes)) = all.split_first() else {
+        return Ok(true);
+    };
+    Ok(could_be_condition(alloc, condition)? && could_be_rows(changes))
+}
+
+/// Whether the parts of an acting call can be rows, conditions and changes, whatever it acts on.
+pub fn could_act(alloc: Global, acting: Acting, all: &[Part]) -> Result<bool, Memory>
+    ensures { IfOk result (λ b. b ≡ breaks.could_act acting (map part all.now)) }
+{
+    let Some((_, others)) = all.split_first() else {
+        return Ok(true);
+    };
+    match acting {
+        Acting::Patch | Acting::Remove => Ok(could_be_rows(others)),
+        Acting::RemoveIf => could_be_conditions(alloc, others),
+        Acting::UpdateIf => could_update(alloc, others),
+        _ => Ok(true),
+    }
+}
