@@ -98,7 +98,7 @@ fn name_by<'a>(
 {
     match allowed {
         Grant::AColumn => Ok(Part::Piece(Piece::Label(name.copy(alloc)?))),
-        Grant::ATarget => Ok(Part::Target(None, name.copy(alloc)?)),
+        Grant::ATarget | Grant::AliasedTarget => Ok(Part::Target(None, name.copy(alloc)?)),
         Grant::AMeaning(_) => before_dot(meaning),
         Grant::Nothing | Grant::Acting | Grant::AnAlias | Grant::OnScreen(_) => {
             as_part(as_value(meaning))
@@ -117,7 +117,7 @@ fn global_by<'a>(
         (typing.global_by (grant allowed) name.now (option_map meaning_view meaning.entry)) result }
 {
     match allowed {
-        Grant::ATarget => Ok(Part::Target(None, name.copy(alloc)?)),
+        Grant::ATarget | Grant::AliasedTarget => Ok(Part::Target(None, name.copy(alloc)?)),
         Grant::AMeaning(_) => before_dot(meaning),
         Grant::Nothing | Grant::Acting | Grant::AnAlias | Grant::AColumn | Grant::OnScreen(_) => {
             as_part(as_value(meaning))
@@ -175,11 +175,15 @@ fn alias_value<'a>(
         (parts.piece (local.value a value.core (shape value.ty)) ∷ [])) result }
 {
     match allowed {
-        Grant::AnAlias | Grant::ATarget => {
+        Grant::AnAlias | Grant::AliasedTarget => {
             Ok(Part::Piece(Piece::Value(Some(name.copy(alloc)?), value)))
         }
-        Grant::Nothing | Grant::Acting | Grant::AColumn | Grant::AMeaning(_) | Grant::OnScreen(_) =>
-            Err(Wrong::Breaks(Rule::WrongType)),
+        Grant::Nothing
+        | Grant::Acting
+        | Grant::AColumn
+        | Grant::ATarget
+        | Grant::AMeaning(_)
+        | Grant::OnScreen(_) => Err(Wrong::Breaks(Rule::WrongType)),
     }
 }
 
@@ -193,11 +197,12 @@ fn alias_target<'a>(
     ensures { Answers part (typing.alias_by (grant allowed) name.now (parts.target None changed ∷ [])) result }
 {
     match allowed {
-        Grant::ATarget => Ok(Part::Target(Some(name.copy(alloc)?), changed)),
+        Grant::AliasedTarget => Ok(Part::Target(Some(name.copy(alloc)?), changed)),
         Grant::Nothing
         | Grant::Acting
         | Grant::AnAlias
         | Grant::AColumn
+        | Grant::ATarget
         | Grant::AMeaning(_)
         | Grant::OnScreen(_) => Err(Wrong::Breaks(Rule::WrongType)),
     }
@@ -240,6 +245,7 @@ fn record_as<'a>(
         | Grant::AnAlias
         | Grant::AColumn
         | Grant::ATarget
+        | Grant::AliasedTarget
         | Grant::AMeaning(_) => as_part(record_of(alloc, names, values)),
     }
 }

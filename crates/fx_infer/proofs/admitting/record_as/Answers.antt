@@ -12,4 +12,4 @@ pub returns-in-Nothing : goal.returns-in-Nothing
 returns-in-Nothing c =
     let P : Grant → Type 0 = λ a. Answers part (record_as (grant a) c.args.names.items (map typed c.args.values.items)) c.as_part.result in
     let w = c.as_part.ensures (record_of c.args.names.items (map typed c.args.values.items)) c.record_of.ensures in
-    elim c.in-Nothing.is [ inl e ↦ subst P (sym e) w | inr or2 ↦ (elim or2 [ inl e ↦ subst P (sym e) w | inr or3 ↦ (elim or3 [ inl e ↦ subst P (sym e) w | inr or4 ↦ (elim or4 [ inl e ↦ subst P (sym e) w | inr or5 ↦ (elim or5 [ inl e ↦ subst P (sym e) w | inr d ↦ subst P (sym d.1) w ]) ]) ]) ]) ]
+    elim c.in-Nothing.is [ inl e ↦ subst P (sym e) w | inr or2 ↦ (elim or2 [ inl e ↦ subst P (sym e) w | inr or3 ↦ (elim or3 [ inl e ↦ subst P (sym e) w | inr or4 ↦ (elim or4 [ inl e ↦ subst P (sym e) w | inr or5 ↦ (elim or5 [ inl e ↦ subst P (sym e) w | inr or6 ↦ (elim or6 [ inl e ↦ subst P (sym e) w | inr d ↦ subst P (sym d.1) w ]) ]) ]) ]) ]) ]
