@@ -1,0 +1,6 @@
+use Rattle.std.proofs.Common.{◌≡◌, map, take}
+use Rattle.fx_data.specs.ValueView.{view}
+use Rattle.row_queries.proofs.rows.Cells.copy.Given as goal
+
+abbrev pub invariant-loop-cell : goal.invariant-loop-cell
+invariant-loop-cell l = l.items.items ≡ take l.cell-index l.cell-items

@@ -1,0 +1,9 @@
+pub mod ConditionCode
+pub mod ConditionFalls
+pub mod ConditionView
+pub mod Conditions
+pub mod Queries
+pub mod Ranges
+pub mod RowTests
+pub mod TableRows
+pub mod Visits

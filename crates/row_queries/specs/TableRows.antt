@@ -1,0 +1,61 @@
+-- The rows of a table, and the records that they are.
+use Rattle.std.specs.Prelude.{◌≡◌, true, ℕ, ◌*◌, ◌<◌, ◌≤◌, pos, List, [], ◌∷◌, length, slice_get, unwrap_or, map}
+use Rattle.std.specs.List.{All}
+use Rattle.fx_data.specs.TypeView.{shape}
+use Rattle.fx_data.specs.Values.{Data, blank, number, tab, row_list}
+use Rattle.fx_names.specs.declared.schema.Column.{Column}
+use Rattle.fx_names.specs.declared.schema.TableShape.{TableShape}
+use Rattle.fx_names.specs.Lawful.{id_name}
+use Rattle.fx_order.specs.Order.{IsScalar}
+use Rattle.fx_tables.specs.Columns.{with_field}
+use Rattle.fx_tables.specs.Columns.{Row as Fields}
+use Rattle.fx_value.specs.Fits.{fits_in}
+use Rattle.row_queries.specs.declared.rows.Row.{Row}
+
+-- the number of a row, as a value of the column `ID`
+abbrev pub id_value : ℕ → Data
+id_value id = number (pos (id * 10000))
+
+-- the values of a row by its columns: `ID` is column 0
+abbrev pub values_of : Row → List Data
+values_of r = id_value r.id ∷ r.cells
+
+abbrev pub value_at : List Data → ℕ → Data
+value_at values column = unwrap_or (slice_get values column) blank
+
+-- a cell for each column, a scalar of its type or blank, and no error
+abbrev pub AreCellsOf : List Column → List Data → Type 0
+AreCellsOf [] [] = Unit {0}
+AreCellsOf (c ∷ cs) (d ∷ ds) = IsScalar d × (fits_in d (shape c.ty) ≡ true) × AreCellsOf cs ds
+AreCellsOf cs ds = ⊥
+
+-- a row that fits a table; numbers begin at 1
+abbrev pub IsRowOf : TableShape → Row → Type 0
+IsRowOf t r = (1 ≤ r.id) × AreCellsOf t.columns r.cells
+
+-- the number is below that of each row
+abbrev pub IsBelowAll : ℕ → List Row → Type 0
+IsBelowAll id [] = Unit {0}
+IsBelowAll id (r ∷ rs) = (id < r.id) × IsBelowAll id rs
+
+-- rows by rising numbers
+abbrev pub AreInIdOrder : List Row → Type 0
+AreInIdOrder [] = Unit {0}
+AreInIdOrder (r ∷ rs) = IsBelowAll r.id rs × AreInIdOrder rs
+
+-- the rows of a table by its number, where these are the rows of all tables
+abbrev pub rows_at : List (List Row) → ℕ → List Row
+rows_at tables table = unwrap_or (slice_get tables table) []
+
+-- cells under the names of their columns, beside other fields, by rising names
+abbrev pub with_cells : List Column → List Data → Fields → Fields
+with_cells (c ∷ cs) (d ∷ ds) fields = with_cells cs ds (with_field c.name d fields)
+with_cells cs ds fields = fields
+
+-- a row as a record, with its number under `ID`
+abbrev pub record_of : TableShape → Row → Fields
+record_of t r = with_cells t.columns r.cells ((id_name, id_value r.id) ∷ [])
+
+-- rows as a table
+abbrev pub table_of : TableShape → List Row → Data
+table_of t rows = tab (row_list (map (record_of t) rows))
