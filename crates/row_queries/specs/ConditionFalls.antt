@@ -1,5 +1,5 @@
 -- What is in a row test is smaller than it.
-use Rattle.std.specs.Prelude.{ℕ, ◌+◌, ◌≤◌, List, [], ◌∷◌}
+use Rattle.std.specs.Prelude.{◌+◌, ◌≤◌, List, [], ◌∷◌}
 use Rattle.std.proofs.Common.{arith}
 use Rattle.row_queries.specs.Conditions.{Condition, condition_size, conditions_size}
 use Rattle.row_queries.specs.ConditionView.{condition}

@@ -1,7 +1,10 @@
+pub mod Answers
 pub mod ConditionCode
 pub mod ConditionFalls
 pub mod ConditionView
 pub mod Conditions
+pub mod Judgements
+pub mod Laws
 pub mod Queries
 pub mod Ranges
 pub mod RowTests

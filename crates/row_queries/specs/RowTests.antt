@@ -1,6 +1,5 @@
 -- What row tests come to: what the conditions that they stand for come to, on a row.
-use Rattle.std.specs.Prelude.{◌≡◌, ℕ, nat_eq, Bool, true, false, ◌||◌, List, [], ◌∷◌, Option, Some, None, slice_get, IsSomeAnd}
-use Rattle.std.specs.List.{starts_with}
+use Rattle.std.specs.Prelude.{ℕ, Bool, true, false, ◌||◌, List, [], ◌∷◌, bytes_eq, length, take, Option, Some, None, slice_get, IsSomeAnd}
 use Rattle.caseless.specs.Caseless.{default_case_fold}
 use Rattle.fx_data.specs.declared.faults.Fault.{Fault}
 use Rattle.fx_data.specs.declared.faults.Kind.{Kind}
@@ -61,7 +60,7 @@ is_empty d = false
 
 -- a text begins with a part, and has it somewhere
 abbrev pub begins : List ℕ → List ℕ → Bool
-begins cs part = starts_with nat_eq cs part
+begins cs part = bytes_eq (take (length part) cs) part
 
 abbrev pub has_part : List ℕ → List ℕ → Bool
 has_part [] part = begins [] part

@@ -1,6 +1,5 @@
 -- The rows of a table, and the records that they are.
-use Rattle.std.specs.Prelude.{◌≡◌, true, ℕ, ◌*◌, ◌<◌, ◌≤◌, pos, List, [], ◌∷◌, length, slice_get, unwrap_or, map}
-use Rattle.std.specs.List.{All}
+use Rattle.std.specs.Prelude.{◌≡◌, true, ℕ, ◌*◌, ◌<◌, ◌≤◌, pos, List, [], ◌∷◌, slice_get, unwrap_or, map}
 use Rattle.fx_data.specs.TypeView.{shape}
 use Rattle.fx_data.specs.Values.{Data, blank, number, tab, row_list}
 use Rattle.fx_names.specs.declared.schema.Column.{Column}

@@ -1,5 +1,4 @@
-use Rattle.std.proofs.Common.{◌≡◌, map, take}
-use Rattle.fx_data.specs.ValueView.{view}
+use Rattle.std.proofs.Common.{◌≡◌, take}
 use Rattle.row_queries.proofs.rows.Cells.copy.Given as goal
 
 abbrev pub invariant-loop-cell : goal.invariant-loop-cell

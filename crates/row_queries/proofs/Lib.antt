@@ -1,0 +1,5 @@
+pub mod Asked
+pub mod Fitting
+pub mod Judging
+pub mod Texts
+pub mod Worked
