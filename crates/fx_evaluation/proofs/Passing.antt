@@ -16,10 +16,12 @@ went_on a b c p q = record {
   scope = q.scope ∙ p.scope;
   faults = let f = p.faults in let g = q.faults in omega arith;
   ticks = let s = p.ticks in let t = q.ticks in omega arith;
+  visited = let v = p.visited in let w = q.visited in omega arith;
+  tables = q.tables ∙ p.tables;
 }
 
 pub went_nowhere : (a : Moment) → Went a a
-went_nowhere a = record { fixed = refl; scope = refl; faults = omega arith; ticks = refl }
+went_nowhere a = record { fixed = refl; scope = refl; faults = omega arith; ticks = refl; visited = omega arith; tables = refl }
 
 -- what holds of the types and of what the scope holds
 pub as_before : (P : (Source → Option Shape) → Held → Type 0) (a b : Moment) → Went a b → P a.fixed.types a.scope → P b.fixed.types b.scope
@@ -39,7 +41,7 @@ held_before P a b w h =
 
 -- an evaluation in another scope, after which the scope is as it was
 pub went_inside : (a b : Moment) (x s : Held) → Went (record a { scope = x }) b → s ≡ a.scope → Went a (record b { scope = s })
-went_inside a b x s w e = record { fixed = w.fixed; scope = e; faults = w.faults; ticks = w.ticks }
+went_inside a b x s w e = record { fixed = w.fixed; scope = e; faults = w.faults; ticks = w.ticks; visited = w.visited; tables = w.tables }
 
 -- the rows without the one that was added
 pub popped : (xs : List Value) (x : Value) (ds : List Data) (d : Data) → map view (xs ++ x ∷ []) ≡ ds ++ d ∷ [] → map view xs ≡ ds

@@ -1,15 +1,21 @@
 //! What typed trees are evaluated over.
-ghost use Rattle.std.specs.Prelude.{◌≡◌, ℕ, ◌+◌, ◌<◌, ◌≤◌, IsSome, IfOk, IsErrOf};
+ghost use Rattle.std.specs.Prelude.{◌≡◌, ℕ, ◌+◌, ◌<◌, ◌≤◌, List, Option, IsSome, IfOk, IsErrOf};
 ghost use Rattle.fx_data.specs.ValueView.{view};
 ghost use Rattle.fx_evaluation.specs.Scopes.{Fixed};
 ghost use Rattle.fx_evaluation.specs.declared.environment.Stop.TheVariants.{Memory as OutOfMemory};
 ghost use Rattle.fx_fresh.specs.Sources.{Gives};
+ghost use Rattle.row_queries.specs.Answers.{IsCountValue, IsScanValue, IsTotalValue, rows_in};
+ghost use Rattle.row_queries.specs.Queries.{CanTotal, IsQuery};
+ghost use Rattle.row_queries.specs.RowTests.{HasNoFaults};
+ghost use Rattle.row_queries.specs.Visits.{VisitsAtLeast, VisitsTold};
+ghost use Rattle.row_queries.specs.declared.rows.Row.{Row};
 
 use fx_base::Memory;
-use fx_data::Value;
+use fx_data::{Totals, Value};
 use fx_functions::Source;
 use fx_names::Schema;
 use fx_steps::Steps;
+use row_queries::Query;
 use std::alloc::{AllocError, AllocFailed};
 use std::sync::ledger::Ledger;
 
@@ -46,7 +52,9 @@ impl<T: Drop> From<AllocFailed<T>> for Stop {
     }
 }
 
-/// The sources that a tree reads, and the tables of the app.
+/// The sources that a tree reads, and the tables of the app. A query is one of these tables, over an indexed
+/// column or over every key, with ranges that rise and don't overlap, and with a test that can be asked of
+/// every row that fits the table.
 pub trait Env {
     /// What no call changes: the type of each source that may be read, the value of each source where
     /// they are told, the tables, and how many rows a query may take that isn't delegated.
@@ -58,6 +66,12 @@ pub trait Env {
     /// How many steps reads have taken.
     ghost ticked: { Self → ℕ };
 
+    /// The rows of each table by rising `ID`, where they are told. No call changes them.
+    ghost tables: { Self → Option (List (List Row)) };
+
+    /// How many rows have been visited. The count stands still at the greatest `u64`.
+    ghost visited: { Self → ℕ };
+
     /// The value of a source that has a type. `Keeper` only where a fault was counted.
     fn read<L: Ledger>(&mut self, source: Source, steps: &mut Steps<L>) -> Result<Value, Stop>
         requires { IsSome ((fixed self.old).types source) }
@@ -65,7 +79,9 @@ pub trait Env {
         ensures value { IfOk result (λ v. Gives (fixed self.old).types (fixed self.old).told source (view v)) }
         ensures faults { faults self.old ≤ faults self.new }
         ensures keeper { IsErrOf result Stop.Keeper → faults self.old < faults self.new }
-        ensures ticks { steps.new + ticked self.old ≡ steps.old + ticked self.new };
+        ensures ticks { steps.new + ticked self.old ≡ steps.old + ticked self.new }
+        ensures tables { tables self.new ≡ tables self.old }
+        ensures visited { visited self.old ≤ visited self.new };
 
     /// The tables of the app.
     fn schema(&self) -> &Schema
@@ -74,4 +90,47 @@ pub trait Env {
     /// How many rows a query may take that isn't delegated.
     fn limit(&self) -> u32
         ensures { result ≡ (fixed self.now).limit };
+
+    /// The table of the rows that a query gives, or the first error of its test in the query's order.
+    /// `Keeper` only where a fault was counted.
+    fn scan(&mut self, query: &Query) -> Result<Value, Stop>
+        requires { IsQuery (fixed self.old).schema.tables query.now }
+        ensures fixed { fixed self.new ≡ fixed self.old }
+        ensures value { IfOk result (λ v. IsScanValue (fixed self.old).schema.tables (tables self.old) query.now (view v)) }
+        ensures faults { faults self.old ≤ faults self.new }
+        ensures keeper { IsErrOf result Stop.Keeper → faults self.old < faults self.new }
+        ensures ticked { ticked self.new ≡ ticked self.old }
+        ensures tables { tables self.new ≡ tables self.old }
+        ensures visited { visited self.old ≤ visited self.new }
+        ensures least { IfOk result (λ v. VisitsAtLeast (rows_in (view v)) (visited self.old) (visited self.new)) }
+        ensures most { VisitsTold (tables self.old) query.now (visited self.old) (visited self.new) };
+
+    /// How many rows a query gives, whose test has no errors as constants. `Keeper` only where a fault was
+    /// counted.
+    fn count(&mut self, query: &Query) -> Result<u32, Stop>
+        requires query { IsQuery (fixed self.old).schema.tables query.now }
+        requires sound { HasNoFaults query.now.test }
+        ensures fixed { fixed self.new ≡ fixed self.old }
+        ensures value { IfOk result (λ n. IsCountValue (tables self.old) query.now n) }
+        ensures faults { faults self.old ≤ faults self.new }
+        ensures keeper { IsErrOf result Stop.Keeper → faults self.old < faults self.new }
+        ensures ticked { ticked self.new ≡ ticked self.old }
+        ensures tables { tables self.new ≡ tables self.old }
+        ensures visited { visited self.old ≤ visited self.new }
+        ensures most { VisitsTold (tables self.old) query.now (visited self.old) (visited self.new) };
+
+    /// What the values of a column of numbers that aren't blank come to, in the rows that a query gives,
+    /// whose test has no errors as constants. `Keeper` only where a fault was counted.
+    fn total(&mut self, query: &Query, column: u16) -> Result<Totals, Stop>
+        requires query { IsQuery (fixed self.old).schema.tables query.now }
+        requires sound { HasNoFaults query.now.test }
+        requires column { CanTotal (fixed self.old).schema.tables query.now column }
+        ensures fixed { fixed self.new ≡ fixed self.old }
+        ensures value { IfOk result (λ t. IsTotalValue (tables self.old) query.now column t) }
+        ensures faults { faults self.old ≤ faults self.new }
+        ensures keeper { IsErrOf result Stop.Keeper → faults self.old < faults self.new }
+        ensures ticked { ticked self.new ≡ ticked self.old }
+        ensures tables { tables self.new ≡ tables self.old }
+        ensures visited { visited self.old ≤ visited self.new }
+        ensures most { VisitsTold (tables self.old) query.now (visited self.old) (visited self.new) };
 }

@@ -47,6 +47,8 @@ pub fn eval<E: Env, L: Ledger>(
     ensures faults { E.faults env.old ≤ E.faults env.new }
     ensures keeper { IsErrOf result Stop.Keeper → E.faults env.old < E.faults env.new }
     ensures ticks { steps.new + E.ticked env.old ≡ steps.old + 1 + E.ticked env.new }
+    ensures tables { E.tables env.new ≡ E.tables env.old }
+    ensures visited { E.visited env.old ≤ E.visited env.new }
 {
     steps.tick();
     tree(alloc, env, scope, core, steps)
@@ -63,8 +65,8 @@ fn tree<E: Env, L: Ledger>(
 ) -> Result<Value, Stop>
     requires { CanEvaluate (E.fixed env.old).types scope.old core.now }
     ensures went { Went
-        (moment (E.fixed env.old) (E.faults env.old) (E.ticked env.old) scope.old steps.old)
-        (moment (E.fixed env.new) (E.faults env.new) (E.ticked env.new) scope.new steps.new) }
+        (moment (E.fixed env.old) (E.faults env.old) (E.ticked env.old) (E.visited env.old) (E.tables env.old) scope.old steps.old)
+        (moment (E.fixed env.new) (E.faults env.new) (E.ticked env.new) (E.visited env.new) (E.tables env.new) scope.new steps.new) }
     ensures keeper { IsErrOf result Stop.Keeper → E.faults env.old < E.faults env.new }
     ensures value { IfOk result (λ v. IsValue (around (E.fixed env.old).types (E.fixed env.old).told scope.old) core.now (view v)) }
     ensures fits { (u : Shape) → IsReady (E.fixed env.old).types scope.old core.now u → IfOk result (λ v. fits_in (view v) u ≡ true) }
@@ -84,8 +86,8 @@ fn node<E: Env, L: Ledger>(
 ) -> Result<Value, Stop>
     requires { CanEvaluate (E.fixed env.old).types scope.old core.now }
     ensures went { Went
-        (moment (E.fixed env.old) (E.faults env.old) (E.ticked env.old) scope.old steps.old)
-        (moment (E.fixed env.new) (E.faults env.new) (E.ticked env.new) scope.new steps.new) }
+        (moment (E.fixed env.old) (E.faults env.old) (E.ticked env.old) (E.visited env.old) (E.tables env.old) scope.old steps.old)
+        (moment (E.fixed env.new) (E.faults env.new) (E.ticked env.new) (E.visited env.new) (E.tables env.new) scope.new steps.new) }
     ensures keeper { IsErrOf result Stop.Keeper → E.faults env.old < E.faults env.new }
     ensures value { IfOk result (λ v. IsValue (around (E.fixed env.old).types (E.fixed env.old).told scope.old) core.now (view v)) }
 {
@@ -166,8 +168,8 @@ fn within<E: Env, L: Ledger>(
 ) -> Result<Value, Stop>
     requires { CanEvaluate (E.fixed env.old).types scope.old (of scoped (cons part.now (cons formula.now nil))) }
     ensures went { Went
-        (moment (E.fixed env.old) (E.faults env.old) (E.ticked env.old) scope.old steps.old)
-        (moment (E.fixed env.new) (E.faults env.new) (E.ticked env.new) scope.new steps.new) }
+        (moment (E.fixed env.old) (E.faults env.old) (E.ticked env.old) (E.visited env.old) (E.tables env.old) scope.old steps.old)
+        (moment (E.fixed env.new) (E.faults env.new) (E.ticked env.new) (E.visited env.new) (E.tables env.new) scope.new steps.new) }
     ensures keeper { IsErrOf result Stop.Keeper → E.faults env.old < E.faults env.new }
     ensures value { IfOk result (λ v. IsWithin (meaning part.now ∷ meaning formula.now ∷ []) (around (E.fixed env.old).types (E.fixed env.old).told scope.old) (view v)) }
 {
@@ -190,8 +192,8 @@ fn in_scope<E: Env, L: Ledger>(
 ) -> Result<Value, Stop>
     requires { CanEvaluate (E.fixed env.old).types (inner scope.old (view row)) formula.now }
     ensures went { Went
-        (moment (E.fixed env.old) (E.faults env.old) (E.ticked env.old) scope.old steps.old)
-        (moment (E.fixed env.new) (E.faults env.new) (E.ticked env.new) scope.new steps.new) }
+        (moment (E.fixed env.old) (E.faults env.old) (E.ticked env.old) (E.visited env.old) (E.tables env.old) scope.old steps.old)
+        (moment (E.fixed env.new) (E.faults env.new) (E.ticked env.new) (E.visited env.new) (E.tables env.new) scope.new steps.new) }
     ensures keeper { IsErrOf result Stop.Keeper → E.faults env.old < E.faults env.new }
     ensures value { IfOk result (λ v. IsValue (around (E.fixed env.old).types (E.fixed env.old).told (inner scope.old (view row))) formula.now (view v)) }
 {
@@ -213,8 +215,8 @@ fn catching<E: Env, L: Ledger>(
 ) -> Result<Value, Stop>
     requires { CanEvaluate (E.fixed env.old).types (caught_in scope.old fault.kind fault.message) formula.now }
     ensures went { Went
-        (moment (E.fixed env.old) (E.faults env.old) (E.ticked env.old) scope.old steps.old)
-        (moment (E.fixed env.new) (E.faults env.new) (E.ticked env.new) scope.new steps.new) }
+        (moment (E.fixed env.old) (E.faults env.old) (E.ticked env.old) (E.visited env.old) (E.tables env.old) scope.old steps.old)
+        (moment (E.fixed env.new) (E.faults env.new) (E.ticked env.new) (E.visited env.new) (E.tables env.new) scope.new steps.new) }
     ensures keeper { IsErrOf result Stop.Keeper → E.faults env.old < E.faults env.new }
     ensures value { IfOk result (λ v. IsValue (around (E.fixed env.old).types (E.fixed env.old).told (caught_in scope.old fault.kind fault.message)) formula.now (view v)) }
 {
@@ -255,8 +257,8 @@ fn go_through<E: Env, L: Ledger>(
 ) -> Result<Value, Stop>
     requires { AreSet (E.fixed env.old).types scope.old (going course) parts.now }
     ensures went { Went
-        (moment (E.fixed env.old) (E.faults env.old) (E.ticked env.old) scope.old steps.old)
-        (moment (E.fixed env.new) (E.faults env.new) (E.ticked env.new) scope.new steps.new) }
+        (moment (E.fixed env.old) (E.faults env.old) (E.ticked env.old) (E.visited env.old) (E.tables env.old) scope.old steps.old)
+        (moment (E.fixed env.new) (E.faults env.new) (E.ticked env.new) (E.visited env.new) (E.tables env.new) scope.new steps.new) }
     ensures keeper { IsErrOf result Stop.Keeper → E.faults env.old < E.faults env.new }
     ensures value { IfOk result (λ v. IsWorth (going course) (meanings (all parts.now)) (around (E.fixed env.old).types (E.fixed env.old).told scope.old) (view v)) }
 {
@@ -302,8 +304,8 @@ fn field_values<E: Env, L: Ledger>(
 ) -> Result<Vec<(Words, Value)>, Stop>
     requires { AreFine (E.fixed env.old).types scope.old (terms_of fields.now) }
     ensures went { Went
-        (moment (E.fixed env.old) (E.faults env.old) (E.ticked env.old) scope.old steps.old)
-        (moment (E.fixed env.new) (E.faults env.new) (E.ticked env.new) scope.new steps.new) }
+        (moment (E.fixed env.old) (E.faults env.old) (E.ticked env.old) (E.visited env.old) (E.tables env.old) scope.old steps.old)
+        (moment (E.fixed env.new) (E.faults env.new) (E.ticked env.new) (E.visited env.new) (E.tables env.new) scope.new steps.new) }
     ensures keeper { IsErrOf result Stop.Keeper → E.faults env.old < E.faults env.new }
     ensures value { IfOk result (λ fs. AreFilled fields.now (around (E.fixed env.old).types (E.fixed env.old).told scope.old) (fields_view fs.items)) }
 {
@@ -326,8 +328,8 @@ fn part_values<E: Env, L: Ledger>(
 ) -> Result<Vec<Value>, Stop>
     requires { AreFine (E.fixed env.old).types scope.old parts.now }
     ensures went { Went
-        (moment (E.fixed env.old) (E.faults env.old) (E.ticked env.old) scope.old steps.old)
-        (moment (E.fixed env.new) (E.faults env.new) (E.ticked env.new) scope.new steps.new) }
+        (moment (E.fixed env.old) (E.faults env.old) (E.ticked env.old) (E.visited env.old) (E.tables env.old) scope.old steps.old)
+        (moment (E.fixed env.new) (E.faults env.new) (E.ticked env.new) (E.visited env.new) (E.tables env.new) scope.new steps.new) }
     ensures keeper { IsErrOf result Stop.Keeper → E.faults env.old < E.faults env.new }
     ensures value { IfOk result (λ vs. AreValues (meanings (all parts.now)) (around (E.fixed env.old).types (E.fixed env.old).told scope.old) (map view vs.items)) }
 {
@@ -352,8 +354,8 @@ fn call_over<E: Env, L: Ledger>(
 ) -> Result<Value, Stop>
     requires { CanEvaluate (E.fixed env.old).types scope.old (of (over_head fun) (cons table.now (all parts.now))) }
     ensures went { Went
-        (moment (E.fixed env.old) (E.faults env.old) (E.ticked env.old) scope.old steps.old)
-        (moment (E.fixed env.new) (E.faults env.new) (E.ticked env.new) scope.new steps.new) }
+        (moment (E.fixed env.old) (E.faults env.old) (E.ticked env.old) (E.visited env.old) (E.tables env.old) scope.old steps.old)
+        (moment (E.fixed env.new) (E.faults env.new) (E.ticked env.new) (E.visited env.new) (E.tables env.new) scope.new steps.new) }
     ensures keeper { IsErrOf result Stop.Keeper → E.faults env.old < E.faults env.new }
     ensures value { IfOk result (λ v. IsOver fun (meaning table.now ∷ meanings (all parts.now)) (around (E.fixed env.old).types (E.fixed env.old).told scope.old) (view v)) }
 {
@@ -380,8 +382,8 @@ fn part_answers<E: Env, L: Ledger>(
 ) -> Result<Vec<Answers>, Stop>
     requires { AreAsked fun (length parts.now + 1) 1 (E.fixed env.old).types scope.old rows.now parts.now }
     ensures went { Went
-        (moment (E.fixed env.old) (E.faults env.old) (E.ticked env.old) scope.old steps.old)
-        (moment (E.fixed env.new) (E.faults env.new) (E.ticked env.new) scope.new steps.new) }
+        (moment (E.fixed env.old) (E.faults env.old) (E.ticked env.old) (E.visited env.old) (E.tables env.old) scope.old steps.old)
+        (moment (E.fixed env.new) (E.faults env.new) (E.ticked env.new) (E.visited env.new) (E.tables env.new) scope.new steps.new) }
     ensures keeper { IsErrOf result Stop.Keeper → E.faults env.old < E.faults env.new }
     ensures value { IfOk result (λ gs. AreGiven (over_head fun) (length parts.now + 1) 1 (meanings (all parts.now)) (around (E.fixed env.old).types (E.fixed env.old).told scope.old) rows.now (map given gs.items)) }
 {
@@ -408,8 +410,8 @@ fn answer<E: Env, L: Ledger>(
 ) -> Result<Answers, Stop>
     requires { IsAsked (if in_rows then inside else plain) (E.fixed env.old).types scope.old rows.now part.now }
     ensures went { Went
-        (moment (E.fixed env.old) (E.faults env.old) (E.ticked env.old) scope.old steps.old)
-        (moment (E.fixed env.new) (E.faults env.new) (E.ticked env.new) scope.new steps.new) }
+        (moment (E.fixed env.old) (E.faults env.old) (E.ticked env.old) (E.visited env.old) (E.tables env.old) scope.old steps.old)
+        (moment (E.fixed env.new) (E.faults env.new) (E.ticked env.new) (E.visited env.new) (E.tables env.new) scope.new steps.new) }
     ensures keeper { IsErrOf result Stop.Keeper → E.faults env.old < E.faults env.new }
     ensures value { IfOk result (λ g. IsGiven (if in_rows then inside else plain) (meaning part.now) (around (E.fixed env.old).types (E.fixed env.old).told scope.old) rows.now (given g)) }
 {
@@ -432,8 +434,8 @@ fn each<E: Env, L: Ledger>(
 ) -> Result<Vec<Value>, Stop>
     requires { AreInside (E.fixed env.old).types scope.old formula.now rows.now }
     ensures went { Went
-        (moment (E.fixed env.old) (E.faults env.old) (E.ticked env.old) scope.old steps.old)
-        (moment (E.fixed env.new) (E.faults env.new) (E.ticked env.new) scope.new steps.new) }
+        (moment (E.fixed env.old) (E.faults env.old) (E.ticked env.old) (E.visited env.old) (E.tables env.old) scope.old steps.old)
+        (moment (E.fixed env.new) (E.faults env.new) (E.ticked env.new) (E.visited env.new) (E.tables env.new) scope.new steps.new) }
     ensures keeper { IsErrOf result Stop.Keeper → E.faults env.old < E.faults env.new }
     ensures value { IfOk result (λ vs. AreEach (meaning formula.now) (around (E.fixed env.old).types (E.fixed env.old).told scope.old) rows.now (map view vs.items)) }
 {

@@ -1,13 +1,14 @@
 //! The environment of named formulas: the values that are kept of those before, and the day.
-ghost use Rattle.std.specs.Prelude.{◌≡◌, option_map};
+ghost use Rattle.std.specs.Prelude.{◌≡◌, [], length, Some, option_map};
 ghost use Rattle.fx_data.specs.ValueView.{view};
 ghost use Rattle.fx_evaluation.specs.Kept.{KeptIsNamed, fixed_by, kept_of};
 
 use crate::environment::{Env, Stop};
-use fx_data::{Ty, Value};
+use fx_data::{Totals, Ty, Value};
 use fx_functions::Source;
 use fx_names::Schema;
 use fx_steps::Steps;
+use row_queries::Query;
 use std::alloc::Global;
 use std::sync::ledger::Ledger;
 
@@ -20,8 +21,8 @@ pub struct KeptCell {
     pub ty: Ty,
 }
 
-/// The values that are kept, the day, and the app's tables. A cell has a type here where its value is
-/// kept and fits it.
+/// The values that are kept, and the day. A cell has a type here where its value is kept and fits it. There
+/// are no tables.
 #[derive(Drop)]
 pub struct Kept<'a> {
     pub alloc: Global,
@@ -29,6 +30,7 @@ pub struct Kept<'a> {
     pub today: &'a Value,
     pub schema: &'a Schema,
     pub limit: u32,
+    ghost has_no_tables: { length schema.now.tables ≡ 0 },
 }
 
 impl Env for Kept<'_> {
@@ -37,6 +39,10 @@ impl Env for Kept<'_> {
     ghost faults = { λ k. 0 };
 
     ghost ticked = { λ k. 0 };
+
+    ghost tables = { λ k. Some [] };
+
+    ghost visited = { λ k. 0 };
 
     fn read<L: Ledger>(&mut self, source: Source, _steps: &mut Steps<L>) -> Result<Value, Stop> {
         match source {
@@ -55,6 +61,18 @@ impl Env for Kept<'_> {
 
     fn limit(&self) -> u32 {
         self.limit
+    }
+
+    fn scan(&mut self, _query: &Query) -> Result<Value, Stop> {
+        unreachable!()
+    }
+
+    fn count(&mut self, _query: &Query) -> Result<u32, Stop> {
+        unreachable!()
+    }
+
+    fn total(&mut self, _query: &Query, _column: u16) -> Result<Totals, Stop> {
+        unreachable!()
     }
 }
 

@@ -54,8 +54,8 @@ decreases-go_through-loop-part g l = terms_size (all l.rest)
 abbrev pub invariant-go_through-loop-part : goal.invariant-go_through-loop-part
 invariant-go_through-loop-part g l = record {
   went : Went
-      (moment (g.E.Env.fixed l.fn.env) (g.E.Env.faults l.fn.env) (g.E.Env.ticked l.fn.env) l.fn.scope l.fn.steps)
-      (moment (g.E.Env.fixed l.env) (g.E.Env.faults l.env) (g.E.Env.ticked l.env) l.scope l.steps);
+      (moment (g.E.Env.fixed l.fn.env) (g.E.Env.faults l.fn.env) (g.E.Env.ticked l.fn.env) (g.E.Env.visited l.fn.env) (g.E.Env.tables l.fn.env) l.fn.scope l.fn.steps)
+      (moment (g.E.Env.fixed l.env) (g.E.Env.faults l.env) (g.E.Env.ticked l.env) (g.E.Env.visited l.env) (g.E.Env.tables l.env) l.scope l.steps);
   parts : AreSet (g.E.Env.fixed l.fn.env).types l.fn.scope (going l.course) l.rest;
   value : (v : Data) → IsWorth (going l.course) (meanings (all l.rest)) (around (g.E.Env.fixed l.fn.env).types (g.E.Env.fixed l.fn.env).told l.fn.scope) v
       → IsWorth (going l.fn.course) (meanings (all l.parts)) (around (g.E.Env.fixed l.fn.env).types (g.E.Env.fixed l.fn.env).told l.fn.scope) v;
@@ -66,8 +66,8 @@ invariant-go_through-loop-part g l = record {
 abbrev pub invariant-field_values-loop-name : goal.invariant-field_values-loop-name
 invariant-field_values-loop-name g l = record {
   went : Went
-      (moment (g.E.Env.fixed l.fn.env) (g.E.Env.faults l.fn.env) (g.E.Env.ticked l.fn.env) l.fn.scope l.fn.steps)
-      (moment (g.E.Env.fixed l.env) (g.E.Env.faults l.env) (g.E.Env.ticked l.env) l.scope l.steps);
+      (moment (g.E.Env.fixed l.fn.env) (g.E.Env.faults l.fn.env) (g.E.Env.ticked l.fn.env) (g.E.Env.visited l.fn.env) (g.E.Env.tables l.fn.env) l.fn.scope l.fn.steps)
+      (moment (g.E.Env.fixed l.env) (g.E.Env.faults l.env) (g.E.Env.ticked l.env) (g.E.Env.visited l.env) (g.E.Env.tables l.env) l.scope l.steps);
   values : AreFilled (take l.name-index l.fields) (around (g.E.Env.fixed l.fn.env).types (g.E.Env.fixed l.fn.env).told l.fn.scope) (fields_view l.items.items);
 }
 
@@ -75,8 +75,8 @@ invariant-field_values-loop-name g l = record {
 abbrev pub invariant-part_values-loop-part : goal.invariant-part_values-loop-part
 invariant-part_values-loop-part g l = record {
   went : Went
-      (moment (g.E.Env.fixed l.fn.env) (g.E.Env.faults l.fn.env) (g.E.Env.ticked l.fn.env) l.fn.scope l.fn.steps)
-      (moment (g.E.Env.fixed l.env) (g.E.Env.faults l.env) (g.E.Env.ticked l.env) l.scope l.steps);
+      (moment (g.E.Env.fixed l.fn.env) (g.E.Env.faults l.fn.env) (g.E.Env.ticked l.fn.env) (g.E.Env.visited l.fn.env) (g.E.Env.tables l.fn.env) l.fn.scope l.fn.steps)
+      (moment (g.E.Env.fixed l.env) (g.E.Env.faults l.env) (g.E.Env.ticked l.env) (g.E.Env.visited l.env) (g.E.Env.tables l.env) l.scope l.steps);
   values : AreValues (meanings (all (take l.part-index l.parts))) (around (g.E.Env.fixed l.fn.env).types (g.E.Env.fixed l.fn.env).told l.fn.scope) (map view l.values.items);
 }
 
@@ -84,8 +84,8 @@ invariant-part_values-loop-part g l = record {
 abbrev pub invariant-part_answers-loop-part : goal.invariant-part_answers-loop-part
 invariant-part_answers-loop-part g l = record {
   went : Went
-      (moment (g.E.Env.fixed l.fn.env) (g.E.Env.faults l.fn.env) (g.E.Env.ticked l.fn.env) l.fn.scope l.fn.steps)
-      (moment (g.E.Env.fixed l.env) (g.E.Env.faults l.env) (g.E.Env.ticked l.env) l.scope l.steps);
+      (moment (g.E.Env.fixed l.fn.env) (g.E.Env.faults l.fn.env) (g.E.Env.ticked l.fn.env) (g.E.Env.visited l.fn.env) (g.E.Env.tables l.fn.env) l.fn.scope l.fn.steps)
+      (moment (g.E.Env.fixed l.env) (g.E.Env.faults l.env) (g.E.Env.ticked l.env) (g.E.Env.visited l.env) (g.E.Env.tables l.env) l.scope l.steps);
   count : length l.answers.items ≡ l.part-index;
   answers : AreGiven (over l.fun) (length l.parts + 1) 1 (meanings (all (take l.part-index l.parts))) (around (g.E.Env.fixed l.fn.env).types (g.E.Env.fixed l.fn.env).told l.fn.scope) l.rows
       (map given l.answers.items);
@@ -95,7 +95,7 @@ invariant-part_answers-loop-part g l = record {
 abbrev pub invariant-each-loop-row : goal.invariant-each-loop-row
 invariant-each-loop-row g l = record {
   went : Went
-      (moment (g.E.Env.fixed l.fn.env) (g.E.Env.faults l.fn.env) (g.E.Env.ticked l.fn.env) l.fn.scope l.fn.steps)
-      (moment (g.E.Env.fixed l.env) (g.E.Env.faults l.env) (g.E.Env.ticked l.env) l.scope l.steps);
+      (moment (g.E.Env.fixed l.fn.env) (g.E.Env.faults l.fn.env) (g.E.Env.ticked l.fn.env) (g.E.Env.visited l.fn.env) (g.E.Env.tables l.fn.env) l.fn.scope l.fn.steps)
+      (moment (g.E.Env.fixed l.env) (g.E.Env.faults l.env) (g.E.Env.ticked l.env) (g.E.Env.visited l.env) (g.E.Env.tables l.env) l.scope l.steps);
   values : AreEach (meaning l.formula) (around (g.E.Env.fixed l.fn.env).types (g.E.Env.fixed l.fn.env).told l.fn.scope) (take l.row-index l.rows) (map view l.values.items);
 }
