@@ -229,6 +229,7 @@ pub fn give(
             | Grant::AnAlias
             | Grant::AColumn
             | Grant::ATarget
+            | Grant::AliasedTarget
             | Grant::AMeaning(_) => Ok(()),
         },
         _ => Ok(()),
