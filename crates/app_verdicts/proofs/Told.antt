@@ -5,7 +5,7 @@ use Rattle.app_verdicts.proofs.Judging.{admit_alike, as_called, deep_alike, node
 use Rattle.fx_data.specs.Types.{Shape}
 use Rattle.fx_functions.specs.declared.signatures.Signature.{Signature}
 use Rattle.fx_infer.proofs.Breaks.{told_broken, told_parts}
-use Rattle.fx_judge.specs.Details.{HasToldBroken, IsToldBroken, IsToldBrokenWhole, call_limit, call_names, column_in, commas, counted, detail_of, head_name, no_variable, stuck_in, takes_table, unjoined, wanted_detail}
+use Rattle.fx_judge.specs.Details.{HasToldBroken, IsToldBroken, IsToldBrokenWhole, call_limit, call_names, column_in, commas, counted, detail_of, head_name, no_variable, taken_in, takes_table, unjoined, wanted_detail}
 use Rattle.fx_judge.specs.Parts.{Part, Setting, parts_in}
 use Rattle.fx_judge.specs.Plans.{depth_of, setting_at}
 use Rattle.fx_judge.specs.Typing.{judge, judge_parts, outermost}
@@ -71,7 +71,7 @@ module _ (m : Names) (s t : Bor (List Signature)) (same : map entry s.now ≡ ma
     detail_alike : (u : Setting) (h : Head) (qs : List Part) (r : ℕ) → detail_of here u h qs r ≡ detail_of there u h qs r
     detail_alike u (tree.call x) qs r = λ i.
         let k = as_called m s t same x i in
-        if r == 5 then stuck_in k qs
+        if r == 5 then taken_in k qs
         else (if r == 6 then commas (call_names one (takes_table k qs) qs)
         else (if r == 7 then counted (head_name (tree.call x)) (length qs)
         else (if r == 11 then unjoined here k qs
