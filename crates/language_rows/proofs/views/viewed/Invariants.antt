@@ -1,4 +1,4 @@
 use Rattle.language_rows.proofs.views.viewed.Given as goal
 
-abbrev pub ghosts-shown : goal.ghosts-shown
-ghosts-shown a = record { name = a.blank.name; parts = a.blank.parts }
+abbrev pub ghosts-status : goal.ghosts-status
+ghosts-status a = record { name = a.blank.name; parts = a.blank.parts }
