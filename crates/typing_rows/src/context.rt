@@ -171,10 +171,16 @@ fn add_variables(alloc: Global, names: &mut Names) -> Result<(), Stop> {
     Ok(())
 }
 
-/// All that the formulas of the table may name.
-pub fn context(alloc: Global) -> Result<Names, Stop> {
+/// The table, the screens and their controls alone.
+pub fn bare_app(alloc: Global) -> Result<Names, Stop> {
     let mut names = bare(alloc, stock(alloc)?);
     add_screens(alloc, &mut names)?;
+    Ok(names)
+}
+
+/// All that the formulas of the table may name.
+pub fn context(alloc: Global) -> Result<Names, Stop> {
+    let mut names = bare_app(alloc)?;
     add_properties(alloc, &mut names)?;
     add_formulas(alloc, &mut names)?;
     add_variables(alloc, &mut names)?;

@@ -1,19 +1,23 @@
 //! Reads formulas, one a line, and writes each with its type and its typed tree, or with the rule that it breaks.
-//! The first word of a line is where the formula stands; `context.rt` says what it may name. An empty line and
-//! one of `#` are written as they are.
+//! The first word of a line is where the formula stands; `context.rt` says what it may name. Behind the word
+//! `rounds` stands a small app as `apps.rt` has it, of which the types of all names are written, and the rules
+//! that its formulas break. An empty line and one of `#` are written as they are.
 #![tactic(auto)]
 
 ghost use Rattle.std.specs.Prelude.{◌≤◌};
 ghost use Rattle.fx_infer.specs.Below.{tree_depth};
 
+mod apps;
 mod context;
 mod place;
+mod rounds;
 mod stop;
 mod tree;
 mod types;
 
 use crate::context::context;
 use crate::place::placed;
+use crate::rounds::rounds_text;
 use crate::stop::Stop;
 use crate::tree::{DEPTH, tree_text};
 use crate::types::type_text;
@@ -49,7 +53,7 @@ fn row(alloc: Global, names: &Names, line: &str) -> io::Result<String> {
     }
 }
 
-/// A formula with what is answered of it.
+/// A formula, or an app, with what is answered of it.
 fn answered(alloc: Global, names: &Names, line: &str) -> Result<String, Memory> {
     match answer(alloc, names, line) {
         Ok(answer) => Ok(format!(in alloc; "{line} -> {answer}")?),
@@ -58,11 +62,14 @@ fn answered(alloc: Global, names: &Names, line: &str) -> Result<String, Memory> 
     }
 }
 
-/// The type and the tree of a formula, or the rule that it breaks.
+/// The type and the tree of a formula, or the rule that it breaks; or the types of an app.
 fn answer(alloc: Global, names: &Names, line: &str) -> Result<String, Stop> {
     let Some((place, text)) = line.split_once(" ") else {
         return Err(Stop::NoRow);
     };
+    if place == "rounds" {
+        return rounds_text(alloc, text);
+    }
     let cell = placed(alloc, place, text)?;
     judged(alloc, names, &cell)
 }

@@ -10,39 +10,69 @@ use fx_infer::{PlaceKind, Written};
 use fx_parser::{ParseEnd, parse_formula};
 use std::alloc::Global;
 
+/// A place of a formula.
+#[derive(Drop)]
+pub struct Spot {
+    /// The number of its screen.
+    pub screen: Option<u32>,
+    /// The number of the gallery whose item it sees.
+    pub item: Option<u32>,
+    /// What it allows.
+    pub kind: PlaceKind,
+    /// The type that is wanted there.
+    pub wanted: Option<Ty>,
+}
+
+impl Spot {
+    /// A place of a behaviour formula.
+    pub fn acting(screen: Option<u32>, item: Option<u32>) -> Spot {
+        Spot {
+            screen,
+            item,
+            kind: PlaceKind::Acting,
+            wanted: None,
+        }
+    }
+
+    /// A place of a value.
+    pub fn pure(screen: Option<u32>, item: Option<u32>, wanted: Option<Ty>) -> Spot {
+        Spot {
+            screen,
+            item,
+            kind: PlaceKind::Pure,
+            wanted,
+        }
+    }
+}
+
+/// Any table, as it is wanted.
+pub fn any_table(alloc: Global) -> Ty {
+    Ty::Tab(Columns::new(alloc))
+}
+
 /// A formula in the place that this word names: `pure`, on the first screen; `item`, in the template of the
 /// gallery; `acts`, a behaviour formula of the first screen, and `start` one of none; or a type that is wanted
 /// of it on the first screen.
 pub fn placed(alloc: Global, place: &str, text: &str) -> Result<Written, Stop>
     ensures shallow { IfOk result (λ w. tree_depth w.expr ≤ 64) }
 {
-    let (screen, item, kind) = match place {
-        "item" => (Some(0), Some(4), PlaceKind::Pure),
-        "acts" => (Some(0), None, PlaceKind::Acting),
-        "start" => (None, None, PlaceKind::Acting),
-        _ => (Some(0), None, PlaceKind::Pure),
-    };
-    let wanted = match place {
-        "pure" | "item" | "acts" | "start" => None,
-        "number" => Some(Ty::Number),
-        "text" => Some(Ty::Text),
-        "boolean" => Some(Ty::Boolean),
-        "date" => Some(Ty::Date),
-        "table" => Some(Ty::Tab(Columns::new(alloc))),
+    let spot = match place {
+        "pure" => Spot::pure(Some(0), None, None),
+        "item" => Spot::pure(Some(0), Some(4), None),
+        "acts" => Spot::acting(Some(0), None),
+        "start" => Spot::acting(None, None),
+        "number" => Spot::pure(Some(0), None, Some(Ty::Number)),
+        "text" => Spot::pure(Some(0), None, Some(Ty::Text)),
+        "boolean" => Spot::pure(Some(0), None, Some(Ty::Boolean)),
+        "date" => Spot::pure(Some(0), None, Some(Ty::Date)),
+        "table" => Spot::pure(Some(0), None, Some(any_table(alloc))),
         _ => return Err(Stop::NoRow),
     };
-    written(alloc, screen, item, kind, wanted, text)
+    written(alloc, "F", spot, text)
 }
 
-/// A formula of this text.
-fn written(
-    alloc: Global,
-    screen: Option<u32>,
-    item: Option<u32>,
-    place: PlaceKind,
-    wanted: Option<Ty>,
-    text: &str,
-) -> Result<Written, Stop>
+/// A formula of this text, in the cell of this address.
+pub fn written(alloc: Global, cell: &str, spot: Spot, text: &str) -> Result<Written, Stop>
     ensures shallow { IfOk result (λ w. tree_depth w.expr ≤ 64) }
 {
     no_deeper();
@@ -51,11 +81,11 @@ fn written(
     }
     match parse_formula(alloc, text) {
         Ok(expr) => Ok(Written {
-            cell: Words::of(alloc, "F")?,
-            screen,
-            item,
-            wanted,
-            place,
+            cell: Words::of(alloc, cell)?,
+            screen: spot.screen,
+            item: spot.item,
+            wanted: spot.wanted,
+            place: spot.kind,
             expr,
         }),
         Err(ParseEnd::Memory) => Err(Stop::Memory),
