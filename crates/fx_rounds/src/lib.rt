@@ -11,6 +11,3 @@ pub mod typed_names;
 pub mod walking;
 
 pub use rounds::type_rounds;
-
-#[cfg(test)]
-mod tests;
