@@ -86,6 +86,18 @@ fn add_items(alloc: Global, text: &mut String, names: &Names) -> Result<(), Stop
     Ok(())
 }
 
+/// The rule that a formula breaks, if it breaks one.
+fn break_text(alloc: Global, names: &Names, cell: &Written) -> Result<Option<String>, Stop>
+    requires lawful { IsLawful names.now }
+    requires shallow { tree_depth cell.now.expr ≤ 256 }
+{
+    match elaborate(alloc, names, cell) {
+        Ok(_) => Ok(None),
+        Err(InferEnd::Broken(broken)) => Ok(Some(broken_line(alloc, &broken)?)),
+        Err(InferEnd::Memory) => Err(Stop::Memory),
+    }
+}
+
 /// Adds the rules that formulas break.
 fn add_breaks(
     alloc: Global,
@@ -97,12 +109,8 @@ fn add_breaks(
     requires shallow { All (λ (c : Written). tree_depth c.expr ≤ 256) cells.now }
 {
     for cell in cells {
-        match elaborate(alloc, names, cell) {
-            Ok(_) => (),
-            Err(InferEnd::Broken(broken)) => {
-                add_entry(text, broken_line(alloc, &broken)?.as_str())?;
-            }
-            Err(InferEnd::Memory) => return Err(Stop::Memory),
+        if let Some(entry) = break_text(alloc, names, cell)? {
+            add_entry(text, entry.as_str())?;
         }
     }
     Ok(())
