@@ -26,14 +26,19 @@ pub struct App {
 /// The app of these parts, which ` | ` stands between. It has the table, screens and controls of the other
 /// formulas. Before the rounds each name has the type Text, which they take no notice of.
 pub fn app_of(alloc: Global, parts: &str) -> Result<App, Stop> {
-    let mut app = App {
-        names: bare_app(alloc)?,
-        cells: Vec::new(alloc),
-    };
+    let mut app = first_app(alloc)?;
     for part in parts.split(" | ") {
         add_part(alloc, &mut app, part)?;
     }
     Ok(app)
+}
+
+/// The app before its first part.
+fn first_app(alloc: Global) -> Result<App, Stop> {
+    Ok(App {
+        names: bare_app(alloc)?,
+        cells: Vec::new(alloc),
+    })
 }
 
 /// Adds what a part says. Its first word is `global` before global variables, a screen before variables of it,
