@@ -28,11 +28,13 @@ pub record Scope : Type 0 where
   pub alias : Option (List ℕ)
   pub counted : Bool
 
--- where a formula stands: its app's names, its screen, and the gallery whose item it sees
+-- where a formula stands: its app's names, its screen, the gallery whose item it sees, and whether the
+-- types of variables and collections are settled: until then no value is of a wrong type for one
 pub record Place : Type 0 where
   pub names : Names
   pub screen : Option ℕ
   pub gallery : Option ℕ
+  pub settled : Bool
 
 -- what a name means: a tree with its type, a control with its number, a screen, or an enumeration
 pub data Meaning : Type 0 where
