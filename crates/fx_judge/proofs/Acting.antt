@@ -1,18 +1,18 @@
 -- The law of acting calls: what is admitted of well typed parts is well typed.
-use Rattle.std.proofs.Common.{◌≡◌, ℕ, zero, suc, ◌++◌, List, [], ◌∷◌, Bool, not, length, Option, Some, Result, Ok, refl, ap, subst, ◌∙◌}
-use Rattle.fx_data.specs.Types.{Shape}
+use Rattle.std.proofs.Common.{◌≡◌, ℕ, zero, suc, ◌++◌, List, [], ◌∷◌, Bool, true, false, ◌&&◌, not, nat_eq, length, Option, Some, Result, Ok, Err, refl, ap, subst, ◌∙◌, if◌then◌else◌}
+use Rattle.fx_data.specs.Types.{Shape, booleans}
 use Rattle.fx_functions.specs.declared.deeds.Deed.TheVariants as deed
 use Rattle.fx_functions.specs.declared.functions.Acting.{Acting}
 use Rattle.fx_functions.specs.declared.functions.Acting.TheVariants as acts
 use Rattle.fx_functions.specs.declared.signatures.SigShape.TheVariants as sig
 use Rattle.fx_syntax.specs.Tree as tree
-use Rattle.fx_typed.specs.Term.{Term}
+use Rattle.fx_typed.specs.Term.{Term, act}
 use Rattle.fx_typing.specs.Meaning.{Place, Scope}
 use Rattle.fx_typing.specs.WellTyped.{Context, plain, inside}
 use Rattle.fx_typing.proofs.Rules.{Typed}
 use Rattle.fx_judge.specs.Breaks.{could_act}
 use Rattle.fx_judge.specs.Calls.{called_by}
-use Rattle.fx_judge.specs.Deeds.{by_name, set_of, collect_of, clear_of, patch_of, remove_of, remove_if, update_if, navigate_of, notify_of, reset_of, acted}
+use Rattle.fx_judge.specs.Deeds.{by_name, set_of, collect_of, clear_of, patch_of, remove_of, remove_if, update_if, navigate_of, notify_of, reset_of, acted, nothing_done, until_settled}
 use Rattle.fx_judge.specs.Parts.{Grant, nothing, a_target, on_screen, Part, target, Setting, may_act, values, unless}
 use Rattle.fx_judge.specs.Plans.{Plan, if_acting, first_then, plan_act, plan_call, called_as, plan_at, first_row, setting_by}
 use Rattle.fx_judge.specs.Targets.{target_columns}
@@ -24,7 +24,7 @@ use Rattle.fx_judge.proofs.Frame.{PartTyped, PartsTypedAt}
 use Rattle.fx_judge.proofs.Built.{within_limit}
 use Rattle.fx_judge.proofs.Operators.{then_ok}
 use Rattle.fx_judge.proofs.Places.{or_false, map_one}
-use Rattle.fx_judge.proofs.Steps.{place_at, EachTyped, each_plain, values_typed}
+use Rattle.fx_judge.proofs.Steps.{ok_is, place_at, EachTyped, each_plain, values_typed, typed_by}
 
 -- where the parts of an acting call stand
 abbrev PlainlyPlaced : Acting → Type 0
@@ -129,9 +129,22 @@ module _ (p : Place) (s : Setting) (x : List ℕ) (qs : List Part) (y : Term × 
       plainly_acts acts.Reset (λ b i. first_plain a_target nothing i)
       (λ h m. by_name_typed (context_of p s) qs (reset_of p.names) y h (λ l rs k i. reset_typed p.names (context_of p s) l rs y known i) m)
 
+-- a deed that changes nothing, and what stands for a value of a wrong type until the types are settled
+nothing_typed : (c : Context) → Typed c nothing_done
+nothing_typed c = typed_by c (act (deed.UpdateContext [])) [] booleans (λ m k. refl) tt (refl, refl)
+
+settled_typed : (c : Context) (b : Bool) (r : Result (Term × Shape) ℕ) (y : Term × Shape) → (r ≡ Ok y → Typed c y) → until_settled b r ≡ Ok y → Typed c y
+settled_typed c b (Ok x) y typed e = typed e
+settled_typed c b (Err n) y typed e = by_rule (not b && nat_eq n 11) e
+  where
+    by_rule : (t : Bool) → (if t then Ok nothing_done else Err n) ≡ Ok y → Typed c y
+    by_rule true i = subst (Typed c) (ok_is _ y i) (nothing_typed c)
+    by_rule false i = absurd cc
+
 -- THE law of acting calls
 pub acting_typed : (p : Place) (s : Setting) (x : List ℕ) (qs : List Part) (a : Acting) (y : Term × Shape) → PartsTypedAt p s (tree.call x) (length qs) [] qs →
     called_as p.names x ≡ Some (sig.Act a) → called_by p s (sig.Act a) qs ≡ Ok y → Typed (context_of p s) y
 acting_typed p s x qs a y t e m =
-    let one = within_limit (not (may_act s.grant)) 9 (unless (not (could_act a qs)) 6 (acted p.names p.screen a qs)) y m in
-    acts_typed p s x qs y a e t (within_limit (not (could_act a qs)) 6 (acted p.names p.screen a qs) y one)
+    let r = until_settled p.settled (acted p.names p.screen a qs) in
+    let one = within_limit (not (may_act s.grant)) 9 (unless (not (could_act a qs)) 6 r) y m in
+    settled_typed (context_of p s) p.settled (acted p.names p.screen a qs) y (acts_typed p s x qs y a e t) (within_limit (not (could_act a qs)) 6 r y one)

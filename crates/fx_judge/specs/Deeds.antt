@@ -1,5 +1,5 @@
 -- Which acting calls are admitted.
-use Rattle.std.specs.Prelude.{ℕ, List, [], ◌∷◌, Bool, true, false, ◌&&◌, not, codes, Option, Some, None, is_some, Result, Ok, Err, if◌then◌else◌}
+use Rattle.std.specs.Prelude.{ℕ, List, [], ◌∷◌, Bool, true, false, ◌&&◌, not, nat_eq, codes, Option, Some, None, is_some, Result, Ok, Err, if◌then◌else◌}
 use Rattle.fx_data.specs.TypeView.{shape}
 use Rattle.fx_data.specs.Types.{Shape, blanks, numbers, texts, booleans, records, tables, ColumnList, no_columns, column}
 use Rattle.fx_value.specs.Join.{join_of}
@@ -232,3 +232,13 @@ acted n s acts.UpdateIf qs = update_if n qs
 acted n s acts.Navigate qs = by_name qs (navigate_of n)
 acted n s acts.Notify qs = and_then (values qs) notify_of
 acted n s acts.Reset qs = by_name qs (reset_of n)
+
+-- a deed that changes nothing
+abbrev pub nothing_done : Term × Shape
+nothing_done = done_by (deed.UpdateContext []) []
+
+-- until the types of variables and collections are settled, no value is of a wrong type for one: a call
+-- that gives it is done, and changes nothing
+abbrev pub until_settled : Bool → Result (Term × Shape) ℕ → Result (Term × Shape) ℕ
+until_settled b (Ok x) = Ok x
+until_settled b (Err e) = if not b && nat_eq e 11 then Ok nothing_done else Err e

@@ -31,8 +31,12 @@ pub record Cell : Type 0 where
   pub wanted : Option Shape
   pub formula : Tree
 
+-- where a formula is judged under types that are settled, and in a round, where they aren't
 abbrev pub placed : Names → Cell → Place
-placed n c = record { names = n; screen = c.screen; gallery = c.gallery }
+placed n c = record { names = n; screen = c.screen; gallery = c.gallery; settled = true }
+
+abbrev pub placed_in_round : Names → Cell → Place
+placed_in_round n c = record { names = n; screen = c.screen; gallery = c.gallery; settled = false }
 
 -- a type that is given to a name: to a global variable, one of a screen, or a collection
 pub data Given : Type 0 where
@@ -99,7 +103,7 @@ abbrev mutual
 
 abbrev pub all_given : Names → List Cell → List Given
 all_given n [] = []
-all_given n (c ∷ cs) = given_in (placed n c) (outermost c.acts) c.formula ++ all_given n cs
+all_given n (c ∷ cs) = given_in (placed_in_round n c) (outermost c.acts) c.formula ++ all_given n cs
 
 -- the join of what is given, from the left; a type that doesn't join is passed over
 abbrev pub or_same : Shape → Option Shape → Shape
