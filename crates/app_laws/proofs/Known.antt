@@ -1,7 +1,6 @@
 -- A formula that is admitted where fewer formulas are known is admitted as the same tree where more are.
-use Rattle.std.proofs.Common.{◌≡◌, ℕ, suc, ◌++◌, List, [], ◌∷◌, Bool, true, false, Option, Some, None, option_map, Ok, bytes_eq, refl, ap, sym, ◌∙◌, if◌then◌else◌}
+use Rattle.std.proofs.Common.{◌≡◌, ℕ, ◌++◌, List, [], ◌∷◌, Bool, true, false, Option, Some, None, option_map, Ok, bytes_eq, refl, ap, sym, ◌∙◌, if◌then◌else◌}
 use Rattle.std.specs.Prelude.{◌&&◌}
-use Rattle.std.specs.List.{find}
 use Rattle.app_laws.specs.Laws.{AreKnownTo, HasNoThings, MoreNamesSameTree, alone}
 use Rattle.fx_data.specs.TypeView.{shape}
 use Rattle.fx_data.specs.Types.{Shape, tables}
@@ -20,17 +19,8 @@ use Rattle.fx_names.specs.SourceTypes.{columns_of}
 use Rattle.fx_syntax.specs.Tree.{Tree, node, Forest, none, more, Head}
 use Rattle.fx_syntax.specs.Tree as tree
 use Rattle.fx_typed.specs.Term.{Term, of, nil, read}
+use Rattle.fx_typing.proofs.Places.{thing_found}
 use Rattle.fx_typing.specs.Meaning.{Meaning, Scope, behind_scopes, controlled, in_context, in_globals, in_scopes, is_global, meaning_of, or_else, place_of, reserved, screened, valued}
-
--- the first that a test keeps, with its place or without it
-placed : {A : Type 0} (p : A → Bool) (i : ℕ) (xs : List A) → option_map (λ (k : ℕ × A). k.1) (place_of p i xs) ≡ find p xs
-placed p i [] = refl
-placed {A = A} p i (x ∷ xs) = by (p x) (placed p (suc i) xs)
-  where
-    by : (b : Bool) → option_map (λ (k : ℕ × A). k.1) (place_of p (suc i) xs) ≡ find p xs →
-        option_map (λ (k : ℕ × A). k.1) (if b then Some (i, x) else place_of p (suc i) xs) ≡ (if b then Some x else find p xs)
-    by true e = refl
-    by false e = e
 
 -- a formula as what its name means
 abbrev meant_by : FormulaName → Meaning
@@ -42,7 +32,7 @@ found_more : (many few : List FormulaName) (x : List ℕ) (y : Meaning) → AreK
     option_map (λ (k : ℕ × FormulaName). meant_by k.1) (place_of (λ (f : FormulaName). bytes_eq f.name x) 0 many) ≡ Some y
 found_more many few x y known e =
     by (place_of (λ (f : FormulaName). bytes_eq f.name x) 0 few) (place_of (λ (f : FormulaName). bytes_eq f.name x) 0 many)
-    (λ f q. placed (λ (f : FormulaName). bytes_eq f.name x) 0 many ∙ known x f (sym (placed (λ (f : FormulaName). bytes_eq f.name x) 0 few) ∙ q)) e
+    (λ f q. thing_found (λ (f : FormulaName). bytes_eq f.name x) 0 many ∙ known x f (sym (thing_found (λ (f : FormulaName). bytes_eq f.name x) 0 few) ∙ q)) e
   where
     same : (k : ℕ × FormulaName) (j : Option (ℕ × FormulaName)) → option_map (λ (i : ℕ × FormulaName). i.1) j ≡ Some k.1 → Some (meant_by k.1) ≡ Some y →
         option_map (λ (i : ℕ × FormulaName). meant_by i.1) j ≡ Some y

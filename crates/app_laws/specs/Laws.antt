@@ -1,10 +1,10 @@
 -- What holds of named formulas that are admitted.
-use Rattle.std.specs.Prelude.{◌≡◌, ℕ, List, [], Option, Some, None, false, Ok, bytes_eq}
-use Rattle.std.specs.List.{find}
+use Rattle.std.specs.Prelude.{◌≡◌, ℕ, List, [], Option, Some, None, true, false, Ok}
 use Rattle.app_names.specs.Declarations.{declared_in}
 use Rattle.fx_data.specs.Types.{Shape}
 use Rattle.fx_fresh.specs.Sound.{IsLawfulContext, IsLawfulTree}
 use Rattle.fx_judge.specs.Typing.{context_of, judge_whole, outermost}
+use Rattle.fx_names.specs.Formulas.{formula_named}
 use Rattle.fx_names.specs.Lawful.{IsLawful}
 use Rattle.fx_names.specs.declared.names.FormulaName.{FormulaName}
 use Rattle.fx_names.specs.declared.names.Names.{Names}
@@ -14,11 +14,7 @@ use Rattle.fx_typing.specs.Meaning.{Place}
 
 -- a named formula stands on no screen, and sees no gallery's item
 abbrev pub alone : Names → Place
-alone m = record { names = m; screen = None; gallery = None }
-
--- the first formula of a name
-abbrev pub formula_named : List ℕ → List FormulaName → Option FormulaName
-formula_named x = find (λ (f : FormulaName). bytes_eq f.name x)
+alone m = record { names = m; screen = None; gallery = None; settled = true }
 
 -- what some formulas know by a name, others know as well
 abbrev pub AreKnownTo : List FormulaName → List FormulaName → Type 0

@@ -11,10 +11,9 @@ use crate::things::{names_in, things_of};
 use fx_base::Memory;
 use fx_data::types::Ty;
 use fx_functions::signatures::Signature;
+use fx_names::formulas::FormulaList;
 use fx_names::in_order::InOrder;
-use fx_names::names::{
-    Collection, CollectionList, FormulaList, FormulaName, Names, Variable, VariableList,
-};
+use fx_names::names::{Collection, CollectionList, FormulaName, Names, Variable, VariableList};
 use fx_names::schema::Schema;
 use fx_parser::Named;
 use std::alloc::Global;
@@ -24,15 +23,18 @@ fn formulas_of(alloc: Global, cells: &[Named]) -> Result<FormulaList, Memory>
     requires { length cells.now ≤ 2000 }
     ensures { IfOk result (λ l. l ≡ formulas_from 0 cells.now) }
 {
-    let mut formulas = InOrder::new(alloc);
+    let mut formulas = FormulaList::new(alloc);
     let mut number = 0;
     for cell in cells {
         let name = cell.name.copy(alloc)?;
-        formulas.push(FormulaName {
-            name,
-            cell: number,
-            ty: Ty::Blank,
-        })?;
+        formulas.push(
+            alloc,
+            FormulaName {
+                name,
+                cell: number,
+                ty: Ty::Blank,
+            },
+        )?;
         number += 1;
     }
     Ok(formulas)

@@ -2,7 +2,7 @@
 use Rattle.std.proofs.Common.{inl, inr, ◌≡◌, ℕ, ◌≤◌, ◌++◌, List, [], ◌∷◌, Bool, true, false, bytes_eq, length, map, Some, None, Result, Ok, Err, refl, ap, sym, subst, ◌∙◌, arith, if◌then◌else◌}
 use Rattle.std.proofs.lemmas.List.Sorted.{IsPermutation-sym}
 use Rattle.std.specs.Str.{IsUtf8}
-use Rattle.app_laws.specs.Laws.{formula_named}
+use Rattle.fx_names.specs.Formulas.{formula_named}
 use Rattle.app_lines.specs.declared.formula.Formula.{Formula}
 use Rattle.app_loader.proofs.Distinct.{lines_apart}
 use Rattle.app_loader.proofs.Settled.{IsIn, is_in, moved}

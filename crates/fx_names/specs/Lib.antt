@@ -1,3 +1,4 @@
 pub mod Controls
+pub mod Formulas
 pub mod Lawful
 pub mod SourceTypes

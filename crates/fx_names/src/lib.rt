@@ -2,15 +2,17 @@
 #![tactic(auto)]
 
 pub mod controls;
+pub mod formulas;
 pub mod in_order;
 pub mod names;
 pub mod schema;
 
 pub use controls::Control;
+pub use formulas::FormulaList;
 pub use in_order::InOrder;
 pub use names::{
-    Collection, CollectionList, ControlList, ControlName, FormulaList, FormulaName, Names,
-    Property, PropertyList, ScreenList, Variable, VariableList,
+    Collection, CollectionList, ControlList, ControlName, FormulaName, Names, Property,
+    PropertyList, ScreenList, Variable, VariableList,
 };
 pub use schema::{Column, ColumnList, Schema, TableList, TableShape};
 

@@ -1,6 +1,7 @@
 //! What formulas may name.
 
 use crate::controls::Control;
+use crate::formulas::FormulaList;
 use crate::in_order::InOrder;
 use crate::schema::Schema;
 use fx_data::types::Ty;
@@ -63,9 +64,6 @@ pub type ControlList = InOrder<ControlName>;
 
 /// Written properties in app order.
 pub type PropertyList = InOrder<Property>;
-
-/// Named formulas in app order.
-pub type FormulaList = InOrder<FormulaName>;
 
 /// Variables in the order of their first assignment.
 pub type VariableList = InOrder<Variable>;

@@ -1,6 +1,9 @@
 -- Names that are the same, whatever their types.
 use Rattle.std.proofs.Common.{◌≡◌, ℕ, zero, suc, ◌<◌, ◌^◌, ◌++◌, List, [], ◌∷◌, All, length, map, Option, Some, None, slice_get, get_or, refl, ap, sym, subst, ◌∙◌, append-nil, arith}
+use Rattle.fx_data.specs.TypeView.{shape}
+use Rattle.fx_data.specs.declared.types.Ty.{Ty}
 use Rattle.fx_judge.specs.Rounds.{AllSame, SameNames, SameVariable, SameFormula, SameCollection, SameControl}
+use Rattle.fx_names.specs.Formulas.{retyped}
 use Rattle.fx_names.specs.Lawful.{IsLawful, IsLawfulControl, IsLawfulProperty, IsLawfulScreen, IsLawfulGallery, IsGallery, Has, AreDistinct, IsLawfulSchema}
 use Rattle.fx_names.specs.declared.names.Collection.{Collection}
 use Rattle.fx_names.specs.declared.names.ControlName.{ControlName}
@@ -133,3 +136,15 @@ none_left (x ∷ xs) e = absurd (omega arith)
 pub done_same : {A : Type 0} (R : A → A → Type 0) (xs ys rest : List A) → length rest ≡ 0 →
     ((more : List A) → AllSame R rest more → AllSame R xs (ys ++ more)) → AllSame R xs ys
 done_same R xs ys rest e go = subst (AllSame R xs) (append-nil ys) (go [] (subst (λ r. AllSame R r []) (sym (none_left rest e)) tt))
+
+-- formulas with other types are the same
+pub formulas_same : (fs : List FormulaName) (ts : List Ty) → length ts ≡ length fs → AllSame SameFormula fs (retyped fs ts)
+formulas_same [] ts e = tt
+formulas_same (f ∷ fs) [] e = absurd (omega arith)
+formulas_same (f ∷ fs) (t ∷ ts) e = ((refl, refl), formulas_same fs ts (omega arith))
+
+pub formulas_typed : (fs : List FormulaName) (ts : List Ty) → length ts ≡ length fs → map (λ (f : FormulaName). shape f.ty) (retyped fs ts) ≡ map shape ts
+formulas_typed [] [] e = refl
+formulas_typed [] (t ∷ ts) e = absurd (omega arith)
+formulas_typed (f ∷ fs) [] e = absurd (omega arith)
+formulas_typed (f ∷ fs) (t ∷ ts) e = ap (λ us. shape t ∷ us) (formulas_typed fs ts (omega arith))

@@ -147,7 +147,7 @@ pub fn with_types(alloc: Global, names: Names, types: Types) -> Result<Names, Me
         screens: names.screens,
         controls: all_retyped(alloc, names.controls, types.items)?,
         properties: names.properties,
-        formulas: all_retyped(alloc, names.formulas, types.formulas)?,
+        formulas: names.formulas.retyped(alloc, types.formulas)?,
         variables: all_retyped(alloc, names.variables, types.variables)?,
         collections: all_retyped(alloc, names.collections, types.collections)?,
     })

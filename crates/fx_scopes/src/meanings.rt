@@ -8,10 +8,9 @@ ghost use Rattle.fx_typed.specs.Term as top;
 ghost use Rattle.fx_typing.specs.Meaning as sought;
 ghost use Rattle.fx_local.specs.Answers.{Answers};
 ghost use Rattle.fx_local.specs.TypedView.{typed};
-ghost use Rattle.fx_scopes.specs.MeaningView.{as_valued, meaning_view, place};
+ghost use Rattle.fx_scopes.specs.MeaningView.{as_valued, in_formulas, meaning_view, place};
 ghost use Rattle.fx_scopes.specs.ReservedView.{reserved_meaning};
 
-use crate::named::thing_in;
 use crate::scoped::{in_scopes, this_record};
 use crate::scopes::Scopes;
 use crate::tables::{columns_of, item_type};
@@ -39,6 +38,9 @@ pub struct Place<'a> {
     pub screen: Option<u32>,
     /// The number of the gallery whose item it sees.
     pub gallery: Option<u32>,
+    /// Whether the types of variables and collections are settled: until then no value is of a wrong
+    /// type for one.
+    pub settled: bool,
 }
 
 /// What a name means.
@@ -166,6 +168,19 @@ fn in_context(alloc: Global, at: &Place, name: &Words) -> Result<Option<Typed>, 
     }
 }
 
+// A name among the named formulas.
+fn in_formulas(alloc: Global, names: &Names, name: &Words) -> Result<Option<Typed>, Memory>
+    ensures { IfOk result (λ t. option_map as_valued t ≡ in_formulas names.now.formulas name.now) }
+{
+    match names.formulas.find(name) {
+        Some(formula) => {
+            let found = read_as(alloc, Source::Cell(formula.cell), &formula.ty)?;
+            Ok(Some(found))
+        }
+        None => Ok(None),
+    }
+}
+
 /// What a name means among the global ones, which are distinct.
 pub fn in_globals<'a>(
     alloc: Global,
@@ -183,8 +198,7 @@ pub fn in_globals<'a>(
         let found = read_as(alloc, Source::Gathered(number), &collection.ty)?;
         return Ok(Some(Meaning::Valued(found)));
     }
-    if let Some((_, formula)) = thing_in(names.formulas.as_slice(), name) {
-        let found = read_as(alloc, Source::Cell(formula.cell), &formula.ty)?;
+    if let Some(found) = in_formulas(alloc, names, name)? {
         return Ok(Some(Meaning::Valued(found)));
     }
     if let Some((number, table)) = table_named(names, name) {

@@ -5,7 +5,7 @@ ghost use Rattle.fx_names.specs.declared.names.Variable.{Variable};
 ghost use Rattle.fx_typing.specs.Meaning.{is_global, is_on, place_of};
 
 use fx_data::words::Words;
-use fx_names::names::{Collection, ControlName, FormulaName, Property, Variable};
+use fx_names::names::{Collection, ControlName, Property, Variable};
 use fx_names::schema::TableShape;
 
 /// A thing that formulas name.
@@ -27,14 +27,6 @@ impl Named for Words {
 
 impl Named for ControlName {
     ghost name_of = { λ c. c.name };
-
-    fn is_named(&self, name: &Words) -> bool {
-        self.name.is(name)
-    }
-}
-
-impl Named for FormulaName {
-    ghost name_of = { λ f. f.name };
 
     fn is_named(&self, name: &Words) -> bool {
         self.name.is(name)

@@ -99,7 +99,9 @@ fn add_named(alloc: Global, app: &mut App, text: &str) -> Result<(), Stop> {
     let name = Words::of(alloc, address)?;
     let cell = next_cell(app)?;
     let ty = Ty::Text;
-    app.names.formulas.push(FormulaName { name, cell, ty })?;
+    app.names
+        .formulas
+        .push(alloc, FormulaName { name, cell, ty })?;
     add_cell(alloc, app, address, Spot::pure(None, None, None), text)
 }
 

@@ -13,6 +13,7 @@ use fx_data::words::Words;
 use fx_infer::{InferEnd, elaborate};
 use fx_lawful::is_lawful;
 use fx_names::controls::Control;
+use fx_names::formulas::FormulaList;
 use fx_names::in_order::InOrder;
 use fx_names::names::{Collection, ControlName, FormulaName, Names, Property, Variable};
 use fx_names::schema::{Column, Schema, TableList, TableShape};
@@ -27,7 +28,7 @@ fn bare(alloc: Global, tables: TableList) -> Names {
         screens: InOrder::new(alloc),
         controls: InOrder::new(alloc),
         properties: InOrder::new(alloc),
-        formulas: InOrder::new(alloc),
+        formulas: FormulaList::new(alloc),
         variables: InOrder::new(alloc),
         collections: InOrder::new(alloc),
     }
@@ -144,7 +145,7 @@ fn add_formulas(alloc: Global, names: &mut Names) -> Result<(), Stop> {
     for (name, text, cell) in formulas {
         let ty = type_of(alloc, text)?;
         let name = Words::of(alloc, name)?;
-        names.formulas.push(FormulaName { name, cell, ty })?;
+        names.formulas.push(alloc, FormulaName { name, cell, ty })?;
     }
     Ok(())
 }
