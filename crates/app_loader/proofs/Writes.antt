@@ -1,5 +1,5 @@
 -- Named formulas as they are written.
-use Rattle.std.proofs.Common.{◌≡◌, ℕ, ◌+◌, ◌<◌, ◌≤◌, ◌++◌, List, [], ◌∷◌, false, None, All, length, get_or, map, take, option_map, Err, refl, ap, sym, subst, ◌∙◌}
+use Rattle.std.proofs.Common.{◌≡◌, ℕ, ◌+◌, ◌<◌, ◌≤◌, ◌++◌, List, [], ◌∷◌, true, false, None, All, length, get_or, map, take, option_map, Err, refl, ap, sym, subst, ◌∙◌}
 use Rattle.std.proofs.lemmas.List.{take_more}
 use Rattle.app_loader.specs.Admitted.{Breaks, judged}
 use Rattle.app_loader.specs.Cells.{cell_of}
@@ -40,7 +40,7 @@ shallow_written n w h l = subst (λ t. tree_depth t ≤ 256) (sym h.expr) l
 
 -- a formula as it is written is judged as it stands
 pub same_judged : (m : Names) (n : Named) (w : Written) → IsWritten n w → judge_whole (place_of m w) (may_act w.place) (option_map shape w.wanted) w.expr ≡ judged m n
-same_judged m n w h = λ i. judge_whole (record { names = m; screen = h.screen i; gallery = h.item i }) (may_act (h.place i)) (option_map shape (h.wanted i)) (h.expr i)
+same_judged m n w h = λ i. judge_whole (record { names = m; screen = h.screen i; gallery = h.item i; settled = true }) (may_act (h.place i)) (option_map shape (h.wanted i)) (h.expr i)
 
 pub same_told : (m : Names) (n : Named) (w : Written) → IsWritten n w → (at rule : ℕ) (said : List ℕ) →
     IsToldBrokenWhole (place_of m w) (may_act w.place) (option_map shape w.wanted) w.expr at rule said → IsToldBrokenWhole (alone m) false None n.expr at rule said
@@ -48,8 +48,8 @@ same_told m n w h at rule said t =
     subst (λ e. IsToldBrokenWhole (alone m) false None e at rule said) h.expr
     (subst (λ o. IsToldBrokenWhole (alone m) false (option_map shape o) w.expr at rule said) h.wanted
     (subst (λ p. IsToldBrokenWhole (alone m) (may_act p) (option_map shape w.wanted) w.expr at rule said) h.place
-    (subst (λ g. IsToldBrokenWhole (record { names = m; screen = None; gallery = g }) (may_act w.place) (option_map shape w.wanted) w.expr at rule said) h.item
-    (subst (λ s. IsToldBrokenWhole (record { names = m; screen = s; gallery = w.item }) (may_act w.place) (option_map shape w.wanted) w.expr at rule said) h.screen t))))
+    (subst (λ g. IsToldBrokenWhole (record { names = m; screen = None; gallery = g; settled = true }) (may_act w.place) (option_map shape w.wanted) w.expr at rule said) h.item
+    (subst (λ s. IsToldBrokenWhole (record { names = m; screen = s; gallery = w.item; settled = true }) (may_act w.place) (option_map shape w.wanted) w.expr at rule said) h.screen t))))
 
 -- what is broken of it as it is written
 pub told : (m : Names) (n : Named) (w : Written) (b c : Broken) → IsWritten n w → judge_whole (place_of m w) (may_act w.place) (option_map shape w.wanted) w.expr ≡ Err (b.at, number_of b.rule) →

@@ -1,5 +1,5 @@
 -- Formulas are judged alike under names that differ in the place of their table of functions alone.
-use Rattle.std.proofs.Common.{◌≡◌, ◌++◌, ℕ, suc, List, [], ◌∷◌, Bool, nat_lt, length, encode_utf8_all, slice_get, nat_eq, bytes_eq, codes, Option, Some, None, map, option_map, Err, refl, ap, ◌∙◌, if◌then◌else◌}
+use Rattle.std.proofs.Common.{◌≡◌, ◌++◌, ℕ, suc, List, [], ◌∷◌, Bool, true, false, nat_lt, length, encode_utf8_all, slice_get, nat_eq, bytes_eq, codes, Option, Some, None, map, option_map, Err, refl, ap, ◌∙◌, if◌then◌else◌}
 use Rattle.std.specs.Prelude.{◌&&◌, ◌||◌}
 use Rattle.std.specs.Borrow.{Bor}
 use Rattle.app_verdicts.proofs.Functions.{found_alike, shape_alike}
@@ -49,12 +49,12 @@ module _ (m : Names) (s t : Bor (List Signature)) (same : map entry s.now ≡ ma
   opens_alike g h n done [] = refl
   opens_alike g h n done (q ∷ qs) = λ i. is_inside (plan_alike g h n done i).standing || opens_alike g h n (done ++ q ∷ []) qs i
 
-  module _ (screen gallery : Option ℕ) where
+  module _ (screen gallery : Option ℕ) (settled : Bool) where
     abbrev here : Place
-    here = record { names = one; screen = screen; gallery = gallery }
+    here = record { names = one; screen = screen; gallery = gallery; settled = settled }
 
     abbrev there : Place
-    there = record { names = other; screen = screen; gallery = gallery }
+    there = record { names = other; screen = screen; gallery = gallery; settled = settled }
 
     -- ---- the local rule
     pub deep_alike : (u : Setting) (h : Head) (qs : List Part) → is_too_deep here u h qs ≡ is_too_deep there u h qs
@@ -119,11 +119,11 @@ module _ (m : Names) (s t : Bor (List Signature)) (same : map entry s.now ≡ ma
   -- ---- a round
   all_alike : (cs : List Cell) → all_given one cs ≡ all_given other cs
   all_alike [] = refl
-  all_alike (c ∷ cs) = λ i. given_alike c.screen c.gallery (outermost c.acts) c.formula i ++ all_alike cs i
+  all_alike (c ∷ cs) = λ i. given_alike c.screen c.gallery false (outermost c.acts) c.formula i ++ all_alike cs i
 
   cell_alike : (o : Option Cell) → cell_type one o ≡ cell_type other o
   cell_alike None = refl
-  cell_alike (Some c) = ap type_or_blank (whole_alike c.screen c.gallery c.acts c.wanted c.formula)
+  cell_alike (Some c) = ap type_or_blank (whole_alike c.screen c.gallery true c.acts c.wanted c.formula)
 
   items_alike : (cs : List Cell) (k : ℕ) (ws : List ControlName) → items_types one cs k ws ≡ items_types other cs k ws
   items_alike cs k [] = refl
@@ -139,5 +139,5 @@ module _ (m : Names) (s t : Bor (List Signature)) (same : map entry s.now ≡ ma
       (items_alike cs 0 m.controls i)
 
   pub judged_alike : (acts : Bool) (w : Option Shape) (e : Tree) →
-      judge_whole (record { names = one; screen = None; gallery = None }) acts w e ≡ judge_whole (record { names = other; screen = None; gallery = None }) acts w e
-  judged_alike acts w e = whole_alike None None acts w e
+      judge_whole (record { names = one; screen = None; gallery = None; settled = true }) acts w e ≡ judge_whole (record { names = other; screen = None; gallery = None; settled = true }) acts w e
+  judged_alike acts w e = whole_alike None None true acts w e

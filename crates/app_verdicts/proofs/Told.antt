@@ -1,5 +1,5 @@
 -- Of a broken formula one thing is said, wherever the table of functions stands.
-use Rattle.std.proofs.Common.{inl, inr, ◌≡◌, ◌++◌, ℕ, List, [], ◌∷◌, Bool, false, map, length, ◌==◌, suc, codes, Option, None, Result, Ok, Err, refl, ap, sym, subst, ◌∙◌, if◌then◌else◌}
+use Rattle.std.proofs.Common.{inl, inr, ◌≡◌, ◌++◌, ℕ, List, [], ◌∷◌, Bool, true, false, map, length, ◌==◌, suc, codes, Option, None, Result, Ok, Err, refl, ap, sym, subst, ◌∙◌, if◌then◌else◌}
 use Rattle.std.specs.Borrow.{Bor}
 use Rattle.app_verdicts.proofs.Judging.{admit_alike, as_called, deep_alike, node_alike, part_alike, parts_alike, setting_alike}
 use Rattle.fx_data.specs.Types.{Shape}
@@ -61,12 +61,12 @@ module _ (m : Names) (s t : Bor (List Signature)) (same : map entry s.now ≡ ma
   abbrev other : Names
   other = record m { signatures = t }
 
-  module _ (screen gallery : Option ℕ) where
+  module _ (screen gallery : Option ℕ) (settled : Bool) where
     abbrev here : Place
-    here = record { names = one; screen = screen; gallery = gallery }
+    here = record { names = one; screen = screen; gallery = gallery; settled = settled }
 
     abbrev there : Place
-    there = record { names = other; screen = screen; gallery = gallery }
+    there = record { names = other; screen = screen; gallery = gallery; settled = settled }
 
     detail_alike : (u : Setting) (h : Head) (qs : List Part) (r : ℕ) → detail_of here u h qs r ≡ detail_of there u h qs r
     detail_alike u (tree.call x) qs r = λ i.
@@ -76,7 +76,7 @@ module _ (m : Names) (s t : Bor (List Signature)) (same : map entry s.now ≡ ma
         else (if r == 7 then counted (head_name (tree.call x)) (length qs)
         else (if r == 11 then unjoined here k qs
         else (if r == 12 then column_in one k qs
-        else (if r == 13 then (if deep_alike m s t same screen gallery u (tree.call x) qs i then counted (codes "nested") (suc (depth_of u.scopes)) else call_limit here u k qs)
+        else (if r == 13 then (if deep_alike m s t same screen gallery settled u (tree.call x) qs i then counted (codes "nested") (suc (depth_of u.scopes)) else call_limit here u k qs)
         else (if r == 15 then no_variable (head_name (tree.call x)) qs
         else head_name (tree.call x)))))))
     detail_alike u h qs r = refl
@@ -87,8 +87,8 @@ module _ (m : Names) (s t : Bor (List Signature)) (same : map entry s.now ≡ ma
           inl (
             x.0,
             x.1,
-            sym (parts_alike m s t same screen gallery u h (parts_in ts) [] ts) ∙ x.2,
-            sym (admit_alike m s t same screen gallery u h x.1) ∙ x.3,
+            sym (parts_alike m s t same screen gallery settled u h (parts_in ts) [] ts) ∙ x.2,
+            sym (admit_alike m s t same screen gallery settled u h x.1) ∙ x.3,
             x.4 ∙ detail_alike u h x.1 r,
           )
       told_alike u (node at h ts) w r said (inr x) = inr (among_alike u h (parts_in ts) [] ts w r said x)
@@ -98,9 +98,9 @@ module _ (m : Names) (s t : Bor (List Signature)) (same : map entry s.now ≡ ma
       among_alike u h n done (more k ks) w r said (inl x) =
           inl (subst (λ z. IsToldBroken there z k w r said) (setting_alike m s t same u h n done) (told_alike (setting_at one u h n done) k w r said x))
       among_alike u h n done (more k ks) w r said (inr x) =
-          inr (x.0, sym (part_alike m s t same screen gallery u h n done k) ∙ x.1, among_alike u h n (done ++ x.0 ∷ []) ks w r said x.2)
+          inr (x.0, sym (part_alike m s t same screen gallery settled u h n done k) ∙ x.1, among_alike u h n (done ++ x.0 ∷ []) ks w r said x.2)
 
   pub whole_told_alike : (e : Tree) (w r : ℕ) (said : List ℕ) →
-      IsToldBrokenWhole (record { names = one; screen = None; gallery = None }) false None e w r said → IsToldBrokenWhole (record { names = other; screen = None; gallery = None }) false None e w r said
-  whole_told_alike e w r said (inl x) = inl (told_alike None None (outermost false) e w r said x)
-  whole_told_alike e w r said (inr x) = inr (x.0, x.1, sym (node_alike m s t same None None (outermost false) e) ∙ x.2, x.3, x.4)
+      IsToldBrokenWhole (record { names = one; screen = None; gallery = None; settled = true }) false None e w r said → IsToldBrokenWhole (record { names = other; screen = None; gallery = None; settled = true }) false None e w r said
+  whole_told_alike e w r said (inl x) = inl (told_alike None None true (outermost false) e w r said x)
+  whole_told_alike e w r said (inr x) = inr (x.0, x.1, sym (node_alike m s t same None None true (outermost false) e) ∙ x.2, x.3, x.4)

@@ -25,7 +25,7 @@ use fx_calls::lists::{table_of, with_of};
 use fx_data::types::{Columns, Ty};
 use fx_data::values::{Fields, Value};
 use fx_data::words::Words;
-use fx_deeds::deeds::acted;
+use fx_deeds::deeds::{acted, until_settled};
 use fx_deeds::rows::find_rows;
 use fx_deeds::values::{named_first, pieces, values};
 use fx_functions::functions::{Acting, Fun};
@@ -165,6 +165,7 @@ fn acted_or_lowest(
 {
     let fits = could_act(alloc, acting, all.as_slice())?;
     let found = acted(alloc, at.names, at.screen, acting, all);
+    let found = until_settled(alloc, at.settled, found);
     let found = unless(!fits, Rule::WrongType, found);
     unless(!stand.grant.may_act(), Rule::BehaviourInPure, found)
 }

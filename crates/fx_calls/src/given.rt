@@ -28,6 +28,16 @@ pub fn done_by(deed: Deed, parts: CoreArgs) -> Typed
     }
 }
 
+/// A deed that changes nothing.
+pub fn nothing_done(alloc: Global) -> Typed
+    ensures { typed result ≡ deeds.nothing_done }
+{
+    done_by(
+        Deed::UpdateContext(Sources::new(alloc)),
+        CoreArgs::new(alloc),
+    )
+}
+
 /// A tree alone.
 pub fn alone(alloc: Global, core: Core) -> Result<CoreArgs, Memory>
     ensures { IfOk result (λ cs. cs ≡ core ∷ []) }

@@ -1,7 +1,9 @@
 //! Acting calls.
-ghost use Rattle.std.specs.Prelude.{◌≡◌, false, map};
+ghost use Rattle.std.specs.Prelude.{◌≡◌, Result, false, map, ℕ};
+ghost use Rattle.fx_data.specs.Types.{Shape};
 ghost use Rattle.fx_judge.specs.Deeds as deeds;
 ghost use Rattle.fx_names.specs.Lawful.{IsLawful};
+ghost use Rattle.fx_typed.specs.Term.{Term};
 ghost use Rattle.fx_local.specs.Answers.{Answers};
 ghost use Rattle.fx_local.specs.TypedView.{typed};
 ghost use Rattle.fx_scopes.specs.PartView.{part};
@@ -13,7 +15,7 @@ use crate::rows::{patch_of, remove_of};
 use crate::values::{named_first, values};
 use crate::variables::{set_of, update_of};
 use fx_calls::few::one;
-use fx_calls::given::{alone, done_by};
+use fx_calls::given::{alone, done_by, nothing_done};
 use fx_calls::lists::come_to;
 use fx_data::types::Ty;
 use fx_data::words::Words;
@@ -136,4 +138,27 @@ pub fn acted(
     }
     let (name, rest) = named_first(parts)?;
     acted_on(alloc, names, acting, &name, rest)
+}
+
+/// What an acting call comes to: until the types of variables and collections are settled, one that gives
+/// a value of a wrong type is done, and changes nothing.
+pub fn until_settled(
+    alloc: Global,
+    settled: bool,
+    made: Result<Typed, Wrong>,
+) -> Result<Typed, Wrong>
+    ensures { (r : Result (Term × Shape) ℕ) → Answers typed r made
+        → Answers typed (deeds.until_settled settled r) result }
+{
+    match made {
+        Ok(value) => Ok(value),
+        Err(Wrong::Breaks(rule)) => {
+            if !settled && rule.number() == Rule::VariableTypes.number() {
+                Ok(nothing_done(alloc))
+            } else {
+                Err(Wrong::Breaks(rule))
+            }
+        }
+        Err(Wrong::Memory) => Err(Wrong::Memory),
+    }
 }

@@ -11,8 +11,9 @@ abbrev pub may_act : PlaceKind → Bool
 may_act Pure = false
 may_act Acting = true
 
+-- it is judged under types that are settled
 abbrev pub place_of : Names → Written → Place
-place_of n w = record { names = n; screen = w.screen; gallery = w.item }
+place_of n w = record { names = n; screen = w.screen; gallery = w.item; settled = true }
 
 -- a table type without columns, which stands for every table type
 abbrev pub is_any_table : Shape → Bool

@@ -161,6 +161,7 @@ fn judged(alloc: Global, names: &Names, cell: &Written) -> Result<Typed, InferEn
         names,
         screen: cell.screen,
         gallery: cell.item,
+        settled: true,
     };
     let mut scopes = Scopes::new(alloc);
     match judge(alloc, &at, &mut scopes, outermost(cell.place), &cell.expr) {

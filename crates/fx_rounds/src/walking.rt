@@ -172,13 +172,14 @@ fn walk_cell(
     requires lawful { IsLawful names.now }
     requires shallow { tree_depth formula.now.expr ≤ 256 }
     ensures { OnOk result (map given_view given.new.items ≡ map given_view given.old.items
-        ++ rounds.given_in (rounds.placed names.now (cell formula.now))
+        ++ rounds.given_in (rounds.placed_in_round names.now (cell formula.now))
         (typing.outermost (cell formula.now).acts) (cell formula.now).formula) }
 {
     let at = Place {
         names,
         screen: formula.screen,
         gallery: formula.item,
+        settled: false,
     };
     let mut scopes = Scopes::new(alloc);
     walk(
