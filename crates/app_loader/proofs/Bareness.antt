@@ -4,10 +4,11 @@ use Rattle.std.proofs.lemmas.List.Sorted.{length_permutation}
 use Rattle.std.specs.List.{filter}
 use Rattle.app_laws.specs.Laws.{AdmittedDeclaresNothing}
 use Rattle.app_loader.specs.Admitted.{AreBreaks, Breaks, IsAdmitted}
-use Rattle.app_loader.specs.Bare.{AreApart, AreKnown, AreSettled, IsBare}
+use Rattle.app_loader.specs.Bare.{AreApart, AreKnown, AreNumbered, AreSettled, IsBare}
 use Rattle.app_loader.specs.Cells.{cell_of}
 use Rattle.app_loader.specs.Judged.{AreTypedLines}
-use Rattle.app_loader.proofs.Distinct.{lines_apart}
+use Rattle.app_loader.proofs.Distinct.{cells_apart, lines_apart}
+use Rattle.app_loader.proofs.Numbers.{numbered}
 use Rattle.app_loader.proofs.Settled.{known, settled}
 use Rattle.app_names.proofs.Lawful.{few}
 use Rattle.app_names.specs.AppNames.{as_collection, as_variable, is_collection, is_variable}
@@ -72,3 +73,6 @@ settled_lines cells lines m t = settled cells lines t.first m t.named.named.form
 
 pub known_lines : (cells lines : List Named) (m : Names) → AreTypedLines lines cells m → AreKnown m lines
 known_lines cells lines m t = known cells lines t.first m t.named.named.formulas (same_names cells lines m t) t.named.in_order.rearranged
+
+pub numbered_cells : (cells lines : List Named) (m : Names) → AreTypedLines lines cells m → AreNumbered m cells
+numbered_cells cells lines m t = numbered cells t.first m t.named.named.formulas (same_names cells lines m t) (cells_apart t.first.signatures.now cells t.named.unbroken)

@@ -1,10 +1,10 @@
 -- The formulas of lines, as they are known by their names.
-use Rattle.std.proofs.Common.{◌≡◌, ℕ, zero, suc, ◌+◌, ◌<◌, ◌≤◌, ◌++◌, List, [], ◌∷◌, Bool, true, false, length, get_or, take, Option, Some, None, bytes_eq, refl, ap, sym, subst, ◌∙◌, arith, if◌then◌else◌}
+use Rattle.std.proofs.Common.{◌≡◌, ℕ, ◌+◌, ◌<◌, ◌++◌, List, [], ◌∷◌, Bool, true, false, length, get_or, take, Option, Some, None, bytes_eq, refl, ap, sym, subst, ◌∙◌, if◌then◌else◌}
 use Rattle.std.proofs.lemmas.List.{take_more}
 use Rattle.std.specs.List.{find}
-use Rattle.app_laws.specs.Laws.{AreKnownTo, formula_named}
-use Rattle.app_loader.specs.Admitted.{known_by, lines_before, names_behind, put_known}
-use Rattle.app_loader.specs.Bare.{AreApart, IsNone}
+use Rattle.app_laws.specs.Laws.{AreKnownTo}
+use Rattle.fx_names.specs.Formulas.{formula_named}
+use Rattle.app_loader.specs.Admitted.{known_by, names_behind, put_known}
 use Rattle.fx_names.specs.declared.names.FormulaName.{FormulaName}
 use Rattle.fx_names.specs.declared.names.Names.{Names}
 use Rattle.fx_parser.specs.declared.entries.Named.{Named}
@@ -55,47 +55,3 @@ knows fs (n ∷ ns) x f e = by (formula_named n.name fs) refl (λ q. knows fs ns
         formula_named x (put_known o (known_by fs ns)) ≡ Some f → formula_named x fs ≡ Some f
     by (Some k) own more e = here k own (bytes_eq k.name x) refl more e
     by None own more e = more e
-
--- the lines before the one of a name
-pub before_found : (ns : List Named) (i : ℕ) (n : Named) (x : List ℕ) → i < length ns → n ≡ get_or ns i n → IsNone x (take i ns) → bytes_eq n.name x ≡ true → lines_before x ns ≡ take i ns
-before_found [] i n x l e h q = absurd (omega (arith, l))
-before_found (k ∷ ns) zero n x l e h q = ap (λ b. if b then [] else k ∷ lines_before x ns) (subst (λ (z : Named). bytes_eq z.name x ≡ true) e q)
-before_found (k ∷ ns) (suc i) n x l e h q =
-    ap (λ b. if b then [] else k ∷ lines_before x ns) h.0 ∙ ap (λ ks. k ∷ ks) (before_found ns i n x (omega (arith, l)) e h.1 q)
-
-pub before_none : (ns : List Named) (i : ℕ) (x : List ℕ) → length ns ≤ i → IsNone x (take i ns) → lines_before x ns ≡ take i ns
-before_none [] zero x l h = refl
-before_none [] (suc i) x l h = refl
-before_none (k ∷ ns) zero x l h = absurd (omega (arith, l))
-before_none (k ∷ ns) (suc i) x l h = ap (λ b. if b then [] else k ∷ lines_before x ns) h.0 ∙ ap (λ ks. k ∷ ks) (before_none ns i x (omega (arith, l)) h.1)
-
-none_behind : (x : List ℕ) (ns : List Named) (n : Named) → IsNone x ns → bytes_eq n.name x ≡ false → IsNone x (ns ++ n ∷ [])
-none_behind x [] n h q = (q, tt)
-none_behind x (k ∷ ns) n h q = (h.0, none_behind x ns n h.1 q)
-
-pub none_more : (x : List ℕ) (ns : List Named) (i : ℕ) (n : Named) → i < length ns → n ≡ get_or ns i n → IsNone x (take i ns) → bytes_eq n.name x ≡ false → IsNone x (take (i + 1) ns)
-none_more x ns i n l e h q = subst (IsNone x) (sym (take_more ns i n l ∙ ap (λ k. take i ns ++ k ∷ []) (sym e))) (none_behind x (take i ns) n h q)
-
-none_before : (x y : List ℕ) (ns : List Named) → IsNone y ns → IsNone y (lines_before x ns)
-none_before x y [] h = tt
-none_before x y (n ∷ ns) h = by (bytes_eq n.name x) (none_before x y ns h.1)
-  where
-    by : (b : Bool) → IsNone y (lines_before x ns) → IsNone y (if b then [] else n ∷ lines_before x ns)
-    by true r = tt
-    by false r = (h.0, r)
-
-pub apart_before : (x : List ℕ) (ns : List Named) → AreApart ns → AreApart (lines_before x ns)
-apart_before x [] h = tt
-apart_before x (n ∷ ns) h = by (bytes_eq n.name x) (apart_before x ns h.1)
-  where
-    by : (b : Bool) → AreApart (lines_before x ns) → AreApart (if b then [] else n ∷ lines_before x ns)
-    by true r = tt
-    by false r = (none_before x n.name ns h.0, r)
-
-pub short_before : (x : List ℕ) (ns : List Named) → length (lines_before x ns) ≤ length ns
-short_before x [] = omega arith
-short_before x (n ∷ ns) = by (bytes_eq n.name x) (short_before x ns)
-  where
-    by : (b : Bool) → length (lines_before x ns) ≤ length ns → length (if b then [] else n ∷ lines_before x ns) ≤ suc (length ns)
-    by true r = omega arith
-    by false r = omega (arith, r)

@@ -6,6 +6,7 @@ pub mod ReadySteps
 pub mod BreakLists
 pub mod Bareness
 pub mod Writes
-pub mod Behind
 pub mod Loads
+pub mod Behind
+pub mod Numbers
 pub mod Ended

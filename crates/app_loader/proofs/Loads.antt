@@ -1,6 +1,7 @@
 -- Lines, loaded one behind the other.
 use Rattle.std.proofs.Common.{◌≡◌, ℕ, zero, suc, ◌+◌, ◌<◌, ◌≤◌, ◌^◌, ◌++◌, List, [], ◌∷◌, length, get_or, take, Option, None, Ok, MatchOption, refl, ap, sym, subst, ◌∙◌, arith}
-use Rattle.app_laws.specs.Laws.{AdmittedIsLawful, MoreNamesSameTree, formula_named}
+use Rattle.app_laws.specs.Laws.{AdmittedIsLawful, MoreNamesSameTree}
+use Rattle.fx_names.specs.Formulas.{formula_named}
 use Rattle.app_lines.specs.ReadyLines.{AreReady}
 use Rattle.app_lines.specs.declared.formula.Formula.{Formula}
 use Rattle.app_loader.specs.Admitted.{AreLoadedBehind, IsAdmitted, IsLoaded, judged, known_by, names_behind, put_known}

@@ -3,7 +3,8 @@ use Rattle.std.proofs.Common.{◌≡◌, ◌≢◌, ℕ, zero, suc, ◌<◌, ◌
 use Rattle.std.specs.Prelude.{nat_eq}
 use Rattle.std.proofs.Math.Path.{fun_ext}
 use Rattle.std.specs.List.{find}
-use Rattle.app_laws.specs.Laws.{AdmittedIsLawful, alone, formula_named}
+use Rattle.app_laws.specs.Laws.{AdmittedIsLawful, alone}
+use Rattle.fx_names.specs.Formulas.{formula_named}
 use Rattle.app_lines.specs.ReadyLines.{AreReady, AreReadyBehind, IsReadyBehind, behind, sources_behind, type_of}
 use Rattle.app_lines.specs.declared.formula.Formula.{Formula}
 use Rattle.app_loader.specs.Admitted.{judged, known_by, names_behind, put_known}

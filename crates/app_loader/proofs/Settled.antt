@@ -4,7 +4,7 @@ use Rattle.std.specs.Prelude.{IsSome}
 use Rattle.std.proofs.lemmas.List.Sorted.{Contains-permutation, IsPermutation-sym}
 use Rattle.std.specs.List.{Contains, find}
 use Rattle.std.specs.List.Sorted.{IsPermutation}
-use Rattle.app_laws.specs.Laws.{formula_named}
+use Rattle.fx_names.specs.Formulas.{formula_named}
 use Rattle.app_loader.specs.Admitted.{AreBreaks, IsAdmitted, UsesLater, lines_before, names_at, names_behind}
 use Rattle.app_loader.specs.Bare.{AreApart, AreKnown, AreSettled, HasLater, IsNone}
 use Rattle.app_loader.specs.Cells.{cell_of}
@@ -130,18 +130,18 @@ known cells lines first m named same moves n before more at =
     cell_known 0 cells m.formulas n (subst (λ (fs : List FormulaName). AllSame SameFormula fs m.formulas) named same.formulas) (moved lines cells n moves (is_in lines before more n at))
 
 -- ---- a line that uses a later name is told
-cut_at : (before more : List Named) (n : Named) → AreApart (before ++ n ∷ more) → lines_before n.name (before ++ n ∷ more) ≡ before
+pub differs : (k n : Named) (ns : List Named) → IsNone k.name ns → IsIn n ns → bytes_eq k.name n.name ≡ false
+differs k n ns h i = by (bytes_eq k.name n.name) refl
+  where
+    by : (b : Bool) → bytes_eq k.name n.name ≡ b → b ≡ false
+    by true q = absurd (not_in ns n k.name h i (sym (same_name k.name n.name q)))
+    by false q = refl
+
+pub cut_at : (before more : List Named) (n : Named) → AreApart (before ++ n ∷ more) → lines_before n.name (before ++ n ∷ more) ≡ before
 cut_at [] more n a = ap (λ b. if b then [] else n ∷ lines_before n.name more) (own_name n.name)
 cut_at (k ∷ before) more n a =
-    ap (λ b. if b then [] else k ∷ lines_before n.name (before ++ n ∷ more)) (differs (before ++ n ∷ more) a.0 (in_middle before more n))
+    ap (λ b. if b then [] else k ∷ lines_before n.name (before ++ n ∷ more)) (differs k n (before ++ n ∷ more) a.0 (in_middle before more n))
     ∙ ap (λ ns. k ∷ ns) (cut_at before more n a.1)
-  where
-    differs : (ns : List Named) → IsNone k.name ns → IsIn n ns → bytes_eq k.name n.name ≡ false
-    differs ns h i = by (bytes_eq k.name n.name) refl
-      where
-        by : (b : Bool) → bytes_eq k.name n.name ≡ b → b ≡ false
-        by true q = absurd (not_in ns n k.name h i (sym (same_name k.name n.name q)))
-        by false q = refl
 
 all_fine : (IsFine : Named → Type 0) (IsBroken : Named → Broken → Type 0) (ns : List Named) (n : Named) → AreBreaks IsFine IsBroken ns [] → IsIn n ns → IsFine n
 all_fine IsFine IsBroken [] n h i = absurd i

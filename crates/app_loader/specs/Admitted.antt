@@ -12,7 +12,8 @@ use Rattle.fx_rules.specs.declared.broken.Broken.{Broken}
 use Rattle.fx_rules.specs.declared.rule.Rule.{Rule}
 use Rattle.fx_rules.specs.declared.rule.Rule.TheVariants as rule
 use Rattle.fx_typed.specs.Term.{Term}
-use Rattle.app_laws.specs.Laws.{alone, formula_named}
+use Rattle.app_laws.specs.Laws.{alone}
+use Rattle.fx_names.specs.Formulas.{formula_named}
 use Rattle.app_lines.specs.declared.formula.Formula.{Formula}
 use Rattle.app_names.specs.NameRules.{in_formula}
 

@@ -1,16 +1,17 @@
 -- Names of formulas alone, and how their lines find them.
-use Rattle.std.specs.Prelude.{◌≡◌, ◌++◌, ◌∷◌, [], ℕ, List, false, IsSome, Some, Ok, bytes_eq, codes}
-use Rattle.app_laws.specs.Laws.{formula_named}
-use Rattle.app_loader.specs.Admitted.{IsAdmitted, judged, names_behind}
+use Rattle.std.specs.Prelude.{◌≡◌, ◌++◌, ◌∷◌, [], ℕ, List, false, IsSome, MatchOption, Option, Some, None, Ok, Err, bytes_eq, codes, length, option_map, slice_get, slice_index_or}
+use Rattle.app_loader.specs.Admitted.{IsAdmitted, UsesLater, judged, names_at, names_behind}
 use Rattle.app_lines.specs.declared.formula.Formula.{Formula}
 use Rattle.fx_data.specs.TypeView.{shape}
 use Rattle.fx_data.specs.Types.{Shape}
+use Rattle.fx_names.specs.Formulas.{formula_named}
 use Rattle.fx_names.specs.declared.names.FormulaName.{FormulaName}
 use Rattle.fx_names.specs.declared.names.Names.{Names}
 use Rattle.fx_rules.specs.declared.broken.Broken.{Broken}
 use Rattle.fx_rules.specs.declared.rule.Rule.TheVariants.{NotBuilt}
 use Rattle.fx_typed.specs.Term.{Term}
 use Rattle.fx_parser.specs.declared.entries.Named.{Named}
+use Rattle.app_names.specs.NameRules.{in_formula}
 
 -- there is nothing beside formulas
 pub record IsBare (m : Names) : Type 0 where
@@ -63,3 +64,24 @@ later_of b = record b { rule = NotBuilt; detail = codes "name" }
 pub record IsFormulaOf (m found : Names) (n : Named) (f : Formula) : Type 0 where
   pub named : IsNamedSo m n (f.core, shape f.ty) f
   pub admitted : judged found n ≡ Ok (f.core, shape f.ty)
+
+-- a formula uses the name of a formula that isn't among these, and this is its break
+abbrev pub UsesMissing : Names → Named → Broken → Type 0
+UsesMissing m n b = (at : ℕ) × (r : ℕ) × (judged m n ≡ Err (at, r)) × (b ≡ in_formula n NotBuilt at (codes "name"))
+
+-- the number of a formula's cell, as it is known by its name
+abbrev pub cell_number : Names → Named → Option ℕ
+cell_number m n = option_map (λ (k : FormulaName). k.cell) (formula_named n.name m.formulas)
+
+-- the number of each cell is its place
+abbrev pub AreNumbered : Names → List Named → Type 0
+AreNumbered m cells = (c : Named) (k : ℕ) → slice_get cells k ≡ Some c → cell_number m c ≡ Some k
+
+-- the break of a formula that uses a later name, and none of one that doesn't
+abbrev pub IsTold : Names → List Named → Named → Option Broken → Type 0
+IsTold m lines n o = MatchOption o (IsAdmitted (names_at m lines n) n) (UsesLater m lines n)
+
+-- the breaks of cells stand at the numbers of the cells
+pub record AreToldByNumber (m : Names) (lines cells : List Named) (os : List (Option Broken)) : Type 0 where
+  pub as_many : length os ≡ length cells
+  pub each : (c : Named) (k : ℕ) → slice_get cells k ≡ Some c → IsTold m lines c (slice_index_or os k None)

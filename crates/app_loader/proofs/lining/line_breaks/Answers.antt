@@ -1,15 +1,8 @@
-use Rattle.std.proofs.Common.{subst, sym, take, ◌+◌}
-use Rattle.app_loader.specs.Admitted.{AreBreaks, IsAdmitted, UsesLater, names_at}
-use Rattle.app_loader.proofs.BreakLists.{break_more}
-use Rattle.fx_parser.specs.declared.entries.Named.{Named}
+use Rattle.app_loader.proofs.Numbers.{back_shallow, breaks_of}
 use Rattle.app_loader.proofs.lining.line_breaks.Goals as goal
 
-pub loop-cell-preserved : goal.loop-cell-preserved
-loop-cell-preserved c =
-    let m = c.args.names.now in
-    let lines = c.args.lines.now in
-    let ns = c.args.cells.now in
-    let i = c.loop-cell.cell-index in
-    subst (AreBreaks (λ (n : Named). IsAdmitted (names_at m lines n) n) (UsesLater m lines) (take (i + 1) ns)) (sym c.in_ok-put_break.ensures)
-    (break_more (λ (n : Named). IsAdmitted (names_at m lines n) n) (UsesLater m lines) ns i c.cell-item.result c.loop-cell.breaks.items c.in_ok-broken.broken c.loop-cell-test.true c.cell-item.is
-    c.loop-cell.invariant c.in_ok-broken.ensures)
+pub breaks_by_number-requires-clause-shallow : goal.breaks_by_number-requires-clause-shallow
+breaks_by_number-requires-clause-shallow c = back_shallow c.args.lines.now c.args.cells.now c.requires.rearranged c.requires.shallow
+
+pub returns : goal.returns
+returns c = breaks_of c.args.names.now c.args.lines.now c.args.cells.now c.in_ok-by_number.by_number.items c.in_ok-by_number.ensures c.only_breaks.result c.only_breaks.ensures

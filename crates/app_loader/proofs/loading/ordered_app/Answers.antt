@@ -2,7 +2,7 @@ use Rattle.std.proofs.Common.{subst, sym}
 use Rattle.app_lines.specs.ReadyLines.{AreReady}
 use Rattle.app_loader.specs.Admitted.{AreLoaded}
 use Rattle.app_loader.specs.Judged as judge
-use Rattle.app_loader.proofs.Bareness.{apart_lines, few_lines, is_bare, known_lines, settled_lines}
+use Rattle.app_loader.proofs.Bareness.{apart_lines, few_lines, is_bare, known_lines, numbered_cells, settled_lines}
 use Rattle.app_loader.proofs.Ended.{late_in, loaded_in, shallow_cells, unordered}
 use Rattle.app_loader.proofs.loading.ordered_app.Goals as goal
 
@@ -32,6 +32,12 @@ line_breaks-requires-clause-few c = few_lines c.args.cells.now c.args.lines.now 
 
 pub line_breaks-requires-clause-shallow : goal.line_breaks-requires-clause-shallow
 line_breaks-requires-clause-shallow c = shallow_cells c.args.lines.now c.args.cells.now c.requires.settled.named.in_order c.requires.shallow
+
+pub line_breaks-requires-clause-rearranged : goal.line_breaks-requires-clause-rearranged
+line_breaks-requires-clause-rearranged c = c.requires.settled.named.in_order.rearranged
+
+pub line_breaks-requires-clause-numbered : goal.line_breaks-requires-clause-numbered
+line_breaks-requires-clause-numbered c = numbered_cells c.args.cells.now c.args.lines.now c.args.names c.requires.settled
 
 pub returns-in-Some-clause-app : goal.returns-in-Some-clause-app
 returns-in-Some-clause-app c =
