@@ -15,6 +15,3 @@ pub mod too_deep;
 pub use details::{detail_of, wanted_detail};
 pub use flaw::{Flaw, Halt};
 pub use too_deep::is_too_deep;
-
-#[cfg(test)]
-mod tests;

@@ -19,6 +19,3 @@ pub use operators::function_of;
 pub use typed::{Piece, Typed};
 pub use ways::Way;
 pub use wrong::Wrong;
-
-#[cfg(test)]
-mod tests;

@@ -7,8 +7,6 @@ mod end;
 mod entries;
 mod parse;
 mod refusal;
-#[cfg(test)]
-mod tests;
 
 pub use details::{bad_token, unexpected};
 pub use end::ParseEnd;

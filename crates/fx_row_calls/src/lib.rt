@@ -10,8 +10,6 @@ pub mod ends;
 mod errors;
 pub mod formulas;
 pub mod laws;
-#[cfg(test)]
-mod tests;
 pub mod texts;
 
 pub use aggregates::{average, max, min, sum};

@@ -20,6 +20,3 @@ pub use plans::{Grant, Plan, Standing, opens_rows, pick, plan_at};
 pub use scopes::{Scope, Scopes};
 pub use settings::{Stand, enter};
 pub use targets::RowsNamed;
-
-#[cfg(test)]
-mod tests;

@@ -8,8 +8,6 @@ mod columns;
 mod conditions;
 pub mod laws;
 pub mod lists;
-#[cfg(test)]
-mod tests;
 
 pub use answers::{Answers, is_formula, rows_of};
 pub use calls::over;
