@@ -24,8 +24,8 @@ use Rattle.fx_judge.proofs.QuietParts.{Made, if_quiet, then_quiet, unless_quiet,
 use Rattle.fx_judge.proofs.Whole.{sound_locally}
 use Rattle.fx_judge.specs.Breaks.{could_act, mistells, taken_at}
 use Rattle.fx_judge.specs.Builds.{bounded, blank_record}
-use Rattle.fx_judge.specs.Calls.{called, called_by, called_with, defaults_of, made_or_lowest}
-use Rattle.fx_judge.specs.Deeds.{acted, by_name, by_rows, until_settled}
+use Rattle.fx_judge.specs.Calls.{acted_by, called, called_by, called_with, defaults_of, made_or_lowest}
+use Rattle.fx_judge.specs.Deeds.{by_name, by_rows}
 use Rattle.fx_judge.specs.Parts.{Grant, nothing, acting, an_alias, a_column, a_target, aliased_target, a_meaning, on_screen, Part, piece, meant, target, assigned, as_part, Setting, may_act, parts_in, pieces, unless, values}
 use Rattle.fx_judge.specs.Plans.{first_record, first_row, pick, plan_at, record_type, scopes_for, setting_at}
 use Rattle.fx_judge.specs.Targets.{columns_or_none, rows_named, target_columns}
@@ -232,7 +232,7 @@ module _ (m : Names) (law : HasFormulasAlone m) where
   called_by_lawful s sig.Table qs e h = then_quiet AllWith TreeLawful (values qs) _ (values_lawful qs h) (λ xs k. table_lawful xs k)
   called_by_lawful s sig.Today qs e h = (tt, tt)
   called_by_lawful s sig.Defaults qs e h = defaults_lawful qs
-  called_by_lawful s (sig.Act a) qs e h = unless_refuses TreeLawful (may_act s.grant) 9 (unless (not (could_act a qs)) 6 (until_settled true (acted m None a qs))) e
+  called_by_lawful s (sig.Act a) qs e h = unless_refuses TreeLawful (may_act s.grant) 9 (unless (not (could_act a qs)) 6 (acted_by (alone m) a qs)) e
 
   called_with_lawful : (s : Setting) (o : Option Signature) (qs : List Part) → may_act s.grant ≡ false → EachLawful qs → Made TreeLawful (called_with (alone m) s o qs)
   called_with_lawful s (Some f) qs e h =

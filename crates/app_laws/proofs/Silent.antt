@@ -15,8 +15,7 @@ use Rattle.fx_judge.proofs.Quiet.{may_do}
 use Rattle.fx_judge.proofs.QuietParts.{Made, if_quiet, then_quiet, unless_quiet, unless_refuses}
 use Rattle.fx_judge.specs.Breaks.{could_act}
 use Rattle.fx_judge.specs.Builds.{bounded, bounded_by}
-use Rattle.fx_judge.specs.Calls.{called_by, called_with}
-use Rattle.fx_judge.specs.Deeds.{acted, until_settled}
+use Rattle.fx_judge.specs.Calls.{acted_by, called_by, called_with}
 use Rattle.fx_judge.specs.Parts.{Part, as_part, Setting, may_act, parts_in, unless}
 use Rattle.fx_judge.specs.Plans.{setting_at}
 use Rattle.fx_judge.specs.Typing.{admit, at_node, is_too_deep, judge, judge_parts, outermost, position, whole_of}
@@ -35,7 +34,7 @@ bounded_never r h = then_quiet Never Never r bounded_by h (λ x k. absurd k)
 
 -- a function that declares makes nothing where nothing may act
 refuses : (p : Place) (s : Setting) (k : SigShape) (qs : List Part) → may_act s.grant ≡ false → (declared_by (Some k) ≡ None) ⊎ Made Never (called_by p s k qs)
-refuses p s (sig.Act a) qs e = inr (unless_refuses Never (may_act s.grant) 9 (unless (not (could_act a qs)) 6 (until_settled p.settled (acted p.names p.screen a qs))) e)
+refuses p s (sig.Act a) qs e = inr (unless_refuses Never (may_act s.grant) 9 (unless (not (could_act a qs)) 6 (acted_by p a qs)) e)
 refuses p s k qs e = inl refl
 
 never_made : (r : Result (Term × Shape) ℕ) (q : Part) → Made Never r → as_part r ≡ Ok q → ⊥

@@ -17,7 +17,7 @@ ghost use Rattle.fx_scopes.specs.MeaningView.{place};
 ghost use Rattle.fx_scopes.specs.PartView.{part};
 ghost use Rattle.fx_scopes.specs.SettingView.{setting};
 
-use crate::fitting::{could_act, mistells};
+use crate::fitting::{could_act, gives_variables, mistells};
 use crate::taken::taken_at;
 use fx_base::Memory;
 use fx_calls::limits::bounded;
@@ -151,6 +151,18 @@ fn made_or_lowest(alloc: Global, fun: Fun, all: Vec<Part>) -> Result<Typed, Wron
     )
 }
 
+// An acting call at its place. While types aren't settled no value is of a wrong type for a variable, but
+// what is no variable is none.
+fn acted_by(alloc: Global, at: &Place, acting: Acting, all: Vec<Part>) -> Result<Typed, Wrong>
+    requires { IsLawful at.now.names.now }
+    ensures { Answers typed (calls.acted_by (place at.now) acting (map part all.entry.items)) result }
+{
+    let known = gives_variables(at.names, at.screen, acting, all.as_slice());
+    let found = acted(alloc, at.names, at.screen, acting, all);
+    let found = until_settled(alloc, at.settled, found);
+    unless(!known, Rule::NotAVariable, found)
+}
+
 // An acting call, where it stands, or the lowest rule that it breaks.
 fn acted_or_lowest(
     alloc: Global,
@@ -164,8 +176,7 @@ fn acted_or_lowest(
         → Answers typed (calls.acted_or_lowest (place at.now) (setting ss stand) acting (map part all.entry.items)) result }
 {
     let fits = could_act(alloc, acting, all.as_slice())?;
-    let found = acted(alloc, at.names, at.screen, acting, all);
-    let found = until_settled(alloc, at.settled, found);
+    let found = acted_by(alloc, at, acting, all);
     let found = unless(!fits, Rule::WrongType, found);
     unless(!stand.grant.may_act(), Rule::BehaviourInPure, found)
 }

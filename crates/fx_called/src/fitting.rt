@@ -1,4 +1,4 @@
-//! Parts of a wrong type, whatever else a call breaks.
+//! Parts of a wrong type, and names of no variable, whatever else a call breaks.
 ghost use Rattle.std.specs.Prelude.{◌≡◌, ◌∷◌, [], IfOk, codes, map, not};
 ghost use Rattle.fx_data.specs.TypeView.{shape};
 ghost use Rattle.fx_data.specs.Types.{column_list};
@@ -6,6 +6,7 @@ ghost use Rattle.fx_functions.specs.declared.functions.Acting.TheVariants as act
 ghost use Rattle.fx_functions.specs.declared.functions.Fun.TheVariants as fun;
 ghost use Rattle.fx_judge.specs.Breaks as breaks;
 ghost use Rattle.fx_judge.specs.Parts as parts;
+ghost use Rattle.fx_names.specs.Lawful.{IsLawful};
 ghost use Rattle.fx_typing.specs.Columns.{field_in, is_told_or_missing};
 ghost use Rattle.fx_typing.specs.Ways.{is_open, way};
 ghost use Rattle.fx_scopes.specs.PartView.{part};
@@ -17,7 +18,9 @@ use fx_functions::functions::{Acting, Fun};
 use fx_local::Piece;
 use fx_local::columns::field_in;
 use fx_local::ways::{Way, way_to};
+use fx_names::names::Names;
 use fx_scopes::Part;
+use fx_scopes::targets::screen_variable;
 use std::alloc::Global;
 
 // Whether a type comes to another.
@@ -137,5 +140,31 @@ pub fn could_act(alloc: Global, acting: Acting, all: &[Part]) -> Result<bool, Me
         Acting::RemoveIf => could_be_conditions(alloc, others),
         Acting::UpdateIf => could_update(alloc, others),
         _ => Ok(true),
+    }
+}
+
+// Whether all names are of variables of a screen.
+fn all_on_screen(names: &Names, screen: Option<u32>, variables: &[Words]) -> bool
+    requires { IsLawful names.now }
+    ensures { result ≡ breaks.all_on_screen names.now screen variables.now }
+{
+    for name in variables {
+        if screen_variable(names, screen, name).is_none() {
+            return false;
+        }
+    }
+    true
+}
+
+/// Whether an acting call gives values of a screen's variables to what is a variable of this screen.
+pub fn gives_variables(names: &Names, screen: Option<u32>, acting: Acting, all: &[Part]) -> bool
+    requires { IsLawful names.now }
+    ensures { result ≡ breaks.gives_variables names.now screen acting (map part all.now) }
+{
+    match (acting, all.first()) {
+        (Acting::UpdateContext, Some(Part::Assigned(variables, _))) => {
+            all_on_screen(names, screen, variables.as_slice())
+        }
+        _ => true,
     }
 }

@@ -10,8 +10,8 @@ use Rattle.fx_typed.specs.Term.{Term, act}
 use Rattle.fx_typing.specs.Meaning.{Place, Scope}
 use Rattle.fx_typing.specs.WellTyped.{Context, plain, inside}
 use Rattle.fx_typing.proofs.Rules.{Typed}
-use Rattle.fx_judge.specs.Breaks.{could_act}
-use Rattle.fx_judge.specs.Calls.{called_by}
+use Rattle.fx_judge.specs.Breaks.{could_act, gives_variables}
+use Rattle.fx_judge.specs.Calls.{called_by, acted_by}
 use Rattle.fx_judge.specs.Deeds.{by_name, set_of, collect_of, clear_of, patch_of, remove_of, remove_if, update_if, navigate_of, notify_of, reset_of, acted, nothing_done, until_settled}
 use Rattle.fx_judge.specs.Parts.{Grant, nothing, a_target, on_screen, Part, target, Setting, may_act, values, unless}
 use Rattle.fx_judge.specs.Plans.{Plan, if_acting, first_then, plan_act, plan_call, called_as, plan_at, first_row, setting_by}
@@ -145,6 +145,8 @@ settled_typed c b (Err n) y typed e = by_rule (not b && nat_eq n 11) e
 pub acting_typed : (p : Place) (s : Setting) (x : List ℕ) (qs : List Part) (a : Acting) (y : Term × Shape) → PartsTypedAt p s (tree.call x) (length qs) [] qs →
     called_as p.names x ≡ Some (sig.Act a) → called_by p s (sig.Act a) qs ≡ Ok y → Typed (context_of p s) y
 acting_typed p s x qs a y t e m =
-    let r = until_settled p.settled (acted p.names p.screen a qs) in
-    let one = within_limit (not (may_act s.grant)) 9 (unless (not (could_act a qs)) 6 r) y m in
-    settled_typed (context_of p s) p.settled (acted p.names p.screen a qs) y (acts_typed p s x qs y a e t) (within_limit (not (could_act a qs)) 6 r y one)
+    let r = acted_by p a qs in
+    let able = within_limit (not (may_act s.grant)) 9 (unless (not (could_act a qs)) 6 r) y m in
+    let known = within_limit (not (could_act a qs)) 6 r y able in
+    let done = within_limit (not (gives_variables p.names p.screen a qs)) 15 (until_settled p.settled (acted p.names p.screen a qs)) y known in
+    settled_typed (context_of p s) p.settled (acted p.names p.screen a qs) y (acts_typed p s x qs y a e t) done

@@ -31,8 +31,8 @@ use Rattle.fx_typing.specs.Ways.{way}
 use Rattle.fx_typing.specs.WellTyped.{Standing, plain}
 use Rattle.fx_judge.specs.Builds.{bounded_by, bounded, is_bounded, put_field, put_fields, field_names, field_parts, are_distinct, record_by, record_of, rows_to, list_by, list_as, list_of, table_of, as_record, with_of, blank_record}
 use Rattle.fx_judge.specs.Breaks.{taken_at, mistells, could_act}
-use Rattle.fx_judge.specs.Calls.{literal_in, function_by, made_literal, made_or_lowest, defaults_of, called_by, called_with, called}
-use Rattle.fx_judge.specs.Deeds.{by_name, by_rows, acted, until_settled}
+use Rattle.fx_judge.specs.Calls.{literal_in, function_by, made_literal, made_or_lowest, acted_by, defaults_of, called_by, called_with, called}
+use Rattle.fx_judge.specs.Deeds.{by_name, by_rows}
 use Rattle.fx_judge.specs.Parts.{Grant, nothing, acting, aliased_target, a_meaning, on_screen, Part, piece, target, assigned, Setting, may_act, pieces, values, unless, parts_in}
 use Rattle.fx_judge.specs.Plans.{Plan, planned, if_acting, grant_of, plan_by_row, pick, plan_either, plan_literal, plan_with, first_then, plan_act, plan_call, called_as, alias_grant, field_grant, plan_at, setting_at}
 use Rattle.fx_judge.specs.Targets.{rows_named}
@@ -159,7 +159,7 @@ called_by_quiet p s sig.With qs e h = then_quiet AllQuiet TreeQuiet (values qs) 
 called_by_quiet p s sig.Table qs e h = then_quiet AllQuiet TreeQuiet (values qs) table_of (values_quiet qs h) (λ xs k. list_as_quiet (join_all (Some (records no_columns)) xs) xs k)
 called_by_quiet p s sig.Today qs e h = refl
 called_by_quiet p s sig.Defaults qs e h = by_name_quiet qs (defaults_of p.names) (λ x rs. by_rows_quiet (rows_named p.names x) (λ r. Ok (blank_record r.1)) (λ r. refl))
-called_by_quiet p s (sig.Act a) qs e h = unless_refuses TreeQuiet (may_act s.grant) 9 (unless (not (could_act a qs)) 6 (until_settled p.settled (acted p.names p.screen a qs))) e
+called_by_quiet p s (sig.Act a) qs e h = unless_refuses TreeQuiet (may_act s.grant) 9 (unless (not (could_act a qs)) 6 (acted_by p a qs)) e
 
 called_with_quiet : (p : Place) (s : Setting) (o : Option Signature) (qs : List Part) → may_act s.grant ≡ false → EachQuiet qs → Made TreeQuiet (called_with p s o qs)
 called_with_quiet p s (Some f) qs e h =

@@ -1,5 +1,5 @@
 -- Rules that the parts of a call break, of which another rule may be met first.
-use Rattle.std.specs.Prelude.{ℕ, List, [], ◌∷◌, ◌++◌, Bool, true, false, ◌&&◌, not, map, length, codes, bytes_eq, Option, Some, None, if◌then◌else◌}
+use Rattle.std.specs.Prelude.{ℕ, List, [], ◌∷◌, ◌++◌, Bool, true, false, ◌&&◌, not, map, length, codes, bytes_eq, Option, Some, None, is_some, if◌then◌else◌}
 use Rattle.fx_data.specs.Types.{blanks, booleans, records, tables, ColumnList, no_columns, column}
 use Rattle.fx_functions.specs.declared.functions.Acting.{Acting}
 use Rattle.fx_functions.specs.declared.functions.Acting.TheVariants as acts
@@ -8,10 +8,12 @@ use Rattle.fx_functions.specs.declared.functions.Fun.TheVariants as fun
 use Rattle.fx_functions.specs.declared.rows.Answer.{Answer}
 use Rattle.fx_functions.specs.declared.rows.Answer.TheVariants as answer
 use Rattle.fx_functions.specs.Rows.{row_of, takes_count}
+use Rattle.fx_names.specs.declared.names.Names.{Names}
 use Rattle.fx_typing.specs.Columns.{field_in, is_one_of, is_told_or_missing}
 use Rattle.fx_typing.specs.Local.{value, label}
 use Rattle.fx_typing.specs.Ways.{way, is_open}
-use Rattle.fx_judge.specs.Parts.{Part, piece}
+use Rattle.fx_judge.specs.Parts.{Part, piece, assigned}
+use Rattle.fx_judge.specs.Targets.{screen_variable}
 
 -- ---- rule 5: the first new name of a column, in turn, that is taken
 abbrev pub name_of : Part → Option (List ℕ)
@@ -82,3 +84,12 @@ could_act acts.Remove (q ∷ qs) = all_could could_be_row qs
 could_act acts.RemoveIf (q ∷ qs) = all_could could_be_condition qs
 could_act acts.UpdateIf (q ∷ r ∷ qs) = could_be_condition r && all_could could_be_row qs
 could_act a qs = true
+
+-- ---- rule 15: a name that is given a value and is no variable of the formula's screen
+abbrev pub all_on_screen : Names → Option ℕ → List (List ℕ) → Bool
+all_on_screen n s [] = true
+all_on_screen n s (x ∷ xs) = is_some (screen_variable n s x) && all_on_screen n s xs
+
+abbrev pub gives_variables : Names → Option ℕ → Acting → List Part → Bool
+gives_variables n s acts.UpdateContext (assigned xs ys ∷ qs) = all_on_screen n s xs
+gives_variables n s a qs = true

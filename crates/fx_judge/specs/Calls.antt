@@ -15,7 +15,7 @@ use Rattle.fx_typed.specs.Term.{Term, of, nil, read}
 use Rattle.fx_typing.specs.Columns.{and_then, label_of}
 use Rattle.fx_typing.specs.Local.{Piece, value, made, formed}
 use Rattle.fx_typing.specs.Meaning.{Place}
-use Rattle.fx_judge.specs.Breaks.{taken_at, mistells, could_act}
+use Rattle.fx_judge.specs.Breaks.{taken_at, mistells, could_act, gives_variables}
 use Rattle.fx_judge.specs.Builds.{bounded, table_of, with_of, blank_record}
 use Rattle.fx_judge.specs.Deeds.{by_name, by_rows, acted, until_settled}
 use Rattle.fx_judge.specs.Parts.{Part, Setting, may_act, unless, pieces, values}
@@ -46,11 +46,14 @@ made_literal f ps =
 abbrev pub made_or_lowest : Fun → List Part → Result (Term × Shape) ℕ
 made_or_lowest f qs = unless (is_some (taken_at f qs)) 5 (unless (mistells f qs) 6 (made f (pieces qs)))
 
+-- an acting call at its place. While types aren't settled no value is of a wrong type for a variable, but
+-- what is no variable is none.
+abbrev pub acted_by : Place → Acting → List Part → Result (Term × Shape) ℕ
+acted_by p a qs = unless (not (gives_variables p.names p.screen a qs)) 15 (until_settled p.settled (acted p.names p.screen a qs))
+
 -- an acting call that could be one of its parts, and that stands where its place lets it act
 abbrev pub acted_or_lowest : Place → Setting → Acting → List Part → Result (Term × Shape) ℕ
-acted_or_lowest p s a qs =
-    unless (not (may_act s.grant)) 9
-    (unless (not (could_act a qs)) 6 (until_settled p.settled (acted p.names p.screen a qs)))
+acted_or_lowest p s a qs = unless (not (may_act s.grant)) 9 (unless (not (could_act a qs)) 6 (acted_by p a qs))
 
 abbrev pub defaults_of : Names → List ℕ → List Part → Result (Term × Shape) ℕ
 defaults_of n x qs = by_rows (rows_named n x) (λ r. Ok (blank_record r.1))
