@@ -1,0 +1,33 @@
+//! What a typed tree reads.
+
+use crate::page::Page;
+use fx_base::Memory;
+use fx_functions::functions::Fun;
+use fx_functions::sources::Source;
+use fx_typed::make::{called, read};
+use fx_typed::trees::{Core, CoreArgs};
+use std::alloc::Global;
+
+pub fn write(page: &mut Page) -> Result<(), Memory> {
+    page.add("# What a tree reads, each source once and in their order")?;
+    let tree = tree(page.alloc)?;
+    add_sources(page, &tree)
+}
+
+// A copy of a tree that reads the day, the second table, and the day once more.
+fn tree(alloc: Global) -> Result<Core, Memory> {
+    let mut parts = CoreArgs::new(alloc);
+    parts.push(read(Source::Today))?;
+    parts.push(read(Source::Table(1)))?;
+    parts.push(read(Source::Today))?;
+    called(Fun::Concatenate, parts).copy(alloc)
+}
+
+fn add_sources(page: &mut Page, tree: &Core) -> Result<(), Memory> {
+    let sources = tree.reads(page.alloc)?;
+    for source in &sources {
+        let line = format!(in page.alloc; "{source:?}")?;
+        page.add(line.as_str())?;
+    }
+    Ok(())
+}
