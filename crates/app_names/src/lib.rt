@@ -14,6 +14,3 @@ pub use breaks::name_breaks;
 pub use cells::in_app_order;
 pub use declarations::{Declared, Thing};
 pub use naming::names_of;
-
-#[cfg(test)]
-mod tests;

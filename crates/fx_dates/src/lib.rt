@@ -13,6 +13,3 @@ pub use operators::{add_days, days_between, sub_days};
 pub use parts::{date, day_of_month, month, parts_give_the_day, today, weekday, year};
 pub use texts::{date_value, formatted};
 pub use units::{date_add, date_diff};
-
-#[cfg(test)]
-mod tests;

@@ -15,6 +15,3 @@ pub use literals::{DateFormat, Enumeration, NumberFormat, SortOrder, TimeUnit};
 pub use rows::{Answer, Ending, Row, Scalar, Takes};
 pub use signatures::{SigShape, Signature, signature_in};
 pub use sources::Source;
-
-#[cfg(test)]
-mod tests;

@@ -8,6 +8,3 @@ pub mod ordering;
 pub use keys::{key_of, keys_order, value_is_proper};
 pub use operators::holds;
 pub use ordering::{compare, compare_is_total};
-
-#[cfg(test)]
-mod tests;

@@ -4,7 +4,5 @@
 mod machine;
 mod recognize;
 mod state;
-#[cfg(test)]
-mod tests;
 
 pub use recognize::{Verdict, formula, named};

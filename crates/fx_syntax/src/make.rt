@@ -200,21 +200,3 @@ pub fn paired(alloc: Global, at: u32, op: Op, left: Expr, right: Expr) -> Result
         node: Node::Pair(op, left, right),
     })
 }
-
-#[cfg(test)]
-mod tests {
-    use super::*;
-    use std::test::Fail;
-
-    #[test]
-    fn a_tree_is_made_and_copied(rt: HostRuntime) -> Result<(), Fail> {
-        let alloc = rt.alloc();
-        let part = negated(alloc, 4, named(5, Words::of(alloc, "A")?))?;
-        let mut parts = Args::new(alloc);
-        parts.push(part)?;
-        let whole = joined(4, parts).copy(alloc)?;
-        assert_eq!(rt; whole.at, 4);
-        assert!(rt; matches!(whole.node, Node::Joined(_)));
-        Ok(())
-    }
-}

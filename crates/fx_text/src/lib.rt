@@ -10,8 +10,6 @@ mod parts;
 mod search;
 mod spacing;
 mod substitution;
-#[cfg(test)]
-mod tests;
 
 pub use folding::{contains, ends_with, starts_with};
 pub use laws::one_list_of_occurrences;

@@ -6,6 +6,3 @@ pub mod reading;
 pub mod trees;
 
 pub use trees::{Core, CoreArgs, CoreFields, CoreNode};
-
-#[cfg(test)]
-mod tests;

@@ -17,6 +17,3 @@ pub use fx_data::{Cmp, Columns, Day, Fault, Fields, Kind, Rows, Totals, Ty, Valu
 pub use fx_order::{compare, holds, key_of};
 pub use joining::join;
 pub use weighing::weigh;
-
-#[cfg(test)]
-mod tests;

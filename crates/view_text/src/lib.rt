@@ -11,6 +11,3 @@ pub use json::value_json;
 pub use plain_form::{kind_text, plain};
 pub use refused::{Detail, Lines, Refusal, refusal_json};
 pub use replies::{Named, named_json, ok_json};
-
-#[cfg(test)]
-mod tests;
