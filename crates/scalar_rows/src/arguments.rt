@@ -51,10 +51,12 @@ fn common_type(args: &[Typed]) -> Option<Scalar> {
 }
 
 fn joined(left: Scalar, right: Scalar) -> Option<Scalar> {
-    match (left, right) {
-        (Scalar::Blank, ty) | (ty, Scalar::Blank) => Some(ty),
-        _ if left == right => Some(left),
-        _ => None,
+    if left == Scalar::Blank {
+        Some(right)
+    } else if right == Scalar::Blank || right == left {
+        Some(left)
+    } else {
+        None
     }
 }
 
