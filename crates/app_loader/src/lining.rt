@@ -18,7 +18,7 @@ use fx_base::Memory;
 use fx_fresh::typings_are_lawful;
 use fx_judge::{admitted_is_typed, pure_is_quiet};
 use fx_local::Typed;
-use fx_names::{FormulaList, FormulaName, InOrder, Names, Schema};
+use fx_names::{FormulaList, FormulaName, Names, Schema};
 use fx_parser::Named;
 use fx_rules::{Broken, Rule};
 use std::alloc::Global;

@@ -8,11 +8,10 @@ ghost use Rattle.app_names.specs.NameRules as rules;
 
 use crate::declarations::{Declared, Thing};
 use crate::things::{names_in, things_of};
-use fx_base::Memory;
+use fx_base::{InOrder, Memory};
 use fx_data::types::Ty;
 use fx_functions::signatures::Signature;
 use fx_names::formulas::FormulaList;
-use fx_names::in_order::InOrder;
 use fx_names::names::{Collection, CollectionList, FormulaName, Names, Variable, VariableList};
 use fx_names::schema::Schema;
 use fx_parser::Named;

@@ -1,7 +1,7 @@
-//! Lists of what an app names.
+//! Lists of things that are told by their places.
 ghost use Rattle.std.specs.Prelude.{◌≡◌, ◌≤◌, ◌++◌, ◌∷◌, [], length, slice_get, Some, OnOk, OnErr, MatchOption};
 
-use fx_base::Memory;
+use crate::Memory;
 use std::alloc::Global;
 use std::marker::Model;
 

@@ -3,6 +3,7 @@
 
 pub mod aggregates;
 pub mod comparisons;
+pub mod controls;
 pub mod days;
 pub mod faults;
 pub mod types;
@@ -12,6 +13,7 @@ pub mod words;
 
 pub use aggregates::Totals;
 pub use comparisons::Cmp;
+pub use controls::Control;
 pub use days::Day;
 pub use faults::{Fault, Kind};
 pub use types::{Columns, Ty};

@@ -15,7 +15,7 @@ use Rattle.fx_syntax.specs.Tree.{Tree, node, Forest, none, more, Head}
 use Rattle.fx_syntax.specs.Tree as tree
 use Rattle.fx_typed.specs.Term.{Term, of, nil, cons, const, call, over, coerce, rec, list, dot, row, chain}
 use Rattle.fx_typing.specs.Local.{value, label}
-use Rattle.fx_names.specs.declared.controls.Control.TheVariants as control
+use Rattle.fx_data.specs.declared.controls.Control.TheVariants as control
 use Rattle.fx_typing.specs.Meaning.{Place, written_or}
 use Rattle.fx_judge.specs.Parts.{Part, piece, target, plainly}
 use Rattle.fx_judge.specs.Plans.{setting_by, plan_call}

@@ -7,8 +7,8 @@ use Rattle.std.proofs.lemmas.Slice.Eq.{bytes_eq-Decides}
 use Rattle.fx_data.specs.declared.types.Ty.{Ty}
 use Rattle.fx_data.specs.declared.types.Ty.TheVariants as ty
 use Rattle.fx_names.specs.Lawful.{AreDistinct, id_name, IsColumnType, IsLawfulTable, IsLawfulSchema, IsGallery, IsLawfulGallery, IsLawfulControl, Has, IsLawfulProperty, IsLawfulScreen, IsLawful}
-use Rattle.fx_names.specs.declared.controls.Control.{Control}
-use Rattle.fx_names.specs.declared.controls.Control.TheVariants as control
+use Rattle.fx_data.specs.declared.controls.Control.{Control}
+use Rattle.fx_data.specs.declared.controls.Control.TheVariants as control
 use Rattle.fx_names.specs.declared.names.ControlName.{ControlName}
 use Rattle.fx_names.specs.declared.names.Names.{Names}
 use Rattle.fx_names.specs.declared.names.Property.{Property}

@@ -5,8 +5,8 @@ use Rattle.fx_data.specs.declared.types.Ty.{Ty}
 use Rattle.fx_data.specs.declared.types.Ty.TheVariants as ty
 use Rattle.fx_names.specs.Controls.{has_property}
 use Rattle.fx_names.specs.Lawful.{id_name}
-use Rattle.fx_names.specs.declared.controls.Control.{Control}
-use Rattle.fx_names.specs.declared.controls.Control.TheVariants as control
+use Rattle.fx_data.specs.declared.controls.Control.{Control}
+use Rattle.fx_data.specs.declared.controls.Control.TheVariants as control
 use Rattle.fx_names.specs.declared.names.ControlName.{ControlName}
 use Rattle.fx_names.specs.declared.names.Names.{Names}
 use Rattle.fx_names.specs.declared.names.Variable.{Variable}

@@ -7,7 +7,8 @@ ghost use Rattle.fx_names.specs.declared.names.Variable.{Variable};
 
 use crate::distinct::are_distinct_cells;
 use crate::schema::is_schema;
-use fx_names::controls::{Control, has_property};
+use fx_data::controls::Control;
+use fx_names::controls::has_property;
 use fx_names::names::{ControlName, Names, Property, Variable};
 
 // Whether this is the number of a gallery, where it is a number.

@@ -1,8 +1,8 @@
 -- The properties of controls. Names are given by their bytes.
 use Rattle.std.specs.Prelude.{ℕ, List, Bool, true, false, ◌||◌, Option, Some, None, is_some, codes, bytes_eq, if◌then◌else◌}
 use Rattle.fx_data.specs.Types.{Shape, numbers, texts, booleans, dates}
-use Rattle.fx_names.specs.declared.controls.Control.{Control}
-use Rattle.fx_names.specs.declared.controls.Control.TheVariants as control
+use Rattle.fx_data.specs.declared.controls.Control.{Control}
+use Rattle.fx_data.specs.declared.controls.Control.TheVariants as control
 
 -- the pure properties of each kind, Visible and Items aside
 abbrev pub own_type : Control → List ℕ → Option Shape

@@ -6,8 +6,8 @@ use Rattle.fx_data.specs.TypeView.{shape}
 use Rattle.fx_data.specs.Types.{Shape, numbers, dates, records, tables, ColumnList, no_columns, column}
 use Rattle.fx_functions.specs.declared.sources.Source.{Source}
 use Rattle.fx_functions.specs.declared.sources.Source.TheVariants as source
-use Rattle.fx_names.specs.declared.controls.Control.{Control}
-use Rattle.fx_names.specs.declared.controls.Control.TheVariants as control
+use Rattle.fx_data.specs.declared.controls.Control.{Control}
+use Rattle.fx_data.specs.declared.controls.Control.TheVariants as control
 use Rattle.fx_names.specs.declared.names.ControlName.{ControlName}
 use Rattle.fx_names.specs.declared.names.Property.{Property}
 use Rattle.fx_names.specs.declared.names.FormulaName.{FormulaName}

@@ -1,21 +1,10 @@
-//! The kinds of controls.
+//! The properties of controls.
 ghost use Rattle.std.specs.Prelude.{◌≡◌, option_map};
 ghost use Rattle.fx_data.specs.TypeView.{shape};
 ghost use Rattle.fx_names.specs.Controls as table;
 
+use fx_data::controls::Control;
 use fx_data::types::Ty;
-
-/// A kind of control.
-#[derive(Clone, Copy, Debug, PartialEq, Eq)]
-pub enum Control {
-    Label,
-    Button,
-    TextInput,
-    Slider,
-    Checkbox,
-    DatePicker,
-    Gallery,
-}
 
 /// The type of a property whose formula is pure, other than `Items`. None for another name.
 pub fn property_ty(kind: Control, name: &str) -> Option<Ty>

@@ -3,13 +3,10 @@
 
 pub mod controls;
 pub mod formulas;
-pub mod in_order;
 pub mod names;
 pub mod schema;
 
-pub use controls::Control;
 pub use formulas::FormulaList;
-pub use in_order::InOrder;
 pub use names::{
     Collection, CollectionList, ControlList, ControlName, FormulaName, Names, Property,
     PropertyList, ScreenList, Variable, VariableList,

@@ -1,9 +1,9 @@
 //! What formulas may name.
 
-use crate::controls::Control;
 use crate::formulas::FormulaList;
-use crate::in_order::InOrder;
 use crate::schema::Schema;
+use fx_base::InOrder;
+use fx_data::controls::Control;
 use fx_data::types::Ty;
 use fx_data::words::Words;
 use fx_functions::signatures::Signature;

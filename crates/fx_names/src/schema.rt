@@ -1,6 +1,6 @@
 //! The tables of an app.
 
-use crate::in_order::InOrder;
+use fx_base::InOrder;
 use fx_data::types::Ty;
 use fx_data::words::Words;
 

@@ -1,6 +1,7 @@
-use crate::controls::{Control, has_property, input_ty, is_behaviour};
-use crate::in_order::InOrder;
+use crate::controls::{has_property, input_ty, is_behaviour};
 use crate::names::{Variable, VariableList};
+use fx_base::InOrder;
+use fx_data::controls::Control;
 use fx_data::types::Ty;
 use fx_data::words::Words;
 use std::test::Fail;

@@ -7,9 +7,8 @@ ghost use Rattle.fx_judge.specs.Rounds.{AllSame, SameNames, SameVariable, SameCo
 ghost use Rattle.fx_rounds.specs.TypesView.{AreAsMany, types_view};
 
 use crate::round_types::Types;
-use fx_base::Memory;
+use fx_base::{InOrder, Memory};
 use fx_data::types::Ty;
-use fx_names::InOrder;
 use fx_names::names::{Collection, ControlName, FormulaName, Names, Variable};
 use std::alloc::Global;
 

@@ -5,10 +5,11 @@ ghost use Rattle.fx_data.specs.Types.{column_list};
 ghost use Rattle.fx_names.specs.SourceTypes as types;
 
 use fx_base::Memory;
+use fx_data::controls::Control;
 use fx_data::types::{Columns, Ty};
 use fx_data::words::Words;
 use fx_local::columns::put_column;
-use fx_names::controls::{Control, property_ty};
+use fx_names::controls::property_ty;
 use fx_names::names::ControlName;
 use fx_names::schema::TableShape;
 use std::alloc::Global;

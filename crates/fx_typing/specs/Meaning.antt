@@ -7,8 +7,8 @@ use Rattle.fx_functions.specs.declared.literals.Enumeration.{Enumeration}
 use Rattle.fx_functions.specs.declared.sources.Source.{Source}
 use Rattle.fx_functions.specs.declared.sources.Source.TheVariants as source
 use Rattle.fx_functions.specs.Literals.{enumeration_of, has_member}
-use Rattle.fx_names.specs.declared.controls.Control.{Control}
-use Rattle.fx_names.specs.declared.controls.Control.TheVariants as control
+use Rattle.fx_data.specs.declared.controls.Control.{Control}
+use Rattle.fx_data.specs.declared.controls.Control.TheVariants as control
 use Rattle.fx_names.specs.declared.names.ControlName.{ControlName}
 use Rattle.fx_names.specs.declared.names.Property.{Property}
 use Rattle.fx_names.specs.declared.names.FormulaName.{FormulaName}

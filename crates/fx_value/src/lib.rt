@@ -13,7 +13,9 @@ pub use coercion::coerce;
 pub use equality::same;
 pub use fitting::fits;
 pub use fx_base::Memory;
-pub use fx_data::{Cmp, Columns, Day, Fault, Fields, Kind, Rows, Totals, Ty, Value, Words};
+pub use fx_data::{
+    Cmp, Columns, Control, Day, Fault, Fields, Kind, Rows, Totals, Ty, Value, Words,
+};
 pub use fx_order::{compare, holds, key_of};
 pub use joining::join;
 pub use weighing::weigh;

@@ -17,7 +17,7 @@ use app_lines::{Formula, Lines};
 use fx_base::Memory;
 use fx_data::{Value, Words};
 use fx_evaluation::{Kept, KeptCell, Scope, Stop, eval, kept_is_named};
-use fx_names::{InOrder, Schema};
+use fx_names::Schema;
 use fx_scalar::today;
 use fx_steps::Steps;
 use std::alloc::Global;

@@ -7,9 +7,8 @@ ghost use Rattle.fx_data.specs.ValueView.{view};
 ghost use Rattle.fx_order.specs.Keys.{key_bytes};
 ghost use Rattle.fx_order.specs.Order.{IsScalar};
 
-use fx_base::Memory;
+use fx_base::{InOrder, Memory};
 use fx_data::Value;
-use fx_names::InOrder;
 use fx_order::key_of;
 use std::alloc::Global;
 use std::cmp::Ordering;

@@ -2,9 +2,8 @@
 ghost use Rattle.std.specs.Prelude.{◌≡◌, ◌≤◌, ◌++◌, ◌∷◌, [], length, map, slice_get, Some, IfOk, OnOk, OnErr, MatchOption};
 ghost use Rattle.fx_data.specs.ValueView.{view};
 
-use fx_base::Memory;
+use fx_base::{InOrder, Memory};
 use fx_data::{Fault, Value};
-use fx_names::InOrder;
 use std::alloc::Global;
 use std::marker::Model;
 

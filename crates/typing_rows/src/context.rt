@@ -8,13 +8,13 @@
 
 use crate::place::placed;
 use crate::stop::Stop;
+use fx_base::InOrder;
+use fx_data::controls::Control;
 use fx_data::types::Ty;
 use fx_data::words::Words;
 use fx_infer::{InferEnd, elaborate};
 use fx_lawful::is_lawful;
-use fx_names::controls::Control;
 use fx_names::formulas::FormulaList;
-use fx_names::in_order::InOrder;
 use fx_names::names::{Collection, ControlName, FormulaName, Names, Property, Variable};
 use fx_names::schema::{Column, Schema, TableList, TableShape};
 use fx_sig::all;

@@ -1,0 +1,13 @@
+//! The kinds of controls.
+
+/// A kind of control.
+#[derive(Clone, Copy, Debug, PartialEq, Eq)]
+pub enum Control {
+    Label,
+    Button,
+    TextInput,
+    Slider,
+    Checkbox,
+    DatePicker,
+    Gallery,
+}
