@@ -1,5 +1,5 @@
 -- What row tests come to: what the conditions that they stand for come to, on a row.
-use Rattle.std.specs.Prelude.{ℕ, Bool, true, false, ◌||◌, List, [], ◌∷◌, bytes_eq, length, take, Option, Some, None, slice_get, IsSomeAnd}
+use Rattle.std.specs.Prelude.{◌≡◌, ◌⊎◌, ℕ, Bool, true, false, ◌||◌, List, [], ◌∷◌, bytes_eq, length, take, Option, Some, None, slice_get, IsSomeAnd}
 use Rattle.caseless.specs.Caseless.{default_case_fold}
 use Rattle.fx_data.specs.declared.faults.Fault.{Fault}
 use Rattle.fx_data.specs.declared.faults.Kind.{Kind}
@@ -112,6 +112,26 @@ abbrev mutual
   any_outcome row no_conditions = unmet
   any_outcome row (also c cs) = or_else (outcome row c) (any_outcome row cs)
 
+-- a value that is no error
+abbrev pub IsNoFault : Data → Type 0
+IsNoFault (fault k cs) = ⊥
+IsNoFault d = Unit {0}
+
+abbrev mutual
+  -- a text is looked into, from left to right and no further than is needed
+  pub ReadsText : List Data → Condition → Type 0
+  ReadsText row (starts k d) = IsNoFault d
+  ReadsText row (contains k d) = IsNoFault d
+  ReadsText row (all_of cs) = ReadTextWhile met row cs
+  ReadsText row (any_of cs) = ReadTextWhile unmet row cs
+  ReadsText row (opposite c) = ReadsText row c
+  ReadsText row c = ⊥
+
+  -- one of these does, and those before it come to this
+  pub ReadTextWhile : Outcome → List Data → ConditionList → Type 0
+  ReadTextWhile o row no_conditions = ⊥
+  ReadTextWhile o row (also c cs) = ReadsText row c ⊎ ((outcome row c ≡ o) × ReadTextWhile o row cs)
+
 -- ---- what tests need
 
 -- an error, or a value of which P holds
@@ -155,10 +175,6 @@ abbrev mutual
   CanAskAll row (also c cs) = CanAsk row c × CanAskAll row cs
 
 -- no constant is an error
-abbrev pub IsNoFault : Data → Type 0
-IsNoFault (fault k cs) = ⊥
-IsNoFault d = Unit {0}
-
 abbrev mutual
   pub HasNoFaults : Condition → Type 0
   HasNoFaults (constant d) = IsNoFault d

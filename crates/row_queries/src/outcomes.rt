@@ -1,12 +1,12 @@
 //! What row tests come to on rows.
-ghost use Rattle.std.specs.Prelude.{◌≡◌, [], IfOk, IsSome, MatchOption, Some, slice_get};
+ghost use Rattle.std.specs.Prelude.{◌≡◌, ◌⊎◌, [], IfOk, IsSome, MatchOption, OnErr, Some, slice_get};
 ghost use Rattle.caseless.specs.Caseless.{default_case_fold};
 ghost use Rattle.fx_data.specs.ValueView.{view};
 ghost use Rattle.fx_data.specs.Values.{text as text_data};
 ghost use Rattle.fx_order.specs.Operators.{CanCompare, holds_of};
 ghost use Rattle.row_queries.specs.Conditions.{condition_list};
 ghost use Rattle.row_queries.specs.Judgements.{judged};
-ghost use Rattle.row_queries.specs.RowTests.{CanAsk, CanAskAll, IsTruth, all_outcome, any_outcome, begins, begins_without_case, decided, decided_by, fault_in, has_part_without_case, held_of, is_empty, outcome, text_in, HasValue};
+ghost use Rattle.row_queries.specs.RowTests.{CanAsk, CanAskAll, IsTruth, all_outcome, any_outcome, begins, begins_without_case, decided, decided_by, fault_in, has_part_without_case, held_of, is_empty, outcome, text_in, met, unmet, HasValue, ReadTextWhile, ReadsText};
 ghost use Rattle.row_queries.specs.RowTests.{has_part as has_part_in, reversed as reversed_outcome};
 ghost use Rattle.row_queries.specs.TableRows.{id_value, value_at, values_of};
 
@@ -26,10 +26,11 @@ pub enum Judgement<'t> {
     Failed(&'t Fault),
 }
 
-/// Whether a row meets a test. Memory is taken for texts alone.
+/// Whether a row meets a test. Memory is taken only where a text is looked into.
 pub fn meets(alloc: Global, test: &Test, row: &Row) -> Result<Held, Memory>
     requires { CanAsk (values_of row.now) test.now }
-    ensures { IfOk result (λ h. h ≡ held_of (outcome (values_of row.now) test.now)) }
+    ensures value { IfOk result (λ h. h ≡ held_of (outcome (values_of row.now) test.now)) }
+    ensures memory { OnErr result (ReadsText (values_of row.now) test.now) }
 {
     match judge(alloc, test, row)? {
         Judgement::Met => Ok(Held::Yes),
@@ -38,10 +39,12 @@ pub fn meets(alloc: Global, test: &Test, row: &Row) -> Result<Held, Memory>
     }
 }
 
-/// The error of a test on a row, if it is one. Memory is taken for texts alone.
+/// The error of a test on a row, if it is one. Memory is taken only where a text is looked into, and for the
+/// error.
 pub fn fault_of(alloc: Global, test: &Test, row: &Row) -> Result<Option<Fault>, Memory>
     requires { CanAsk (values_of row.now) test.now }
-    ensures { IfOk result (λ f. f ≡ fault_in (outcome (values_of row.now) test.now)) }
+    ensures value { IfOk result (λ f. f ≡ fault_in (outcome (values_of row.now) test.now)) }
+    ensures memory { OnErr result (ReadsText (values_of row.now) test.now ⊎ IsSome (fault_in (outcome (values_of row.now) test.now))) }
 {
     match judge(alloc, test, row)? {
         Judgement::Failed(fault) => Ok(Some(fault.copy(alloc)?)),
@@ -53,7 +56,8 @@ pub fn fault_of(alloc: Global, test: &Test, row: &Row) -> Result<Option<Fault>, 
 #[cycle(judge)]
 pub fn judge<'t>(alloc: Global, test: &'t Test, row: &Row) -> Result<Judgement<'t>, Memory>
     requires { CanAsk (values_of row.now) test.now }
-    ensures { IfOk result (λ j. judged j ≡ outcome (values_of row.now) test.now) }
+    ensures value { IfOk result (λ j. judged j ≡ outcome (values_of row.now) test.now) }
+    ensures memory { OnErr result (ReadsText (values_of row.now) test.now) }
 {
     match &test.node {
         TestNode::All => Ok(Judgement::Met),
@@ -82,7 +86,8 @@ pub fn judge<'t>(alloc: Global, test: &'t Test, row: &Row) -> Result<Judgement<'
 #[cycle(judge)]
 fn judge_all<'t>(alloc: Global, tests: &'t [Test], row: &Row) -> Result<Judgement<'t>, Memory>
     requires { CanAskAll (values_of row.now) (condition_list tests.now) }
-    ensures { IfOk result (λ j. judged j ≡ all_outcome (values_of row.now) (condition_list tests.now)) }
+    ensures value { IfOk result (λ j. judged j ≡ all_outcome (values_of row.now) (condition_list tests.now)) }
+    ensures memory { OnErr result (ReadTextWhile met (values_of row.now) (condition_list tests.now)) }
 {
     for test in tests {
         match judge(alloc, test, row)? {
@@ -97,7 +102,8 @@ fn judge_all<'t>(alloc: Global, tests: &'t [Test], row: &Row) -> Result<Judgemen
 #[cycle(judge)]
 fn judge_any<'t>(alloc: Global, tests: &'t [Test], row: &Row) -> Result<Judgement<'t>, Memory>
     requires { CanAskAll (values_of row.now) (condition_list tests.now) }
-    ensures { IfOk result (λ j. judged j ≡ any_outcome (values_of row.now) (condition_list tests.now)) }
+    ensures value { IfOk result (λ j. judged j ≡ any_outcome (values_of row.now) (condition_list tests.now)) }
+    ensures memory { OnErr result (ReadTextWhile unmet (values_of row.now) (condition_list tests.now)) }
 {
     for test in tests {
         match judge(alloc, test, row)? {
