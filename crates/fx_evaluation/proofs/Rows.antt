@@ -170,7 +170,7 @@ given_step f n ts a rows i j t xs ys x b l e h g q p k =
 
 -- ---- a call over a table on its way: after the table, and after the other parts
 
-pub asked_there : (m n : Moment) (f : Fun) (t : Term) (ts : List Term) (d : Data) (rows rs : List Row) → Went m n → CanEvaluate m.fixed.types m.scope (of (over f) (cons t (all ts))) →
+pub asked_there : {B : Type 0} (m n : Moment B) (f : Fun) (t : Term) (ts : List Term) (d : Data) (rows rs : List Row) → Went m n → CanEvaluate m.fixed.types m.scope (of (over f) (cons t (all ts))) →
     ((w : Shape) → IsReady m.fixed.types m.scope t w → fits_in d w ≡ true) → rows ≡ rows_in d → rs ≡ rows → AreAsked f (length ts + 1) 1 n.fixed.types n.scope rs ts
 asked_there m n f t ts d rows rs w r fits e g =
     let count : suc (length ts) ≡ length ts + 1 = omega arith in
@@ -178,31 +178,31 @@ asked_there m n f t ts d rows rs w r fits e g =
     (subst (λ (k : ℕ). AreAsked f k 1 m.fixed.types m.scope rs ts) count
     (subst (λ (z : List Row). AreAsked f (suc (length ts)) 1 m.fixed.types m.scope z ts) (sym (g ∙ e)) (parts_asked m.fixed.types m.scope f t ts r d fits)))
 
-given_there : (m n : Moment) (f : Fun) (ts : List Term) (k : ℕ) (rows rs : List Row) (gs : List Given) → Went m n → rs ≡ rows →
-    AreGiven (over f) k 1 (meanings (all ts)) (around n.fixed.types n.fixed.told n.scope) rs gs → AreGiven (over f) k 1 (meanings (all ts)) (around m.fixed.types m.fixed.told m.scope) rows gs
-given_there m n f ts k rows rs gs w g q =
-    held_before (λ a. AreGiven (over f) k 1 (meanings (all ts)) a rows gs) m n w
-    (subst (λ (z : List Row). AreGiven (over f) k 1 (meanings (all ts)) (around n.fixed.types n.fixed.told n.scope) z gs) g q)
+given_there : {B : Type 0} (told : Option (Source → Data)) (m n : Moment B) (f : Fun) (ts : List Term) (k : ℕ) (rows rs : List Row) (gs : List Given) → Went m n → rs ≡ rows →
+    AreGiven (over f) k 1 (meanings (all ts)) (around n.fixed.types told n.scope) rs gs → AreGiven (over f) k 1 (meanings (all ts)) (around m.fixed.types told m.scope) rows gs
+given_there told m n f ts k rows rs gs w g q =
+    held_before told (λ a. AreGiven (over f) k 1 (meanings (all ts)) a rows gs) m n w
+    (subst (λ (z : List Row). AreGiven (over f) k 1 (meanings (all ts)) (around n.fixed.types told n.scope) z gs) g q)
 
-pub make_there : (m n : Moment) (f : Fun) (t : Term) (ts : List Term) (k : ℕ) (d : Data) (rows rs : List Row) (gs : List Given) → Went m n →
-    CanEvaluate m.fixed.types m.scope (of (over f) (cons t (all ts))) → IsValue (around m.fixed.types m.fixed.told m.scope) t d → rows ≡ rows_in d → rs ≡ rows →
-    AreGiven (over f) k 1 (meanings (all ts)) (around n.fixed.types n.fixed.told n.scope) rs gs → CanMake f rows gs
-make_there m n f t ts k d rows rs gs w r p e g q =
-    make_can m.fixed.types m.fixed.told m.scope f t ts r k d rows gs p e (given_there m n f ts k rows rs gs w g q)
+pub make_there : {B : Type 0} (told : Option (Source → Data)) (m n : Moment B) (f : Fun) (t : Term) (ts : List Term) (k : ℕ) (d : Data) (rows rs : List Row) (gs : List Given) → Went m n →
+    CanEvaluate m.fixed.types m.scope (of (over f) (cons t (all ts))) → IsValue (around m.fixed.types told m.scope) t d → rows ≡ rows_in d → rs ≡ rows →
+    AreGiven (over f) k 1 (meanings (all ts)) (around n.fixed.types told n.scope) rs gs → CanMake f rows gs
+make_there told m n f t ts k d rows rs gs w r p e g q =
+    make_can m.fixed.types told m.scope f t ts r k d rows gs p e (given_there told m n f ts k rows rs gs w g q)
 
-pub over_there : (m n : Moment) (f : Fun) (t : Term) (ts : List Term) (k : ℕ) (d : Data) (rows rs : List Row) (gs : List Given) (v : Data) → Went m n →
-    CanEvaluate m.fixed.types m.scope (of (over f) (cons t (all ts))) → IsValue (around m.fixed.types m.fixed.told m.scope) t d → rows ≡ rows_in d → is_fault d ≡ false → rs ≡ rows →
-    AreGiven (over f) k 1 (meanings (all ts)) (around n.fixed.types n.fixed.told n.scope) rs gs → IsMadeOf f rows gs v →
-    IsOver f (meaning t ∷ meanings (all ts)) (around m.fixed.types m.fixed.told m.scope) v
-over_there m n f t ts k d rows rs gs v w r p e z g q h =
-    over_made f (over f) k 1 (meaning t) (meanings (all ts)) (around m.fixed.types m.fixed.told m.scope) d rows gs v p z e (given_there m n f ts k rows rs gs w g q)
-    (make_there m n f t ts k d rows rs gs w r p e g q) h
+pub over_there : {B : Type 0} (told : Option (Source → Data)) (m n : Moment B) (f : Fun) (t : Term) (ts : List Term) (k : ℕ) (d : Data) (rows rs : List Row) (gs : List Given) (v : Data) → Went m n →
+    CanEvaluate m.fixed.types m.scope (of (over f) (cons t (all ts))) → IsValue (around m.fixed.types told m.scope) t d → rows ≡ rows_in d → is_fault d ≡ false → rs ≡ rows →
+    AreGiven (over f) k 1 (meanings (all ts)) (around n.fixed.types told n.scope) rs gs → IsMadeOf f rows gs v →
+    IsOver f (meaning t ∷ meanings (all ts)) (around m.fixed.types told m.scope) v
+over_there told m n f t ts k d rows rs gs v w r p e z g q h =
+    over_made f (over f) k 1 (meaning t) (meanings (all ts)) (around m.fixed.types told m.scope) d rows gs v p z e (given_there told m n f ts k rows rs gs w g q)
+    (make_there told m n f t ts k d rows rs gs w r p e g q) h
 
 pub fault_there : (f : Fun) (t : Term) (ts : List Term) (a : Around) (d : Data) (k : Kind) (cs : List ℕ) → IsValue a t d → d ≡ fault k cs → IsOver f (meaning t ∷ meanings (all ts)) a (fault k cs)
 fault_there f t ts a d k cs p e = over_error f (meaning t) (meanings (all ts)) a k cs (subst (IsValue a t) e p)
 
 -- a part on its way
-pub part_asked : (m n : Moment) (f : Fun) (count : ℕ) (rows : List Row) (ts : List Term) (k : ℕ) (t : Term) (j : ℕ) (b : Bool) → Went m n →
+pub part_asked : {B : Type 0} (m n : Moment B) (f : Fun) (count : ℕ) (rows : List Row) (ts : List Term) (k : ℕ) (t : Term) (j : ℕ) (b : Bool) → Went m n →
     AreAsked f count 1 m.fixed.types m.scope rows ts → k < length ts → t ≡ get_or ts k t → j ≡ 1 + k → standing_at (over f) count j ≡ (if b then inside else plain) →
     IsAsked (if b then inside else plain) n.fixed.types n.scope rows t
 part_asked m n f count rows ts k t j b w h l e q p =

@@ -62,56 +62,56 @@ ended types told s g t ts v n e h =
 -- ---- a form on its way: some parts are passed, and nothing has changed but what reads change
 
 -- what decides of the parts that are left decides of all
-abbrev pub Decides : Moment → Going → List Term → Going → List Term → Type 0
-Decides m g rest g0 parts =
-    (v : Data) → IsWorth g (meanings (terms.all rest)) (around m.fixed.types m.fixed.told m.scope) v → IsWorth g0 (meanings (terms.all parts)) (around m.fixed.types m.fixed.told m.scope) v
+abbrev pub Decides : {B : Type 0} → Option (Source → Data) → Moment B → Going → List Term → Going → List Term → Type 0
+Decides told m g rest g0 parts =
+    (v : Data) → IsWorth g (meanings (terms.all rest)) (around m.fixed.types told m.scope) v → IsWorth g0 (meanings (terms.all parts)) (around m.fixed.types told m.scope) v
 
 -- the last part's value
-pub end_step : (m n : Moment) (g0 g : Going) (parts rest : List Term) (t : Term) (others : List Term) → Went m n → Decides m g rest g0 parts → rest ≡ t ∷ others → others ≡ [] →
-    ends_in_branch g ≡ true → (v : Data) → IsValue (around n.fixed.types n.fixed.told n.scope) t v → IsWorth g0 (meanings (terms.all parts)) (around m.fixed.types m.fixed.told m.scope) v
-end_step m n g0 g parts rest t others w d e o b v h =
-    let a = around m.fixed.types m.fixed.told m.scope in
+pub end_step : {B : Type 0} (told : Option (Source → Data)) (m n : Moment B) (g0 g : Going) (parts rest : List Term) (t : Term) (others : List Term) → Went m n → Decides told m g rest g0 parts → rest ≡ t ∷ others → others ≡ [] →
+    ends_in_branch g ≡ true → (v : Data) → IsValue (around n.fixed.types told n.scope) t v → IsWorth g0 (meanings (terms.all parts)) (around m.fixed.types told m.scope) v
+end_step told m n g0 g parts rest t others w d e o b v h =
+    let a = around m.fixed.types told m.scope in
     d v (subst (λ (z : List Term). IsWorth g (meanings (terms.all z)) a v) (sym e)
-    (ended m.fixed.types m.fixed.told m.scope g t others v o b (meant_before (meaning t) (λ s. s) m n w v h)))
+    (ended m.fixed.types told m.scope g t others v o b (meant_before told (meaning t) (λ s. s) m n w v h)))
 
 -- no part is left
-pub none_step : (m : Moment) (g0 g : Going) (parts rest : List Term) → Decides m g rest g0 parts → AreSet m.fixed.types m.scope g rest → rest ≡ [] →
-    (v : Data) → v ≡ end_of g → IsWorth g0 (meanings (terms.all parts)) (around m.fixed.types m.fixed.told m.scope) v
-none_step m g0 g parts rest d p e v h =
-    let a = around m.fixed.types m.fixed.told m.scope in
+pub none_step : {B : Type 0} (told : Option (Source → Data)) (m : Moment B) (g0 g : Going) (parts rest : List Term) → Decides told m g rest g0 parts → AreSet m.fixed.types m.scope g rest → rest ≡ [] →
+    (v : Data) → v ≡ end_of g → IsWorth g0 (meanings (terms.all parts)) (around m.fixed.types told m.scope) v
+none_step told m g0 g parts rest d p e v h =
+    let a = around m.fixed.types told m.scope in
     d v (subst (λ (z : List Term). IsWorth g (meanings (terms.all z)) a v) (sym e)
     (end_taken g a v (is_settled m.fixed.types m.scope g (subst (AreSet m.fixed.types m.scope g) e p)) h))
 
 -- the first part is ready
-pub first_step : (m n : Moment) (g : Going) (rest : List Term) (t : Term) (others : List Term) → Went m n → AreSet m.fixed.types m.scope g rest → rest ≡ t ∷ others →
+pub first_step : {B : Type 0} (m n : Moment B) (g : Going) (rest : List Term) (t : Term) (others : List Term) → Went m n → AreSet m.fixed.types m.scope g rest → rest ≡ t ∷ others →
     CanEvaluate n.fixed.types n.scope t
 first_step m n g rest t others w p e =
     as_before (λ types s. CanEvaluate types s t) m n w (first_can m.fixed.types m.scope g t others (subst (AreSet m.fixed.types m.scope g) e p))
 
 -- its value fits
-fits_there : (m n : Moment) (t : Term) (d : Data) → Went m n → ((u : Shape) → IsReady n.fixed.types n.scope t u → fits_in d u ≡ true) →
+fits_there : {B : Type 0} (m n : Moment B) (t : Term) (d : Data) → Went m n → ((u : Shape) → IsReady n.fixed.types n.scope t u → fits_in d u ≡ true) →
     (u : Shape) → IsReady m.fixed.types m.scope t u → fits_in d u ≡ true
 fits_there m n t d w f u r = f u (as_before (λ types s. IsReady types s t u) m n w r)
 
-pub turn_step : (m n : Moment) (g : Going) (rest : List Term) (t : Term) (others : List Term) (d : Data) → Went m n → AreSet m.fixed.types m.scope g rest → rest ≡ t ∷ others →
+pub turn_step : {B : Type 0} (m n : Moment B) (g : Going) (rest : List Term) (t : Term) (others : List Term) (d : Data) → Went m n → AreSet m.fixed.types m.scope g rest → rest ≡ t ∷ others →
     HasNext g others → ((u : Shape) → IsReady n.fixed.types n.scope t u → fits_in d u ≡ true) → CanTurn g d
 turn_step m n g rest t others d w p e o f =
     can_turn m.fixed.types m.scope g t others d o (fits_there m n t d w f) (subst (AreSet m.fixed.types m.scope g) e p)
 
 -- what is ready behind it
-pub next_step : (m n : Moment) (g : Going) (rest : List Term) (t : Term) (others : List Term) (d : Data) (x : Turning) → Went m n → AreSet m.fixed.types m.scope g rest → rest ≡ t ∷ others →
+pub next_step : {B : Type 0} (m n : Moment B) (g : Going) (rest : List Term) (t : Term) (others : List Term) (d : Data) (x : Turning) → Went m n → AreSet m.fixed.types m.scope g rest → rest ≡ t ∷ others →
     HasNext g others → ((u : Shape) → IsReady n.fixed.types n.scope t u → fits_in d u ≡ true) → x ≡ turned g d → ThenSet m.fixed.types m.scope x others
 next_step m n g rest t others d x w p e o f q =
     following m.fixed.types m.scope g t others d x o (fits_there m n t d w f) q (subst (AreSet m.fixed.types m.scope g) e p)
 
 -- what is left to hold behind it
-pub then_step : (m n : Moment) (g0 g : Going) (parts rest : List Term) (t : Term) (others : List Term) (d : Data) (x : Turning) → Went m n → Decides m g rest g0 parts → rest ≡ t ∷ others →
-    HasNext g others → IsValue (around n.fixed.types n.fixed.told n.scope) t d → x ≡ turned g d →
-    (v : Data) → Then x (meanings (terms.all others)) (around m.fixed.types m.fixed.told m.scope) v → IsWorth g0 (meanings (terms.all parts)) (around m.fixed.types m.fixed.told m.scope) v
-then_step m n g0 g parts rest t others d x w i e o h q v k =
-    let a = around m.fixed.types m.fixed.told m.scope in
+pub then_step : {B : Type 0} (told : Option (Source → Data)) (m n : Moment B) (g0 g : Going) (parts rest : List Term) (t : Term) (others : List Term) (d : Data) (x : Turning) → Went m n → Decides told m g rest g0 parts → rest ≡ t ∷ others →
+    HasNext g others → IsValue (around n.fixed.types told n.scope) t d → x ≡ turned g d →
+    (v : Data) → Then x (meanings (terms.all others)) (around m.fixed.types told m.scope) v → IsWorth g0 (meanings (terms.all parts)) (around m.fixed.types told m.scope) v
+then_step told m n g0 g parts rest t others d x w i e o h q v k =
+    let a = around m.fixed.types told m.scope in
     i v (subst (λ (z : List Term). IsWorth g (meanings (terms.all z)) a v) (sym e)
-    (taken m.fixed.types m.fixed.told m.scope g t others d v x o (meant_before (meaning t) (λ s. s) m n w d h) q k))
+    (taken m.fixed.types told m.scope g t others d v x o (meant_before told (meaning t) (λ s. s) m n w d h) q k))
 
 -- there are parts where the next one decides
 pub some_there : (types : Types) (s : Held) (x : Turning) (ts : List Term) → IsNext x → ThenSet types s x ts → AreSome ts

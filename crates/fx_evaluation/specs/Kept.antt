@@ -1,11 +1,13 @@
 -- Values that are kept, and what they tell of sources.
 use Rattle.std.specs.Prelude.{ℕ, nat_eq, true, false, Bool, List, [], ◌∷◌, Option, Some, None, if◌then◌else◌}
+use Rattle.fx_base.specs.Silence.{Marks}
 use Rattle.fx_data.specs.Types.{Shape, dates}
 use Rattle.fx_data.specs.TypeView.{shape}
 use Rattle.fx_data.specs.Values.{Data, blank}
 use Rattle.fx_data.specs.ValueView.{view}
 use Rattle.fx_evaluation.specs.declared.kept.KeptCell.{KeptCell}
 use Rattle.fx_evaluation.specs.Scopes.{Fixed, Held, around}
+use Rattle.fx_evaluation.specs.Telling.{Told}
 use Rattle.fx_fresh.specs.Fresh.{IsValue}
 use Rattle.fx_fresh.specs.Named.{GivesOf, outside}
 use Rattle.fx_functions.specs.declared.sources.Source.{Source}
@@ -46,8 +48,15 @@ values_by cells day source.Today = day
 values_by cells day s = blank
 
 abbrev pub fixed_by : List KeptCell → Data → Schema → ℕ → Fixed
-fixed_by cells day schema limit =
-    record { types = types_by cells day; told = Some (values_by cells day); schema = schema; limit = limit }
+fixed_by cells day schema limit = record { types = types_by cells day; schema = schema; limit = limit }
+
+-- the values that are kept are told, with no tables
+abbrev pub told_by : List KeptCell → Data → Told (Unit {0})
+told_by cells day = record { values = values_by cells day; tables = []; beside = tt }
+
+-- no fault is counted, and no doubt comes up
+abbrev pub unmarked : Marks
+unmarked = record { faults = 0; doubt = 0 }
 
 -- the number and the value of each cell that is kept
 abbrev pub kept_values : List KeptCell → List (ℕ × Data)

@@ -4,3 +4,4 @@ pub mod Kinds
 pub mod Moments
 pub mod Parts
 pub mod Scopes
+pub mod Telling

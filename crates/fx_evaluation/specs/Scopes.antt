@@ -25,11 +25,10 @@ pub record Held : Type 0 where
 abbrev pub held : List Value → Option Value → Option Fault → Held
 held rows item caught = record { rows = map view rows; item = option_map view item; caught = caught }
 
--- what an environment leaves as it is: the type of each source that may be read, the value of each source
--- where they are told, the tables of the app, and how many rows a query may take that isn't delegated
+-- what an environment leaves as it is: the type of each source that may be read, the tables of the app, and
+-- how many rows a query may take that isn't delegated
 pub record Fixed : Type 0 where
   pub types : Source → Option Shape
-  pub told : Option (Source → Data)
   pub schema : Schema
   pub limit : ℕ
 

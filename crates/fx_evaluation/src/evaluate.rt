@@ -1,11 +1,15 @@
 //! The evaluator.
-ghost use Rattle.std.specs.Prelude.{◌≡◌, ◌+◌, ◌<◌, ◌≤◌, ◌∷◌, [], true, false, length, map, IfOk, IsErrOf, if◌then◌else◌};
+ghost use Rattle.std.specs.Prelude.{◌≡◌, ◌+◌, ◌≤◌, ◌∷◌, [], true, false, length, map, IfOk, IsErrOf, if◌then◌else◌};
+ghost use Rattle.fx_base.specs.Faults.{Rose};
+ghost use Rattle.fx_base.specs.Silence.{Goes, IsLater, IsLost};
+ghost use Rattle.fx_base.specs.Telling.{Stays};
 ghost use Rattle.fx_data.specs.Types.{Shape};
 ghost use Rattle.fx_data.specs.ValueView.{fields_view, view};
 ghost use Rattle.fx_evaluation.specs.Courses.{IsWorth, ends_in_branch, going};
 ghost use Rattle.fx_evaluation.specs.Moments.{Went, moment};
 ghost use Rattle.fx_evaluation.specs.Parts.{AreAsked, AreFilled, AreFine, AreInside, AreSet, AreSome, HasNext, IsAsked, caught_in, inner, terms_of};
 ghost use Rattle.fx_evaluation.specs.Scopes.{CanEvaluate, IsReady, around};
+ghost use Rattle.fx_evaluation.specs.Telling.{Heard, values_told};
 ghost use Rattle.fx_fresh.specs.Around.{AreEach, AreValues};
 ghost use Rattle.fx_fresh.specs.Fresh.{IsValue, IsWithin, field_of, meaning, meanings};
 ghost use Rattle.fx_fresh.specs.Rows.{IsOver};
@@ -30,8 +34,9 @@ use fx_value::coerce;
 use std::alloc::Global;
 use std::sync::ledger::Ledger;
 
-/// The value of a tree, in one step beside those of its reads. `Keeper` only where the environment
-/// counted a fault.
+/// The value of a tree, in one step beside those of its reads: that of the definition, by what the
+/// environment still tells of its sources. It may have fallen silent only where a fault was counted or a
+/// doubt has come up. `Keeper` only where a fault was counted.
 pub fn eval<E: Env, L: Ledger>(
     alloc: Global,
     env: &mut E,
@@ -42,12 +47,12 @@ pub fn eval<E: Env, L: Ledger>(
     requires { CanEvaluate (E.fixed env.old).types scope.old core.now }
     ensures fixed { E.fixed env.new ≡ E.fixed env.old }
     ensures scope { scope.new ≡ scope.old }
-    ensures value { IfOk result (λ v. IsValue (around (E.fixed env.old).types (E.fixed env.old).told scope.old) core.now (view v)) }
+    ensures told { Goes (IsLost (E.marks env.old) (E.marks env.new)) Stays (E.told env.old) (E.told env.new) }
+    ensures value { IfOk result (λ v. IsValue (around (E.fixed env.old).types (values_told (E.told env.new)) scope.old) core.now (view v)) }
     ensures fits { (u : Shape) → IsReady (E.fixed env.old).types scope.old core.now u → IfOk result (λ v. fits_in (view v) u ≡ true) }
-    ensures faults { E.faults env.old ≤ E.faults env.new }
-    ensures keeper { IsErrOf result Stop.Keeper → E.faults env.old < E.faults env.new }
+    ensures marks { IsLater (E.marks env.old) (E.marks env.new) }
+    ensures keeper { IsErrOf result Stop.Keeper → Rose (E.marks env.old).faults (E.marks env.new).faults }
     ensures ticks { steps.new + E.ticked env.old ≡ steps.old + 1 + E.ticked env.new }
-    ensures tables { E.tables env.new ≡ E.tables env.old }
     ensures visited { E.visited env.old ≤ E.visited env.new }
 {
     steps.tick();
@@ -65,10 +70,10 @@ fn tree<E: Env, L: Ledger>(
 ) -> Result<Value, Stop>
     requires { CanEvaluate (E.fixed env.old).types scope.old core.now }
     ensures went { Went
-        (moment (E.fixed env.old) (E.faults env.old) (E.ticked env.old) (E.visited env.old) (E.tables env.old) scope.old steps.old)
-        (moment (E.fixed env.new) (E.faults env.new) (E.ticked env.new) (E.visited env.new) (E.tables env.new) scope.new steps.new) }
-    ensures keeper { IsErrOf result Stop.Keeper → E.faults env.old < E.faults env.new }
-    ensures value { IfOk result (λ v. IsValue (around (E.fixed env.old).types (E.fixed env.old).told scope.old) core.now (view v)) }
+        (moment (E.fixed env.old) (E.told env.old) (E.marks env.old) (E.ticked env.old) (E.visited env.old) scope.old steps.old)
+        (moment (E.fixed env.new) (E.told env.new) (E.marks env.new) (E.ticked env.new) (E.visited env.new) scope.new steps.new) }
+    ensures keeper { IsErrOf result Stop.Keeper → Rose (E.marks env.old).faults (E.marks env.new).faults }
+    ensures value { IfOk result (λ v. Heard (values_told (E.told env.new)) (λ told. IsValue (around (E.fixed env.old).types told scope.old) core.now (view v))) }
     ensures fits { (u : Shape) → IsReady (E.fixed env.old).types scope.old core.now u → IfOk result (λ v. fits_in (view v) u ≡ true) }
 {
     values_fit();
@@ -86,10 +91,10 @@ fn node<E: Env, L: Ledger>(
 ) -> Result<Value, Stop>
     requires { CanEvaluate (E.fixed env.old).types scope.old core.now }
     ensures went { Went
-        (moment (E.fixed env.old) (E.faults env.old) (E.ticked env.old) (E.visited env.old) (E.tables env.old) scope.old steps.old)
-        (moment (E.fixed env.new) (E.faults env.new) (E.ticked env.new) (E.visited env.new) (E.tables env.new) scope.new steps.new) }
-    ensures keeper { IsErrOf result Stop.Keeper → E.faults env.old < E.faults env.new }
-    ensures value { IfOk result (λ v. IsValue (around (E.fixed env.old).types (E.fixed env.old).told scope.old) core.now (view v)) }
+        (moment (E.fixed env.old) (E.told env.old) (E.marks env.old) (E.ticked env.old) (E.visited env.old) scope.old steps.old)
+        (moment (E.fixed env.new) (E.told env.new) (E.marks env.new) (E.ticked env.new) (E.visited env.new) scope.new steps.new) }
+    ensures keeper { IsErrOf result Stop.Keeper → Rose (E.marks env.old).faults (E.marks env.new).faults }
+    ensures value { IfOk result (λ v. Heard (values_told (E.told env.new)) (λ told. IsValue (around (E.fixed env.old).types told scope.old) core.now (view v))) }
 {
     values_fit();
     fitting_can_apply();
@@ -168,10 +173,10 @@ fn within<E: Env, L: Ledger>(
 ) -> Result<Value, Stop>
     requires { CanEvaluate (E.fixed env.old).types scope.old (of scoped (cons part.now (cons formula.now nil))) }
     ensures went { Went
-        (moment (E.fixed env.old) (E.faults env.old) (E.ticked env.old) (E.visited env.old) (E.tables env.old) scope.old steps.old)
-        (moment (E.fixed env.new) (E.faults env.new) (E.ticked env.new) (E.visited env.new) (E.tables env.new) scope.new steps.new) }
-    ensures keeper { IsErrOf result Stop.Keeper → E.faults env.old < E.faults env.new }
-    ensures value { IfOk result (λ v. IsWithin (meaning part.now ∷ meaning formula.now ∷ []) (around (E.fixed env.old).types (E.fixed env.old).told scope.old) (view v)) }
+        (moment (E.fixed env.old) (E.told env.old) (E.marks env.old) (E.ticked env.old) (E.visited env.old) scope.old steps.old)
+        (moment (E.fixed env.new) (E.told env.new) (E.marks env.new) (E.ticked env.new) (E.visited env.new) scope.new steps.new) }
+    ensures keeper { IsErrOf result Stop.Keeper → Rose (E.marks env.old).faults (E.marks env.new).faults }
+    ensures value { IfOk result (λ v. Heard (values_told (E.told env.new)) (λ told. IsWithin (meaning part.now ∷ meaning formula.now ∷ []) (around (E.fixed env.old).types told scope.old) (view v))) }
 {
     let value = tree(alloc, env, scope, part, steps)?;
     match without_error(value) {
@@ -192,10 +197,10 @@ fn in_scope<E: Env, L: Ledger>(
 ) -> Result<Value, Stop>
     requires { CanEvaluate (E.fixed env.old).types (inner scope.old (view row)) formula.now }
     ensures went { Went
-        (moment (E.fixed env.old) (E.faults env.old) (E.ticked env.old) (E.visited env.old) (E.tables env.old) scope.old steps.old)
-        (moment (E.fixed env.new) (E.faults env.new) (E.ticked env.new) (E.visited env.new) (E.tables env.new) scope.new steps.new) }
-    ensures keeper { IsErrOf result Stop.Keeper → E.faults env.old < E.faults env.new }
-    ensures value { IfOk result (λ v. IsValue (around (E.fixed env.old).types (E.fixed env.old).told (inner scope.old (view row))) formula.now (view v)) }
+        (moment (E.fixed env.old) (E.told env.old) (E.marks env.old) (E.ticked env.old) (E.visited env.old) scope.old steps.old)
+        (moment (E.fixed env.new) (E.told env.new) (E.marks env.new) (E.ticked env.new) (E.visited env.new) scope.new steps.new) }
+    ensures keeper { IsErrOf result Stop.Keeper → Rose (E.marks env.old).faults (E.marks env.new).faults }
+    ensures value { IfOk result (λ v. Heard (values_told (E.told env.new)) (λ told. IsValue (around (E.fixed env.old).types told (inner scope.old (view row))) formula.now (view v))) }
 {
     scope.rows.push(row)?;
     let value = tree(alloc, env, scope, formula, steps);
@@ -215,10 +220,10 @@ fn catching<E: Env, L: Ledger>(
 ) -> Result<Value, Stop>
     requires { CanEvaluate (E.fixed env.old).types (caught_in scope.old fault.kind fault.message) formula.now }
     ensures went { Went
-        (moment (E.fixed env.old) (E.faults env.old) (E.ticked env.old) (E.visited env.old) (E.tables env.old) scope.old steps.old)
-        (moment (E.fixed env.new) (E.faults env.new) (E.ticked env.new) (E.visited env.new) (E.tables env.new) scope.new steps.new) }
-    ensures keeper { IsErrOf result Stop.Keeper → E.faults env.old < E.faults env.new }
-    ensures value { IfOk result (λ v. IsValue (around (E.fixed env.old).types (E.fixed env.old).told (caught_in scope.old fault.kind fault.message)) formula.now (view v)) }
+        (moment (E.fixed env.old) (E.told env.old) (E.marks env.old) (E.ticked env.old) (E.visited env.old) scope.old steps.old)
+        (moment (E.fixed env.new) (E.told env.new) (E.marks env.new) (E.ticked env.new) (E.visited env.new) scope.new steps.new) }
+    ensures keeper { IsErrOf result Stop.Keeper → Rose (E.marks env.old).faults (E.marks env.new).faults }
+    ensures value { IfOk result (λ v. Heard (values_told (E.told env.new)) (λ told. IsValue (around (E.fixed env.old).types told (caught_in scope.old fault.kind fault.message)) formula.now (view v))) }
 {
     let outer = scope.caught.replace(fault);
     let value = tree(alloc, env, scope, formula, steps);
@@ -257,10 +262,10 @@ fn go_through<E: Env, L: Ledger>(
 ) -> Result<Value, Stop>
     requires { AreSet (E.fixed env.old).types scope.old (going course) parts.now }
     ensures went { Went
-        (moment (E.fixed env.old) (E.faults env.old) (E.ticked env.old) (E.visited env.old) (E.tables env.old) scope.old steps.old)
-        (moment (E.fixed env.new) (E.faults env.new) (E.ticked env.new) (E.visited env.new) (E.tables env.new) scope.new steps.new) }
-    ensures keeper { IsErrOf result Stop.Keeper → E.faults env.old < E.faults env.new }
-    ensures value { IfOk result (λ v. IsWorth (going course) (meanings (all parts.now)) (around (E.fixed env.old).types (E.fixed env.old).told scope.old) (view v)) }
+        (moment (E.fixed env.old) (E.told env.old) (E.marks env.old) (E.ticked env.old) (E.visited env.old) scope.old steps.old)
+        (moment (E.fixed env.new) (E.told env.new) (E.marks env.new) (E.ticked env.new) (E.visited env.new) scope.new steps.new) }
+    ensures keeper { IsErrOf result Stop.Keeper → Rose (E.marks env.old).faults (E.marks env.new).faults }
+    ensures value { IfOk result (λ v. Heard (values_told (E.told env.new)) (λ told. IsWorth (going course) (meanings (all parts.now)) (around (E.fixed env.old).types told scope.old) (view v))) }
 {
     let mut course = course;
     let mut rest = parts;
@@ -304,10 +309,10 @@ fn field_values<E: Env, L: Ledger>(
 ) -> Result<Vec<(Words, Value)>, Stop>
     requires { AreFine (E.fixed env.old).types scope.old (terms_of fields.now) }
     ensures went { Went
-        (moment (E.fixed env.old) (E.faults env.old) (E.ticked env.old) (E.visited env.old) (E.tables env.old) scope.old steps.old)
-        (moment (E.fixed env.new) (E.faults env.new) (E.ticked env.new) (E.visited env.new) (E.tables env.new) scope.new steps.new) }
-    ensures keeper { IsErrOf result Stop.Keeper → E.faults env.old < E.faults env.new }
-    ensures value { IfOk result (λ fs. AreFilled fields.now (around (E.fixed env.old).types (E.fixed env.old).told scope.old) (fields_view fs.items)) }
+        (moment (E.fixed env.old) (E.told env.old) (E.marks env.old) (E.ticked env.old) (E.visited env.old) scope.old steps.old)
+        (moment (E.fixed env.new) (E.told env.new) (E.marks env.new) (E.ticked env.new) (E.visited env.new) scope.new steps.new) }
+    ensures keeper { IsErrOf result Stop.Keeper → Rose (E.marks env.old).faults (E.marks env.new).faults }
+    ensures value { IfOk result (λ fs. Heard (values_told (E.told env.new)) (λ told. AreFilled fields.now (around (E.fixed env.old).types told scope.old) (fields_view fs.items))) }
 {
     let mut items = Vec::new(alloc);
     for (name, part) in fields {
@@ -328,10 +333,10 @@ fn part_values<E: Env, L: Ledger>(
 ) -> Result<Vec<Value>, Stop>
     requires { AreFine (E.fixed env.old).types scope.old parts.now }
     ensures went { Went
-        (moment (E.fixed env.old) (E.faults env.old) (E.ticked env.old) (E.visited env.old) (E.tables env.old) scope.old steps.old)
-        (moment (E.fixed env.new) (E.faults env.new) (E.ticked env.new) (E.visited env.new) (E.tables env.new) scope.new steps.new) }
-    ensures keeper { IsErrOf result Stop.Keeper → E.faults env.old < E.faults env.new }
-    ensures value { IfOk result (λ vs. AreValues (meanings (all parts.now)) (around (E.fixed env.old).types (E.fixed env.old).told scope.old) (map view vs.items)) }
+        (moment (E.fixed env.old) (E.told env.old) (E.marks env.old) (E.ticked env.old) (E.visited env.old) scope.old steps.old)
+        (moment (E.fixed env.new) (E.told env.new) (E.marks env.new) (E.ticked env.new) (E.visited env.new) scope.new steps.new) }
+    ensures keeper { IsErrOf result Stop.Keeper → Rose (E.marks env.old).faults (E.marks env.new).faults }
+    ensures value { IfOk result (λ vs. Heard (values_told (E.told env.new)) (λ told. AreValues (meanings (all parts.now)) (around (E.fixed env.old).types told scope.old) (map view vs.items))) }
 {
     let mut values = Vec::new(alloc);
     for part in parts {
@@ -354,10 +359,10 @@ fn call_over<E: Env, L: Ledger>(
 ) -> Result<Value, Stop>
     requires { CanEvaluate (E.fixed env.old).types scope.old (of (over_head fun) (cons table.now (all parts.now))) }
     ensures went { Went
-        (moment (E.fixed env.old) (E.faults env.old) (E.ticked env.old) (E.visited env.old) (E.tables env.old) scope.old steps.old)
-        (moment (E.fixed env.new) (E.faults env.new) (E.ticked env.new) (E.visited env.new) (E.tables env.new) scope.new steps.new) }
-    ensures keeper { IsErrOf result Stop.Keeper → E.faults env.old < E.faults env.new }
-    ensures value { IfOk result (λ v. IsOver fun (meaning table.now ∷ meanings (all parts.now)) (around (E.fixed env.old).types (E.fixed env.old).told scope.old) (view v)) }
+        (moment (E.fixed env.old) (E.told env.old) (E.marks env.old) (E.ticked env.old) (E.visited env.old) scope.old steps.old)
+        (moment (E.fixed env.new) (E.told env.new) (E.marks env.new) (E.ticked env.new) (E.visited env.new) scope.new steps.new) }
+    ensures keeper { IsErrOf result Stop.Keeper → Rose (E.marks env.old).faults (E.marks env.new).faults }
+    ensures value { IfOk result (λ v. Heard (values_told (E.told env.new)) (λ told. IsOver fun (meaning table.now ∷ meanings (all parts.now)) (around (E.fixed env.old).types told scope.old) (view v))) }
 {
     let value = tree(alloc, env, scope, table, steps)?;
     match rows_of(alloc, value) {
@@ -382,10 +387,10 @@ fn part_answers<E: Env, L: Ledger>(
 ) -> Result<Vec<Answers>, Stop>
     requires { AreAsked fun (length parts.now + 1) 1 (E.fixed env.old).types scope.old rows.now parts.now }
     ensures went { Went
-        (moment (E.fixed env.old) (E.faults env.old) (E.ticked env.old) (E.visited env.old) (E.tables env.old) scope.old steps.old)
-        (moment (E.fixed env.new) (E.faults env.new) (E.ticked env.new) (E.visited env.new) (E.tables env.new) scope.new steps.new) }
-    ensures keeper { IsErrOf result Stop.Keeper → E.faults env.old < E.faults env.new }
-    ensures value { IfOk result (λ gs. AreGiven (over_head fun) (length parts.now + 1) 1 (meanings (all parts.now)) (around (E.fixed env.old).types (E.fixed env.old).told scope.old) rows.now (map given gs.items)) }
+        (moment (E.fixed env.old) (E.told env.old) (E.marks env.old) (E.ticked env.old) (E.visited env.old) scope.old steps.old)
+        (moment (E.fixed env.new) (E.told env.new) (E.marks env.new) (E.ticked env.new) (E.visited env.new) scope.new steps.new) }
+    ensures keeper { IsErrOf result Stop.Keeper → Rose (E.marks env.old).faults (E.marks env.new).faults }
+    ensures value { IfOk result (λ gs. Heard (values_told (E.told env.new)) (λ told. AreGiven (over_head fun) (length parts.now + 1) 1 (meanings (all parts.now)) (around (E.fixed env.old).types told scope.old) rows.now (map given gs.items))) }
 {
     let count = parts.len() + 1;
     let mut answers = Vec::new(alloc);
@@ -410,10 +415,10 @@ fn answer<E: Env, L: Ledger>(
 ) -> Result<Answers, Stop>
     requires { IsAsked (if in_rows then inside else plain) (E.fixed env.old).types scope.old rows.now part.now }
     ensures went { Went
-        (moment (E.fixed env.old) (E.faults env.old) (E.ticked env.old) (E.visited env.old) (E.tables env.old) scope.old steps.old)
-        (moment (E.fixed env.new) (E.faults env.new) (E.ticked env.new) (E.visited env.new) (E.tables env.new) scope.new steps.new) }
-    ensures keeper { IsErrOf result Stop.Keeper → E.faults env.old < E.faults env.new }
-    ensures value { IfOk result (λ g. IsGiven (if in_rows then inside else plain) (meaning part.now) (around (E.fixed env.old).types (E.fixed env.old).told scope.old) rows.now (given g)) }
+        (moment (E.fixed env.old) (E.told env.old) (E.marks env.old) (E.ticked env.old) (E.visited env.old) scope.old steps.old)
+        (moment (E.fixed env.new) (E.told env.new) (E.marks env.new) (E.ticked env.new) (E.visited env.new) scope.new steps.new) }
+    ensures keeper { IsErrOf result Stop.Keeper → Rose (E.marks env.old).faults (E.marks env.new).faults }
+    ensures value { IfOk result (λ g. Heard (values_told (E.told env.new)) (λ told. IsGiven (if in_rows then inside else plain) (meaning part.now) (around (E.fixed env.old).types told scope.old) rows.now (given g))) }
 {
     if in_rows {
         Ok(Answers::Each(each(alloc, env, scope, rows, part, steps)?))
@@ -434,10 +439,10 @@ fn each<E: Env, L: Ledger>(
 ) -> Result<Vec<Value>, Stop>
     requires { AreInside (E.fixed env.old).types scope.old formula.now rows.now }
     ensures went { Went
-        (moment (E.fixed env.old) (E.faults env.old) (E.ticked env.old) (E.visited env.old) (E.tables env.old) scope.old steps.old)
-        (moment (E.fixed env.new) (E.faults env.new) (E.ticked env.new) (E.visited env.new) (E.tables env.new) scope.new steps.new) }
-    ensures keeper { IsErrOf result Stop.Keeper → E.faults env.old < E.faults env.new }
-    ensures value { IfOk result (λ vs. AreEach (meaning formula.now) (around (E.fixed env.old).types (E.fixed env.old).told scope.old) rows.now (map view vs.items)) }
+        (moment (E.fixed env.old) (E.told env.old) (E.marks env.old) (E.ticked env.old) (E.visited env.old) scope.old steps.old)
+        (moment (E.fixed env.new) (E.told env.new) (E.marks env.new) (E.ticked env.new) (E.visited env.new) scope.new steps.new) }
+    ensures keeper { IsErrOf result Stop.Keeper → Rose (E.marks env.old).faults (E.marks env.new).faults }
+    ensures value { IfOk result (λ vs. Heard (values_told (E.told env.new)) (λ told. AreEach (meaning formula.now) (around (E.fixed env.old).types told scope.old) rows.now (map view vs.items))) }
 {
     let mut values = Vec::new(alloc);
     for row in rows {

@@ -1,7 +1,7 @@
 //! The environment of named formulas: the values that are kept of those before, and the day.
-ghost use Rattle.std.specs.Prelude.{◌≡◌, [], length, Some, option_map};
+ghost use Rattle.std.specs.Prelude.{◌≡◌, length, Some, option_map};
 ghost use Rattle.fx_data.specs.ValueView.{view};
-ghost use Rattle.fx_evaluation.specs.Kept.{KeptIsNamed, fixed_by, kept_of};
+ghost use Rattle.fx_evaluation.specs.Kept.{KeptIsNamed, fixed_by, kept_of, told_by, unmarked};
 
 use crate::environment::{Env, Stop};
 use fx_data::{Totals, Ty, Value};
@@ -36,11 +36,11 @@ pub struct Kept<'a> {
 impl Env for Kept<'_> {
     ghost fixed = { λ k. fixed_by k.cells.now (view k.today.now) k.schema.now k.limit };
 
-    ghost faults = { λ k. 0 };
+    ghost told = { λ k. Some (told_by k.cells.now (view k.today.now)) };
+
+    ghost marks = { λ k. unmarked };
 
     ghost ticked = { λ k. 0 };
-
-    ghost tables = { λ k. Some [] };
 
     ghost visited = { λ k. 0 };
 

@@ -14,7 +14,7 @@ ghost use Rattle.named_values.specs.Keeping.{AreKept};
 ghost use Rattle.named_values.specs.Valued.{AreValues, by_name, seen};
 
 use app_lines::{Formula, Lines};
-use fx_base::Memory;
+use fx_base::{InOrder, Memory};
 use fx_data::{Value, Words};
 use fx_evaluation::{Kept, KeptCell, Scope, Stop, eval, kept_is_named};
 use fx_names::Schema;

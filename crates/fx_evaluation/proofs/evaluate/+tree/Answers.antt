@@ -1,13 +1,13 @@
 use Rattle.std.proofs.lemmas.List.{length-append}
 use Rattle.std.proofs.lemmas.Result.{IfOk-weaker}
 use Rattle.std.specs.Prelude.{if◌then◌else◌}
-use Rattle.std.proofs.Common.{◌∷◌, [], length, ap, sym, subst, ◌∙◌, refl, arith}
+use Rattle.std.proofs.Common.{◌≡◌, ◌∷◌, [], None, true, length, ap, sym, subst, ◌∙◌, refl, arith}
 use Rattle.fx_data.specs.ValueView.{view}
 use Rattle.fx_evaluation.proofs.CallPlaces.{call_fine}
 use Rattle.fx_evaluation.proofs.Forms.{ThenSet}
 use Rattle.fx_evaluation.proofs.Nodes.{apply_is, called_is, coerce_is, fields_rise, fields_there, list_fine, list_is, only_is, over_is, record_is, row_is, there}
-use Rattle.fx_evaluation.proofs.Passing.{as_before, held_before, meant_before, went_on}
-use Rattle.fx_evaluation.proofs.Ready.{formula_ready}
+use Rattle.fx_evaluation.proofs.Passing.{as_before, heard_before, held_before, meant_before, went_on}
+use Rattle.fx_evaluation.proofs.Ready.{formula_ready, ready_fits}
 use Rattle.fx_evaluation.proofs.Rows.{asked_there, each_step, given_step, inside_at, make_there, over_there, part_asked, table_can}
 use Rattle.fx_evaluation.proofs.Sizes.{field_is_smaller, fields_fall, one_falls, part_is_smaller, parts_fall, rest_falls, table_falls}
 use Rattle.fx_evaluation.proofs.Standings.{all_ready, any_ready, coalesce_ready, fields_ready, if_ready, recover_ready, switch_ready}
@@ -22,7 +22,14 @@ use Rattle.fx_typed.specs.Term.{of, all, call}
 use Rattle.fx_typed.specs.TermView.{branch}
 use Rattle.fx_typing.specs.WellTyped.{inside, plain}
 use Rattle.fx_table_calls.specs.Given.{IsGiven, given}
+use Rattle.fx_value.specs.Fits.{fits_in}
 use Rattle.fx_evaluation.proofs.evaluate.+tree.Goals as goal
+
+pub tree-returns-clause-fits : goal.tree-returns-clause-fits
+tree-returns-clause-fits g t c = λ u r.
+    IfOk-weaker c.node.result _ (λ v. fits_in (view v) u ≡ true)
+    (λ v k. ready_fits c.values_fit.ensures (g.E.Env.fixed c.args.env.now).types None c.args.scope.now c.args.core.now u r (view v) (k None tt))
+    c.node.ensures.value
 
 -- ---- nodes
 
@@ -94,15 +101,15 @@ node-part_values-requires g t c κs within =
 
 pub node-apply-requires : goal.node-apply-requires
 node-apply-requires g t c =
-    apply_is c.values_fit.ensures c.fitting_can_apply.ensures _ _ _ _ _ _ _ _ _ (sym (ap branch c.in-Call.is) ∙ c.core.view_is) c.as_slice-in_default.ensures c.requires
-    c.in_ok-values-in_default.ensures.value c.as_slice-in_default-2.ensures.value
+    apply_is c.values_fit.ensures c.fitting_can_apply.ensures _ None _ _ _ _ _ _ _ (sym (ap branch c.in-Call.is) ∙ c.core.view_is) c.as_slice-in_default.ensures c.requires
+    (c.in_ok-values-in_default.ensures.value None tt) c.as_slice-in_default-2.ensures.value
 
 pub node-returns-in_ok-apply-in_default : goal.node-returns-in_ok-apply-in_default
 node-returns-in_ok-apply-in_default g t c = record {
   went = c.part_values.ensures.went;
   keeper = λ e. absurd cc;
-  value = called_is _ _ _ _ _ _ _ _ c.in_default.not-Coalesce (sym (ap branch c.in-Call.is) ∙ c.core.view_is) c.as_slice-in_default.ensures
-      c.in_ok-values-in_default.ensures.value c.as_slice-in_default-2.ensures.value c.in_ok-apply-in_default.ensures.answer;
+  value = λ told h. called_is _ _ _ _ _ _ _ _ c.in_default.not-Coalesce (sym (ap branch c.in-Call.is) ∙ c.core.view_is) c.as_slice-in_default.ensures
+      (c.in_ok-values-in_default.ensures.value told h) c.as_slice-in_default-2.ensures.value c.in_ok-apply-in_default.ensures.answer;
 }
 
 pub node-field_values-requires : goal.node-field_values-requires
@@ -114,11 +121,11 @@ node-field_values-requires g t c κs within =
 
 pub node-from_rising-requires : goal.node-from_rising-requires
 node-from_rising-requires g t c =
-    fields_rise _ _ _ _ _ _ _ (sym (ap branch c.in-Rec.is) ∙ c.core.view_is) c.as_slice-in-Rec.ensures c.requires c.in_ok-items-in-Rec.ensures.value
+    fields_rise _ _ _ _ _ _ _ (sym (ap branch c.in-Rec.is) ∙ c.core.view_is) c.as_slice-in-Rec.ensures c.requires (c.in_ok-items-in-Rec.ensures.value None tt)
 
 pub node-returns-in_ok-items-in-Rec-clause-value : goal.node-returns-in_ok-items-in-Rec-clause-value
-node-returns-in_ok-items-in-Rec-clause-value g t c =
-    record_is _ _ _ _ _ _ (sym (ap branch c.in-Rec.is) ∙ c.core.view_is) c.as_slice-in-Rec.ensures c.in_ok-items-in-Rec.ensures.value c.from_rising.ensures
+node-returns-in_ok-items-in-Rec-clause-value g t c = λ told h.
+    record_is _ _ _ _ _ _ (sym (ap branch c.in-Rec.is) ∙ c.core.view_is) c.as_slice-in-Rec.ensures (c.in_ok-items-in-Rec.ensures.value told h) c.from_rising.ensures
 
 pub node-call_over-requires : goal.node-call_over-requires
 node-call_over-requires g t c κs within =
@@ -136,7 +143,7 @@ node-part_values-requires-in-List g t c κs within =
 
 pub node-listed-requires : goal.node-listed-requires
 node-listed-requires g t c =
-    list_is c.values_fit.ensures _ _ _ _ _ _ _ _ (sym (ap branch c.in-List.is) ∙ c.core.view_is) c.as_slice-in-List.ensures c.requires c.in_ok-values-in-List.ensures.value
+    list_is c.values_fit.ensures _ None _ _ _ _ _ _ (sym (ap branch c.in-List.is) ∙ c.core.view_is) c.as_slice-in-List.ensures c.requires (c.in_ok-values-in-List.ensures.value None tt)
 
 -- ---- With
 
@@ -171,8 +178,9 @@ field_values-tree-requires g t c κs within = (
 pub field_values-loop-name-preserved : goal.field_values-loop-name-preserved
 field_values-loop-name-preserved g t c = record {
   went = went_on _ _ _ c.loop-name.invariant.went c.tree.ensures.went;
-  values = filled_step _ c.args.fields.now c.loop-name.name-index c.loop-name-item.result _ _ _ _ c.loop-name-test.true c.loop-name-item.is c.loop-name.invariant.values
-      c.in_ok-push.ensures.items c.in_ok-copy.ensures (meant_before (meaning c.loop-name-item.result.1) (λ s. s) _ _ c.loop-name.invariant.went _ c.in_ok-value.ensures.value);
+  values = λ told h. filled_step _ c.args.fields.now c.loop-name.name-index c.loop-name-item.result _ _ _ _ c.loop-name-test.true c.loop-name-item.is
+      (c.loop-name.invariant.values told (heard_before _ _ c.tree.ensures.went told h))
+      c.in_ok-push.ensures.items c.in_ok-copy.ensures (meant_before told (meaning c.loop-name-item.result.1) (λ s. s) _ _ c.loop-name.invariant.went _ (c.in_ok-value.ensures.value told h));
 }
 
 pub part_values-tree-requires : goal.part_values-tree-requires
@@ -191,8 +199,9 @@ part_values-tree-requires g t c κs within = (
 pub part_values-loop-part-preserved : goal.part_values-loop-part-preserved
 part_values-loop-part-preserved g t c = record {
   went = went_on _ _ _ c.loop-part.invariant.went c.tree.ensures.went;
-  values = values_step _ c.args.parts.now c.loop-part.part-index c.part-item.result _ _ _ c.loop-part-test.true c.part-item.is c.loop-part.invariant.values
-      c.in_ok-push.ensures.items (meant_before (meaning c.part-item.result) (λ s. s) _ _ c.loop-part.invariant.went _ c.in_ok-value.ensures.value);
+  values = λ told h. values_step _ c.args.parts.now c.loop-part.part-index c.part-item.result _ _ _ c.loop-part-test.true c.part-item.is
+      (c.loop-part.invariant.values told (heard_before _ _ c.tree.ensures.went told h))
+      c.in_ok-push.ensures.items (meant_before told (meaning c.part-item.result) (λ s. s) _ _ c.loop-part.invariant.went _ (c.in_ok-value.ensures.value told h));
 }
 
 -- ---- forms
@@ -201,7 +210,8 @@ pub go_through-returns-then-ends_here-clause-value : goal.go_through-returns-the
 go_through-returns-then-ends_here-clause-value g t c =
     let l = c.ends_here.ensures.last c.if-ends_here.true in
     IfOk-weaker c.tree.result _ _
-    (λ v h. end_step _ _ (going c.args.course) _ c.args.parts.now _ c.in-Some.part.now c.in-Some.others.now c.loop-part.invariant.went c.loop-part.invariant.value c.in-Some.ensures.cases.0 l.0 l.1 (view v) h)
+    (λ v k told h. end_step told _ _ (going c.args.course) _ c.args.parts.now _ c.in-Some.part.now c.in-Some.others.now c.loop-part.invariant.went
+    (c.loop-part.invariant.value told (heard_before _ _ c.tree.ensures.went told h)) c.in-Some.ensures.cases.0 l.0 l.1 (view v) (k told h))
     c.tree.ensures.value
 
 pub go_through-turn-requires : goal.go_through-turn-requires
@@ -210,16 +220,17 @@ go_through-turn-requires g t c =
     (c.ends_here.ensures.next c.if-ends_here.false) c.in_ok-value.ensures.fits
 
 pub go_through-returns-in-Answer-clause-value : goal.go_through-returns-in-Answer-clause-value
-go_through-returns-in-Answer-clause-value g t c =
-    then_step _ _ (going c.args.course) _ c.args.parts.now _ c.in-Some.part.now c.in-Some.others.now _ (answers (view c.in-Answer.value)) c.loop-part.invariant.went c.loop-part.invariant.value c.in-Some.ensures.cases.0
-    (c.ends_here.ensures.next c.if-ends_here.false) c.in_ok-value.ensures.value c.in-Answer.ensures (view c.in-Answer.value) refl
+go_through-returns-in-Answer-clause-value g t c = λ told h.
+    then_step told _ _ (going c.args.course) _ c.args.parts.now _ c.in-Some.part.now c.in-Some.others.now _ (answers (view c.in-Answer.value)) c.loop-part.invariant.went (c.loop-part.invariant.value told (heard_before _ _ c.tree-in-Some.ensures.went told h)) c.in-Some.ensures.cases.0
+    (c.ends_here.ensures.next c.if-ends_here.false) (c.in_ok-value.ensures.value told h) c.in-Answer.ensures (view c.in-Answer.value) refl
 
 pub go_through-returns-in-Branch-clause-value : goal.go_through-returns-in-Branch-clause-value
 go_through-returns-in-Branch-clause-value g t c =
     IfOk-weaker c.tree-in-Branch.result _ _
-    (λ v h. then_step _ _ (going c.args.course) _ c.args.parts.now _ c.in-Some.part.now c.in-Some.others.now _ chooses c.loop-part.invariant.went c.loop-part.invariant.value c.in-Some.ensures.cases.0
-    (c.ends_here.ensures.next c.if-ends_here.false) c.in_ok-value.ensures.value c.in-Branch.ensures (view v)
-    (branch_then _ _ _ _ _ c.split.ensures (meant_before (meaning c.split.result.0.now) (λ s. s) _ _ (went_on _ _ _ c.loop-part.invariant.went c.tree-in-Some.ensures.went) _ h)))
+    (λ v k told h. then_step told _ _ (going c.args.course) _ c.args.parts.now _ c.in-Some.part.now c.in-Some.others.now _ chooses c.loop-part.invariant.went
+    (c.loop-part.invariant.value told (heard_before _ _ c.tree-in-Some.ensures.went told (heard_before _ _ c.tree-in-Branch.ensures.went told h))) c.in-Some.ensures.cases.0
+    (c.ends_here.ensures.next c.if-ends_here.false) (c.in_ok-value.ensures.value told (heard_before _ _ c.tree-in-Branch.ensures.went told h)) c.in-Branch.ensures (view v)
+    (branch_then _ _ _ _ _ c.split.ensures (meant_before told (meaning c.split.result.0.now) (λ s. s) _ _ (went_on _ _ _ c.loop-part.invariant.went c.tree-in-Some.ensures.went) _ (k told h))))
     c.tree-in-Branch.ensures.value
 
 pub go_through-catching-requires : goal.go_through-catching-requires
@@ -244,10 +255,11 @@ go_through-returns-in-Fallback-clause-value g t c =
     let k = c.in-Fallback.fault.kind in
     let cs = c.in-Fallback.fault.message in
     IfOk-weaker c.catching.result _ _
-    (λ v h. then_step _ _ (going c.args.course) _ c.args.parts.now _ c.in-Some.part.now c.in-Some.others.now _ (catches k cs) c.loop-part.invariant.went c.loop-part.invariant.value c.in-Some.ensures.cases.0
-    (c.ends_here.ensures.next c.if-ends_here.false) c.in_ok-value.ensures.value c.in-Fallback.ensures (view v)
+    (λ v q told h. then_step told _ _ (going c.args.course) _ c.args.parts.now _ c.in-Some.part.now c.in-Some.others.now _ (catches k cs) c.loop-part.invariant.went
+    (c.loop-part.invariant.value told (heard_before _ _ c.tree-in-Some.ensures.went told (heard_before _ _ c.catching.ensures.went told h))) c.in-Some.ensures.cases.0
+    (c.ends_here.ensures.next c.if-ends_here.false) (c.in_ok-value.ensures.value told (heard_before _ _ c.catching.ensures.went told h)) c.in-Fallback.ensures (view v)
     (fallback_then _ _ _ _ _ _ _ c.split-in-Fallback.ensures
-    (meant_before (meaning c.split-in-Fallback.result.0.now) (λ s. caught_in s k cs) _ _ (went_on _ _ _ c.loop-part.invariant.went c.tree-in-Some.ensures.went) _ h)))
+    (meant_before told (meaning c.split-in-Fallback.result.0.now) (λ s. caught_in s k cs) _ _ (went_on _ _ _ c.loop-part.invariant.went c.tree-in-Some.ensures.went) _ (q told h))))
     c.catching.ensures.value
 
 pub go_through-loop-part-preserved-in-Further : goal.go_through-loop-part-preserved-in-Further
@@ -255,8 +267,9 @@ go_through-loop-part-preserved-in-Further g t c = record {
   went = went_on _ _ _ c.loop-part.invariant.went c.tree-in-Some.ensures.went;
   parts = next_step _ _ _ _ c.in-Some.part.now c.in-Some.others.now _ (goes (going c.in-Further.next)) c.loop-part.invariant.went c.loop-part.invariant.parts c.in-Some.ensures.cases.0
       (c.ends_here.ensures.next c.if-ends_here.false) c.in_ok-value.ensures.fits c.in-Further.ensures;
-  value = then_step _ _ (going c.args.course) _ c.args.parts.now _ c.in-Some.part.now c.in-Some.others.now _ (goes (going c.in-Further.next)) c.loop-part.invariant.went c.loop-part.invariant.value c.in-Some.ensures.cases.0
-      (c.ends_here.ensures.next c.if-ends_here.false) c.in_ok-value.ensures.value c.in-Further.ensures;
+  value = λ told h. then_step told _ _ (going c.args.course) _ c.args.parts.now _ c.in-Some.part.now c.in-Some.others.now _ (goes (going c.in-Further.next)) c.loop-part.invariant.went
+      (c.loop-part.invariant.value told (heard_before _ _ c.tree-in-Some.ensures.went told h)) c.in-Some.ensures.cases.0
+      (c.ends_here.ensures.next c.if-ends_here.false) (c.in_ok-value.ensures.value told h) c.in-Further.ensures;
   small = let small = c.loop-part.invariant.small in let h = rest_falls _ _ _ c.in-Some.ensures.cases.0 in omega (arith, h, small);
 }
 
@@ -273,8 +286,9 @@ go_through-loop-part-preserved g t c =
     record {
       went = went_on _ _ _ c.loop-part.invariant.went c.tree-in-Some.ensures.went;
       parts = subst (ThenSet (g.E.Env.fixed c.args.env.now).types c.args.scope.now (passes (going c.in-Beyond.next))) c.split-in-Beyond.ensures ready;
-      value = λ v k. then_step _ _ (going c.args.course) _ c.args.parts.now _ c.in-Some.part.now c.in-Some.others.now _ (passes (going c.in-Beyond.next)) c.loop-part.invariant.went c.loop-part.invariant.value c.in-Some.ensures.cases.0
-          (c.ends_here.ensures.next c.if-ends_here.false) c.in_ok-value.ensures.value c.in-Beyond.ensures v (beyond_then _ _ _ _ _ _ c.split-in-Beyond.ensures k);
+      value = λ told h v k. then_step told _ _ (going c.args.course) _ c.args.parts.now _ c.in-Some.part.now c.in-Some.others.now _ (passes (going c.in-Beyond.next)) c.loop-part.invariant.went
+          (c.loop-part.invariant.value told (heard_before _ _ c.tree-in-Some.ensures.went told h)) c.in-Some.ensures.cases.0
+          (c.ends_here.ensures.next c.if-ends_here.false) (c.in_ok-value.ensures.value told h) c.in-Beyond.ensures v (beyond_then _ _ _ _ _ _ c.split-in-Beyond.ensures k);
       small = let small = c.loop-part.invariant.small in let h = rest_falls _ _ _ c.in-Some.ensures.cases.0 in let k = rest_falls _ _ _ c.split-in-Beyond.ensures in omega (arith, h, k, small);
     }
 
@@ -297,13 +311,14 @@ call_over-part_answers-requires g t c κs within = (
 
 pub call_over-over-requires : goal.call_over-over-requires
 call_over-over-requires g t c =
-    make_there _ _ _ c.args.table.now c.args.parts.now _ (view c.in_ok-value.value) c.in-Ok.rows _ _ c.tree.ensures.went c.requires c.in_ok-value.ensures.value c.in-Ok.ensures.0 c.as_slice.ensures
-    c.in_ok-answers-in-Ok.ensures.value
+    make_there None _ _ _ c.args.table.now c.args.parts.now _ (view c.in_ok-value.value) c.in-Ok.rows _ _ c.tree.ensures.went c.requires (c.in_ok-value.ensures.value None tt) c.in-Ok.ensures.0 c.as_slice.ensures
+    (c.in_ok-answers-in-Ok.ensures.value None tt)
 
 pub call_over-returns-in_ok-over-in-Ok-clause-value : goal.call_over-returns-in_ok-over-in-Ok-clause-value
-call_over-returns-in_ok-over-in-Ok-clause-value g t c =
-    over_there _ _ _ c.args.table.now c.args.parts.now _ (view c.in_ok-value.value) c.in-Ok.rows _ _ _ c.tree.ensures.went c.requires c.in_ok-value.ensures.value c.in-Ok.ensures.0 c.in-Ok.ensures.1
-    c.as_slice.ensures c.in_ok-answers-in-Ok.ensures.value c.in_ok-over-in-Ok.ensures
+call_over-returns-in_ok-over-in-Ok-clause-value g t c = λ told h.
+    over_there told _ _ _ c.args.table.now c.args.parts.now _ (view c.in_ok-value.value) c.in-Ok.rows _ _ _ c.tree.ensures.went c.requires
+    (c.in_ok-value.ensures.value told (heard_before _ _ c.part_answers.ensures.went told h)) c.in-Ok.ensures.0 c.in-Ok.ensures.1
+    c.as_slice.ensures (c.in_ok-answers-in-Ok.ensures.value told h) c.in_ok-over-in-Ok.ensures
 
 pub part_answers-answer-requires : goal.part_answers-answer-requires
 part_answers-answer-requires g t c κs within = (
@@ -325,10 +340,10 @@ part_answers-loop-part-preserved g t c =
     record {
       went = went_on _ _ _ c.loop-part.invariant.went c.answer.ensures.went;
       count = let e = ap length c.in_ok-push.ensures.items in let f = length-append c.loop-part.answers.items (c.in_ok-answer.answer ∷ []) in omega (arith, e, f, k);
-      answers = given_step _ _ c.args.parts.now _ _ c.loop-part.part-index _ c.part-item.result _ _ c.in_ok-answer.answer c.is_formula-in_rows.result c.loop-part-test.true c.part-item.is
-          c.loop-part.invariant.answers c.in_ok-push.ensures.items (omega (arith, k, l)) c.is_formula-in_rows.ensures
-          (held_before (λ a. IsGiven (if c.is_formula-in_rows.result then inside else plain) (meaning c.part-item.result) a c.args.rows.now (given c.in_ok-answer.answer)) _ _ c.loop-part.invariant.went
-          c.in_ok-answer.ensures.value);
+      answers = λ told h. given_step _ _ c.args.parts.now _ _ c.loop-part.part-index _ c.part-item.result _ _ c.in_ok-answer.answer c.is_formula-in_rows.result c.loop-part-test.true c.part-item.is
+          (c.loop-part.invariant.answers told (heard_before _ _ c.answer.ensures.went told h)) c.in_ok-push.ensures.items (omega (arith, k, l)) c.is_formula-in_rows.ensures
+          (held_before told (λ a. IsGiven (if c.is_formula-in_rows.result then inside else plain) (meaning c.part-item.result) a c.args.rows.now (given c.in_ok-answer.answer)) _ _ c.loop-part.invariant.went
+          (c.in_ok-answer.ensures.value told h));
     }
 
 pub each-in_scope-requires : goal.each-in_scope-requires
@@ -348,9 +363,10 @@ each-in_scope-requires g t c κs within = (
 pub each-loop-row-preserved : goal.each-loop-row-preserved
 each-loop-row-preserved g t c = record {
   went = went_on _ _ _ c.loop-row.invariant.went c.in_scope.ensures.went;
-  values = each_step (meaning c.args.formula.now) _ c.args.rows.now c.loop-row.row-index c.row-item.result _ _ c.in_ok-value.value c.loop-row-test.true c.row-item.is c.loop-row.invariant.values
+  values = λ told h. each_step (meaning c.args.formula.now) _ c.args.rows.now c.loop-row.row-index c.row-item.result _ _ c.in_ok-value.value c.loop-row-test.true c.row-item.is
+      (c.loop-row.invariant.values told (heard_before _ _ c.in_scope.ensures.went told h))
       c.in_ok-push.ensures.items
-      (meant_before (meaning c.args.formula.now) (λ s. inner s (record_of c.row-item.result)) _ _ c.loop-row.invariant.went _
-      (subst (λ r. IsValue (around (g.E.Env.fixed c.loop-row.env).types (g.E.Env.fixed c.loop-row.env).told (inner c.loop-row.scope (record_of r))) c.args.formula.now (view c.in_ok-value.value))
-      c.in_ok-copy.ensures c.in_ok-value.ensures.value));
+      (meant_before told (meaning c.args.formula.now) (λ s. inner s (record_of c.row-item.result)) _ _ c.loop-row.invariant.went _
+      (subst (λ r. IsValue (around (g.E.Env.fixed c.loop-row.env).types told (inner c.loop-row.scope (record_of r))) c.args.formula.now (view c.in_ok-value.value))
+      c.in_ok-copy.ensures (c.in_ok-value.ensures.value told h)));
 }

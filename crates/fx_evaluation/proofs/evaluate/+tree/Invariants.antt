@@ -1,13 +1,15 @@
-use Rattle.std.proofs.Common.{◌≡◌, ◌+◌, ◌*◌, ◌≤◌, length, map, take}
+use Rattle.std.proofs.Common.{◌≡◌, ◌+◌, ◌*◌, ◌≤◌, Option, length, map, take}
 use Rattle.fx_data.specs.ValueView.{fields_view, view}
 use Rattle.fx_data.specs.Values.{Data}
 use Rattle.fx_evaluation.specs.Courses.{IsWorth, going}
 use Rattle.fx_evaluation.specs.Moments.{Went, moment}
 use Rattle.fx_evaluation.specs.Parts.{AreFilled, AreSet, terms_of}
 use Rattle.fx_evaluation.specs.Scopes.{around}
+use Rattle.fx_evaluation.specs.Telling.{IsHeard, values_told}
 use Rattle.fx_fresh.specs.Around.{AreEach, AreValues}
 use Rattle.fx_fresh.specs.Fresh.{meaning, meanings}
 use Rattle.fx_table_calls.specs.Given.{AreGiven, given}
+use Rattle.fx_functions.specs.declared.sources.Source.{Source}
 use Rattle.fx_typed.specs.Term.{all, over, term_size, terms_size}
 use Rattle.fx_evaluation.proofs.evaluate.+tree.Given as goal
 
@@ -54,11 +56,11 @@ decreases-go_through-loop-part g l = terms_size (all l.rest)
 abbrev pub invariant-go_through-loop-part : goal.invariant-go_through-loop-part
 invariant-go_through-loop-part g l = record {
   went : Went
-      (moment (g.E.Env.fixed l.fn.env) (g.E.Env.faults l.fn.env) (g.E.Env.ticked l.fn.env) (g.E.Env.visited l.fn.env) (g.E.Env.tables l.fn.env) l.fn.scope l.fn.steps)
-      (moment (g.E.Env.fixed l.env) (g.E.Env.faults l.env) (g.E.Env.ticked l.env) (g.E.Env.visited l.env) (g.E.Env.tables l.env) l.scope l.steps);
+      (moment (g.E.Env.fixed l.fn.env) (g.E.Env.told l.fn.env) (g.E.Env.marks l.fn.env) (g.E.Env.ticked l.fn.env) (g.E.Env.visited l.fn.env) l.fn.scope l.fn.steps)
+      (moment (g.E.Env.fixed l.env) (g.E.Env.told l.env) (g.E.Env.marks l.env) (g.E.Env.ticked l.env) (g.E.Env.visited l.env) l.scope l.steps);
   parts : AreSet (g.E.Env.fixed l.fn.env).types l.fn.scope (going l.course) l.rest;
-  value : (v : Data) → IsWorth (going l.course) (meanings (all l.rest)) (around (g.E.Env.fixed l.fn.env).types (g.E.Env.fixed l.fn.env).told l.fn.scope) v
-      → IsWorth (going l.fn.course) (meanings (all l.parts)) (around (g.E.Env.fixed l.fn.env).types (g.E.Env.fixed l.fn.env).told l.fn.scope) v;
+  value : (told : Option (Source → Data)) → IsHeard (values_told (g.E.Env.told l.env)) told → (v : Data) → IsWorth (going l.course) (meanings (all l.rest)) (around (g.E.Env.fixed l.fn.env).types told l.fn.scope) v
+      → IsWorth (going l.fn.course) (meanings (all l.parts)) (around (g.E.Env.fixed l.fn.env).types told l.fn.scope) v;
   small : terms_size (all l.rest) ≤ terms_size (all l.parts);
 }
 
@@ -66,28 +68,28 @@ invariant-go_through-loop-part g l = record {
 abbrev pub invariant-field_values-loop-name : goal.invariant-field_values-loop-name
 invariant-field_values-loop-name g l = record {
   went : Went
-      (moment (g.E.Env.fixed l.fn.env) (g.E.Env.faults l.fn.env) (g.E.Env.ticked l.fn.env) (g.E.Env.visited l.fn.env) (g.E.Env.tables l.fn.env) l.fn.scope l.fn.steps)
-      (moment (g.E.Env.fixed l.env) (g.E.Env.faults l.env) (g.E.Env.ticked l.env) (g.E.Env.visited l.env) (g.E.Env.tables l.env) l.scope l.steps);
-  values : AreFilled (take l.name-index l.fields) (around (g.E.Env.fixed l.fn.env).types (g.E.Env.fixed l.fn.env).told l.fn.scope) (fields_view l.items.items);
+      (moment (g.E.Env.fixed l.fn.env) (g.E.Env.told l.fn.env) (g.E.Env.marks l.fn.env) (g.E.Env.ticked l.fn.env) (g.E.Env.visited l.fn.env) l.fn.scope l.fn.steps)
+      (moment (g.E.Env.fixed l.env) (g.E.Env.told l.env) (g.E.Env.marks l.env) (g.E.Env.ticked l.env) (g.E.Env.visited l.env) l.scope l.steps);
+  values : (told : Option (Source → Data)) → IsHeard (values_told (g.E.Env.told l.env)) told → AreFilled (take l.name-index l.fields) (around (g.E.Env.fixed l.fn.env).types told l.fn.scope) (fields_view l.items.items);
 }
 
 -- the values so far
 abbrev pub invariant-part_values-loop-part : goal.invariant-part_values-loop-part
 invariant-part_values-loop-part g l = record {
   went : Went
-      (moment (g.E.Env.fixed l.fn.env) (g.E.Env.faults l.fn.env) (g.E.Env.ticked l.fn.env) (g.E.Env.visited l.fn.env) (g.E.Env.tables l.fn.env) l.fn.scope l.fn.steps)
-      (moment (g.E.Env.fixed l.env) (g.E.Env.faults l.env) (g.E.Env.ticked l.env) (g.E.Env.visited l.env) (g.E.Env.tables l.env) l.scope l.steps);
-  values : AreValues (meanings (all (take l.part-index l.parts))) (around (g.E.Env.fixed l.fn.env).types (g.E.Env.fixed l.fn.env).told l.fn.scope) (map view l.values.items);
+      (moment (g.E.Env.fixed l.fn.env) (g.E.Env.told l.fn.env) (g.E.Env.marks l.fn.env) (g.E.Env.ticked l.fn.env) (g.E.Env.visited l.fn.env) l.fn.scope l.fn.steps)
+      (moment (g.E.Env.fixed l.env) (g.E.Env.told l.env) (g.E.Env.marks l.env) (g.E.Env.ticked l.env) (g.E.Env.visited l.env) l.scope l.steps);
+  values : (told : Option (Source → Data)) → IsHeard (values_told (g.E.Env.told l.env)) told → AreValues (meanings (all (take l.part-index l.parts))) (around (g.E.Env.fixed l.fn.env).types told l.fn.scope) (map view l.values.items);
 }
 
 -- what the parts so far come to
 abbrev pub invariant-part_answers-loop-part : goal.invariant-part_answers-loop-part
 invariant-part_answers-loop-part g l = record {
   went : Went
-      (moment (g.E.Env.fixed l.fn.env) (g.E.Env.faults l.fn.env) (g.E.Env.ticked l.fn.env) (g.E.Env.visited l.fn.env) (g.E.Env.tables l.fn.env) l.fn.scope l.fn.steps)
-      (moment (g.E.Env.fixed l.env) (g.E.Env.faults l.env) (g.E.Env.ticked l.env) (g.E.Env.visited l.env) (g.E.Env.tables l.env) l.scope l.steps);
+      (moment (g.E.Env.fixed l.fn.env) (g.E.Env.told l.fn.env) (g.E.Env.marks l.fn.env) (g.E.Env.ticked l.fn.env) (g.E.Env.visited l.fn.env) l.fn.scope l.fn.steps)
+      (moment (g.E.Env.fixed l.env) (g.E.Env.told l.env) (g.E.Env.marks l.env) (g.E.Env.ticked l.env) (g.E.Env.visited l.env) l.scope l.steps);
   count : length l.answers.items ≡ l.part-index;
-  answers : AreGiven (over l.fun) (length l.parts + 1) 1 (meanings (all (take l.part-index l.parts))) (around (g.E.Env.fixed l.fn.env).types (g.E.Env.fixed l.fn.env).told l.fn.scope) l.rows
+  answers : (told : Option (Source → Data)) → IsHeard (values_told (g.E.Env.told l.env)) told → AreGiven (over l.fun) (length l.parts + 1) 1 (meanings (all (take l.part-index l.parts))) (around (g.E.Env.fixed l.fn.env).types told l.fn.scope) l.rows
       (map given l.answers.items);
 }
 
@@ -95,7 +97,7 @@ invariant-part_answers-loop-part g l = record {
 abbrev pub invariant-each-loop-row : goal.invariant-each-loop-row
 invariant-each-loop-row g l = record {
   went : Went
-      (moment (g.E.Env.fixed l.fn.env) (g.E.Env.faults l.fn.env) (g.E.Env.ticked l.fn.env) (g.E.Env.visited l.fn.env) (g.E.Env.tables l.fn.env) l.fn.scope l.fn.steps)
-      (moment (g.E.Env.fixed l.env) (g.E.Env.faults l.env) (g.E.Env.ticked l.env) (g.E.Env.visited l.env) (g.E.Env.tables l.env) l.scope l.steps);
-  values : AreEach (meaning l.formula) (around (g.E.Env.fixed l.fn.env).types (g.E.Env.fixed l.fn.env).told l.fn.scope) (take l.row-index l.rows) (map view l.values.items);
+      (moment (g.E.Env.fixed l.fn.env) (g.E.Env.told l.fn.env) (g.E.Env.marks l.fn.env) (g.E.Env.ticked l.fn.env) (g.E.Env.visited l.fn.env) l.fn.scope l.fn.steps)
+      (moment (g.E.Env.fixed l.env) (g.E.Env.told l.env) (g.E.Env.marks l.env) (g.E.Env.ticked l.env) (g.E.Env.visited l.env) l.scope l.steps);
+  values : (told : Option (Source → Data)) → IsHeard (values_told (g.E.Env.told l.env)) told → AreEach (meaning l.formula) (around (g.E.Env.fixed l.fn.env).types told l.fn.scope) (take l.row-index l.rows) (map view l.values.items);
 }

@@ -4,6 +4,7 @@ use Rattle.fx_data.specs.ValueView.{view}
 use Rattle.fx_data.specs.declared.values.Value.{Value}
 use Rattle.fx_evaluation.specs.Kept.{types_by, unscoped, values_by}
 use Rattle.fx_evaluation.specs.Scopes.{CanEvaluate, Held, IsReady, around, held}
+use Rattle.fx_evaluation.specs.Telling.{Told}
 use Rattle.fx_fresh.specs.Fresh.{IsValue}
 use Rattle.named_values.proofs.Keeps.{can_evaluate, is_ready}
 use Rattle.named_values.proofs.values.value_of.Goals as goal
@@ -23,7 +24,9 @@ returns-in-Ok-clause-value g c = λ moment today.
     let core = c.args.formula.now.core in
     let empty : held c.new-2.result.items None None ≡ unscoped = ap (λ (vs : List Value). held vs None None) c.new-2.ensures.items in
     c.kept_is_named.ensures moment kept day core (view c.in-Ok.value) today
-    (subst (λ (h : Held). IsValue (around (types_by kept day) (Some (values_by kept day)) h) core (view c.in-Ok.value)) empty c.in-Ok.ensures.value)
+    (subst (λ (h : Held). IsValue (around (types_by kept day) (Some (values_by kept day)) h) core (view c.in-Ok.value)) empty
+    (subst (λ (t : Told (Unit {0})). IsValue (around (types_by kept day) (Some t.values) (held c.new-2.result.items None None)) core (view c.in-Ok.value)) c.in-Ok.ensures.told
+    c.in-Ok.ensures.value))
 
 pub returns-in-Ok-clause-fits : goal.returns-in-Ok-clause-fits
 returns-in-Ok-clause-fits g c =
