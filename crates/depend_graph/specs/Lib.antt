@@ -1,0 +1,5 @@
+pub mod Order
+pub mod Ends
+pub mod Lists
+pub mod Turning
+pub mod Search
