@@ -1,5 +1,6 @@
 -- The law of acting calls: what is admitted of well typed parts is well typed.
 use Rattle.std.proofs.Common.{◌≡◌, ℕ, zero, suc, ◌++◌, List, [], ◌∷◌, Bool, true, false, ◌&&◌, not, nat_eq, length, Option, Some, Result, Ok, Err, refl, ap, subst, ◌∙◌, if◌then◌else◌}
+use Rattle.std.specs.Prelude.{is_some}
 use Rattle.fx_data.specs.Types.{Shape, booleans}
 use Rattle.fx_functions.specs.declared.deeds.Deed.TheVariants as deed
 use Rattle.fx_functions.specs.declared.functions.Acting.{Acting}
@@ -10,8 +11,8 @@ use Rattle.fx_typed.specs.Term.{Term, act}
 use Rattle.fx_typing.specs.Meaning.{Place, Scope}
 use Rattle.fx_typing.specs.WellTyped.{Context, plain, inside}
 use Rattle.fx_typing.proofs.Rules.{Typed}
-use Rattle.fx_judge.specs.Breaks.{could_act, gives_variables}
-use Rattle.fx_judge.specs.Calls.{called_by, acted_by}
+use Rattle.fx_judge.specs.Breaks.{could_act, gives_variables, large_given}
+use Rattle.fx_judge.specs.Calls.{called_by, acted_by, acted_on_screen}
 use Rattle.fx_judge.specs.Deeds.{by_name, set_of, collect_of, clear_of, patch_of, remove_of, remove_if, update_if, navigate_of, notify_of, reset_of, acted, nothing_done, until_settled}
 use Rattle.fx_judge.specs.Parts.{Grant, nothing, a_target, on_screen, Part, target, Setting, may_act, values, unless}
 use Rattle.fx_judge.specs.Plans.{Plan, if_acting, first_then, plan_act, plan_call, called_as, plan_at, first_row, setting_by}
@@ -148,5 +149,6 @@ acting_typed p s x qs a y t e m =
     let r = acted_by p a qs in
     let able = within_limit (not (may_act s.grant)) 9 (unless (not (could_act a qs)) 6 r) y m in
     let known = within_limit (not (could_act a qs)) 6 r y able in
-    let done = within_limit (not (gives_variables p.names p.screen a qs)) 15 (until_settled p.settled (acted p.names p.screen a qs)) y known in
+    let small = within_limit (p.settled && is_some (large_given p.names p.screen a qs)) 13 (acted_on_screen p a qs) y known in
+    let done = within_limit (not (gives_variables p.names p.screen a qs)) 15 (until_settled p.settled (acted p.names p.screen a qs)) y small in
     settled_typed (context_of p s) p.settled (acted p.names p.screen a qs) y (acts_typed p s x qs y a e t) done

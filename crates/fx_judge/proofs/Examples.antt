@@ -1,5 +1,5 @@
 -- Formulas as the definitions judge them, worked out by hand.
-use Rattle.std.proofs.Common.{◌≡◌, inl, ℕ, zero, suc, List, [], ◌∷◌, true, false, Ok, Err, refl}
+use Rattle.std.proofs.Common.{◌≡◌, inl, ℕ, zero, suc, List, [], ◌∷◌, true, false, Result, Ok, Err, refl}
 use Rattle.std.specs.Prelude.{Some, None, pos, codes}
 use Rattle.fx_data.specs.Types.{Shape, ColumnList, blanks, numbers, texts, booleans, records, tables, no_columns, column}
 use Rattle.fx_data.specs.Values.{number, text, boolean, tab, no_rows}
@@ -8,12 +8,14 @@ use Rattle.fx_functions.specs.declared.deeds.Target.TheVariants as rows
 use Rattle.fx_functions.specs.declared.functions.Form.TheVariants as form
 use Rattle.fx_functions.specs.declared.functions.Acting.TheVariants as acts
 use Rattle.fx_functions.specs.declared.signatures.SigShape.TheVariants as sig
+use Rattle.fx_functions.specs.declared.rows.Answer.TheVariants as answer
 use Rattle.fx_functions.specs.declared.literals.SortOrder.TheVariants as order
 use Rattle.fx_functions.specs.Rows.{row_of, form_row, takes_count}
 use Rattle.fx_syntax.specs.declared.expr.Op.TheVariants as op
 use Rattle.fx_syntax.specs.Tree.{Tree, node, Forest, none, more, Head}
 use Rattle.fx_syntax.specs.Tree as tree
 use Rattle.fx_typed.specs.Term.{Term, of, nil, cons, const, call, over, coerce, rec, list, dot, row, chain}
+use Rattle.fx_typing.specs.Columns.{and_then}
 use Rattle.fx_typing.specs.Local.{value, label}
 use Rattle.fx_data.specs.declared.controls.Control.TheVariants as control
 use Rattle.fx_typing.specs.Meaning.{Place, written_or}
@@ -22,7 +24,7 @@ use Rattle.fx_judge.specs.Plans.{setting_by, plan_call}
 use Rattle.fx_judge.specs.Calls.{made_or_lowest, called_by}
 use Rattle.fx_judge.specs.Breaks.{taken_at, could_act}
 use Rattle.fx_judge.specs.Deeds.{rows_named_by, change_of}
-use Rattle.fx_judge.specs.Details.{acted_at, call_limit, counted, IsToldBrokenWhole}
+use Rattle.fx_judge.specs.Details.{acted_at, call_limit, counted, stuck_by, IsToldBrokenWhole}
 use Rattle.fx_judge.specs.Typing.{judge, outermost, judge_whole}
 
 -- 1 < "x" is of wrong types, at the operator's first token
@@ -181,6 +183,19 @@ added_behind_wrong c d = refl
 pub added_twice : (c d : Term) →
     taken_at fun.AddColumns (stocked c ∷ named (codes "A") ∷ plainly (d, numbers) ∷ named (codes "A") ∷ plainly (d, numbers) ∷ []) ≡ Some (codes "A")
 added_twice c d = refl
+
+-- a column that is left out twice counts once, and one that isn't there is told
+abbrev type_made : Result (Term × Shape) ℕ → Result Shape ℕ
+type_made r = and_then r (λ x. Ok x.1)
+
+pub dropped_twice : (c : Term) → type_made (made_or_lowest fun.DropColumns (stocked c ∷ named (codes "Name") ∷ named (codes "Name") ∷ [])) ≡ Ok (tables (column (codes "ID") numbers no_columns))
+dropped_twice c = refl
+
+pub dropped_unknown : (c : Term) → made_or_lowest fun.DropColumns (stocked c ∷ named (codes "Name") ∷ named (codes "Size") ∷ []) ≡ Err 12
+dropped_unknown c = refl
+
+pub dropped_unknown_is : (c : Term) → stuck_by answer.Dropped (value None c (tables stock) ∷ label (codes "Name") ∷ label (codes "Size") ∷ []) ≡ codes "Size"
+dropped_unknown_is c = refl
 
 -- a column that isn't there under a new name is rule 12 all the same
 pub renamed_unknown : (c : Term) → made_or_lowest fun.RenameColumns (stocked c ∷ named (codes "Size") ∷ named (codes "A") ∷ []) ≡ Err 12

@@ -19,7 +19,7 @@ use Rattle.fx_names.specs.declared.names.Names.{Names}
 use Rattle.fx_names.specs.declared.schema.TableShape.{TableShape}
 use Rattle.fx_names.specs.Controls.{own_type, property_type, is_items, input_type}
 use Rattle.fx_names.specs.Lawful.{DiffersFromAll, AreDistinct, IsLawful}
-use Rattle.fx_names.specs.SourceTypes.{columns_of, item_type, property_of, property_cell, formula_cell, if_global, if_context, chosen_of, sources}
+use Rattle.fx_names.specs.SourceTypes.{columns_of, item_columns, item_type, property_of, property_cell, formula_cell, if_global, if_context, chosen_of, sources}
 use Rattle.fx_typed.specs.Term.{Term, of, nil, cons, const, read, row, item, caught}
 use Rattle.fx_typed.specs.Term as term
 use Rattle.fx_typing.specs.Columns.{field_in, field_of, fault_type}
@@ -421,7 +421,7 @@ control_typed p s k c None x y law here e = by_chosen (is_chosen c.kind (encode_
     by_written : (t : Shape) (o : Option (ℕ × Property)) → place_of (λ (q : Property). nat_eq q.control k && bytes_eq q.name x) 0 p.names.properties ≡ o → property_of x c ≡ Some t →
         Typed (context_of p s) (written_or c.kind x t o)
     by_written t (Some q) i j = read_typed (context_of p s) (source.Cell q.1.cell) t (property_source p.names k c x t q law here j i)
-    by_written t None i j = ([], refl, default_fits c.kind (encode_utf8_all x) (shape c.items) t j)
+    by_written t None i j = ([], refl, default_fits c.kind (encode_utf8_all x) (tables (item_columns (shape c.items))) t j)
 
     by_property : (o : Option Shape) → property_of x c ≡ o → property_read p.names k c x o ≡ Ok y → Typed (context_of p s) y
     by_property (Some t) i j =

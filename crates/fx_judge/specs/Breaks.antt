@@ -1,6 +1,7 @@
 -- Rules that the parts of a call break, of which another rule may be met first.
-use Rattle.std.specs.Prelude.{ℕ, List, [], ◌∷◌, ◌++◌, Bool, true, false, ◌&&◌, not, map, length, codes, bytes_eq, Option, Some, None, is_some, if◌then◌else◌}
-use Rattle.fx_data.specs.Types.{blanks, booleans, records, tables, ColumnList, no_columns, column}
+use Rattle.std.specs.Prelude.{ℕ, List, [], ◌∷◌, ◌++◌, Bool, true, false, ◌&&◌, not, map, length, codes, bytes_eq, Option, Some, None, is_some, option_and_then, if◌then◌else◌}
+use Rattle.fx_data.specs.TypeView.{shape}
+use Rattle.fx_data.specs.Types.{Shape, blanks, booleans, records, tables, ColumnList, no_columns, column}
 use Rattle.fx_functions.specs.declared.functions.Acting.{Acting}
 use Rattle.fx_functions.specs.declared.functions.Acting.TheVariants as acts
 use Rattle.fx_functions.specs.declared.functions.Fun.{Fun}
@@ -8,12 +9,16 @@ use Rattle.fx_functions.specs.declared.functions.Fun.TheVariants as fun
 use Rattle.fx_functions.specs.declared.rows.Answer.{Answer}
 use Rattle.fx_functions.specs.declared.rows.Answer.TheVariants as answer
 use Rattle.fx_functions.specs.Rows.{row_of, takes_count}
+use Rattle.fx_names.specs.declared.names.Collection.{Collection}
 use Rattle.fx_names.specs.declared.names.Names.{Names}
+use Rattle.fx_names.specs.declared.names.Variable.{Variable}
 use Rattle.fx_typing.specs.Columns.{field_in, is_one_of, is_told_or_missing}
 use Rattle.fx_typing.specs.Local.{value, label}
+use Rattle.fx_typing.specs.Meaning.{or_else}
 use Rattle.fx_typing.specs.Ways.{way, is_open}
+use Rattle.fx_judge.specs.Builds.{is_bounded}
 use Rattle.fx_judge.specs.Parts.{Part, piece, assigned}
-use Rattle.fx_judge.specs.Targets.{screen_variable}
+use Rattle.fx_judge.specs.Targets.{global_variable, screen_variable, collection_named}
 
 -- ---- rule 5: the first new name of a column, in turn, that is taken
 abbrev pub name_of : Part → Option (List ℕ)
@@ -93,3 +98,25 @@ all_on_screen n s (x ∷ xs) = is_some (screen_variable n s x) && all_on_screen 
 abbrev pub gives_variables : Names → Option ℕ → Acting → List Part → Bool
 gives_variables n s acts.UpdateContext (assigned xs ys ∷ qs) = all_on_screen n s xs
 gives_variables n s a qs = true
+
+-- ---- rule 13: what is given a value is a variable or a collection of a type that passes the limits
+abbrev pub too_large : Shape → Option Shape
+too_large t = if is_bounded t then None else Some t
+
+abbrev pub large_variable : Option (ℕ × Variable) → Option Shape
+large_variable v = option_and_then (λ (v : ℕ × Variable). too_large (shape v.1.ty)) v
+
+abbrev pub large_collection : Option (ℕ × Collection) → Option Shape
+large_collection c = option_and_then (λ (c : ℕ × Collection). too_large (shape c.1.ty)) c
+
+abbrev pub large_on_screen : Names → Option ℕ → List (List ℕ) → Option Shape
+large_on_screen n s [] = None
+large_on_screen n s (x ∷ xs) = or_else (large_variable (screen_variable n s x)) (large_on_screen n s xs)
+
+-- the first such type
+abbrev pub large_given : Names → Option ℕ → Acting → List Part → Option Shape
+large_given n s acts.Set (target a x ∷ qs) = large_variable (global_variable n x)
+large_given n s acts.UpdateContext (assigned xs ys ∷ qs) = large_on_screen n s xs
+large_given n s acts.Collect (target a x ∷ qs) = large_collection (collection_named n x)
+large_given n s acts.ClearCollect (target a x ∷ qs) = large_collection (collection_named n x)
+large_given n s a qs = None

@@ -1,5 +1,5 @@
 -- Which calls are admitted.
-use Rattle.std.specs.Prelude.{ℕ, List, [], ◌∷◌, not, nat_le, nat_eq, suc, length, take, drop, Option, Some, None, is_some, Result, Ok, Err, encode_utf8_all, if◌then◌else◌}
+use Rattle.std.specs.Prelude.{ℕ, List, [], ◌∷◌, ◌&&◌, not, nat_le, nat_eq, suc, length, take, drop, Option, Some, None, is_some, Result, Ok, Err, encode_utf8_all, if◌then◌else◌}
 use Rattle.fx_data.specs.Types.{Shape, dates}
 use Rattle.fx_functions.specs.declared.functions.Acting.{Acting}
 use Rattle.fx_functions.specs.declared.functions.Fun.{Fun}
@@ -15,7 +15,7 @@ use Rattle.fx_typed.specs.Term.{Term, of, nil, read}
 use Rattle.fx_typing.specs.Columns.{and_then, label_of}
 use Rattle.fx_typing.specs.Local.{Piece, value, made, formed}
 use Rattle.fx_typing.specs.Meaning.{Place}
-use Rattle.fx_judge.specs.Breaks.{taken_at, mistells, could_act, gives_variables}
+use Rattle.fx_judge.specs.Breaks.{taken_at, mistells, could_act, gives_variables, large_given}
 use Rattle.fx_judge.specs.Builds.{bounded, table_of, with_of, blank_record}
 use Rattle.fx_judge.specs.Deeds.{by_name, by_rows, acted, until_settled}
 use Rattle.fx_judge.specs.Parts.{Part, Setting, may_act, unless, pieces, values}
@@ -46,10 +46,14 @@ made_literal f ps =
 abbrev pub made_or_lowest : Fun → List Part → Result (Term × Shape) ℕ
 made_or_lowest f qs = unless (is_some (taken_at f qs)) 5 (unless (mistells f qs) 6 (made f (pieces qs)))
 
--- an acting call at its place. While types aren't settled no value is of a wrong type for a variable, but
--- what is no variable is none.
+-- an acting call that gives values to variables of its screen alone
+abbrev pub acted_on_screen : Place → Acting → List Part → Result (Term × Shape) ℕ
+acted_on_screen p a qs = unless (not (gives_variables p.names p.screen a qs)) 15 (until_settled p.settled (acted p.names p.screen a qs))
+
+-- an acting call at its place. While types aren't settled no value is of a wrong type for a variable, and no
+-- type passes the limits; but what is no variable is none.
 abbrev pub acted_by : Place → Acting → List Part → Result (Term × Shape) ℕ
-acted_by p a qs = unless (not (gives_variables p.names p.screen a qs)) 15 (until_settled p.settled (acted p.names p.screen a qs))
+acted_by p a qs = unless (p.settled && is_some (large_given p.names p.screen a qs)) 13 (acted_on_screen p a qs)
 
 -- an acting call that could be one of its parts, and that stands where its place lets it act
 abbrev pub acted_or_lowest : Place → Setting → Acting → List Part → Result (Term × Shape) ℕ

@@ -21,10 +21,10 @@ use Rattle.fx_names.specs.SourceTypes.{item_columns}
 use Rattle.fx_syntax.specs.Tree.{Tree, node, Forest, none, more, Head}
 use Rattle.fx_syntax.specs.Tree as tree
 use Rattle.fx_typed.specs.Term.{Term}
-use Rattle.fx_typing.specs.Columns.{field_in, with_none, with_renamed, is_one_of, row_columns}
+use Rattle.fx_typing.specs.Columns.{field_in, with_renamed, is_one_of, row_columns}
 use Rattle.fx_typing.specs.Local.{Piece, value, label, join_all}
 use Rattle.fx_typing.specs.Meaning.{Place, or_else}
-use Rattle.fx_judge.specs.Breaks.{taken_at}
+use Rattle.fx_judge.specs.Breaks.{taken_at, large_given}
 use Rattle.fx_judge.specs.Builds.{type_depth, columns_count, record_by, put_fields}
 use Rattle.fx_judge.specs.Calls.{called_by}
 use Rattle.fx_judge.specs.Deeds.{joins_to, rows_of, settable}
@@ -137,18 +137,15 @@ abbrev pub or_stuck : Result ColumnList ℕ → List ℕ → (ColumnList → Lis
 or_stuck (Ok cs) x go = go cs
 or_stuck (Err e) x go = x
 
--- the name at which columns can't be left out, shown or named anew, in turn
-abbrev pub stuck_dropped : List Piece → ColumnList → List ℕ
-stuck_dropped (label x ∷ ps) cs = or_stuck (with_none x cs) x (stuck_dropped ps)
-stuck_dropped ps cs = []
-
+-- the first name that is no column's, of those that are left out or shown; and the name at which columns
+-- can't be named anew, in turn
 abbrev pub unless_there : Option Shape → List ℕ → List ℕ → List ℕ
 unless_there (Some t) x later = later
 unless_there None x later = x
 
-abbrev pub stuck_shown : List Piece → ColumnList → List ℕ
-stuck_shown (label x ∷ ps) cs = unless_there (field_in x cs) x (stuck_shown ps cs)
-stuck_shown ps cs = []
+abbrev pub stuck_sought : List Piece → ColumnList → List ℕ
+stuck_sought (label x ∷ ps) cs = unless_there (field_in x cs) x (stuck_sought ps cs)
+stuck_sought ps cs = []
 
 abbrev pub stuck_renamed : List Piece → ColumnList → List ℕ
 stuck_renamed (label x ∷ label y ∷ ps) cs =
@@ -156,10 +153,10 @@ stuck_renamed (label x ∷ label y ∷ ps) cs =
 stuck_renamed ps cs = []
 
 abbrev pub stuck_by : Answer → List Piece → List ℕ
-stuck_by answer.Dropped (value a c (tables cs) ∷ ps) = stuck_dropped ps cs
-stuck_by answer.Dropped (value a c t ∷ ps) = stuck_dropped ps no_columns
-stuck_by answer.Shown (value a c (tables cs) ∷ ps) = stuck_shown ps cs
-stuck_by answer.Shown (value a c t ∷ ps) = stuck_shown ps no_columns
+stuck_by answer.Dropped (value a c (tables cs) ∷ ps) = stuck_sought ps cs
+stuck_by answer.Dropped (value a c t ∷ ps) = stuck_sought ps no_columns
+stuck_by answer.Shown (value a c (tables cs) ∷ ps) = stuck_sought ps cs
+stuck_by answer.Shown (value a c t ∷ ps) = stuck_sought ps no_columns
 stuck_by answer.Renamed (value a c (tables cs) ∷ ps) = stuck_renamed ps cs
 stuck_by answer.Renamed (value a c t ∷ ps) = stuck_renamed ps no_columns
 stuck_by a ps = codes "Kind"
@@ -293,8 +290,17 @@ abbrev pub limit_of : Result (Term × Shape) ℕ → List ℕ
 limit_of (Ok x) = type_limit x.1
 limit_of (Err e) = []
 
+-- of a call the type of what it gives a value to, or its own
+abbrev pub limit_or : Option Shape → List ℕ → List ℕ
+limit_or (Some t) own = type_limit t
+limit_or None own = own
+
+abbrev pub large_in : Place → SigShape → List Part → Option Shape
+large_in p (sig.Act a) qs = large_given p.names p.screen a qs
+large_in p f qs = None
+
 abbrev pub call_limit : Place → Setting → Option SigShape → List Part → List ℕ
-call_limit p s (Some f) qs = limit_of (called_by p s f qs)
+call_limit p s (Some f) qs = limit_or (large_in p f qs) (limit_of (called_by p s f qs))
 call_limit p s None qs = []
 
 abbrev pub list_limit : Option Shape → List ℕ

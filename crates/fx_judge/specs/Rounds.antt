@@ -131,13 +131,13 @@ collection_join c t [] = t
 collection_join c t (to_collection x u ∷ gs) = collection_join c (join_if (bytes_eq c.name x) t u) gs
 collection_join c t (g ∷ gs) = collection_join c t gs
 
--- the type of a formula, and Blank where it has none
+-- the type of a formula itself, before it comes to what is wanted of it, and Blank where it has none
 abbrev pub type_or_blank : Result (Term × Shape) (ℕ × ℕ) → Shape
 type_or_blank (Ok x) = x.1
 type_or_blank (Err w) = blanks
 
 abbrev pub cell_type : Names → Option Cell → Shape
-cell_type n (Some c) = type_or_blank (judge_whole (placed n c) c.acts c.wanted c.formula)
+cell_type n (Some c) = type_or_blank (judge_whole (placed n c) c.acts None c.formula)
 cell_type n None = blanks
 
 abbrev pub formula_type : Names → List Cell → FormulaName → Shape

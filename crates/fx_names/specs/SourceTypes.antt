@@ -46,10 +46,11 @@ item_columns t = no_columns
 abbrev pub item_type : ControlName → Shape
 item_type c = records (item_columns (shape c.items))
 
--- the type of a control's pure property
+-- the type of a control's pure property. Those of `Items` are rows of these columns, whatever its formula's
+-- type is.
 abbrev pub property_of : List ℕ → ControlName → Option Shape
 property_of p c =
-    if is_items c.kind (encode_utf8_all p) then Some (shape c.items) else property_type c.kind (encode_utf8_all p)
+    if is_items c.kind (encode_utf8_all p) then Some (tables (item_columns (shape c.items))) else property_type c.kind (encode_utf8_all p)
 
 -- the type of a cell that may be read: a named formula, or a pure property
 abbrev pub property_cell : List ControlName → ℕ → List Property → Option Shape

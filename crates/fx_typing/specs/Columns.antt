@@ -20,6 +20,11 @@ abbrev pub without : List ℕ → ColumnList → ColumnList
 without x no_columns = no_columns
 without x (column y t cs) = if bytes_eq y x then cs else column y t (without x cs)
 
+-- the columns without those of these names
+abbrev pub without_all : List (List ℕ) → ColumnList → ColumnList
+without_all [] cs = cs
+without_all (x ∷ xs) cs = without_all xs (without x cs)
+
 abbrev pub is_one_of : List ℕ → List (List ℕ) → Bool
 is_one_of x [] = false
 is_one_of x (y ∷ ys) = bytes_eq y x || is_one_of x ys
@@ -51,12 +56,9 @@ abbrev pub and_then : {A B : Type 0} → Result A ℕ → (A → Result B ℕ) �
 and_then (Ok a) go = go a
 and_then (Err e) go = Err e
 
--- one column more, one less, one under a new name
+-- one column more, one under a new name
 abbrev pub with_new : List ℕ → Shape → ColumnList → Result ColumnList ℕ
 with_new x t cs = if_free (field_in x cs) (put_column x t cs)
-
-abbrev pub with_none : List ℕ → ColumnList → Result ColumnList ℕ
-with_none x cs = and_then (if_there (field_in x cs)) (λ t. Ok (without x cs))
 
 abbrev pub with_renamed : List ℕ → List ℕ → ColumnList → Result ColumnList ℕ
 with_renamed x y cs = and_then (if_there (field_in x cs)) (λ t. if_free (field_in y cs) (put_column y t (without x cs)))
@@ -76,15 +78,15 @@ abbrev pub added : List (Term × Shape) → ColumnList → Result ColumnList ℕ
 added (x ∷ f ∷ more) cs = by_label (label_of x.0) (λ n. and_then (with_new n f.1 cs) (λ ds. added more ds))
 added _ cs = Ok cs
 
-abbrev pub dropped : List (Term × Shape) → ColumnList → Result ColumnList ℕ
-dropped [] cs = Ok cs
-dropped (x ∷ more) cs = by_label (label_of x.0) (λ n. and_then (with_none n cs) (λ ds. dropped more ds))
-
 -- the names of columns that are all there
 abbrev pub names_there : List (Term × Shape) → ColumnList → Result (List (List ℕ)) ℕ
 names_there [] cs = Ok []
 names_there (x ∷ more) cs =
     by_label (label_of x.0) (λ n. and_then (if_there (field_in n cs)) (λ t. and_then (names_there more cs) (λ ns. Ok (n ∷ ns))))
+
+-- columns that are left out, and those that are shown alone. A name that stands twice counts once.
+abbrev pub dropped : List (Term × Shape) → ColumnList → Result ColumnList ℕ
+dropped xs cs = and_then (names_there xs cs) (λ ns. Ok (without_all ns cs))
 
 abbrev pub shown : List (Term × Shape) → ColumnList → Result ColumnList ℕ
 shown xs cs = and_then (names_there xs cs) (λ ns. Ok (only ns cs))
