@@ -149,6 +149,6 @@ acting_typed p s x qs a y t e m =
     let r = acted_by p a qs in
     let able = within_limit (not (may_act s.grant)) 9 (unless (not (could_act a qs)) 6 r) y m in
     let known = within_limit (not (could_act a qs)) 6 r y able in
-    let small = within_limit (p.settled && is_some (large_given p.names p.screen a qs)) 13 (acted_on_screen p a qs) y known in
+    let small = within_limit (is_some (large_given p.names p.screen a qs) && p.settled) 13 (acted_on_screen p a qs) y known in
     let done = within_limit (not (gives_variables p.names p.screen a qs)) 15 (until_settled p.settled (acted p.names p.screen a qs)) y small in
     settled_typed (context_of p s) p.settled (acted p.names p.screen a qs) y (acts_typed p s x qs y a e t) done

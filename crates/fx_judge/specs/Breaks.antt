@@ -17,7 +17,7 @@ use Rattle.fx_typing.specs.Local.{value, label}
 use Rattle.fx_typing.specs.Meaning.{or_else}
 use Rattle.fx_typing.specs.Ways.{way, is_open}
 use Rattle.fx_judge.specs.Builds.{is_bounded}
-use Rattle.fx_judge.specs.Parts.{Part, piece, assigned}
+use Rattle.fx_judge.specs.Parts.{Part, piece, target, assigned}
 use Rattle.fx_judge.specs.Targets.{global_variable, screen_variable, collection_named}
 
 -- ---- rule 5: the first new name of a column, in turn, that is taken

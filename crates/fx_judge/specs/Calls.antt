@@ -53,7 +53,7 @@ acted_on_screen p a qs = unless (not (gives_variables p.names p.screen a qs)) 15
 -- an acting call at its place. While types aren't settled no value is of a wrong type for a variable, and no
 -- type passes the limits; but what is no variable is none.
 abbrev pub acted_by : Place → Acting → List Part → Result (Term × Shape) ℕ
-acted_by p a qs = unless (p.settled && is_some (large_given p.names p.screen a qs)) 13 (acted_on_screen p a qs)
+acted_by p a qs = unless (is_some (large_given p.names p.screen a qs) && p.settled) 13 (acted_on_screen p a qs)
 
 -- an acting call that could be one of its parts, and that stands where its place lets it act
 abbrev pub acted_or_lowest : Place → Setting → Acting → List Part → Result (Term × Shape) ℕ
