@@ -1,8 +1,9 @@
 //! Calls, by the table of functions.
-ghost use Rattle.std.specs.Prelude.{◌≡◌, IfOk, List, Result, encode_utf8_all, map, option_map, ℕ};
+ghost use Rattle.std.specs.Prelude.{◌≡◌, ◌&&◌, IfOk, List, Result, encode_utf8_all, is_some, map, option_map, ℕ};
 ghost use Rattle.fx_data.specs.Types.{Shape, column_list};
 ghost use Rattle.fx_data.specs.Values.{field_list};
 ghost use Rattle.fx_functions.specs.Signatures.{signature_in};
+ghost use Rattle.fx_judge.specs.Breaks.{large_given};
 ghost use Rattle.fx_judge.specs.Builds as builds;
 ghost use Rattle.fx_judge.specs.Calls as calls;
 ghost use Rattle.fx_judge.specs.Deeds.{by_name};
@@ -18,6 +19,7 @@ ghost use Rattle.fx_scopes.specs.PartView.{part};
 ghost use Rattle.fx_scopes.specs.SettingView.{setting};
 
 use crate::fitting::{could_act, gives_variables, mistells};
+use crate::large::large_given;
 use crate::taken::taken_at;
 use fx_base::Memory;
 use fx_calls::limits::bounded;
@@ -151,16 +153,40 @@ fn made_or_lowest(alloc: Global, fun: Fun, all: Vec<Part>) -> Result<Typed, Wron
     )
 }
 
-// An acting call at its place. While types aren't settled no value is of a wrong type for a variable, but
-// what is no variable is none.
-fn acted_by(alloc: Global, at: &Place, acting: Acting, all: Vec<Part>) -> Result<Typed, Wrong>
+// An acting call that gives values to variables of its screen alone.
+fn acted_on_screen(
+    alloc: Global,
+    at: &Place,
+    acting: Acting,
+    all: Vec<Part>,
+) -> Result<Typed, Wrong>
     requires { IsLawful at.now.names.now }
-    ensures { Answers typed (calls.acted_by (place at.now) acting (map part all.entry.items)) result }
+    ensures { Answers typed (calls.acted_on_screen (place at.now) acting (map part all.entry.items)) result }
 {
     let known = gives_variables(at.names, at.screen, acting, all.as_slice());
     let found = acted(alloc, at.names, at.screen, acting, all);
     let found = until_settled(alloc, at.settled, found);
     unless(!known, Rule::NotAVariable, found)
+}
+
+// Whether the types are settled, and that of a variable or collection that is given a value passes the
+// limits.
+fn is_large(at: &Place, acting: Acting, all: &[Part]) -> bool
+    requires { IsLawful at.now.names.now }
+    ensures { result ≡ (is_some (large_given at.now.names.now at.now.screen acting (map part all.now)) && at.now.settled) }
+{
+    large_given(at.names, at.screen, acting, all).is_some() && at.settled
+}
+
+// An acting call at its place. While types aren't settled no value is of a wrong type for a variable, and no
+// type passes the limits; but what is no variable is none.
+fn acted_by(alloc: Global, at: &Place, acting: Acting, all: Vec<Part>) -> Result<Typed, Wrong>
+    requires { IsLawful at.now.names.now }
+    ensures { Answers typed (calls.acted_by (place at.now) acting (map part all.entry.items)) result }
+{
+    let large = is_large(at, acting, all.as_slice());
+    let found = acted_on_screen(alloc, at, acting, all);
+    unless(large, Rule::LimitPassed, found)
 }
 
 // An acting call, where it stands, or the lowest rule that it breaks.

@@ -1,5 +1,7 @@
 //! What is said of a broken node besides the rule that it breaks.
-ghost use Rattle.std.specs.Prelude.{◌≡◌, IfOk, map};
+ghost use Rattle.std.specs.Prelude.{◌≡◌, IfOk, map, option_map};
+ghost use Rattle.fx_data.specs.TypeView.{shape as type_of};
+ghost use Rattle.fx_judge.specs.Calls.{called_by};
 ghost use Rattle.fx_judge.specs.Details as told;
 ghost use Rattle.fx_names.specs.Lawful.{IsLawful};
 ghost use Rattle.fx_rules.specs.Rules.{number_of};
@@ -16,7 +18,8 @@ use crate::stuck::{named_twice, unknown_column};
 use crate::texts::{commas, counted, head_name, nothing};
 use crate::too_deep::is_too_deep;
 use fx_base::Memory;
-use fx_called::called_by;
+use fx_called::{called_by, large_given};
+use fx_data::types::Ty;
 use fx_data::words::Words;
 use fx_functions::signatures::SigShape;
 use fx_local::Wrong;
@@ -36,7 +39,18 @@ fn no_variable(alloc: Global, whole: &Expr, all: &[Part]) -> Result<Words, Memor
     }
 }
 
-// The limit that the type of a call passes.
+// The type that passes the limits, of what a call gives a value to.
+fn large_in<'n>(at: &Place<'n>, shape: SigShape, all: &[Part]) -> Option<&'n Ty>
+    requires { IsLawful at.now.names.now }
+    ensures { option_map (λ t. type_of t.now) result ≡ told.large_in (place at.now) shape (map part all.now) }
+{
+    match shape {
+        SigShape::Act(acting) => large_given(at.names, at.screen, acting, all),
+        _ => None,
+    }
+}
+
+// The limit that the type of a call passes, or what it gives a value to.
 fn call_limit(
     alloc: Global,
     at: &Place,
@@ -52,6 +66,25 @@ fn call_limit(
     let Some(shape) = shape else {
         return nothing(alloc);
     };
+    match large_in(at, shape, &all) {
+        Some(ty) => type_limit(alloc, ty),
+        None => own_limit(alloc, at, scopes, stand, shape, all),
+    }
+}
+
+// The limit that the type of a call passes.
+fn own_limit(
+    alloc: Global,
+    at: &Place,
+    scopes: &Scopes,
+    stand: Stand,
+    shape: SigShape,
+    all: Vec<Part>,
+) -> Result<Words, Memory>
+    requires { IsLawful at.now.names.now }
+    ensures { IfOk result (λ w. w ≡ told.limit_of (called_by (place at.now) (setting scopes.now stand) shape
+        (map part all.entry.items))) }
+{
     match called_by(alloc, at, stand, shape, all) {
         Ok(tree) => type_limit(alloc, &tree.ty),
         Err(Wrong::Breaks(_)) => nothing(alloc),

@@ -21,7 +21,7 @@ use fx_data::types::Columns;
 use fx_data::words::Words;
 use fx_functions::rows::{Answer, row_of};
 use fx_functions::signatures::SigShape;
-use fx_local::columns::{field_in, with_none, with_renamed};
+use fx_local::columns::{field_in, with_renamed};
 use fx_local::{Piece, Typed, Wrong};
 use fx_names::names::Names;
 use fx_scopes::Part;
@@ -53,29 +53,10 @@ fn twice_in(alloc: Global, fields: &[(Words, Expr)]) -> Result<Words, Memory>
     nothing(alloc)
 }
 
-// The name at which columns can't be left out.
-fn stuck_dropped(alloc: Global, pieces: &[&Piece], columns: Columns) -> Result<Words, Memory>
+// The first name that is no column's, of those that are left out or shown.
+fn stuck_sought(alloc: Global, pieces: &[&Piece], columns: &Columns) -> Result<Words, Memory>
     ensures { IfOk result (λ w. w
-        ≡ told.stuck_dropped (map (λ p. piece p.now) pieces.now) (column_list columns)) }
-{
-    let mut columns = columns;
-    for one in pieces {
-        let Piece::Label(name) = *one else {
-            return nothing(alloc);
-        };
-        columns = match with_none(name, columns) {
-            Ok(columns) => columns,
-            Err(Wrong::Memory) => return Err(Memory),
-            Err(Wrong::Breaks(_)) => return name.copy(alloc),
-        };
-    }
-    nothing(alloc)
-}
-
-// The name at which columns can't be shown.
-fn stuck_shown(alloc: Global, pieces: &[&Piece], columns: &Columns) -> Result<Words, Memory>
-    ensures { IfOk result (λ w. w
-        ≡ told.stuck_shown (map (λ p. piece p.now) pieces.now) (column_list columns.now)) }
+        ≡ told.stuck_sought (map (λ p. piece p.now) pieces.now) (column_list columns.now)) }
 {
     for one in pieces {
         let Piece::Label(name) = *one else {
@@ -124,8 +105,7 @@ fn stuck_behind(
 {
     let columns = item_columns(alloc, &value.ty)?;
     match answer {
-        Answer::Dropped => stuck_dropped(alloc, others, columns),
-        Answer::Shown => stuck_shown(alloc, others, &columns),
+        Answer::Dropped | Answer::Shown => stuck_sought(alloc, others, &columns),
         Answer::Renamed => stuck_renamed(alloc, others, columns),
         _ => word(alloc, "Kind"),
     }

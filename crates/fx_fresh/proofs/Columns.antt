@@ -13,12 +13,12 @@ use Rattle.fx_data.specs.Rising.{IsBelow}
 use Rattle.fx_data.specs.Types.{Shape, tables, ColumnList, no_columns, column}
 use Rattle.fx_data.specs.Values.{Data, text, field_list}
 use Rattle.fx_names.specs.SourceTypes.{put_column}
-use Rattle.fx_row_calls.proofs.FitColumns.{all_renamed_fit, rows_only_fit}
+use Rattle.fx_row_calls.proofs.FitColumns.{all_renamed_fit, dropped_fit, rows_only_fit}
 use Rattle.fx_row_calls.specs.Aggregates.{characters_in}
-use Rattle.fx_row_calls.specs.ColumnCalls.{in_turn, renamed_columns}
+use Rattle.fx_row_calls.specs.ColumnCalls.{in_turn, renamed_columns, without_columns}
 use Rattle.fx_tables.specs.Columns.{LacksColumn, Row, only, renamed, with_column, with_field}
 use Rattle.fx_typed.specs.Term.{Term, Terms, of, nil, cons, const}
-use Rattle.fx_typing.specs.Columns.{and_then, by_label, dropped, field_in, if_free, if_there, label_of, names_there, shown, with_none, with_renamed}
+use Rattle.fx_typing.specs.Columns.{and_then, by_label, dropped, field_in, if_free, if_there, label_of, names_there, shown, with_renamed}
 use Rattle.fx_typing.specs.Columns as columns
 use Rattle.fx_typing.specs.WellTyped.{paired}
 use Rattle.fx_value.proofs.Unions.{Under, Rises, below}
@@ -180,22 +180,6 @@ SoMany nil [] = Unit {0}
 SoMany (cons t ts) (u ∷ us) = SoMany ts us
 SoMany ts us = ⊥
 
--- names that are dropped in turn, as texts in a tree and as its values
-pub dropped_turn : (a : Around) (ts : Terms) (us : List Shape) (cs es : ColumnList) (ns : List (List ℕ)) → SoMany ts us →
-    dropped (paired ts us) cs ≡ Ok es → AreNames (meanings ts) a ns → in_turn with_none ns cs ≡ Ok es
-dropped_turn a nil [] cs es [] m e k = e
-dropped_turn a (cons t ts) (u ∷ us) cs es (n ∷ ns) m e k =
-    let x = label_ok (label_of t) _ es e in
-    let y = then_ok (with_none x.0 cs) _ es x.2 in
-    let same : n ≡ x.0 = name_is t a x.0 n x.1 k.0 in
-    let go : ColumnList → Result ColumnList ℕ = λ ds. in_turn with_none ns ds in
-    let P : List ℕ → Type 0 = λ z. and_then (with_none z cs) go ≡ Ok es in
-    subst P (sym same) (ap (λ (r : Result ColumnList ℕ). and_then r go) y.1 ∙ dropped_turn a ts us y.0 es ns m y.2 k.1)
-dropped_turn a nil [] cs es (n ∷ ns) m e k = absurd k
-dropped_turn a (cons t ts) (u ∷ us) cs es [] m e k = absurd k
-dropped_turn a nil (u ∷ us) cs es ns m e k = absurd m
-dropped_turn a (cons t ts) [] cs es ns m e k = absurd m
-
 names_same : (a : Around) (ts : Terms) (us : List Shape) (cs : ColumnList) (ms ns : List (List ℕ)) → SoMany ts us →
     names_there (paired ts us) cs ≡ Ok ms → AreNames (meanings ts) a ns → ns ≡ ms
 names_same a nil [] cs ms [] m e k = ok_is [] ms e
@@ -208,6 +192,14 @@ names_same a nil [] cs ms (n ∷ ns) m e k = absurd k
 names_same a (cons t ts) (u ∷ us) cs ms [] m e k = absurd k
 names_same a nil (u ∷ us) cs ms ns m e k = absurd m
 names_same a (cons t ts) [] cs ms ns m e k = absurd m
+
+pub dropped_rows : (a : Around) (ts : Terms) (us : List Shape) (cs es : ColumnList) (ns : List (List ℕ)) (rows : List Row) → SoMany ts us → Rises cs →
+    dropped (paired ts us) cs ≡ Ok es → AreNames (meanings ts) a ns → fits_in (table_of rows) (tables cs) ≡ true → fits_in (table_of (without_columns ns rows)) (tables es) ≡ true
+dropped_rows a ts us cs es ns rows m rising e k h =
+    let x = then_ok (names_there (paired ts us) cs) _ es e in
+    let P : List (List ℕ) → Type 0 = λ w. fits_in (table_of (without_columns ns rows)) (tables (columns.without_all w cs)) ≡ true in
+    let R : ColumnList → Type 0 = λ w. fits_in (table_of (without_columns ns rows)) (tables w) ≡ true in
+    subst R (ok_is (columns.without_all x.0 cs) es x.2) (subst P (names_same a ts us cs x.0 ns m x.1 k) (dropped_fit ns rows cs rising h))
 
 pub shown_rows : (a : Around) (ts : Terms) (us : List Shape) (cs es : ColumnList) (ns : List (List ℕ)) (rows : List Row) → SoMany ts us →
     shown (paired ts us) cs ≡ Ok es → AreNames (meanings ts) a ns → fits_in (table_of rows) (tables cs) ≡ true → fits_in (table_of (map (only ns) rows)) (tables es) ≡ true

@@ -20,7 +20,7 @@ use Rattle.fx_functions.specs.declared.rows.Takes.{Takes}
 use Rattle.fx_names.specs.SourceTypes.{put_column}
 use Rattle.fx_typed.specs.Term.{Term, Terms, of, nil, cons, Top}
 use Rattle.fx_typed.specs.Term as top
-use Rattle.fx_typing.specs.Columns.{added, dropped, fault_type, field_in, if_free, if_there, is_one_of, label_of, names_there, row_columns, shown, value_column, with_new, with_none, with_renamed}
+use Rattle.fx_typing.specs.Columns.{added, dropped, fault_type, field_in, if_free, if_there, is_one_of, label_of, names_there, row_columns, shown, value_column, with_new, with_renamed}
 use Rattle.fx_typing.specs.Columns as columns
 use Rattle.fx_typing.specs.WellTyped.{Context, Standing, plain, inside, bound, catching, Stands, AllStand, IsBelowNames, NamesRise, IsRuled, IsTyped, AreTyped, answered, as_table, columns_by, context_for, first_type, paired, parts_count, row_type, standing_at}
 use Rattle.fx_value.proofs.Unions.{Under, Rises}
@@ -127,13 +127,14 @@ added_lawful (x ∷ f ∷ more) cs es k l e =
     let z = free_ok (field_in n.0 cs) (put_column n.0 f.1 cs) y.0 y.1 in
     added_lawful more y.0 es k.1.1 (subst AreLawfulColumns z.1 (put_lawful n.0 f.1 cs k.1.0 l)) y.2
 
+without_all_lawful : (ns : List (List ℕ)) (cs : ColumnList) → AreLawfulColumns cs → AreLawfulColumns (columns.without_all ns cs)
+without_all_lawful [] cs l = l
+without_all_lawful (n ∷ ns) cs l = without_all_lawful ns (columns.without n cs) (without_lawful n cs l)
+
 dropped_lawful : (xs : List (Term × Shape)) (cs es : ColumnList) → AreLawfulColumns cs → dropped xs cs ≡ Ok es → AreLawfulColumns es
-dropped_lawful [] cs es l e = subst AreLawfulColumns (ok_is cs es e) l
-dropped_lawful (x ∷ more) cs es l e =
-    let n = label_ok (label_of x.0) _ es e in
-    let y = then_ok (with_none n.0 cs) _ es n.2 in
-    let z = then_ok (if_there (field_in n.0 cs)) _ y.0 y.1 in
-    dropped_lawful more y.0 es (subst AreLawfulColumns (ok_is (columns.without n.0 cs) y.0 z.2) (without_lawful n.0 cs l)) y.2
+dropped_lawful xs cs es l e =
+    let y = then_ok (names_there xs cs) _ es e in
+    subst AreLawfulColumns (ok_is (columns.without_all y.0 cs) es y.2) (without_all_lawful y.0 cs l)
 
 shown_lawful : (xs : List (Term × Shape)) (cs es : ColumnList) → AreLawfulColumns cs → shown xs cs ≡ Ok es → AreLawfulColumns es
 shown_lawful xs cs es l e =

@@ -15,7 +15,6 @@ use Rattle.fx_row_calls.specs.Aggregates.{IsNumberOrBlank, IsSumValue, averaged,
 use Rattle.fx_row_calls.specs.ColumnCalls.{renamed_columns, with_columns, without_columns}
 use Rattle.fx_row_calls.specs.Ends.{emptiness_of, first_rows, last_of, last_rows}
 use Rattle.fx_row_calls.specs.RowCalls.{CanBeRowType, holds, IsCountValue, distinct_or, filtered, first_of, for_all_of, looked_up}
-use Rattle.fx_row_calls.proofs.FitColumns.{dropped_fit}
 use Rattle.fx_numeric.specs.Folds.{IsGreatest, IsLeast}
 use Rattle.fx_tables.specs.Aggregates.{numbers_in}
 use Rattle.fx_tables.specs.Columns.{Row, only, with_column}
@@ -29,7 +28,7 @@ use Rattle.fx_fresh.specs.Around.{Around, Meaning}
 use Rattle.fx_fresh.specs.Fresh.{meaning, meanings}
 use Rattle.fx_fresh.specs.Rows.{AreNew, IsConcat, IsMade, IsOver, IsTaken, OfEach, is_falling, rows_in, table_of}
 use Rattle.fx_fresh.proofs.Branches.{differs}
-use Rattle.fx_fresh.proofs.Columns.{SoMany, dropped_turn, fine, free_ok, label_ok, name_is, ok_is, renamed_rows, shown_rows, then_ok, with_column_fit}
+use Rattle.fx_fresh.proofs.Columns.{SoMany, dropped_rows, fine, free_ok, label_ok, name_is, ok_is, renamed_rows, shown_rows, then_ok, with_column_fit}
 use Rattle.fx_fresh.proofs.Forms.{error_or, given_fits}
 use Rattle.fx_fresh.proofs.Parts.{Giving, stands, Suits, Holds, AllHold}
 use Rattle.fx_fresh.proofs.Tables.{RowsFit, averaged_fits, concatenated_fits, count_fits, distinct_fits, each_fits, filtered_fits, first_error_fits, first_fits, first_some_fit, for_all_fits, found_fits, joined_by_fits, last_fits, last_some_fit, looked_up_fits, number_or_blank_fits, rows_in_fit, sort_fits, sum_fits, table_fits}
@@ -227,8 +226,8 @@ over_table g c rows item caught s cs rising fun.AddColumns n m t0 ts us common t
 over_table g c rows item caught s cs rising fun.DropColumns n m t0 ts us common t k w e v h =
     let r = table_ok (dropped (paired ts us) cs) t e in
     by_rows g c rows item caught s (meaning t0) cs k.0 (λ tr. IsMade fun.DropColumns tr (meanings ts) (stands g rows item caught) v) v t
-    (λ tr rf q. along (tables r.0) t v r.2 (given_fits v (table_of (without_columns q.0 tr)) (tables r.0) (dropped_fit q.0 tr cs r.0 rising (table_fits cs tr rf)
-    (dropped_turn (stands g rows item caught) ts us cs r.0 q.0 (so_many g c (over fun.DropColumns) n (tables cs ∷ []) ts us k.1) r.1 q.1)) q.2)) h
+    (λ tr rf q. along (tables r.0) t v r.2 (given_fits v (table_of (without_columns q.0 tr)) (tables r.0)
+    (dropped_rows (stands g rows item caught) ts us cs r.0 q.0 tr (so_many g c (over fun.DropColumns) n (tables cs ∷ []) ts us k.1) rising r.1 q.1 (table_fits cs tr rf)) q.2)) h
 over_table g c rows item caught s cs rising fun.ShowColumns n m t0 ts us common t k w e v h =
     let r = table_ok (shown (paired ts us) cs) t e in
     by_rows g c rows item caught s (meaning t0) cs k.0 (λ tr. IsMade fun.ShowColumns tr (meanings ts) (stands g rows item caught) v) v t

@@ -1,5 +1,5 @@
 //! Typed trees of formulas.
-ghost use Rattle.std.specs.Prelude.{◌≡◌, ◌≤◌, [], Bool, Err, IfOk, Ok, Option, option_map};
+ghost use Rattle.std.specs.Prelude.{◌≡◌, ◌≤◌, [], Bool, Err, IfOk, None, Ok, Option, option_map};
 ghost use Rattle.fx_data.specs.TypeView.{shape};
 ghost use Rattle.fx_data.specs.Types.{Shape};
 ghost use Rattle.fx_judge.specs.Details.{IsToldBrokenWhole};
@@ -131,16 +131,22 @@ fn broken(alloc: Global, cell: &Words, flaw: Flaw) -> InferEnd
     }
 }
 
-// What is answered of a formula that is admitted as this part, before anything is wanted of it.
-fn settled(alloc: Global, names: &Names, cell: &Written, whole: Part) -> Result<Typed, InferEnd>
+// What is answered of a formula that is admitted as this part, before this type is wanted of it.
+fn settled(
+    alloc: Global,
+    names: &Names,
+    cell: &Written,
+    wanted: &Option<Ty>,
+    whole: Part,
+) -> Result<Typed, InferEnd>
     requires { IsLawful names.now }
     ensures { (b : Bool)
         → typing.judge (place_of names.now cell.now) (typing.outermost b) cell.now.expr ≡ Ok (part whole.entry)
-        → Ends (place_of names.now cell.now) b (option_map shape cell.now.wanted) cell.now.expr
+        → Ends (place_of names.now cell.now) b (option_map shape wanted.now) cell.now.expr
         cell.now.cell result }
 {
     let detail = wanted_detail(alloc, names, &whole)?;
-    match whole_of(alloc, &cell.wanted, whole) {
+    match whole_of(alloc, wanted, whole) {
         Ok(value) => Ok(value),
         Err(Wrong::Memory) => Err(InferEnd::Memory),
         Err(Wrong::Breaks(rule)) => {
@@ -150,12 +156,17 @@ fn settled(alloc: Global, names: &Names, cell: &Written, whole: Part) -> Result<
     }
 }
 
-// What is answered of a formula.
-fn judged(alloc: Global, names: &Names, cell: &Written) -> Result<Typed, InferEnd>
+// What is answered of a formula of which this type is wanted.
+fn judged(
+    alloc: Global,
+    names: &Names,
+    cell: &Written,
+    wanted: &Option<Ty>,
+) -> Result<Typed, InferEnd>
     requires lawful { IsLawful names.now }
     requires shallow { tree_depth cell.now.expr ≤ 256 }
     ensures { Ends (place_of names.now cell.now) (may_act cell.now.place)
-        (option_map shape cell.now.wanted) cell.now.expr cell.now.cell result }
+        (option_map shape wanted.now) cell.now.expr cell.now.cell result }
 {
     let at = Standpoint {
         names,
@@ -165,7 +176,7 @@ fn judged(alloc: Global, names: &Names, cell: &Written) -> Result<Typed, InferEn
     };
     let mut scopes = Scopes::new(alloc);
     match judge(alloc, &at, &mut scopes, outermost(cell.place), &cell.expr) {
-        Ok(whole) => settled(alloc, names, cell, whole),
+        Ok(whole) => settled(alloc, names, cell, wanted, whole),
         Err(Halt::Flawed(flaw)) => Err(broken(alloc, &cell.cell, flaw)),
         Err(Halt::Memory) => Err(InferEnd::Memory),
     }
@@ -191,5 +202,18 @@ pub fn elaborate(alloc: Global, names: &Names, cell: &Written) -> Result<Typed, 
     ensures cell { (b : Broken) → result ≡ Err (end.Broken b) → b.cell ≡ cell.now.cell }
 {
     admitted_is_typed();
-    judged(alloc, names, cell)
+    judged(alloc, names, cell, &cell.wanted)
+}
+
+/// The same of the formula itself, whatever is wanted of it.
+pub fn elaborate_alone(alloc: Global, names: &Names, cell: &Written) -> Result<Typed, InferEnd>
+    requires lawful { IsLawful names.now }
+    requires shallow { tree_depth cell.now.expr ≤ 256 }
+    ensures admitted { IfOk result (λ t. judge_whole (place_of names.now cell.now) (may_act cell.now.place)
+        None cell.now.expr ≡ Ok (typed t)) }
+    ensures broken { (b : Broken) → result ≡ Err (end.Broken b)
+        → judge_whole (place_of names.now cell.now) (may_act cell.now.place)
+        None cell.now.expr ≡ Err (b.at, number_of b.rule) }
+{
+    judged(alloc, names, cell, &None)
 }

@@ -7,5 +7,5 @@ pub mod elaboration;
 pub mod ends;
 pub mod judging;
 
-pub use elaboration::{PlaceKind, Written, elaborate};
+pub use elaboration::{PlaceKind, Written, elaborate, elaborate_alone};
 pub use ends::InferEnd;

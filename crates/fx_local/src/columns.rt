@@ -78,16 +78,6 @@ pub fn with_new(name: Words, ty: Ty, columns: Columns) -> Result<Columns, Wrong>
     Ok(put_column(name, ty, columns)?)
 }
 
-/// A column less, which is there.
-pub fn with_none(name: &Words, columns: Columns) -> Result<Columns, Wrong>
-    ensures { Answers column_list (typing.with_none name.now (column_list columns)) result }
-{
-    if field_in(name, &columns).is_none() {
-        return Err(Wrong::Breaks(Rule::UnknownColumn));
-    }
-    Ok(without(name, columns))
-}
-
 /// A column that is there under a name that is new.
 pub fn with_renamed(
     alloc: Global,
@@ -141,18 +131,6 @@ pub fn added(alloc: Global, parts: &[Typed], columns: Columns) -> Result<Columns
     Ok(columns)
 }
 
-/// The columns without those of these names, in turn.
-pub fn dropped(alloc: Global, parts: &[Typed], columns: Columns) -> Result<Columns, Wrong>
-    ensures { Answers column_list (typing.dropped (map typed parts.now) (column_list columns)) result }
-{
-    let mut columns = columns;
-    for part in parts {
-        let name = name_of(alloc, &part.core)?;
-        columns = with_none(&name, columns)?;
-    }
-    Ok(columns)
-}
-
 /// Columns under new names in turn, each of which stands behind the old one.
 pub fn renamed(alloc: Global, parts: &[Typed], columns: Columns) -> Result<Columns, Wrong>
     ensures { Answers column_list (typing.renamed (map typed parts.now) (column_list columns)) result }
@@ -188,6 +166,25 @@ fn names_there(alloc: Global, parts: &[Typed], columns: &Columns) -> Result<Vec<
         names.push(name)?;
     }
     Ok(names)
+}
+
+// The columns without those of these names.
+fn without_all(names: &[Words], columns: Columns) -> Columns
+    ensures { column_list result ≡ typing.without_all names.now (column_list columns) }
+{
+    let mut left = columns;
+    for name in names {
+        left = without(name, left);
+    }
+    left
+}
+
+/// The columns without those of these names, which are all there. A name that stands twice counts once.
+pub fn dropped(alloc: Global, parts: &[Typed], columns: Columns) -> Result<Columns, Wrong>
+    ensures { Answers column_list (typing.dropped (map typed parts.now) (column_list columns)) result }
+{
+    let names = names_there(alloc, parts, &columns)?;
+    Ok(without_all(names.as_slice(), columns))
 }
 
 // The columns of these names alone.

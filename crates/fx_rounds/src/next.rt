@@ -19,18 +19,18 @@ use crate::walking::all_given;
 use fx_base::Memory;
 use fx_data::types::Ty;
 use fx_data::words::Words;
-use fx_infer::{InferEnd, Written, elaborate};
+use fx_infer::{InferEnd, Written, elaborate_alone};
 use fx_names::names::{Collection, FormulaName, Names, Variable};
 use fx_scopes::named::property_in;
 use std::alloc::Global;
 
-// The type of a formula, and Blank where it has none.
+// The type of a formula itself, and Blank where it has none.
 fn formula_type(alloc: Global, names: &Names, formula: &Written) -> Result<Ty, Memory>
     requires lawful { IsLawful names.now }
     requires shallow { tree_depth formula.now.expr ≤ 256 }
     ensures { IfOk result (λ t. shape t ≡ rounds.cell_type names.now (Some (cell formula.now))) }
 {
-    match elaborate(alloc, names, formula) {
+    match elaborate_alone(alloc, names, formula) {
         Ok(typed) => Ok(typed.ty),
         Err(InferEnd::Broken(_)) => Ok(Ty::Blank),
         Err(InferEnd::Memory) => Err(Memory),

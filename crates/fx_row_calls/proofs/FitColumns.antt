@@ -20,7 +20,7 @@ use Rattle.fx_value.proofs.Unions.{Rises, Under, below}
 use Rattle.fx_value.proofs.Widenings.{and_first, and_second, both, own_name, same_name}
 use Rattle.fx_tables.specs.Columns.{LacksColumn, Row, only, renamed, with_column, with_field, without}
 use Rattle.fx_tables.proofs.ColumnSteps.{lacking_rest, lacks_without}
-use Rattle.fx_typing.specs.Columns.{and_then, field_in, if_free, if_there, is_one_of, with_new, with_none, with_renamed}
+use Rattle.fx_typing.specs.Columns.{and_then, field_in, if_free, if_there, is_one_of, with_new, with_renamed, without_all}
 use Rattle.fx_typing.specs.Columns.{only as only_columns, without as without_column}
 use Rattle.fx_row_calls.specs.ColumnCalls.{AreOfTypes, CanAdd, CanRename, in_turn, renamed_columns, with_columns, without_columns}
 
@@ -263,15 +263,11 @@ added_fit (c ∷ more) (t ∷ ts) rows cs ds o can h e =
     by (Some u) k q = cc
     by None k q = k q
 
-pub dropped_fit : (ns : List (List ℕ)) (rows : List Row) (cs ds : ColumnList) → Rises cs → AllFit rows cs → in_turn with_none ns cs ≡ Ok ds → AllFit (without_columns ns rows) ds
-dropped_fit [] rows cs ds rising h e = let same : cs ≡ ds = cc in subst (AllFit rows) same h
-dropped_fit (n ∷ ns) rows cs ds rising h e =
-    let narrower = mapped_fit (without n) cs (without_column n cs) (λ r k. without_fits n r cs rising k) rows h in
-    by (field_in n cs) (λ k. dropped_fit ns (map (without n) rows) (without_column n cs) ds (rises_without n cs rising) narrower k) e
-  where
-    by : (f : Option Shape) → (in_turn with_none ns (without_column n cs) ≡ Ok ds → AllFit (without_columns ns (map (without n) rows)) ds) → and_then (and_then (if_there f) (λ t. Ok (without_column n cs))) (λ es. in_turn with_none ns es) ≡ Ok ds → AllFit (without_columns ns (map (without n) rows)) ds
-    by None k q = cc
-    by (Some t) k q = k q
+pub dropped_fit : (ns : List (List ℕ)) (rows : List Row) (cs : ColumnList) → Rises cs → AllFit rows cs → AllFit (without_columns ns rows) (without_all ns cs)
+dropped_fit [] rows cs rising h = h
+dropped_fit (n ∷ ns) rows cs rising h =
+    dropped_fit ns (map (without n) rows) (without_column n cs) (rises_without n cs rising)
+    (mapped_fit (without n) cs (without_column n cs) (λ r k. without_fits n r cs rising k) rows h)
 
 pub all_renamed_fit : (ps : List (List ℕ × List ℕ)) (rows : List Row) (cs ds : ColumnList) → Rises cs → CanRename ps rows → AllFit rows cs → in_turn (λ p. with_renamed p.0 p.1) ps cs ≡ Ok ds → AllFit (renamed_columns ps rows) ds
 all_renamed_fit [] rows cs ds rising can h e = let same : cs ≡ ds = cc in subst (AllFit rows) same h

@@ -7,7 +7,7 @@ ghost use Rattle.fx_data.specs.Values.{row_list, tab};
 ghost use Rattle.fx_row_calls.specs.ColumnCalls.{AreOfTypes, CanAdd, CanRename, in_turn, renamed_columns, with_columns, without_columns};
 ghost use Rattle.fx_row_calls.specs.NewColumn.{column_seen, renaming_seen};
 ghost use Rattle.fx_tables.specs.Columns.{only};
-ghost use Rattle.fx_typing.specs.Columns.{only as only_columns, with_new, with_none, with_renamed};
+ghost use Rattle.fx_typing.specs.Columns.{only as only_columns, with_new, with_renamed, without_all};
 ghost use Rattle.fx_value.specs.Fits.{fits_in};
 
 use fx_base::Memory;
@@ -48,10 +48,9 @@ pub fn add_columns(alloc: Global, rows: Rows, columns: Vec<NewColumn>) -> Result
 /// The rows without the columns of these names.
 pub fn drop_columns(alloc: Global, rows: Rows, names: &[Words]) -> Result<Value, Memory>
     ensures value { IfOk result (λ v. view v ≡ tab (row_list (without_columns names.now rows))) }
-    ensures fits { (cs : List (List ℕ × Shape)) (ds : ColumnList) → AreRising cs
+    ensures fits { (cs : List (List ℕ × Shape)) → AreRising cs
         → fits_in (tab (row_list rows)) (tables (column_list cs)) ≡ true
-        → in_turn with_none names.now (column_list cs) ≡ Ok ds
-        → IfOk result (λ v. fits_in (view v) (tables ds) ≡ true) }
+        → IfOk result (λ v. fits_in (view v) (tables (without_all names.now (column_list cs))) ≡ true) }
 {
     let mut narrower = rows;
     for name in names {

@@ -43,7 +43,7 @@ pub fn item_type(alloc: Global, control: &ControlName) -> Result<Ty, Memory>
     Ok(Ty::Rec(item_columns(alloc, &control.items)?))
 }
 
-/// The type of a control's pure property.
+/// The type of a control's pure property. `Items` are rows of the columns of their formula's type.
 pub fn property_type(
     alloc: Global,
     control: &ControlName,
@@ -52,7 +52,7 @@ pub fn property_type(
     ensures { IfOk result (λ t. option_map shape t ≡ types.property_of name.now control.now) }
 {
     if control.kind == Control::Gallery && name.as_str() == "Items" {
-        return Ok(Some(control.items.copy(alloc)?));
+        return Ok(Some(Ty::Tab(item_columns(alloc, &control.items)?)));
     }
     Ok(property_ty(control.kind, name.as_str()))
 }

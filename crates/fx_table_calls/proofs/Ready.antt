@@ -30,7 +30,7 @@ use Rattle.fx_table_calls.proofs.Places.{ArePaired, at_least, at_most, formula_b
 use Rattle.fx_tables.specs.Columns.{LacksColumn, Row, renamed, with_column}
 use Rattle.fx_tables.specs.Unions.{is_fault}
 use Rattle.fx_typed.specs.Term.{Term, Terms, of, nil, cons, const, Top, over}
-use Rattle.fx_typing.specs.Columns.{added, and_then, dropped, field_in, if_there, label_of, names_there, shown, with_new, with_none, with_renamed}
+use Rattle.fx_typing.specs.Columns.{added, and_then, dropped, field_in, if_there, label_of, names_there, shown, with_new, with_renamed}
 use Rattle.fx_typing.specs.Columns as columns
 use Rattle.fx_typing.specs.Ways.{is_scalar}
 use Rattle.fx_typing.specs.WellTyped.{AllStand, Context, Standing, answered, context_for, head_of, inside, paired, plain, standing_at, standing_of}
@@ -122,19 +122,6 @@ text_is t a x d e h = cc
 
 named : (x : List ℕ) (d : Data) (gs : List Given) → d ≡ text x → AreNames gs → AreNames (once d ∷ gs)
 named x d gs e h = let P : Data → Type 0 = λ z. AreNames (once z ∷ gs) in subst P (sym e) h
-
-dropped_names : (a : Around) (rows : List Row) (ts : Terms) (us : List Shape) (cs es : ColumnList) (gs : List Given) → SoMany ts us → dropped (paired ts us) cs ≡ Ok es →
-    AreOnce gs → AreOf (meanings ts) a rows gs → AreNames gs
-dropped_names a rows nil [] cs es [] m e f k = tt
-dropped_names a rows (cons t ts) (u ∷ us) cs es (once d ∷ gs) m e f k =
-    let x = label_ok (label_of t) _ es e in
-    let y = then_ok (with_none x.0 cs) _ es x.2 in
-    named x.0 d gs (text_is t a x.0 d x.1 k.0) (dropped_names a rows ts us y.0 es gs m y.2 f k.1)
-dropped_names a rows (cons t ts) (u ∷ us) cs es (each ds ∷ gs) m e f k = absurd f
-dropped_names a rows nil [] cs es (g ∷ gs) m e f k = absurd k
-dropped_names a rows (cons t ts) (u ∷ us) cs es [] m e f k = absurd k
-dropped_names a rows nil (u ∷ us) cs es gs m e f k = absurd m
-dropped_names a rows (cons t ts) [] cs es gs m e f k = absurd m
 
 there_names : (a : Around) (rows : List Row) (ts : Terms) (us : List Shape) (cs : ColumnList) (ns : List (List ℕ)) (gs : List Given) → SoMany ts us → names_there (paired ts us) cs ≡ Ok ns →
     AreOnce gs → AreOf (meanings ts) a rows gs → AreNames gs
@@ -433,8 +420,9 @@ can_make g c rows item caught s cs rising trs rf fun.AddColumns n m t0 ts us com
     new_names g c rows item caught s cs trs rf n m 1 [] ts us cs r.0 trs gs (paired_by us (omega (arith, odd))) refl refl k r.1 rf refl q
 can_make g c rows item caught s cs rising trs rf fun.DropColumns n m t0 ts us common t gs k l w e h q =
     let r = table_ok (dropped (paired ts us) cs) t e in
+    let x = then_ok (names_there (paired ts us) cs) _ r.0 r.1 in
     let single = singles (over fun.DropColumns) m (λ i. inner_behind IsOuter (row_of fun.DropColumns) i refl refl refl) 0 (meanings ts) (stands g rows item caught) trs gs q in
-    dropped_names (stands g rows item caught) trs ts us cs r.0 gs (hold_many g c (over fun.DropColumns) n (tables cs ∷ []) ts us k) r.1 single
+    there_names (stands g rows item caught) trs ts us cs x.0 gs (hold_many g c (over fun.DropColumns) n (tables cs ∷ []) ts us k) x.1 single
     (are_of (over fun.DropColumns) m 1 (meanings ts) (stands g rows item caught) trs gs q)
 can_make g c rows item caught s cs rising trs rf fun.ShowColumns n m t0 ts us common t gs k l w e h q =
     let r = table_ok (shown (paired ts us) cs) t e in

@@ -1,20 +1,19 @@
-use Rattle.std.proofs.Common.{ap, map, not, subst, ◌∙◌}
-use Rattle.fx_judge.specs.Breaks.{gives_variables}
-use Rattle.fx_judge.specs.Deeds.{acted, until_settled}
+use Rattle.std.proofs.Common.{◌≡◌, ap, map, ◌&&◌, subst, ◌∙◌}
+use Rattle.std.specs.Prelude.{is_some}
+use Rattle.fx_judge.specs.Breaks.{large_given}
+use Rattle.fx_judge.specs.Calls.{acted_on_screen}
 use Rattle.fx_judge.specs.Parts.{unless}
 use Rattle.fx_local.specs.Answers.{Answers}
 use Rattle.fx_local.specs.TypedView.{typed}
+use Rattle.fx_scopes.specs.MeaningView.{place}
 use Rattle.fx_scopes.specs.PartView.{part}
 use Rattle.fx_called.proofs.calls.acted_by.Goals as goal
 
 pub returns : goal.returns
 returns c =
-    let n = c.args.at.now.names.now in
-    let s = c.args.at.now.screen in
+    let p = place c.args.at.now in
     let qs = map part c.args.all.items in
     let a = c.args.acting in
-    let r = acted n s a qs in
-    let t = until_settled c.args.at.now.settled r in
-    let known = c.gives_variables-known.ensures ∙ ap (λ l. gives_variables n s a (map part l)) c.as_slice.ensures.value in
-    subst (λ b. Answers typed (unless (not b) 15 t) c.unless.result) known
-    (c.unless.ensures t (c.until_settled-found.ensures r c.acted-found.ensures))
+    let r = acted_on_screen p a qs in
+    let large = c.is_large-large.ensures ∙ ap (λ l. is_some (large_given p.names p.screen a (map part l)) && p.settled) c.as_slice.ensures.value in
+    subst (λ b. Answers typed (unless b 13 r) c.unless.result) large (c.unless.ensures r c.acted_on_screen-found.ensures)

@@ -19,5 +19,5 @@ returns-in-Err-Flawed c =
     let told : IsToldBroken p t w.expr f.at (number_of f.rule) f.detail =
     subst (λ (e : Halt). Judged part (judge p t w.expr) (IsToldBroken p t w.expr) (Err e)) c.in-Err-Flawed.field-0-is c.in-Err-Flawed.ensures.judged in
     let s = ap (λ ss. setting ss c.outermost.result) c.new-scopes.ensures ∙ c.outermost.ensures in
-    c.broken.ensures p (may_act w.place) (option_map shape w.wanted) w.expr
+    c.broken.ensures p (may_act w.place) (option_map shape c.args.wanted.now) w.expr
     (inl (subst (λ u. IsToldBroken p u w.expr f.at (number_of f.rule) f.detail) s told))

@@ -12,6 +12,6 @@ pub returns-in-Err-Breaks : goal.returns-in-Err-Breaks
 returns-in-Err-Breaks c =
     let w = c.args.cell.now in
     let q = part c.args.whole in
-    let wrong = subst (λ (e : Wrong). Answers typed (whole_of (option_map shape w.wanted) q) (Err e)) c.in-Err-Breaks.field-0-is c.in-Err-Breaks.ensures in
-    λ b j. c.broken.ensures (place_of c.args.names.now w) b (option_map shape w.wanted) w.expr
+    let wrong = subst (λ (e : Wrong). Answers typed (whole_of (option_map shape c.args.wanted.now) q) (Err e)) c.in-Err-Breaks.field-0-is c.in-Err-Breaks.ensures in
+    λ b j. c.broken.ensures (place_of c.args.names.now w) b (option_map shape c.args.wanted.now) w.expr
     (inr (c.begins-at.ensures, q, j, wrong, c.in_ok-detail.ensures))

@@ -4,4 +4,4 @@ use Rattle.fx_rounds.proofs.next.formula_type.Goals as goal
 
 pub returns-in-Err-Broken : goal.returns-in-Err-Broken
 returns-in-Err-Broken c =
-    sym (ap rounds.type_or_blank (c.elaborate.ensures.broken c.in-Err-Broken.field-0-0 (c.in-Err-Broken.is ∙ ap Err c.in-Err-Broken.field-0-is)))
+    sym (ap rounds.type_or_blank (c.elaborate_alone.ensures.broken c.in-Err-Broken.field-0-0 (c.in-Err-Broken.is ∙ ap Err c.in-Err-Broken.field-0-is)))

@@ -8,6 +8,7 @@ use Rattle.fx_value.proofs.Unions.{rises_list}
 use Rattle.fx_data.specs.Types.{column_list}
 use Rattle.fx_row_calls.specs.ColumnCalls.{without_columns}
 use Rattle.fx_row_calls.proofs.FitColumns.{dropped_fit}
+use Rattle.fx_typing.specs.Columns.{without_all}
 use Rattle.fx_row_calls.proofs.columns.drop_columns.Goals as goal
 
 pub loop-name-preserved : goal.loop-name-preserved
@@ -15,7 +16,7 @@ loop-name-preserved c =
     step_without c.args.names.now c.loop-name.name-index c.name-item.result _ c.loop-name.narrower c.in_ok-narrower.narrower _ (omega arith) c.name-item.is c.as_str.ensures.scalars c.in_ok-narrower.ensures c.loop-name.invariant
 
 pub returns-clause-fits : goal.returns-clause-fits
-returns-clause-fits c = λ cs ds rising h e.
+returns-clause-fits c = λ cs rising h.
     let value : c.loop-name.narrower ≡ without_columns c.args.names.now c.args.rows = sym (at_drop_all (λ ns. without_columns ns c.loop-name.narrower) c.args.names.now c.loop-name.name-index (omega arith)) ∙ c.loop-name.invariant in
-    let P : List Row → Type 0 = λ rows. rows_fit (row_list rows) ds ≡ true in
-    subst P (sym value) (dropped_fit c.args.names.now c.args.rows (column_list cs) ds (rises_list cs rising) h e)
+    let P : List Row → Type 0 = λ rows. rows_fit (row_list rows) (without_all c.args.names.now (column_list cs)) ≡ true in
+    subst P (sym value) (dropped_fit c.args.names.now c.args.rows (column_list cs) (rises_list cs rising) h)
