@@ -1,0 +1,7 @@
+pub mod Steps
+pub mod Functions
+pub mod Places
+pub mod Records
+pub mod Acting
+pub mod Nodes
+pub mod Elaborates

@@ -1,0 +1,25 @@
+//! Which formulas have which typed trees and types, as a relation by cases. It judges a tree and makes
+//! none. This crate has definitions and laws alone.
+#![tactic(auto)]
+
+ghost use Rattle.fx_typing_relation.specs.Laws.{AdmittedElaborates, ElaboratedIsAdmitted, BrokenIsNothing, WholeElaborates, WholeIsAdmitted};
+
+/// A law, and no work: where the types of variables are settled, the relation relates to a formula
+/// what the definition that judges admits it as, of each node and of whole formulas.
+pub fn admitted_elaborates()
+    ensures node { AdmittedElaborates }
+    ensures whole { WholeElaborates }
+{}
+
+/// A law, and no work: what the relation relates to a formula is what it is admitted as, with the same
+/// tree and type. So it relates one thing at most.
+pub fn elaborated_is_admitted()
+    ensures node { ElaboratedIsAdmitted }
+    ensures whole { WholeIsAdmitted }
+{}
+
+/// A law, and no work: where a formula is called broken, the relation relates all parts of that node
+/// and relates nothing to the node.
+pub fn broken_elaborates_nothing()
+    ensures { BrokenIsNothing }
+{}
