@@ -1,7 +1,7 @@
 -- Acting calls: the relation admits what the definition admits.
-use Rattle.std.proofs.Common.{◌≡◌, ℕ, List, [], ◌∷◌, ◌&&◌, codes, Option, Some, None, Result, Ok, Err, refl, ap, sym, subst, ◌∙◌}
+use Rattle.std.proofs.Common.{◌≡◌, ℕ, suc, ◌%◌, List, [], ◌∷◌, Bool, true, false, ◌&&◌, length, nat_eq, ne_eqb, arith, if◌then◌else◌, codes, Option, Some, None, Result, Ok, Err, refl, ap, sym, subst, ◌∙◌}
 use Rattle.fx_data.specs.TypeView.{shape}
-use Rattle.fx_data.specs.Types.{Shape, blanks, numbers, texts, records, tables, ColumnList}
+use Rattle.fx_data.specs.Types.{Shape, blanks, numbers, texts, booleans, dates, records, tables, ColumnList}
 use Rattle.fx_functions.specs.declared.deeds.Deed.{Deed}
 use Rattle.fx_functions.specs.declared.deeds.Deed.TheVariants as deed
 use Rattle.fx_functions.specs.declared.deeds.Target.{Target}
@@ -11,7 +11,10 @@ use Rattle.fx_functions.specs.declared.functions.Acting.TheVariants as acts
 use Rattle.fx_functions.specs.declared.functions.Fun.TheVariants as fun
 use Rattle.fx_functions.specs.declared.sources.Source.{Source}
 use Rattle.fx_functions.specs.declared.sources.Source.TheVariants as source
-use Rattle.fx_functions.specs.Rows.{row_of}
+use Rattle.fx_functions.specs.declared.rows.Row.{Row}
+use Rattle.fx_functions.specs.declared.rows.Scalar.TheVariants.{Boolean}
+use Rattle.fx_functions.specs.declared.rows.Takes.TheVariants as takes
+use Rattle.fx_functions.specs.Rows.{row_of, takes_at}
 use Rattle.fx_names.specs.Controls.{input_type}
 use Rattle.fx_names.specs.declared.names.Collection.{Collection}
 use Rattle.fx_names.specs.declared.names.ControlName.{ControlName}
@@ -19,17 +22,20 @@ use Rattle.fx_names.specs.declared.names.Names.{Names}
 use Rattle.fx_names.specs.declared.names.Variable.{Variable}
 use Rattle.fx_typed.specs.Term.{Term, of, nil, all, read, act}
 use Rattle.fx_typing.specs.Columns.{and_then, field_in}
-use Rattle.fx_typing.specs.Local.{value, by_way, put_first, firsts}
+use Rattle.fx_typing.specs.Local.{Piece, value, label, by_way, stand, put_first, firsts}
 use Rattle.fx_typing.specs.Meaning.{Place}
 use Rattle.fx_typing.specs.WellTyped.{target_source, head_of}
-use Rattle.fx_typing.specs.Ways.{way}
+use Rattle.fx_typing.specs.Ways.{Way, same, changed, refused, way, is_open}
+use Rattle.fx_judge.specs.Breaks.{could_be_row, could_be_condition, all_could, could_act, all_on_screen, gives_variables}
 use Rattle.fx_judge.specs.Deeds.{done_by, joins_to, given, by_name, if_known, by_rows, set_to, set_of, give_one, give_all, given_sources, given_terms, update_of, rows_of, rows_given, collect_to, collect_of, clear_by, clear_of, misfit, settable, by_id, row_named, rows_named_by, leaves_id, row_of_one, change_of, changes_of, patch_to, patch_of, remove_of, filter_of, remove_if, update_to, update_if, navigate_of, notify_of, reset_by, reset_of, acted}
-use Rattle.fx_judge.specs.Parts.{Part, target, assigned, pieces, values, lowest, all_or_lowest}
+use Rattle.fx_judge.specs.Parts.{Part, piece, meant, target, assigned, piece_of, pieces, values, lowest, all_or_lowest}
 use Rattle.fx_judge.specs.Targets.{global_variable, screen_variable, collection_named, screen_named, control_named, rows_named}
 use Rattle.fx_typing_relation.specs.Acting.{Given, given_as, GivenAll, no_names, no_values_left, one_given, Collected, none_collected, one_collected, NamedRow, by_number, by_blank, no_row_of_table, by_all, no_row_of_collection, Change, some_columns, no_change, Each, none_each, one_each, Acts}
 use Rattle.fx_typing_relation.specs.Acting
+use Rattle.fx_typing_relation.specs.Functions.{StandFrom, none_stand, one_stands, first_and_others, by_row}
+use Rattle.fx_typing_relation.specs.Records
 use Rattle.fx_typing_relation.specs.Records.{Values}
-use Rattle.fx_typing_relation.proofs.Functions.{becomes_ok, becomes_goes, made_ok, made_goes}
+use Rattle.fx_typing_relation.proofs.Functions.{becomes_ok, becomes_goes, stands_goes, made_ok, made_goes}
 use Rattle.fx_typing_relation.proofs.Steps.{ok_is, then_ok, then_goes, put_first_ok, lowest_ok, if_true, if_ok, both_true, true_both, values_ok, values_are}
 
 -- ---- values that variables are given
@@ -176,12 +182,12 @@ module _ (p : Place) where
           subst (Acts p acts.Set (target None x ∷ qs)) (ok_is (done_by (deed.Set k) (c.0.0 ∷ [])) y c.2) (Acting.set vs i (given_ok (shape g.ty) v c.0 c.1))
       by_values k g xs vs i f = absurd cc
 
-  update_ok : (s : Option ℕ) (qs : List Part) (y : Term × Shape) → p.screen ≡ s → update_of p.names s qs ≡ Ok y → Acts p acts.UpdateContext qs y
-  update_ok (Some s) (assigned ms xs ∷ []) y i e =
+  update_ok : (s : Option ℕ) (qs : List Part) (y : Term × Shape) → gives_variables p.names p.screen acts.UpdateContext qs ≡ true → p.screen ≡ s → update_of p.names s qs ≡ Ok y → Acts p acts.UpdateContext qs y
+  update_ok (Some s) (assigned ms xs ∷ []) y all i e =
       let a = then_ok (give_all p.names (Some s) ms xs) (λ gs. Ok (done_by (deed.UpdateContext (given_sources gs)) (given_terms gs))) y e in
       subst (Acts p acts.UpdateContext (assigned ms xs ∷ [])) (ok_is (done_by (deed.UpdateContext (given_sources a.0)) (given_terms a.0)) y a.2)
-      (Acting.update_context i (subst (λ o. GivenAll p.names o ms xs a.0) (sym i) (give_ok p.names (Some s) ms xs a.0 a.1)))
-  update_ok s qs y i e = absurd cc
+      (Acting.update_context i all (subst (λ o. GivenAll p.names o ms xs a.0) (sym i) (give_ok p.names (Some s) ms xs a.0 a.1)))
+  update_ok s qs y all i e = absurd cc
 
   collect_values : (d : ℕ → Deed) (x : List ℕ) (qs : List Part) (y : Term × Shape) → collect_of d p.names x qs ≡ Ok y →
       (v : Term × Shape) × (vs : List (Term × Shape)) × (ys : List (Term × Shape)) × (k : ℕ) × (c : Collection) × Values qs (v ∷ vs)
@@ -290,21 +296,21 @@ module _ (p : Place) where
       ((x : List ℕ) (more : List Part) → go x more ≡ Ok y → Acts p a (target None x ∷ more) y) → by_name qs go ≡ Ok y → Acts p a qs y
   named_call a qs go y one e = let b = by_name_ok qs go y e in subst (λ z. Acts p a z y) b.2 (one b.0 b.1 b.3)
 
-  pub acts_ok : (a : Acting) (qs : List Part) (y : Term × Shape) → acted p.names p.screen a qs ≡ Ok y → Acts p a qs y
-  acts_ok acts.Set qs y e = named_call acts.Set qs (set_of p.names) y (λ x more f. set_ok x more y f) e
-  acts_ok acts.UpdateContext qs y e = update_ok p.screen qs y refl e
-  acts_ok acts.Collect qs y e = named_call acts.Collect qs (collect_of deed.Collect p.names) y
+  pub acts_ok : (a : Acting) (qs : List Part) (y : Term × Shape) → gives_variables p.names p.screen a qs ≡ true → acted p.names p.screen a qs ≡ Ok y → Acts p a qs y
+  acts_ok acts.Set qs y all e = named_call acts.Set qs (set_of p.names) y (λ x more f. set_ok x more y f) e
+  acts_ok acts.UpdateContext qs y all e = update_ok p.screen qs y all refl e
+  acts_ok acts.Collect qs y all e = named_call acts.Collect qs (collect_of deed.Collect p.names) y
       (λ x more f. let b = collect_values deed.Collect x more y f in subst (Acts p acts.Collect (target None x ∷ more)) b.8 (Acting.collect b.5 b.6 b.7)) e
-  acts_ok acts.Clear qs y e = named_call acts.Clear qs (clear_of p.names) y (λ x more f. clear_ok x more y f) e
-  acts_ok acts.ClearCollect qs y e = named_call acts.ClearCollect qs (collect_of deed.ClearCollect p.names) y
+  acts_ok acts.Clear qs y all e = named_call acts.Clear qs (clear_of p.names) y (λ x more f. clear_ok x more y f) e
+  acts_ok acts.ClearCollect qs y all e = named_call acts.ClearCollect qs (collect_of deed.ClearCollect p.names) y
       (λ x more f. let b = collect_values deed.ClearCollect x more y f in subst (Acts p acts.ClearCollect (target None x ∷ more)) b.8 (Acting.clear_collect b.5 b.6 b.7)) e
-  acts_ok acts.Patch qs y e = named_call acts.Patch qs (patch_of p.names) y (λ x more f. patch_ok x more y f) e
-  acts_ok acts.Remove qs y e = named_call acts.Remove qs (remove_of p.names) y (λ x more f. remove_ok x more y f) e
-  acts_ok acts.RemoveIf qs y e = remove_if_ok qs y e
-  acts_ok acts.UpdateIf qs y e = update_if_ok qs y e
-  acts_ok acts.Navigate qs y e = named_call acts.Navigate qs (navigate_of p.names) y (λ x more f. navigate_ok x more y f) e
-  acts_ok acts.Notify qs y e = notify_ok qs y e
-  acts_ok acts.Reset qs y e = named_call acts.Reset qs (reset_of p.names) y (λ x more f. reset_ok x more y f) e
+  acts_ok acts.Patch qs y all e = named_call acts.Patch qs (patch_of p.names) y (λ x more f. patch_ok x more y f) e
+  acts_ok acts.Remove qs y all e = named_call acts.Remove qs (remove_of p.names) y (λ x more f. remove_ok x more y f) e
+  acts_ok acts.RemoveIf qs y all e = remove_if_ok qs y e
+  acts_ok acts.UpdateIf qs y all e = update_if_ok qs y e
+  acts_ok acts.Navigate qs y all e = named_call acts.Navigate qs (navigate_of p.names) y (λ x more f. navigate_ok x more y f) e
+  acts_ok acts.Notify qs y all e = notify_ok qs y e
+  acts_ok acts.Reset qs y all e = named_call acts.Reset qs (reset_of p.names) y (λ x more f. reset_ok x more y f) e
 
   -- ---- and back
   collect_goes : (d : ℕ → Deed) (x : List ℕ) (qs : List Part) (v : Term × Shape) (vs ys : List (Term × Shape)) (k : ℕ) (c : Collection) → Values qs (v ∷ vs) →
@@ -319,7 +325,7 @@ module _ (p : Place) where
       then_goes (values more) (λ xs. if_known (global_variable p.names x) (λ u. set_to u xs)) (v ∷ []) (done_by (deed.Set k) (y.0 ∷ [])) (values_are more (v ∷ []) h)
       (known_goes (global_variable p.names x) (λ u. set_to u (v ∷ [])) (k, g) (done_by (deed.Set k) (y.0 ∷ [])) i
       (then_goes (given (shape g.ty) v) (λ u. Ok (done_by (deed.Set k) (u.0 ∷ []))) y (done_by (deed.Set k) (y.0 ∷ [])) (given_goes (shape g.ty) v y w) refl))
-  acts_go a qs z (Acting.update_context {s = s} {ms = ms} {xs = xs} {gs = gs} i g) =
+  acts_go a qs z (Acting.update_context {s = s} {ms = ms} {xs = xs} {gs = gs} i all g) =
       ap (λ o. update_of p.names o (assigned ms xs ∷ [])) i
       ∙ then_goes (give_all p.names (Some s) ms xs) (λ hs. Ok (done_by (deed.UpdateContext (given_sources hs)) (given_terms hs))) gs _
       (subst (λ o. give_all p.names o ms xs ≡ Ok gs) i (give_goes p.names p.screen ms xs gs g)) refl
@@ -351,3 +357,119 @@ module _ (p : Place) where
       (then_goes (by_way (way u texts) c texts) (λ v. Ok (done_by deed.Notify (v.0 ∷ []))) (d, texts) _ (becomes_goes (way u texts) c texts d b) refl)
   acts_go a qs z (Acting.reset {x = x} {k = k} {c = c} i j) =
       known_goes (control_named p.names x) (λ (c : ℕ × ControlName). reset_by c.0 (input_type c.1.kind)) (k, c) _ i (ap (reset_by k) j)
+
+-- ---- what is one of its parts could be
+abbrev is_row : Shape → Bool
+is_row (records cs) = true
+is_row blanks = true
+is_row t = false
+
+row_could : (a : Option (List ℕ)) (c : Term) (t : Shape) → could_be_row (piece (value a c t)) ≡ is_row t
+row_could a c (records cs) = refl
+row_could a c blanks = refl
+row_could a c numbers = refl
+row_could a c texts = refl
+row_could a c booleans = refl
+row_could a c dates = refl
+row_could a c (tables cs) = refl
+
+abbrev all_rows : List (Term × Shape) → Bool
+all_rows [] = true
+all_rows (x ∷ xs) = is_row x.1 && all_rows xs
+
+rows_could : (qs : List Part) (xs : List (Term × Shape)) → Values qs xs → all_rows xs ≡ true → all_could could_be_row qs ≡ true
+rows_could qs xs Records.no_values e = refl
+rows_could qs xs (Records.one_value {a = a} {c = c} {t = t} {qs = more} {xs = others} v) e =
+    let b = both_true (is_row t) (all_rows others) e in
+    true_both (could_be_row (piece (value a c t))) (all_could could_be_row more) (row_could a c t ∙ b.0) (rows_could more others v b.1)
+
+named_is_row : (cs : ColumnList) (t : Target) (x y : Term × Shape) → NamedRow cs t x y → is_row x.1 ≡ true
+named_is_row cs t x y (by_number i) = refl
+named_is_row cs t x y (by_blank i) = refl
+named_is_row cs t x y no_row_of_table = refl
+named_is_row cs t x y (by_all j b) = refl
+named_is_row cs t x y no_row_of_collection = refl
+
+change_is_row : (cs : ColumnList) (t : Target) (x y : Term × Shape) → Change cs t x y → is_row x.1 ≡ true
+change_is_row cs t x y (some_columns i j) = refl
+change_is_row cs t x y no_change = refl
+
+each_is_row : (R : Term × Shape → Term × Shape → Type 0) → ((x y : Term × Shape) → R x y → is_row x.1 ≡ true) → (xs ys : List (Term × Shape)) → Each R xs ys →
+    all_rows xs ≡ true
+each_is_row R one xs ys none_each = refl
+each_is_row R one xs ys (one_each {x = x} {y = y} {xs = others} {ys = after} r more) = true_both (is_row x.1) (all_rows others) (one x y r) (each_is_row R one others after more)
+
+way_is_open : (w : Way) (c : Term) (t : Shape) (x : Term × Shape) → by_way w c t ≡ Ok x → is_open w ≡ true
+way_is_open same c t x e = refl
+way_is_open changed c t x e = refl
+way_is_open refused c t x e = absurd cc
+
+condition_could : (first common : Shape) (q : Part) (x : Term × Shape) → stand (takes.Formula Boolean) first common (piece_of q) ≡ Ok x → could_be_condition q ≡ true
+condition_could first common (piece (value a c t)) x e = way_is_open (way t booleans) c booleans x e
+condition_could first common (piece (label l)) x e = absurd cc
+condition_could first common (meant m) x e = absurd cc
+condition_could first common (target a l) x e = absurd cc
+condition_could first common (assigned ns xs) x e = absurd cc
+
+abbrev Filtering : Row
+Filtering = row_of fun.Filter
+
+condition_by : (a b c : Bool) → a ≡ false → (if a then takes.Table else (if b then takes.Formula Boolean else (if c then takes.Formula Boolean else takes.Formula Boolean))) ≡ takes.Formula Boolean
+condition_by false true c e = refl
+condition_by false false true e = refl
+condition_by false false false e = refl
+condition_by true b c e = absurd cc
+
+never_first : (i : ℕ) → nat_eq (suc i) 0 ≡ false
+never_first i = ne_eqb (suc i) 0 (λ e. omega (arith, e))
+
+condition_at : (n i : ℕ) → takes_at Filtering n (suc i) ≡ takes.Formula Boolean
+condition_at n i = condition_by (nat_eq (suc i) 0) (nat_eq (suc i) 1) (nat_eq (suc i % 2) 0) (never_first i)
+
+conditions_could : (n i : ℕ) (first common : Shape) (qs : List Part) (ps : List Piece) (xs : List (Term × Shape)) → pieces qs ≡ ps →
+    StandFrom Filtering n first common (suc i) ps xs → all_could could_be_condition qs ≡ true
+conditions_could n i first common [] ps xs e f = refl
+conditions_could n i first common (q ∷ qs) ps xs e none_stand = absurd cc
+conditions_could n i first common (q ∷ qs) ps xs e (one_stands {p = p} {ps = more} {x = x} {xs = others} s f) =
+    let same_piece : piece_of q ≡ p = cc in
+    let same_rest : pieces qs ≡ more = cc in
+    let stood : stand (takes.Formula Boolean) first common (piece_of q) ≡ Ok x =
+        ap (λ k. stand k first common (piece_of q)) (sym (condition_at n i)) ∙ ap (stand (takes_at Filtering n (suc i)) first common) same_piece ∙ stands_goes first common (takes_at Filtering n (suc i)) p x s in
+    true_both (could_be_condition q) (all_could could_be_condition qs) (condition_could first common q x stood)
+    (conditions_could n (suc i) first common qs more others same_rest f)
+
+filter_could : (t : Target) (cs : ColumnList) (a : Option (List ℕ)) (qs : List Part) (f : Term × Shape) → Acting.Filtered t cs a qs f → all_could could_be_condition qs ≡ true
+filter_could t cs a qs f (by_row {common = u} count join (first_and_others {x = x} {xs = xs} s others) answers) =
+    conditions_could (suc (length (pieces qs))) 0 x.1 u qs (pieces qs) xs refl others
+
+pub acts_could : (p : Place) (a : Acting) (qs : List Part) (y : Term × Shape) → Acts p a qs y → could_act a qs ≡ true
+acts_could p a qs z (Acting.patch {qs = more} {t = t} {cs = cs} {base = base} {b = b} {vs = vs} {ys = ys} h i r e) =
+    rows_could more (base ∷ vs) h (true_both (is_row base.1) (all_rows vs) (named_is_row cs t base b r) (each_is_row (Change cs t) (change_is_row cs t) vs ys e))
+acts_could p a qs z (Acting.remove {qs = more} {t = t} {cs = cs} {vs = vs} {ys = ys} h i e) =
+    rows_could more vs h (each_is_row (NamedRow cs t) (named_is_row cs t) vs ys e)
+acts_could p a qs z (Acting.remove_if {a = b} {qs = more} {t = t} {cs = cs} {f = f} i e) = filter_could t cs b more f e
+acts_could p a qs z (Acting.update_if {a = b} {q = q} {qs = more} {t = t} {cs = cs} {f = f} {v = v} {y = y} h i e c) =
+    true_both (could_be_condition q) (all_could could_be_row more) ((both_true (could_be_condition q) true (filter_could t cs b (q ∷ []) f e)).0)
+    (rows_could more (v ∷ []) h (true_both (is_row v.1) true (change_is_row cs t v y c) refl))
+acts_could p a qs z (Acting.set h i w) = refl
+acts_could p a qs z (Acting.update_context i all g) = refl
+acts_could p a qs z (Acting.collect h i g) = refl
+acts_could p a qs z (Acting.clear i j) = refl
+acts_could p a qs z (Acting.clear_collect h i g) = refl
+acts_could p a qs z (Acting.navigate i) = refl
+acts_could p a qs z (Acting.notify h b) = refl
+acts_could p a qs z (Acting.reset i j) = refl
+
+pub acts_give : (p : Place) (a : Acting) (qs : List Part) (y : Term × Shape) → Acts p a qs y → gives_variables p.names p.screen a qs ≡ true
+acts_give p a qs z (Acting.update_context i all g) = all
+acts_give p a qs z (Acting.patch h i r e) = refl
+acts_give p a qs z (Acting.remove h i e) = refl
+acts_give p a qs z (Acting.remove_if i e) = refl
+acts_give p a qs z (Acting.update_if h i e c) = refl
+acts_give p a qs z (Acting.set h i w) = refl
+acts_give p a qs z (Acting.collect h i g) = refl
+acts_give p a qs z (Acting.clear i j) = refl
+acts_give p a qs z (Acting.clear_collect h i g) = refl
+acts_give p a qs z (Acting.navigate i) = refl
+acts_give p a qs z (Acting.notify h b) = refl
+acts_give p a qs z (Acting.reset i j) = refl

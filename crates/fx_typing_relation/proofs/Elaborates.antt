@@ -8,9 +8,9 @@ use Rattle.fx_typing.specs.Meaning.{Place, or_else}
 use Rattle.fx_typing.specs.Ways.{way}
 use Rattle.fx_judge.specs.Parts.{Part, piece, Setting, parts_in}
 use Rattle.fx_judge.specs.Plans.{setting_at}
-use Rattle.fx_judge.specs.Typing.{admit, onward, at_node, judge, judge_parts, outermost, to_wanted, whole_of, position}
-use Rattle.fx_typing_relation.specs.Elaborates.{Elaborates, a_node, PartsElaborate, no_more, one_more, IsNothing, here, among_parts, HasNothing, this_part, later_part, IsOneOfAll, Wanted, anything, any_table, this_type, whole_setting, a_formula}
-use Rattle.fx_typing_relation.specs.Laws.{AdmittedElaborates, ElaboratedIsAdmitted, BrokenIsNothing, WholeElaborates, WholeIsAdmitted}
+use Rattle.fx_judge.specs.Typing.{judge_whole, admit, onward, at_node, judge, judge_parts, outermost, to_wanted, whole_of, position}
+use Rattle.fx_typing_relation.specs.Elaborates.{Elaborates, a_node, PartsElaborate, no_more, one_more, IsNothing, here, among_parts, HasNothing, this_part, later_part, IsOneOfAll, Wanted, anything, any_table, this_type, whole_setting, FormulaElaborates, a_formula, begins, FormulaIsNothing, at_a_node, as_wanted}
+use Rattle.fx_typing_relation.specs.Laws.{AdmittedElaborates, ElaboratedIsAdmitted, BrokenIsNothing, WholeElaborates, WholeIsAdmitted, WholeIsNothing}
 use Rattle.fx_typing_relation.specs.Places.{first_of, part_setting}
 use Rattle.fx_typing_relation.proofs.Functions.{becomes_ok, becomes_goes}
 use Rattle.fx_typing_relation.proofs.Nodes.{node_ok, node_goes}
@@ -189,3 +189,20 @@ whole_is_admitted p b wanted e x st (a_formula {a = a} {c = c} {t = t} r w) =
     onward_goes (judge p (outermost b) e) (λ q. at_node (position e) (whole_of wanted q)) (piece (value a c t)) x
     (ap (λ s. judge p s e) (whole_is b) ∙ judged p st (whole_setting b) e (piece (value a c t)) r)
     (ap (at_node (position e)) (wanted_goes wanted (c, t) x w))
+
+begins_there : (e : Tree) → begins e ≡ position e
+begins_there (node at h ts) = refl
+
+pub whole_is_nothing : WholeIsNothing
+whole_is_nothing p b wanted e w rule st h =
+    let never = λ (x : Term × Shape) (r : FormulaElaborates p b wanted e x). never_both (judge_whole p b wanted e) x (w, rule) (whole_is_admitted p b wanted e x st r) h in
+    (where_nothing (λ x r. never x r) (onward_err (judge p (outermost b) e) (λ q. at_node (position e) (whole_of wanted q)) (w, rule) h), never)
+  where
+    where_nothing : ((x : Term × Shape) → FormulaElaborates p b wanted e x → ⊥) →
+        (judge p (outermost b) e ≡ Err (w, rule)) ⊎ ((q : Part) × (judge p (outermost b) e ≡ Ok q) × (at_node (position e) (whole_of wanted q) ≡ Err (w, rule))) →
+        FormulaIsNothing p b wanted e w
+    where_nothing never (inl a) = at_a_node (subst (λ s. IsNothing p s e w) (whole_is b) (nothing_at p st (outermost b) e w rule a))
+    where_nothing never (inr (q, a, f)) =
+        let k = at_node_err (position e) w rule (whole_of wanted q) f in
+        let r = subst (λ s. Elaborates p s e q) (whole_is b) (relates p st (outermost b) e q a) in
+        subst (FormulaIsNothing p b wanted e) (begins_there e ∙ k.0) (as_wanted r never)

@@ -81,7 +81,7 @@ module _ (first common : Shape) where
   no_table_stands a c dates i = refl
   no_table_stands a c (records cs) i = refl
 
-  stands_goes : (k : Takes) (p : Piece) (x : Term × Shape) → StandsAs first common k p x → stand k first common p ≡ Ok x
+  pub stands_goes : (k : Takes) (p : Piece) (x : Term × Shape) → StandsAs first common k p x → stand k first common p ≡ Ok x
   stands_goes k p x (Functions.scalar {s = s} {c = c} {d = d} {t = t} b) = becomes_goes (way t (shape_of s)) c (shape_of s) d b
   stands_goes k p x (Functions.formula {s = s} {c = c} {d = d} {t = t} b) = becomes_goes (way t (shape_of s)) c (shape_of s) d b
   stands_goes k p x (Functions.exact {s = s} {c = c} {d = d} {t = t} b) = becomes_goes (exact_way t (shape_of s)) c (shape_of s) d b

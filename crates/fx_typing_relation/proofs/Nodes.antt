@@ -1,11 +1,12 @@
 -- The rules of nodes: the relation admits what the definition admits.
-use Rattle.std.proofs.Common.{◌≡◌, ℕ, suc, List, [], ◌∷◌, Bool, true, false, ◌&&◌, not, nat_eq, nat_le, is_some, length, take, drop, encode_utf8_all, Option, Some, None, Result, Ok, Err, refl, ap, sym, subst, ◌∙◌, if◌then◌else◌, arith}
-use Rattle.fx_data.specs.Types.{Shape, dates, records, no_columns}
+use Rattle.std.proofs.Common.{◌≡◌, ℕ, suc, List, [], ◌∷◌, Bool, true, false, ◌&&◌, not, codes, nat_eq, nat_le, is_some, length, take, drop, encode_utf8_all, Option, Some, None, Result, Ok, Err, refl, ap, sym, subst, ◌∙◌, if◌then◌else◌, arith}
+use Rattle.fx_data.specs.Types.{Shape, blanks, dates, records, no_columns}
 use Rattle.fx_functions.specs.declared.functions.Acting.{Acting}
 use Rattle.fx_functions.specs.declared.functions.Form.{Form}
 use Rattle.fx_functions.specs.declared.functions.Form.TheVariants as form
 use Rattle.fx_functions.specs.declared.functions.Fun.{Fun}
 use Rattle.fx_functions.specs.declared.functions.Fun.TheVariants as fun
+use Rattle.fx_functions.specs.declared.rows.Takes.TheVariants as takes
 use Rattle.fx_functions.specs.declared.signatures.SigShape.{SigShape}
 use Rattle.fx_functions.specs.declared.signatures.SigShape.TheVariants as sig
 use Rattle.fx_functions.specs.declared.signatures.Signature.{Signature}
@@ -18,7 +19,7 @@ use Rattle.fx_syntax.specs.Tree.{Head}
 use Rattle.fx_syntax.specs.Tree as tree
 use Rattle.fx_typed.specs.Term.{Term, of, nil, cons, all, const, read, within, chain}
 use Rattle.fx_typed.specs.Term as term
-use Rattle.fx_typing.specs.Columns.{and_then}
+use Rattle.fx_typing.specs.Columns.{and_then, field_in, is_told, is_told_or_missing, tells_error}
 use Rattle.fx_typing.specs.Local.{Piece, value, label, join_all, firsts, made, formed}
 use Rattle.fx_typing.specs.Meaning.{Place, Meaning, valued, controlled, screened, enumerated, in_globals, meaning_of, named, dotted}
 use Rattle.fx_typing.specs.Operators.{function_of}
@@ -30,16 +31,16 @@ use Rattle.fx_judge.specs.Deeds.{by_name, acted, until_settled, nothing_done}
 use Rattle.fx_judge.specs.Parts.{Grant, nothing, acting, an_alias, a_column, a_target, aliased_target, a_meaning, on_screen, Part, piece, meant, target, assigned, Setting, may_act, plainly, as_part, pieces, values, unless}
 use Rattle.fx_judge.specs.Targets.{rows_named}
 use Rattle.fx_judge.specs.Typing.{left_of_dot, name_by, global_by, dot_by, alias_by, record_as, paired_by, chain_as, chain_by, is_too_deep, admit}
-use Rattle.fx_typing_relation.specs.Functions.{Calls, Forms}
+use Rattle.fx_typing_relation.specs.Functions.{Calls, Forms, first_and_others, by_row}
 use Rattle.fx_typing_relation.specs.Nodes
 use Rattle.fx_typing_relation.specs.Nodes.{Called, Node, IsForValue, IsForGlobal, IsForTarget, IsForAlias, IsForRecord}
 use Rattle.fx_typing_relation.specs.Places.{first_of, chosen_by, is_fourth_scope}
 use Rattle.fx_typing_relation.specs.Records.{Values, left_part, left_meaning, list_join}
-use Rattle.fx_typing_relation.proofs.Acting.{by_rows_ok, by_rows_goes, acts_ok, acts_go}
-use Rattle.fx_typing_relation.proofs.Functions.{made_ok, made_goes}
+use Rattle.fx_typing_relation.proofs.Acting.{by_rows_ok, by_rows_goes, acts_ok, acts_go, acts_could, acts_give}
+use Rattle.fx_typing_relation.proofs.Functions.{when_ok, stands_goes, made_ok, made_goes}
 use Rattle.fx_typing_relation.proofs.Places.{pick_is, depth_is}
 use Rattle.fx_typing_relation.proofs.Records.{dot_ok, behind_ok, behind_goes, list_ok, list_goes, with_ok, with_goes}
-use Rattle.fx_typing_relation.proofs.Steps.{ok_is, then_ok, then_goes, as_part_ok, unless_ok, unless_goes, if_true, if_false, if_ok, not_false, false_not, bounded_ok, bounded_goes, values_ok, values_are}
+use Rattle.fx_typing_relation.proofs.Steps.{ok_is, then_ok, then_goes, as_part_ok, unless_ok, unless_goes, if_true, if_false, if_ok, both_true, not_false, false_not, bounded_ok, bounded_goes, values_ok, values_are}
 
 calls_ok : (f : Fun) (ps : List Piece) (y : Term × Shape) → made f ps ≡ Ok y → Calls f ps y
 calls_ok f ps y e = made_ok (row_of f) (head_of f) ps y e
@@ -61,6 +62,13 @@ some_false (Some a) e = absurd cc
 settled_is : (b : Bool) (r : Result (Term × Shape) ℕ) → b ≡ true → until_settled b r ≡ r
 settled_is b (Ok x) e = refl
 settled_is b (Err n) e = ap (λ c. if not c && nat_eq n 11 then Ok nothing_done else Err n) e
+
+-- an error that is admitted has a Message that is a text, or none
+tells : (f : Fun) (qs : List Part) (y : Term × Shape) → Calls f (pieces qs) y → mistells f qs ≡ false
+tells fun.Error (piece (value a c (records cs)) ∷ []) y (by_row {common = u} count join (first_and_others {x = x} s others) answers) =
+    let told = when_ok (tells_error cs) _ c (records cs) x (stands_goes blanks u takes.ErrorRecord (value a c (records cs)) x s) in
+    ap not ((both_true (is_told (field_in (codes "Kind") cs)) (is_told_or_missing (field_in (codes "Message") cs)) told.0).1)
+tells f qs y c = refl
 
 -- a test of a length
 past_most : (n m : ℕ) → nat_eq n (suc m) ≡ true → nat_le n m ≡ false
@@ -106,14 +114,13 @@ module _ (p : Place) (s : Setting) where
       let u = unless_ok (not (may_act s.grant)) 9 (unless (not (could_act a qs)) 6 (acted_by p a qs)) y e in
       let v = unless_ok (not (could_act a qs)) 6 (acted_by p a qs) y u.1 in
       let w = unless_ok (not (gives_variables p.names p.screen a qs)) 15 (until_settled p.settled (acted p.names p.screen a qs)) y v.1 in
-      Nodes.acting_call (not_false (may_act s.grant) u.0) (not_false (could_act a qs) v.0) (not_false (gives_variables p.names p.screen a qs) w.0)
-      (acts_ok p a qs y (sym (settled_is p.settled (acted p.names p.screen a qs) st) ∙ w.1))
+      Nodes.acting_call (not_false (may_act s.grant) u.0) (acts_ok p a qs y (not_false (gives_variables p.names p.screen a qs) w.0) (sym (settled_is p.settled (acted p.names p.screen a qs) st) ∙ w.1))
 
   called_ok : p.settled ≡ true → (f : SigShape) (qs : List Part) (y : Term × Shape) → called_by p s f qs ≡ Ok y → Called p s f qs y
   called_ok st (sig.One f) qs y e =
       let u = unless_ok (is_some (taken_at f qs)) 5 (unless (mistells f qs) 6 (made f (pieces qs))) y e in
       let v = unless_ok (mistells f qs) 6 (made f (pieces qs)) y u.1 in
-      Nodes.one_function (some_false (taken_at f qs) u.0) v.0 (calls_ok f (pieces qs) y v.1)
+      Nodes.one_function (some_false (taken_at f qs) u.0) (calls_ok f (pieces qs) y v.1)
   called_ok st (sig.Either f g) qs y e = Nodes.overloaded (calls_ok (chosen_by f g (first_of qs)) (pieces qs) y (subst (λ k. made k (pieces qs) ≡ Ok y) (pick_is f g qs) e))
   called_ok st (sig.Literal f) qs y e = literal_ok f qs y e
   called_ok st (sig.Form f) qs y e = Nodes.a_form (forms_ok f (pieces qs) y e)
@@ -125,9 +132,9 @@ module _ (p : Place) (s : Setting) where
   called_ok st (sig.Act a) qs y e = acting_ok st a qs y e
 
   called_go : p.settled ≡ true → (f : SigShape) (qs : List Part) (y : Term × Shape) → Called p s f qs y → called_by p s f qs ≡ Ok y
-  called_go st f qs y (Nodes.one_function {f = g} t m c) =
+  called_go st f qs y (Nodes.one_function {f = g} t c) =
       unless_goes (is_some (taken_at g qs)) 5 (unless (mistells g qs) 6 (made g (pieces qs))) y (ap is_some t)
-      (unless_goes (mistells g qs) 6 (made g (pieces qs)) y m (calls_go g (pieces qs) y c))
+      (unless_goes (mistells g qs) 6 (made g (pieces qs)) y (tells g qs y c) (calls_go g (pieces qs) y c))
   called_go st f qs y (Nodes.overloaded {f = g} {g = h} c) = subst (λ k. made k (pieces qs) ≡ Ok y) (sym (pick_is g h qs)) (calls_go (chosen_by g h (first_of qs)) (pieces qs) y c)
   called_go st f qs y (Nodes.without_literal {f = g} l c) = if_true (nat_le (length (pieces qs)) (row_of g).most) _ _ l ∙ calls_go g (pieces qs) y c
   called_go st f qs y (Nodes.with_a_literal {f = g} {g = h} {x = x} n l w c) =
@@ -141,10 +148,10 @@ module _ (p : Place) (s : Setting) where
   called_go st f qs y (Nodes.table_of_rows {xs = xs} v r) = then_goes (values qs) table_of xs y (values_are qs xs v) (list_goes (join_all (Some (records no_columns)) xs) xs y r)
   called_go st f qs y Nodes.today = refl
   called_go st f qs y (Nodes.defaults {x = x} {t = t} {cs = cs} i) = by_rows_goes (rows_named p.names x) (λ r. Ok (blank_record r.1)) t cs (blank_record cs) i refl
-  called_go st f qs y (Nodes.acting_call {a = a} m c g d) =
+  called_go st f qs y (Nodes.acting_call {a = a} m d) =
       unless_goes (not (may_act s.grant)) 9 (unless (not (could_act a qs)) 6 (acted_by p a qs)) y (false_not (may_act s.grant) m)
-      (unless_goes (not (could_act a qs)) 6 (acted_by p a qs) y (false_not (could_act a qs) c)
-      (unless_goes (not (gives_variables p.names p.screen a qs)) 15 (until_settled p.settled (acted p.names p.screen a qs)) y (false_not (gives_variables p.names p.screen a qs) g)
+      (unless_goes (not (could_act a qs)) 6 (acted_by p a qs) y (false_not (could_act a qs) (acts_could p a qs y d))
+      (unless_goes (not (gives_variables p.names p.screen a qs)) 15 (until_settled p.settled (acted p.names p.screen a qs)) y (false_not (gives_variables p.names p.screen a qs) (acts_give p a qs y d))
       (settled_is p.settled (acted p.names p.screen a qs) st ∙ acts_go p a qs y d)))
 
   call_ok : p.settled ≡ true → (x : List ℕ) (o : Option Signature) (qs : List Part) (y : Term × Shape) →

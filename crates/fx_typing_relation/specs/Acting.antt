@@ -21,6 +21,7 @@ use Rattle.fx_typing.specs.Local.{value, coerced, firsts}
 use Rattle.fx_typing.specs.Meaning.{Place}
 use Rattle.fx_typing.specs.WellTyped.{target_source}
 use Rattle.fx_typing.specs.Ways.{way}
+use Rattle.fx_judge.specs.Breaks.{all_on_screen}
 use Rattle.fx_judge.specs.Deeds.{done_by, joins_to, given_sources, given_terms, rows_of, leaves_id, row_of_one}
 use Rattle.fx_judge.specs.Parts.{Part, target, assigned, pieces}
 use Rattle.fx_judge.specs.Targets.{global_variable, screen_variable, collection_named, screen_named, control_named, rows_named}
@@ -75,7 +76,8 @@ Filtered t cs a qs y = Calls fun.Filter (value a (of (read (target_source t)) ni
 pub data Acts (p : Place) : Acting → List Part → Term × Shape → Type 0 where
   set : {x : List ℕ} {qs : List Part} {v y : Term × Shape} {k : ℕ} {g : Variable} → Values qs (v ∷ []) →
       global_variable p.names x ≡ Some (k, g) → Given (shape g.ty) v y → Acts p acts.Set (target None x ∷ qs) (done_by (deed.Set k) (y.0 ∷ []))
-  update_context : {s : ℕ} {ms : List (List ℕ)} {xs : List (Term × Shape)} {gs : List (Source × Term)} → p.screen ≡ Some s → GivenAll p.names p.screen ms xs gs →
+  update_context : {s : ℕ} {ms : List (List ℕ)} {xs : List (Term × Shape)} {gs : List (Source × Term)} → p.screen ≡ Some s → all_on_screen p.names p.screen ms ≡ true →
+    GivenAll p.names p.screen ms xs gs →
       Acts p acts.UpdateContext (assigned ms xs ∷ []) (done_by (deed.UpdateContext (given_sources gs)) (given_terms gs))
   collect : {x : List ℕ} {qs : List Part} {v : Term × Shape} {vs ys : List (Term × Shape)} {k : ℕ} {c : Collection} → Values qs (v ∷ vs) →
       collection_named p.names x ≡ Some (k, c) → Collected (shape c.ty) (v ∷ vs) ys → Acts p acts.Collect (target None x ∷ qs) (done_by (deed.Collect k) (firsts ys))

@@ -61,3 +61,13 @@ whole_setting b = record { scopes = []; catches = false; grant = grant_of_whole 
 pub data FormulaElaborates (p : Place) (may_act : Bool) (wanted : Option Shape) (e : Tree) : Term × Shape → Type 0 where
   a_formula : {a : Option (List ℕ)} {c : Term} {t : Shape} {x : Term × Shape} → Elaborates p (whole_setting may_act) e (piece (value a c t)) →
       Wanted wanted (c, t) x → FormulaElaborates p may_act wanted e x
+
+-- where a formula begins
+abbrev pub begins : Tree → ℕ
+begins (node at h ts) = at
+
+-- a whole formula that is nothing as it is wanted: a node of it is broken, or it is something that isn't wanted
+pub data FormulaIsNothing (p : Place) (may_act : Bool) (wanted : Option Shape) (e : Tree) : ℕ → Type 0 where
+  at_a_node : {w : ℕ} → IsNothing p (whole_setting may_act) e w → FormulaIsNothing p may_act wanted e w
+  as_wanted : {q : Part} → Elaborates p (whole_setting may_act) e q → ((x : Term × Shape) → FormulaElaborates p may_act wanted e x → ⊥) →
+    FormulaIsNothing p may_act wanted e (begins e)

@@ -6,7 +6,7 @@ use Rattle.fx_typed.specs.Term.{Term}
 use Rattle.fx_typing.specs.Meaning.{Place}
 use Rattle.fx_judge.specs.Parts.{Part, Setting}
 use Rattle.fx_judge.specs.Typing.{judge, judge_whole}
-use Rattle.fx_typing_relation.specs.Elaborates.{Elaborates, IsNothing, FormulaElaborates}
+use Rattle.fx_typing_relation.specs.Elaborates.{Elaborates, IsNothing, FormulaElaborates, FormulaIsNothing}
 
 -- what is admitted is related, where the types of variables are settled
 abbrev pub AdmittedElaborates : Type 0
@@ -30,3 +30,9 @@ abbrev pub WholeIsAdmitted : Type 0
 WholeIsAdmitted =
     (p : Place) (b : Bool) (wanted : Option Shape) (e : Tree) (x : Term × Shape) → p.settled ≡ true → FormulaElaborates p b wanted e x →
     judge_whole p b wanted e ≡ Ok x
+
+-- a whole formula that is called broken is related to nothing, and broken where it is told
+abbrev pub WholeIsNothing : Type 0
+WholeIsNothing =
+    (p : Place) (b : Bool) (wanted : Option Shape) (e : Tree) (w rule : ℕ) → p.settled ≡ true → judge_whole p b wanted e ≡ Err (w, rule) →
+    FormulaIsNothing p b wanted e w × ((x : Term × Shape) → FormulaElaborates p b wanted e x → ⊥)

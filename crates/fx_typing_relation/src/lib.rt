@@ -2,7 +2,7 @@
 //! none. This crate has definitions and laws alone.
 #![tactic(auto)]
 
-ghost use Rattle.fx_typing_relation.specs.Laws.{AdmittedElaborates, ElaboratedIsAdmitted, BrokenIsNothing, WholeElaborates, WholeIsAdmitted};
+ghost use Rattle.fx_typing_relation.specs.Laws.{AdmittedElaborates, ElaboratedIsAdmitted, BrokenIsNothing, WholeElaborates, WholeIsAdmitted, WholeIsNothing};
 
 /// A law, and no work: where the types of variables are settled, the relation relates to a formula
 /// what the definition that judges admits it as, of each node and of whole formulas.
@@ -19,7 +19,8 @@ pub fn elaborated_is_admitted()
 {}
 
 /// A law, and no work: where a formula is called broken, the relation relates all parts of that node
-/// and relates nothing to the node.
+/// and relates nothing to the node. A whole formula may also be something that isn't wanted.
 pub fn broken_elaborates_nothing()
-    ensures { BrokenIsNothing }
+    ensures node { BrokenIsNothing }
+    ensures whole { WholeIsNothing }
 {}
