@@ -26,7 +26,7 @@ use Rattle.fx_typing.specs.Local.{Piece, value, label, by_way, stand, put_first,
 use Rattle.fx_typing.specs.Meaning.{Place}
 use Rattle.fx_typing.specs.WellTyped.{target_source, head_of}
 use Rattle.fx_typing.specs.Ways.{Way, same, changed, refused, way, is_open}
-use Rattle.fx_judge.specs.Breaks.{could_be_row, could_be_condition, all_could, could_act, all_on_screen, gives_variables}
+use Rattle.fx_judge.specs.Breaks.{could_be_row, could_be_condition, all_could, could_act, gives_variables}
 use Rattle.fx_judge.specs.Deeds.{done_by, joins_to, given, by_name, if_known, by_rows, set_to, set_of, give_one, give_all, given_sources, given_terms, update_of, rows_of, rows_given, collect_to, collect_of, clear_by, clear_of, misfit, settable, by_id, row_named, rows_named_by, leaves_id, row_of_one, change_of, changes_of, patch_to, patch_of, remove_of, filter_of, remove_if, update_to, update_if, navigate_of, notify_of, reset_by, reset_of, acted}
 use Rattle.fx_judge.specs.Parts.{Part, piece, meant, target, assigned, piece_of, pieces, values, lowest, all_or_lowest}
 use Rattle.fx_judge.specs.Targets.{global_variable, screen_variable, collection_named, screen_named, control_named, rows_named}
@@ -434,7 +434,7 @@ conditions_could n i first common (q ∷ qs) ps xs e (one_stands {p = p} {ps = m
     let same_piece : piece_of q ≡ p = cc in
     let same_rest : pieces qs ≡ more = cc in
     let stood : stand (takes.Formula Boolean) first common (piece_of q) ≡ Ok x =
-        ap (λ k. stand k first common (piece_of q)) (sym (condition_at n i)) ∙ ap (stand (takes_at Filtering n (suc i)) first common) same_piece ∙ stands_goes first common (takes_at Filtering n (suc i)) p x s in
+    ap (λ k. stand k first common (piece_of q)) (sym (condition_at n i)) ∙ ap (stand (takes_at Filtering n (suc i)) first common) same_piece ∙ stands_goes first common (takes_at Filtering n (suc i)) p x s in
     true_both (could_be_condition q) (all_could could_be_condition qs) (condition_could first common q x stood)
     (conditions_could n (suc i) first common qs more others same_rest f)
 

@@ -13,6 +13,7 @@ use Rattle.fx_typing_relation.specs.Elaborates.{Elaborates, a_node, PartsElabora
 use Rattle.fx_typing_relation.specs.Laws.{AdmittedElaborates, ElaboratedIsAdmitted, BrokenIsNothing, WholeElaborates, WholeIsAdmitted, WholeIsNothing}
 use Rattle.fx_typing_relation.specs.Places.{first_of, part_setting}
 use Rattle.fx_typing_relation.proofs.Functions.{becomes_ok, becomes_goes}
+use Rattle.fx_typing_relation.proofs.PartsOfCalls.{parts_may}
 use Rattle.fx_typing_relation.proofs.Nodes.{node_ok, node_goes}
 use Rattle.fx_typing_relation.proofs.Places.{length_one, first_one, setting_is}
 use Rattle.fx_typing_relation.proofs.Steps.{ok_is}
@@ -80,7 +81,7 @@ module _ (p : Place) (st : p.settled ≡ true) where
     judged : (s : Setting) (e : Tree) (q : Part) → Elaborates p s e q → judge p s e ≡ Ok q
     judged s e q (a_node {at = at} {h = h} {ts = ts} {qs = qs} parts whole) =
         onward_goes (judge_parts p s h (parts_in ts) [] ts) (λ qs. at_node at (admit p s h qs)) qs q
-        (judged_parts s h (parts_in ts) 0 None ts qs [] refl refl parts) (ap (at_node at) (node_goes p s st h qs q whole))
+        (judged_parts s h (parts_in ts) 0 None ts qs [] refl refl parts) (ap (at_node at) (node_goes p s st h qs q (parts_in ts) (parts_may p s h (parts_in ts) 0 None ts qs parts) whole))
 
     judged_parts : (s : Setting) (h : Head) (n i : ℕ) (first : Option Part) (ts : Forest) (qs done : List Part) → length done ≡ i → first_of done ≡ first →
         PartsElaborate p s h n i first ts qs → judge_parts p s h n done ts ≡ Ok (done ++ qs)

@@ -3,5 +3,7 @@ pub mod Functions
 pub mod Places
 pub mod Records
 pub mod Acting
+pub mod Taken
+pub mod PartsOfCalls
 pub mod Nodes
 pub mod Elaborates

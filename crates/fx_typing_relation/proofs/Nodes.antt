@@ -28,6 +28,7 @@ use Rattle.fx_judge.specs.Breaks.{taken_at, mistells, could_act, gives_variables
 use Rattle.fx_judge.specs.Builds.{is_bounded, bounded, types_of, are_distinct, record_by, put_fields, record_of, list_as, list_of, table_of, with_of, blank_record}
 use Rattle.fx_judge.specs.Calls.{literal_in, made_if, function_by, made_literal, acted_by, acted_or_lowest, defaults_of, called_by, called_with}
 use Rattle.fx_judge.specs.Deeds.{by_name, acted, until_settled, nothing_done}
+use Rattle.fx_judge.specs.Plans.{shape_in}
 use Rattle.fx_judge.specs.Parts.{Grant, nothing, acting, an_alias, a_column, a_target, aliased_target, a_meaning, on_screen, Part, piece, meant, target, assigned, Setting, may_act, plainly, as_part, pieces, values, unless}
 use Rattle.fx_judge.specs.Targets.{rows_named}
 use Rattle.fx_judge.specs.Typing.{left_of_dot, name_by, global_by, dot_by, alias_by, record_as, paired_by, chain_as, chain_by, is_too_deep, admit}
@@ -37,6 +38,8 @@ use Rattle.fx_typing_relation.specs.Nodes.{Called, Node, IsForValue, IsForGlobal
 use Rattle.fx_typing_relation.specs.Places.{first_of, chosen_by, is_fourth_scope}
 use Rattle.fx_typing_relation.specs.Records.{Values, left_part, left_meaning, list_join}
 use Rattle.fx_typing_relation.proofs.Acting.{by_rows_ok, by_rows_goes, acts_ok, acts_go, acts_could, acts_give}
+use Rattle.fx_typing_relation.proofs.PartsOfCalls.{MayBeAll, all_pieces}
+use Rattle.fx_typing_relation.proofs.Taken.{ArePieces, none_taken}
 use Rattle.fx_typing_relation.proofs.Functions.{when_ok, stands_goes, made_ok, made_goes}
 use Rattle.fx_typing_relation.proofs.Places.{pick_is, depth_is}
 use Rattle.fx_typing_relation.proofs.Records.{dot_ok, behind_ok, behind_goes, list_ok, list_goes, with_ok, with_goes}
@@ -55,10 +58,6 @@ forms_go : (f : Form) (ps : List Piece) (y : Term × Shape) → Forms f ps y →
 forms_go f ps y e = made_goes (form_row f) (term.form f) ps y e
 
 -- ---- calls
-some_false : {A : Type 0} (o : Option A) → is_some o ≡ false → o ≡ None
-some_false None e = refl
-some_false (Some a) e = absurd cc
-
 settled_is : (b : Bool) (r : Result (Term × Shape) ℕ) → b ≡ true → until_settled b r ≡ r
 settled_is b (Ok x) e = refl
 settled_is b (Err n) e = ap (λ c. if not c && nat_eq n 11 then Ok nothing_done else Err n) e
@@ -120,7 +119,7 @@ module _ (p : Place) (s : Setting) where
   called_ok st (sig.One f) qs y e =
       let u = unless_ok (is_some (taken_at f qs)) 5 (unless (mistells f qs) 6 (made f (pieces qs))) y e in
       let v = unless_ok (mistells f qs) 6 (made f (pieces qs)) y u.1 in
-      Nodes.one_function (some_false (taken_at f qs) u.0) (calls_ok f (pieces qs) y v.1)
+      Nodes.one_function (calls_ok f (pieces qs) y v.1)
   called_ok st (sig.Either f g) qs y e = Nodes.overloaded (calls_ok (chosen_by f g (first_of qs)) (pieces qs) y (subst (λ k. made k (pieces qs) ≡ Ok y) (pick_is f g qs) e))
   called_ok st (sig.Literal f) qs y e = literal_ok f qs y e
   called_ok st (sig.Form f) qs y e = Nodes.a_form (forms_ok f (pieces qs) y e)
@@ -131,24 +130,24 @@ module _ (p : Place) (s : Setting) where
   called_ok st sig.Defaults qs y e = defaults_ok qs y e
   called_ok st (sig.Act a) qs y e = acting_ok st a qs y e
 
-  called_go : p.settled ≡ true → (f : SigShape) (qs : List Part) (y : Term × Shape) → Called p s f qs y → called_by p s f qs ≡ Ok y
-  called_go st f qs y (Nodes.one_function {f = g} t c) =
-      unless_goes (is_some (taken_at g qs)) 5 (unless (mistells g qs) 6 (made g (pieces qs))) y (ap is_some t)
+  called_go : p.settled ≡ true → (f : SigShape) (qs : List Part) (y : Term × Shape) → ((g : Fun) → f ≡ sig.One g → ArePieces qs) → Called p s f qs y → called_by p s f qs ≡ Ok y
+  called_go st f qs y are (Nodes.one_function {f = g} c) =
+      unless_goes (is_some (taken_at g qs)) 5 (unless (mistells g qs) 6 (made g (pieces qs))) y (ap is_some (none_taken g qs y (are g refl) c))
       (unless_goes (mistells g qs) 6 (made g (pieces qs)) y (tells g qs y c) (calls_go g (pieces qs) y c))
-  called_go st f qs y (Nodes.overloaded {f = g} {g = h} c) = subst (λ k. made k (pieces qs) ≡ Ok y) (sym (pick_is g h qs)) (calls_go (chosen_by g h (first_of qs)) (pieces qs) y c)
-  called_go st f qs y (Nodes.without_literal {f = g} l c) = if_true (nat_le (length (pieces qs)) (row_of g).most) _ _ l ∙ calls_go g (pieces qs) y c
-  called_go st f qs y (Nodes.with_a_literal {f = g} {g = h} {x = x} n l w c) =
+  called_go st f qs y are (Nodes.overloaded {f = g} {g = h} c) = subst (λ k. made k (pieces qs) ≡ Ok y) (sym (pick_is g h qs)) (calls_go (chosen_by g h (first_of qs)) (pieces qs) y c)
+  called_go st f qs y are (Nodes.without_literal {f = g} l c) = if_true (nat_le (length (pieces qs)) (row_of g).most) _ _ l ∙ calls_go g (pieces qs) y c
+  called_go st f qs y are (Nodes.with_a_literal {f = g} {g = h} {x = x} n l w c) =
       if_false (nat_le (length (pieces qs)) (row_of g).most) _ _ (past_most (length (pieces qs)) (row_of g).most n)
       ∙ if_true (nat_eq (length (pieces qs)) (suc (row_of g).most)) _ _ n
       ∙ ap (λ o. made_if (function_by g o) (take (row_of g).most (pieces qs))) l
       ∙ ap (λ o. made_if o (take (row_of g).most (pieces qs))) w
       ∙ calls_go h (take (row_of g).most (pieces qs)) y c
-  called_go st f qs y (Nodes.a_form {f = g} c) = forms_go g (pieces qs) y c
-  called_go st f qs y (Nodes.in_record {r = r} {f = g} {k = k} v i) = then_goes (values qs) with_of (r ∷ g ∷ []) _ (values_are qs (r ∷ g ∷ []) v) (with_goes r g k i)
-  called_go st f qs y (Nodes.table_of_rows {xs = xs} v r) = then_goes (values qs) table_of xs y (values_are qs xs v) (list_goes (join_all (Some (records no_columns)) xs) xs y r)
-  called_go st f qs y Nodes.today = refl
-  called_go st f qs y (Nodes.defaults {x = x} {t = t} {cs = cs} i) = by_rows_goes (rows_named p.names x) (λ r. Ok (blank_record r.1)) t cs (blank_record cs) i refl
-  called_go st f qs y (Nodes.acting_call {a = a} m d) =
+  called_go st f qs y are (Nodes.a_form {f = g} c) = forms_go g (pieces qs) y c
+  called_go st f qs y are (Nodes.in_record {r = r} {f = g} {k = k} v i) = then_goes (values qs) with_of (r ∷ g ∷ []) _ (values_are qs (r ∷ g ∷ []) v) (with_goes r g k i)
+  called_go st f qs y are (Nodes.table_of_rows {xs = xs} v r) = then_goes (values qs) table_of xs y (values_are qs xs v) (list_goes (join_all (Some (records no_columns)) xs) xs y r)
+  called_go st f qs y are Nodes.today = refl
+  called_go st f qs y are (Nodes.defaults {x = x} {t = t} {cs = cs} i) = by_rows_goes (rows_named p.names x) (λ r. Ok (blank_record r.1)) t cs (blank_record cs) i refl
+  called_go st f qs y are (Nodes.acting_call {a = a} m d) =
       unless_goes (not (may_act s.grant)) 9 (unless (not (could_act a qs)) 6 (acted_by p a qs)) y (false_not (may_act s.grant) m)
       (unless_goes (not (could_act a qs)) 6 (acted_by p a qs) y (false_not (could_act a qs) (acts_could p a qs y d))
       (unless_goes (not (gives_variables p.names p.screen a qs)) 15 (until_settled p.settled (acted p.names p.screen a qs)) y (false_not (gives_variables p.names p.screen a qs) (acts_give p a qs y d))
@@ -168,14 +167,14 @@ module _ (p : Place) (s : Setting) where
       no_function : ◌≡◌ {A = Result (Term × Shape) ℕ} (Err 8) (Ok y) → ⊥
       no_function k = absurd cc
 
-  call_goes : p.settled ≡ true → (x : List ℕ) (f : Signature) (qs : List Part) (y : Term × Shape) → signature_in p.names.signatures.now (encode_utf8_all x) ≡ Some f →
+  call_goes : p.settled ≡ true → (x : List ℕ) (f : Signature) (qs : List Part) (y : Term × Shape) → (n : ℕ) → MayBeAll p.names s (tree.call x) n 0 None qs → signature_in p.names.signatures.now (encode_utf8_all x) ≡ Some f →
       is_within f.least f.most (length qs) ≡ true → Called p s f.shape qs y → is_bounded y.1 ≡ true → is_fourth_scope p.names s (tree.call x) qs ≡ false →
       unless (is_too_deep p s (tree.call x) qs) 13 (called_with p s (signature_in p.names.signatures.now (encode_utf8_all x)) qs) ≡ Ok y
-  call_goes st x f qs y i n c b d =
+  call_goes st x f qs y count may i n c b d =
       unless_goes (is_too_deep p s (tree.call x) qs) 13 (called_with p s (signature_in p.names.signatures.now (encode_utf8_all x)) qs) y (depth_is p s (tree.call x) qs ∙ d)
       (ap (λ o. called_with p s o qs) i
       ∙ if_true (is_within f.least f.most (length qs)) (bounded (called_by p s f.shape qs)) (Err 7) n
-      ∙ bounded_goes (called_by p s f.shape qs) y (called_go st f.shape qs y c) b)
+      ∙ bounded_goes (called_by p s f.shape qs) y (called_go st f.shape qs y (λ g e. all_pieces p.names s x g count 0 None qs (ap shape_in i ∙ ap (λ k. Some k) e) may) c) b)
 
   -- ---- names
   named_ok : (m : Option Meaning) (y : Term × Shape) → named m ≡ Ok y → m ≡ Some (valued y.0 y.1)
@@ -398,44 +397,44 @@ module _ (p : Place) (s : Setting) where
   node_ok st tree.woven (r ∷ qs) q e = as_made tree.woven fun.Concatenation (r ∷ qs) q (λ y c. Nodes.a_weave c) e
   node_ok st h qs q e = absurd cc
 
-  pub node_goes : p.settled ≡ true → (h : Head) (qs : List Part) (q : Part) → Node p s h qs q → admit p s h qs ≡ Ok q
-  node_goes st h qs q Nodes.a_number = refl
-  node_goes st h qs q Nodes.a_text = refl
-  node_goes st h qs q Nodes.a_truth = refl
-  node_goes st h qs q (Nodes.named_value {x = x} {c = c} {t = t} i m) = ap (name_by s.grant x) m ∙ value_goes s.grant x c t i
-  node_goes st h qs q (Nodes.named_column {x = x} i) = ap (λ g. name_by g x (meaning_of p s.scopes s.catches x)) i
-  node_goes st h qs q (Nodes.named_target {x = x} i) = (target_goes s.grant x (meaning_of p s.scopes s.catches x) i).0
-  node_goes st h qs q (Nodes.named_left {x = x} {b = b} {m = m} i j) =
+  pub node_goes : p.settled ≡ true → (h : Head) (qs : List Part) (q : Part) (n : ℕ) → MayBeAll p.names s h n 0 None qs → Node p s h qs q → admit p s h qs ≡ Ok q
+  node_goes st h qs q n may Nodes.a_number = refl
+  node_goes st h qs q n may Nodes.a_text = refl
+  node_goes st h qs q n may Nodes.a_truth = refl
+  node_goes st h qs q n may (Nodes.named_value {x = x} {c = c} {t = t} i m) = ap (name_by s.grant x) m ∙ value_goes s.grant x c t i
+  node_goes st h qs q n may (Nodes.named_column {x = x} i) = ap (λ g. name_by g x (meaning_of p s.scopes s.catches x)) i
+  node_goes st h qs q n may (Nodes.named_target {x = x} i) = (target_goes s.grant x (meaning_of p s.scopes s.catches x) i).0
+  node_goes st h qs q n may (Nodes.named_left {x = x} {b = b} {m = m} i j) =
       ap (λ g. name_by g x (meaning_of p s.scopes s.catches x)) i ∙ ap left_of_dot j ∙ left_goes m
-  node_goes st h qs q (Nodes.global_value {x = x} {c = c} {t = t} i m) = ap (global_by s.grant x) m ∙ global_goes s.grant x c t i
-  node_goes st h qs q (Nodes.global_target {x = x} i) = (target_goes s.grant x (in_globals p.names x) i).1
-  node_goes st h qs q (Nodes.global_left {x = x} {b = b} {m = m} i j) =
+  node_goes st h qs q n may (Nodes.global_value {x = x} {c = c} {t = t} i m) = ap (global_by s.grant x) m ∙ global_goes s.grant x c t i
+  node_goes st h qs q n may (Nodes.global_target {x = x} i) = (target_goes s.grant x (in_globals p.names x) i).1
+  node_goes st h qs q n may (Nodes.global_left {x = x} {b = b} {m = m} i j) =
       ap (λ g. global_by g x (in_globals p.names x)) i ∙ ap left_of_dot j ∙ left_goes m
-  node_goes st h qs q (Nodes.behind_dot {x = x} {q = r} {m = m} {y = y} i b) = ap as_part (dot_goes x r m y i (behind_goes p.names x m y b))
-  node_goes st h qs q (Nodes.a_call {x = x} {f = f} {y = y} i n c b d) = ap as_part (call_goes st x f qs y i n c b d)
-  node_goes st h qs q (Nodes.negated {y = y} c) = ap as_part (calls_go fun.Negate (pieces qs) y c)
-  node_goes st h qs q (Nodes.denied {y = y} c) = ap as_part (calls_go fun.Not (pieces qs) y c)
-  node_goes st h qs q (Nodes.in_percent {y = y} c) = ap as_part (calls_go fun.Percent (pieces qs) y c)
-  node_goes st h qs q (Nodes.two_operands {o = o} {f = f} {c = c} {d = d} {t = t} {u = u} {y = y} v i k) =
+  node_goes st h qs q n may (Nodes.behind_dot {x = x} {q = r} {m = m} {y = y} i b) = ap as_part (dot_goes x r m y i (behind_goes p.names x m y b))
+  node_goes st h qs q n may (Nodes.a_call {x = x} {f = f} {y = y} i l c b d) = ap as_part (call_goes st x f qs y n may i l c b d)
+  node_goes st h qs q n may (Nodes.negated {y = y} c) = ap as_part (calls_go fun.Negate (pieces qs) y c)
+  node_goes st h qs q n may (Nodes.denied {y = y} c) = ap as_part (calls_go fun.Not (pieces qs) y c)
+  node_goes st h qs q n may (Nodes.in_percent {y = y} c) = ap as_part (calls_go fun.Percent (pieces qs) y c)
+  node_goes st h qs q n may (Nodes.two_operands {o = o} {f = f} {c = c} {d = d} {t = t} {u = u} {y = y} v i k) =
       ap as_part (then_goes (values qs) (λ xs. paired_by o xs (pieces qs)) ((c, t) ∷ (d, u) ∷ []) y (values_are qs ((c, t) ∷ (d, u) ∷ []) v)
       (ap (λ g. made_if g (pieces qs)) i ∙ calls_go f (pieces qs) y k))
-  node_goes st h qs q (Nodes.joined_texts {y = y} c) = ap as_part (calls_go fun.Concatenation (pieces qs) y c)
-  node_goes st h qs q (Nodes.all_of {y = y} c) = ap as_part (forms_go form.All (pieces qs) y c)
-  node_goes st h qs q (Nodes.any_of {y = y} c) = ap as_part (forms_go form.Any (pieces qs) y c)
-  node_goes st h qs q (Nodes.a_chain {xs = xs} {t = t} m v i) =
+  node_goes st h qs q n may (Nodes.joined_texts {y = y} c) = ap as_part (calls_go fun.Concatenation (pieces qs) y c)
+  node_goes st h qs q n may (Nodes.all_of {y = y} c) = ap as_part (forms_go form.All (pieces qs) y c)
+  node_goes st h qs q n may (Nodes.any_of {y = y} c) = ap as_part (forms_go form.Any (pieces qs) y c)
+  node_goes st h qs q n may (Nodes.a_chain {xs = xs} {t = t} m v i) =
       ap as_part (unless_goes (not (may_act s.grant)) 9 (and_then (values qs) chain_by) (of chain (all (firsts xs)), t) (false_not (may_act s.grant) m)
       (then_goes (values qs) chain_by xs (of chain (all (firsts xs)), t) (values_are qs xs v) (ap (chain_as xs) i)))
-  node_goes st h qs q (Nodes.rows_with_name {x = x} {a = a} {c = c} {t = t} i) = alias_goes s.grant x a c t i
-  node_goes st h qs q (Nodes.target_with_name {x = x} {y = y} i) = ap (λ g. alias_by g x (target None y ∷ [])) i
-  node_goes st h qs q (Nodes.a_record {ns = ns} {xs = xs} i v d b) =
+  node_goes st h qs q n may (Nodes.rows_with_name {x = x} {a = a} {c = c} {t = t} i) = alias_goes s.grant x a c t i
+  node_goes st h qs q n may (Nodes.target_with_name {x = x} {y = y} i) = ap (λ g. alias_by g x (target None y ∷ [])) i
+  node_goes st h qs q n may (Nodes.a_record {ns = ns} {xs = xs} i v d b) =
       then_goes (values qs) (record_as s.grant ns) xs (plainly (record_by (put_fields ns xs))) (values_are qs xs v)
       (record_is s.grant ns xs i
       ∙ ap as_part (if_true (are_distinct ns) (bounded (Ok (record_by (put_fields ns xs)))) (Err 5) d
       ∙ bounded_goes (Ok (record_by (put_fields ns xs))) (record_by (put_fields ns xs)) refl b))
-  node_goes st h qs q (Nodes.screen_variables {ns = ns} {b = b} {xs = xs} i v d) =
+  node_goes st h qs q n may (Nodes.screen_variables {ns = ns} {b = b} {xs = xs} i v d) =
       then_goes (values qs) (record_as s.grant ns) xs (assigned ns xs) (values_are qs xs v)
       (ap (λ g. record_as g ns xs) i ∙ if_true (are_distinct ns) (Ok (assigned ns xs)) (Err 5) d)
-  node_goes st h qs q (Nodes.a_list {xs = xs} {y = y} v r b) =
+  node_goes st h qs q n may (Nodes.a_list {xs = xs} {y = y} v r b) =
       ap as_part (then_goes (values qs) list_of xs y (values_are qs xs v) (list_is xs ∙ bounded_goes (list_as (list_join xs) xs) y (list_goes (list_join xs) xs y r) b))
-  node_goes st h qs q Nodes.empty_weave = refl
-  node_goes st h qs q (Nodes.a_weave {q = r} {qs = more} {y = y} c) = ap as_part (calls_go fun.Concatenation (pieces (r ∷ more)) y c)
+  node_goes st h qs q n may Nodes.empty_weave = refl
+  node_goes st h qs q n may (Nodes.a_weave {q = r} {qs = more} {y = y} c) = ap as_part (calls_go fun.Concatenation (pieces (r ∷ more)) y c)

@@ -77,7 +77,7 @@ pub data Acts (p : Place) : Acting → List Part → Term × Shape → Type 0 wh
   set : {x : List ℕ} {qs : List Part} {v y : Term × Shape} {k : ℕ} {g : Variable} → Values qs (v ∷ []) →
       global_variable p.names x ≡ Some (k, g) → Given (shape g.ty) v y → Acts p acts.Set (target None x ∷ qs) (done_by (deed.Set k) (y.0 ∷ []))
   update_context : {s : ℕ} {ms : List (List ℕ)} {xs : List (Term × Shape)} {gs : List (Source × Term)} → p.screen ≡ Some s → all_on_screen p.names p.screen ms ≡ true →
-    GivenAll p.names p.screen ms xs gs →
+      GivenAll p.names p.screen ms xs gs →
       Acts p acts.UpdateContext (assigned ms xs ∷ []) (done_by (deed.UpdateContext (given_sources gs)) (given_terms gs))
   collect : {x : List ℕ} {qs : List Part} {v : Term × Shape} {vs ys : List (Term × Shape)} {k : ℕ} {c : Collection} → Values qs (v ∷ vs) →
       collection_named p.names x ≡ Some (k, c) → Collected (shape c.ty) (v ∷ vs) ys → Acts p acts.Collect (target None x ∷ qs) (done_by (deed.Collect k) (firsts ys))

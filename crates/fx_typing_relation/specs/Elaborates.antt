@@ -70,4 +70,4 @@ begins (node at h ts) = at
 pub data FormulaIsNothing (p : Place) (may_act : Bool) (wanted : Option Shape) (e : Tree) : ℕ → Type 0 where
   at_a_node : {w : ℕ} → IsNothing p (whole_setting may_act) e w → FormulaIsNothing p may_act wanted e w
   as_wanted : {q : Part} → Elaborates p (whole_setting may_act) e q → ((x : Term × Shape) → FormulaElaborates p may_act wanted e x → ⊥) →
-    FormulaIsNothing p may_act wanted e (begins e)
+      FormulaIsNothing p may_act wanted e (begins e)

@@ -23,7 +23,6 @@ use Rattle.fx_typing.specs.Local.{value, label, join_all, firsts}
 use Rattle.fx_typing.specs.Meaning.{Place, Meaning, valued, in_globals, meaning_of}
 use Rattle.fx_typing.specs.Operators.{function_of}
 use Rattle.fx_typing.specs.WellTyped.{last_type}
-use Rattle.fx_judge.specs.Breaks.{taken_at}
 use Rattle.fx_judge.specs.Builds.{is_bounded, types_of, are_distinct, record_by, put_fields, blank_record}
 use Rattle.fx_judge.specs.Calls.{literal_in}
 use Rattle.fx_judge.specs.Parts.{Grant, an_alias, a_column, a_target, aliased_target, a_meaning, on_screen, Part, piece, target, assigned, Setting, may_act, plainly, pieces}
@@ -35,8 +34,7 @@ use Rattle.fx_typing_relation.specs.Records.{Values, left_part, left_meaning, Be
 
 -- what a call is, by the entry of its name in the table of functions
 pub data Called (p : Place) (s : Setting) : SigShape → List Part → Term × Shape → Type 0 where
-  one_function : {f : Fun} {qs : List Part} {y : Term × Shape} → taken_at f qs ≡ None →
-      Calls f (pieces qs) y → Called p s (sig.One f) qs y
+  one_function : {f : Fun} {qs : List Part} {y : Term × Shape} → Calls f (pieces qs) y → Called p s (sig.One f) qs y
   overloaded : {f g : Fun} {qs : List Part} {y : Term × Shape} → Calls (chosen_by f g (first_of qs)) (pieces qs) y → Called p s (sig.Either f g) qs y
   without_literal : {f : Fun} {qs : List Part} {y : Term × Shape} → nat_le (length (pieces qs)) (row_of f).most ≡ true →
       Calls f (pieces qs) y → Called p s (sig.Literal f) qs y
