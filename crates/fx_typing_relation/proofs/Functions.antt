@@ -8,12 +8,13 @@ use Rattle.fx_functions.specs.declared.rows.Takes.{Takes}
 use Rattle.fx_functions.specs.declared.rows.Takes.TheVariants as takes
 use Rattle.fx_functions.specs.Rows.{shape_of, takes_at, takes_count}
 use Rattle.fx_typed.specs.Term.{Term, of, all, Top}
-use Rattle.fx_typing.specs.Columns.{tells_error, value_column, row_columns, added, dropped, shown, renamed}
+use Rattle.fx_names.specs.SourceTypes.{put_column}
+use Rattle.fx_typing.specs.Columns.{tells_error, and_then, field_in, without, only, if_there, if_free, with_new, with_renamed, label_of, by_label, names_there, value_column, row_columns, added, dropped, shown, renamed}
 use Rattle.fx_typing.specs.Local.{Piece, value, label, coerced, by_way, exact_way, branch_way, when, without_kind, stand, put_first, stand_rest, stand_all, branches, join_all, all_scalar, some_text, some_acts, or_blank, common_or, common_of, firsts, answer_by, made_as, made_by}
 use Rattle.fx_typing.specs.WellTyped.{row_type, as_table, answered}
 use Rattle.fx_typing.specs.Ways.{Way, same, changed, refused, way, is_scalar, is_comparable}
 use Rattle.fx_typing_relation.specs.Functions
-use Rattle.fx_typing_relation.specs.Functions.{Becomes, as_it_is, by_coercion, IsNoTable, StandsAs, StandFrom, none_stand, one_stands, AllStand, no_parts, first_and_others, Common, their_join, as_texts, as_blanks, Answers, Made, by_row}
+use Rattle.fx_typing_relation.specs.Functions.{Becomes, as_it_is, by_coercion, IsNoTable, StandsAs, StandFrom, none_stand, one_stands, AllStand, no_parts, first_and_others, Common, their_join, as_texts, as_blanks, Adds, nothing_added, no_formula, one_added, Renames, nothing_renamed, no_new_name, one_renamed, AreColumns, none_named, one_named, Answers, Made, by_row}
 use Rattle.fx_typing_relation.proofs.Steps.{ok_is, some_is, then_ok, then_goes, put_first_ok, if_true, if_ok}
 
 pub becomes_ok : (w : Way) (c : Term) (t : Shape) (x : Term × Shape) → by_way w c t ≡ Ok x → (d : Term) × Becomes w c t d × ((d, t) ≡ x)
@@ -160,6 +161,75 @@ as_table_ok : (r : Result ColumnList ℕ) (t : Shape) → as_table r ≡ Ok t �
 as_table_ok (Ok cs) t e = (cs, refl, ok_is (tables cs) t e)
 as_table_ok (Err n) t e = absurd cc
 
+by_label_ok : {A : Type 0} (o : Option (List ℕ)) (go : List ℕ → Result A ℕ) (a : A) → by_label o go ≡ Ok a → (x : List ℕ) × (o ≡ Some x) × (go x ≡ Ok a)
+by_label_ok (Some x) go a e = (x, refl, e)
+by_label_ok None go a e = absurd cc
+
+by_label_goes : {A : Type 0} (o : Option (List ℕ)) (go : List ℕ → Result A ℕ) (x : List ℕ) (a : A) → o ≡ Some x → go x ≡ Ok a → by_label o go ≡ Ok a
+by_label_goes o go x a e f = ap (λ z. by_label z go) e ∙ f
+
+free_ok : (o : Option Shape) (cs ds : ColumnList) → if_free o cs ≡ Ok ds → (o ≡ None) × (cs ≡ ds)
+free_ok None cs ds e = (refl, ok_is cs ds e)
+free_ok (Some t) cs ds e = absurd cc
+
+there_ok : (o : Option Shape) (u : Shape) → if_there o ≡ Ok u → o ≡ Some u
+there_ok (Some t) u e = ap (λ v. Some v) (ok_is t u e)
+there_ok None u e = absurd cc
+
+adds_ok : (xs : List (Term × Shape)) (cs ds : ColumnList) → added xs cs ≡ Ok ds → Adds xs cs ds
+adds_ok [] cs ds e = subst (Adds [] cs) (ok_is cs ds e) nothing_added
+adds_ok (x ∷ []) cs ds e = subst (Adds (x ∷ []) cs) (ok_is cs ds e) no_formula
+adds_ok (x ∷ f ∷ xs) cs ds e =
+    let a = by_label_ok (label_of x.0) (λ n. and_then (with_new n f.1 cs) (λ es. added xs es)) ds e in
+    let b = then_ok (with_new a.0 f.1 cs) (λ es. added xs es) ds a.2 in
+    let c = free_ok (field_in a.0 cs) (put_column a.0 f.1 cs) b.0 b.1 in
+    one_added a.1 c.0 (adds_ok xs (put_column a.0 f.1 cs) ds (ap (added xs) c.1 ∙ b.2))
+
+pub adds_go : (xs : List (Term × Shape)) (cs ds : ColumnList) → Adds xs cs ds → added xs cs ≡ Ok ds
+adds_go xs cs ds nothing_added = refl
+adds_go xs cs ds no_formula = refl
+adds_go xs cs ds (one_added {x = x} {f = f} {n = n} {xs = others} i j more) =
+    by_label_goes (label_of x.0) (λ n. and_then (with_new n f.1 cs) (λ es. added others es)) n ds i
+    (then_goes (with_new n f.1 cs) (λ es. added others es) (put_column n f.1 cs) ds (ap (λ o. if_free o (put_column n f.1 cs)) j)
+    (adds_go others (put_column n f.1 cs) ds more))
+
+renames_ok : (xs : List (Term × Shape)) (cs ds : ColumnList) → renamed xs cs ≡ Ok ds → Renames xs cs ds
+renames_ok [] cs ds e = subst (Renames [] cs) (ok_is cs ds e) nothing_renamed
+renames_ok (x ∷ []) cs ds e = subst (Renames (x ∷ []) cs) (ok_is cs ds e) no_new_name
+renames_ok (x ∷ y ∷ xs) cs ds e =
+    let a = by_label_ok (label_of x.0) (λ n. by_label (label_of y.0) (λ m. and_then (with_renamed n m cs) (λ es. renamed xs es))) ds e in
+    let b = by_label_ok (label_of y.0) (λ m. and_then (with_renamed a.0 m cs) (λ es. renamed xs es)) ds a.2 in
+    let c = then_ok (with_renamed a.0 b.0 cs) (λ es. renamed xs es) ds b.2 in
+    let d = then_ok (if_there (field_in a.0 cs)) (λ t. if_free (field_in b.0 cs) (put_column b.0 t (without a.0 cs))) c.0 c.1 in
+    let f = free_ok (field_in b.0 cs) (put_column b.0 d.0 (without a.0 cs)) c.0 d.2 in
+    one_renamed a.1 b.1 (there_ok (field_in a.0 cs) d.0 d.1) f.0 (renames_ok xs (put_column b.0 d.0 (without a.0 cs)) ds (ap (renamed xs) f.1 ∙ c.2))
+
+pub renames_go : (xs : List (Term × Shape)) (cs ds : ColumnList) → Renames xs cs ds → renamed xs cs ≡ Ok ds
+renames_go xs cs ds nothing_renamed = refl
+renames_go xs cs ds no_new_name = refl
+renames_go xs cs ds (one_renamed {x = x} {y = y} {n = n} {m = m} {t = t} {xs = others} i j k l more) =
+    by_label_goes (label_of x.0) (λ n. by_label (label_of y.0) (λ m. and_then (with_renamed n m cs) (λ es. renamed others es))) n ds i
+    (by_label_goes (label_of y.0) (λ m. and_then (with_renamed n m cs) (λ es. renamed others es)) m ds j
+    (then_goes (with_renamed n m cs) (λ es. renamed others es) (put_column m t (without n cs)) ds
+    (then_goes (if_there (field_in n cs)) (λ u. if_free (field_in m cs) (put_column m u (without n cs))) t (put_column m t (without n cs)) (ap if_there k)
+    (ap (λ o. if_free o (put_column m t (without n cs))) l))
+    (renames_go others (put_column m t (without n cs)) ds more)))
+
+columns_ok : (cs : ColumnList) (xs : List (Term × Shape)) (ns : List (List ℕ)) → names_there xs cs ≡ Ok ns → AreColumns cs xs ns
+columns_ok cs [] ns e = subst (AreColumns cs []) (ok_is [] ns e) none_named
+columns_ok cs (x ∷ xs) ns e =
+    let a = by_label_ok (label_of x.0) (λ n. and_then (if_there (field_in n cs)) (λ t. and_then (names_there xs cs) (λ ms. Ok (n ∷ ms)))) ns e in
+    let b = then_ok (if_there (field_in a.0 cs)) (λ t. and_then (names_there xs cs) (λ ms. Ok (a.0 ∷ ms))) ns a.2 in
+    let c = then_ok (names_there xs cs) (λ ms. Ok (a.0 ∷ ms)) ns b.2 in
+    subst (AreColumns cs (x ∷ xs)) (ok_is (a.0 ∷ c.0) ns c.2) (one_named a.1 (there_ok (field_in a.0 cs) b.0 b.1) (columns_ok cs xs c.0 c.1))
+
+columns_go : (cs : ColumnList) (xs : List (Term × Shape)) (ns : List (List ℕ)) → AreColumns cs xs ns → names_there xs cs ≡ Ok ns
+columns_go cs xs ns none_named = refl
+columns_go cs xs ns (one_named {x = x} {n = n} {t = t} {xs = others} {ns = after} i j more) =
+    by_label_goes (label_of x.0) (λ n. and_then (if_there (field_in n cs)) (λ t. and_then (names_there others cs) (λ ms. Ok (n ∷ ms)))) n (n ∷ after) i
+    (then_goes (if_there (field_in n cs)) (λ t. and_then (names_there others cs) (λ ms. Ok (n ∷ ms))) t (n ∷ after) (ap if_there j)
+    (then_goes (names_there others cs) (λ ms. Ok (n ∷ ms)) after (n ∷ after) (columns_go cs others after more) refl))
+
 answer_ok : (common : Shape) (a : Answer) (xs : List (Term × Shape)) (t : Shape) → answered a common xs ≡ Ok t → Answers common a xs t
 answer_ok common (answer.Scalar s) xs t e = subst (Answers common (answer.Scalar s) xs) (ok_is (shape_of s) t e) Functions.this
 answer_ok common answer.Same (x ∷ xs) t e = subst (Answers common answer.Same (x ∷ xs)) (ok_is x.1 t e) Functions.the_first
@@ -169,13 +239,15 @@ answer_ok common answer.Found (x ∷ y ∷ []) t e = subst (Answers common answe
 answer_ok common answer.Found (x ∷ []) t e = subst (Answers common answer.Found (x ∷ [])) (ok_is (row_type x.1) t e) Functions.a_found_row
 answer_ok common answer.Common xs t e = subst (Answers common answer.Common xs) (ok_is common t e) Functions.a_branch
 answer_ok common answer.Added ((c, tables cs) ∷ xs) t e =
-    let a = as_table_ok (added xs cs) t e in subst (Answers common answer.Added ((c, tables cs) ∷ xs)) a.2 (Functions.with_columns a.1)
+    let a = as_table_ok (added xs cs) t e in subst (Answers common answer.Added ((c, tables cs) ∷ xs)) a.2 (Functions.with_columns (adds_ok xs cs a.0 a.1))
 answer_ok common answer.Dropped ((c, tables cs) ∷ xs) t e =
     let a = as_table_ok (dropped xs cs) t e in subst (Answers common answer.Dropped ((c, tables cs) ∷ xs)) a.2 (Functions.without_columns a.1)
 answer_ok common answer.Shown ((c, tables cs) ∷ xs) t e =
-    let a = as_table_ok (shown xs cs) t e in subst (Answers common answer.Shown ((c, tables cs) ∷ xs)) a.2 (Functions.columns_alone a.1)
+    let a = as_table_ok (shown xs cs) t e in
+    let b = then_ok (names_there xs cs) (λ ns. Ok (only ns cs)) a.0 a.1 in
+    subst (Answers common answer.Shown ((c, tables cs) ∷ xs)) (ap tables (ok_is (only b.0 cs) a.0 b.2) ∙ a.2) (Functions.columns_alone (columns_ok cs xs b.0 b.1))
 answer_ok common answer.Renamed ((c, tables cs) ∷ xs) t e =
-    let a = as_table_ok (renamed xs cs) t e in subst (Answers common answer.Renamed ((c, tables cs) ∷ xs)) a.2 (Functions.columns_anew a.1)
+    let a = as_table_ok (renamed xs cs) t e in subst (Answers common answer.Renamed ((c, tables cs) ∷ xs)) a.2 (Functions.columns_anew (renames_ok xs cs a.0 a.1))
 answer_ok common answer.Values (x ∷ y ∷ xs) t e = subst (Answers common answer.Values (x ∷ y ∷ xs)) (ok_is (tables (value_column y.1)) t e) Functions.values_of
 answer_ok common answer.Each (x ∷ y ∷ xs) t e = subst (Answers common answer.Each (x ∷ y ∷ xs)) (ok_is (tables (row_columns y.1)) t e) Functions.rows_of_each
 answer_ok common a xs t e = absurd cc
@@ -188,10 +260,10 @@ answer_goes common a xs t Functions.a_found_row = refl
 answer_goes common a xs t Functions.a_row_where = refl
 answer_goes common a xs t Functions.of_a_found_row = refl
 answer_goes common a xs t Functions.a_branch = refl
-answer_goes common a xs t (Functions.with_columns e) = ap as_table e
+answer_goes common a xs t (Functions.with_columns {cs = cs} {ds = ds} {xs = more} e) = ap as_table (adds_go more cs ds e)
 answer_goes common a xs t (Functions.without_columns e) = ap as_table e
-answer_goes common a xs t (Functions.columns_alone e) = ap as_table e
-answer_goes common a xs t (Functions.columns_anew e) = ap as_table e
+answer_goes common a xs t (Functions.columns_alone {cs = cs} {xs = more} {ns = ns} e) = ap as_table (ap (λ r. and_then r (λ ms. Ok (only ms cs))) (columns_go cs more ns e))
+answer_goes common a xs t (Functions.columns_anew {cs = cs} {ds = ds} {xs = more} e) = ap as_table (renames_go more cs ds e)
 answer_goes common a xs t Functions.values_of = refl
 answer_goes common a xs t Functions.rows_of_each = refl
 

@@ -22,7 +22,7 @@ use Rattle.fx_judge.specs.Breaks.{column_names, names_in, taken_or, taken_added,
 use Rattle.fx_judge.specs.Parts.{Part, piece, meant, target, assigned, piece_of, pieces}
 use Rattle.fx_typing_relation.specs.Functions
 use Rattle.fx_typing_relation.specs.Functions.{StandsAs, StandFrom, none_stand, one_stands, first_and_others, Answers, Calls, by_row}
-use Rattle.fx_typing_relation.proofs.Functions.{stands_goes}
+use Rattle.fx_typing_relation.proofs.Functions.{stands_goes, adds_go, renames_go}
 use Rattle.fx_typing_relation.proofs.Steps.{ok_is, then_ok}
 
 -- parts that are values or names of columns
@@ -268,11 +268,11 @@ first_names common q c cs e = tt
 
 added_answer : (common : Shape) (x : Term × Shape) (xs : List (Term × Shape)) (t : Shape) → Answers common answer.Added (x ∷ xs) t →
     (c : Term) × (cs : ColumnList) × (ds : ColumnList) × (x ≡ (c, tables cs)) × (added xs cs ≡ Ok ds)
-added_answer common x xs t (Functions.with_columns {c = c} {cs = cs} {ds = ds} e) = (c, cs, ds, refl, e)
+added_answer common x xs t (Functions.with_columns {c = c} {cs = cs} {ds = ds} e) = (c, cs, ds, refl, adds_go xs cs ds e)
 
 renamed_answer : (common : Shape) (x : Term × Shape) (xs : List (Term × Shape)) (t : Shape) → Answers common answer.Renamed (x ∷ xs) t →
     (c : Term) × (cs : ColumnList) × (ds : ColumnList) × (x ≡ (c, tables cs)) × (renamed xs cs ≡ Ok ds)
-renamed_answer common x xs t (Functions.columns_anew {c = c} {cs = cs} {ds = ds} e) = (c, cs, ds, refl, e)
+renamed_answer common x xs t (Functions.columns_anew {c = c} {cs = cs} {ds = ds} e) = (c, cs, ds, refl, renames_go xs cs ds e)
 
 either_none : (b : Bool) (o : Option (List ℕ)) → o ≡ None → (if b then o else None) ≡ None
 either_none true o e = e

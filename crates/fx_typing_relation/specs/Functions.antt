@@ -12,8 +12,9 @@ use Rattle.fx_functions.specs.declared.rows.Scalar.{Scalar}
 use Rattle.fx_functions.specs.declared.rows.Takes.{Takes}
 use Rattle.fx_functions.specs.declared.rows.Takes.TheVariants as takes
 use Rattle.fx_functions.specs.Rows.{shape_of, row_of, form_row, takes_at, takes_count}
+use Rattle.fx_names.specs.SourceTypes.{put_column}
 use Rattle.fx_typed.specs.Term.{Term, of, nil, all, Top, const, form}
-use Rattle.fx_typing.specs.Columns.{tells_error, value_column, row_columns, added, dropped, shown, renamed}
+use Rattle.fx_typing.specs.Columns.{tells_error, value_column, row_columns, field_in, without, only, label_of, dropped}
 use Rattle.fx_typing.specs.Local.{Piece, value, label, coerced, exact_way, branch_way, branches, join_all, all_scalar, some_text, some_acts, firsts}
 use Rattle.fx_typing.specs.WellTyped.{head_of, row_type}
 use Rattle.fx_typing.specs.Ways.{Way, same, changed, way, is_scalar, is_comparable}
@@ -77,6 +78,27 @@ pub data Common (xs : List (Term × Shape)) : Shape → Type 0 where
   as_texts : join_all (Some blanks) xs ≡ None → (all_scalar xs && some_text xs) ≡ true → Common xs texts
   as_blanks : join_all (Some blanks) xs ≡ None → (all_scalar xs && some_text xs) ≡ false → some_acts xs ≡ true → Common xs blanks
 
+-- new columns in turn: each of a name that no column has then, and of its formula's type
+pub data Adds : List (Term × Shape) → ColumnList → ColumnList → Type 0 where
+  nothing_added : {cs : ColumnList} → Adds [] cs cs
+  no_formula : {x : Term × Shape} {cs : ColumnList} → Adds (x ∷ []) cs cs
+  one_added : {x f : Term × Shape} {n : List ℕ} {xs : List (Term × Shape)} {cs ds : ColumnList} →
+      label_of x.0 ≡ Some n → field_in n cs ≡ None → Adds xs (put_column n f.1 cs) ds → Adds (x ∷ f ∷ xs) cs ds
+
+-- columns under new names in turn: each is there then, and its new name is no column's
+pub data Renames : List (Term × Shape) → ColumnList → ColumnList → Type 0 where
+  nothing_renamed : {cs : ColumnList} → Renames [] cs cs
+  no_new_name : {x : Term × Shape} {cs : ColumnList} → Renames (x ∷ []) cs cs
+  one_renamed : {x y : Term × Shape} {n m : List ℕ} {t : Shape} {xs : List (Term × Shape)} {cs ds : ColumnList} →
+      label_of x.0 ≡ Some n → label_of y.0 ≡ Some m → field_in n cs ≡ Some t → field_in m cs ≡ None →
+      Renames xs (put_column m t (without n cs)) ds → Renames (x ∷ y ∷ xs) cs ds
+
+-- names that are all those of columns
+pub data AreColumns (cs : ColumnList) : List (Term × Shape) → List (List ℕ) → Type 0 where
+  none_named : AreColumns cs [] []
+  one_named : {x : Term × Shape} {n : List ℕ} {t : Shape} {xs : List (Term × Shape)} {ns : List (List ℕ)} →
+      label_of x.0 ≡ Some n → field_in n cs ≡ Some t → AreColumns cs xs ns → AreColumns cs (x ∷ xs) (n ∷ ns)
+
 -- the type that a call answers, from its parts as they stand and the common type of its branches
 pub data Answers (common : Shape) : Answer → List (Term × Shape) → Shape → Type 0 where
   this : {s : Scalar} {xs : List (Term × Shape)} → Answers common (answer.Scalar s) xs (shape_of s)
@@ -87,13 +109,13 @@ pub data Answers (common : Shape) : Answer → List (Term × Shape) → Shape �
   of_a_found_row : {x y z : Term × Shape} {xs : List (Term × Shape)} → Answers common answer.Found (x ∷ y ∷ z ∷ xs) z.1
   a_branch : {xs : List (Term × Shape)} → Answers common answer.Common xs common
   with_columns : {c : Term} {cs ds : ColumnList} {xs : List (Term × Shape)} →
-      added xs cs ≡ Ok ds → Answers common answer.Added ((c, tables cs) ∷ xs) (tables ds)
+      Adds xs cs ds → Answers common answer.Added ((c, tables cs) ∷ xs) (tables ds)
   without_columns : {c : Term} {cs ds : ColumnList} {xs : List (Term × Shape)} →
       dropped xs cs ≡ Ok ds → Answers common answer.Dropped ((c, tables cs) ∷ xs) (tables ds)
-  columns_alone : {c : Term} {cs ds : ColumnList} {xs : List (Term × Shape)} →
-      shown xs cs ≡ Ok ds → Answers common answer.Shown ((c, tables cs) ∷ xs) (tables ds)
+  columns_alone : {c : Term} {cs : ColumnList} {xs : List (Term × Shape)} {ns : List (List ℕ)} →
+      AreColumns cs xs ns → Answers common answer.Shown ((c, tables cs) ∷ xs) (tables (only ns cs))
   columns_anew : {c : Term} {cs ds : ColumnList} {xs : List (Term × Shape)} →
-      renamed xs cs ≡ Ok ds → Answers common answer.Renamed ((c, tables cs) ∷ xs) (tables ds)
+      Renames xs cs ds → Answers common answer.Renamed ((c, tables cs) ∷ xs) (tables ds)
   values_of : {x y : Term × Shape} {xs : List (Term × Shape)} → Answers common answer.Values (x ∷ y ∷ xs) (tables (value_column y.1))
   rows_of_each : {x y : Term × Shape} {xs : List (Term × Shape)} → Answers common answer.Each (x ∷ y ∷ xs) (tables (row_columns y.1))
 
