@@ -1,5 +1,5 @@
 -- Acting calls: the relation admits what the definition admits.
-use Rattle.std.proofs.Common.{◌≡◌, ℕ, suc, ◌%◌, List, [], ◌∷◌, Bool, true, false, ◌&&◌, length, nat_eq, ne_eqb, arith, if◌then◌else◌, codes, Option, Some, None, Result, Ok, Err, refl, ap, sym, subst, ◌∙◌}
+use Rattle.std.proofs.Common.{is_some, ◌≡◌, ℕ, suc, ◌%◌, List, [], ◌∷◌, Bool, true, false, ◌&&◌, length, nat_eq, ne_eqb, arith, if◌then◌else◌, codes, Option, Some, None, Result, Ok, Err, refl, ap, sym, subst, ◌∙◌}
 use Rattle.fx_data.specs.TypeView.{shape}
 use Rattle.fx_data.specs.Types.{Shape, blanks, numbers, texts, booleans, dates, records, tables, ColumnList}
 use Rattle.fx_functions.specs.declared.deeds.Deed.{Deed}
@@ -23,10 +23,11 @@ use Rattle.fx_names.specs.declared.names.Variable.{Variable}
 use Rattle.fx_typed.specs.Term.{Term, of, nil, all, read, act}
 use Rattle.fx_typing.specs.Columns.{and_then, field_in}
 use Rattle.fx_typing.specs.Local.{Piece, value, label, by_way, stand, put_first, firsts}
-use Rattle.fx_typing.specs.Meaning.{Place}
+use Rattle.fx_typing.specs.Meaning.{Place, or_else}
 use Rattle.fx_typing.specs.WellTyped.{target_source, head_of}
 use Rattle.fx_typing.specs.Ways.{Way, same, changed, refused, way, is_open}
-use Rattle.fx_judge.specs.Breaks.{could_be_row, could_be_condition, all_could, could_act, gives_variables}
+use Rattle.fx_judge.specs.Breaks.{could_be_row, could_be_condition, all_could, could_act, all_on_screen, gives_variables, too_large, large_variable, large_collection, large_on_screen, large_given}
+use Rattle.fx_judge.specs.Builds.{is_bounded}
 use Rattle.fx_judge.specs.Deeds.{done_by, joins_to, given, by_name, if_known, by_rows, set_to, set_of, give_one, give_all, given_sources, given_terms, update_of, rows_of, rows_given, collect_to, collect_of, clear_by, clear_of, misfit, settable, by_id, row_named, rows_named_by, leaves_id, row_of_one, change_of, changes_of, patch_to, patch_of, remove_of, filter_of, remove_if, update_to, update_if, navigate_of, notify_of, reset_by, reset_of, acted}
 use Rattle.fx_judge.specs.Parts.{Part, piece, meant, target, assigned, piece_of, pieces, values, lowest, all_or_lowest}
 use Rattle.fx_judge.specs.Targets.{global_variable, screen_variable, collection_named, screen_named, control_named, rows_named}
@@ -167,10 +168,53 @@ pub by_rows_goes : (o : Option (Target × Shape)) (go : Target × ColumnList →
     o ≡ Some (t, tables cs) → go (t, cs) ≡ Ok y → by_rows o go ≡ Ok y
 by_rows_goes o go t cs y e f = ap (λ z. by_rows z go) e ∙ f
 
+-- what is given a value is of a type that keeps to the limits
+bounded_small : (t : Shape) → too_large t ≡ None → is_bounded t ≡ true
+bounded_small t e = by_test (is_bounded t) e
+  where
+    by_test : (b : Bool) → (if b then None else Some t) ≡ None → b ≡ true
+    by_test true f = refl
+    by_test false f = absurd cc
+
+small_bounded : (t : Shape) → is_bounded t ≡ true → too_large t ≡ None
+small_bounded t e = ap (λ b. if b then None else Some t) e
+
+small_variable : (o : Option (ℕ × Variable)) (v : ℕ × Variable) → o ≡ Some v → large_variable o ≡ None → is_bounded (shape v.1.ty) ≡ true
+small_variable o v e f = bounded_small (shape v.1.ty) (ap large_variable (sym e) ∙ f)
+
+small_collection : (o : Option (ℕ × Collection)) (c : ℕ × Collection) → o ≡ Some c → large_collection o ≡ None → is_bounded (shape c.1.ty) ≡ true
+small_collection o c e f = bounded_small (shape c.1.ty) (ap large_collection (sym e) ∙ f)
+
+else_none : {A : Type 0} (a b : Option A) → or_else a b ≡ None → (a ≡ None) × (b ≡ None)
+else_none None b e = (refl, e)
+else_none (Some a) b e = absurd cc
+
+within_limits : (o : Option (ℕ × Variable)) → is_some o ≡ true → large_variable o ≡ None → Acting.IsWithinLimits o
+within_limits (Some v) e f = bounded_small (shape v.1.ty) f
+within_limits None e f = absurd cc
+
+limits_within : (o : Option (ℕ × Variable)) → Acting.IsWithinLimits o → (is_some o ≡ true) × (large_variable o ≡ None)
+limits_within (Some v) h = (refl, small_bounded (shape v.1.ty) h)
+limits_within None h = absurd h
+
+on_screen : (n : Names) (s : Option ℕ) (ms : List (List ℕ)) → all_on_screen n s ms ≡ true → large_on_screen n s ms ≡ None → Acting.AreOnScreen n s ms
+on_screen n s [] e f = tt
+on_screen n s (m ∷ ms) e f =
+    let a = both_true (is_some (screen_variable n s m)) (all_on_screen n s ms) e in
+    let b = else_none (large_variable (screen_variable n s m)) (large_on_screen n s ms) f in
+    (within_limits (screen_variable n s m) a.0 b.0, on_screen n s ms a.1 b.1)
+
+from_screen : (n : Names) (s : Option ℕ) (ms : List (List ℕ)) → Acting.AreOnScreen n s ms → (all_on_screen n s ms ≡ true) × (large_on_screen n s ms ≡ None)
+from_screen n s [] h = (refl, refl)
+from_screen n s (m ∷ ms) h =
+    let a = limits_within (screen_variable n s m) h.0 in
+    let b = from_screen n s ms h.1 in
+    (true_both (is_some (screen_variable n s m)) (all_on_screen n s ms) a.0 b.0, ap (λ o. or_else o (large_on_screen n s ms)) a.1 ∙ b.1)
+
 -- ---- one by one
 module _ (p : Place) where
-  set_ok : (x : List ℕ) (qs : List Part) (y : Term × Shape) → set_of p.names x qs ≡ Ok y → Acts p acts.Set (target None x ∷ qs) y
-  set_ok x qs y e =
+  set_ok : (x : List ℕ) (qs : List Part) (y : Term × Shape) → large_variable (global_variable p.names x) ≡ None → set_of p.names x qs ≡ Ok y → Acts p acts.Set (target None x ∷ qs) y
+  set_ok x qs y small e =
       let a = then_ok (values qs) (λ xs. if_known (global_variable p.names x) (λ v. set_to v xs)) y e in
       let b = known_ok (global_variable p.names x) (λ v. set_to v a.0) y a.2 in
       by_values b.0.0 b.0.1 a.0 (values_ok qs a.0 a.1) b.1 b.2
@@ -179,15 +223,15 @@ module _ (p : Place) where
           Acts p acts.Set (target None x ∷ qs) y
       by_values k g (v ∷ []) vs i f =
           let c = then_ok (given (shape g.ty) v) (λ z. Ok (done_by (deed.Set k) (z.0 ∷ []))) y f in
-          subst (Acts p acts.Set (target None x ∷ qs)) (ok_is (done_by (deed.Set k) (c.0.0 ∷ [])) y c.2) (Acting.set vs i (given_ok (shape g.ty) v c.0 c.1))
+          subst (Acts p acts.Set (target None x ∷ qs)) (ok_is (done_by (deed.Set k) (c.0.0 ∷ [])) y c.2) (Acting.set vs i (small_variable (global_variable p.names x) (k, g) i small) (given_ok (shape g.ty) v c.0 c.1))
       by_values k g xs vs i f = absurd cc
 
-  update_ok : (s : Option ℕ) (qs : List Part) (y : Term × Shape) → gives_variables p.names p.screen acts.UpdateContext qs ≡ true → p.screen ≡ s → update_of p.names s qs ≡ Ok y → Acts p acts.UpdateContext qs y
-  update_ok (Some s) (assigned ms xs ∷ []) y all i e =
+  update_ok : (s : Option ℕ) (qs : List Part) (y : Term × Shape) → gives_variables p.names p.screen acts.UpdateContext qs ≡ true → large_given p.names p.screen acts.UpdateContext qs ≡ None → p.screen ≡ s → update_of p.names s qs ≡ Ok y → Acts p acts.UpdateContext qs y
+  update_ok (Some s) (assigned ms xs ∷ []) y all small i e =
       let a = then_ok (give_all p.names (Some s) ms xs) (λ gs. Ok (done_by (deed.UpdateContext (given_sources gs)) (given_terms gs))) y e in
       subst (Acts p acts.UpdateContext (assigned ms xs ∷ [])) (ok_is (done_by (deed.UpdateContext (given_sources a.0)) (given_terms a.0)) y a.2)
-      (Acting.update_context i all (subst (λ o. GivenAll p.names o ms xs a.0) (sym i) (give_ok p.names (Some s) ms xs a.0 a.1)))
-  update_ok s qs y all i e = absurd cc
+      (Acting.update_context i (on_screen p.names p.screen ms all small) (subst (λ o. GivenAll p.names o ms xs a.0) (sym i) (give_ok p.names (Some s) ms xs a.0 a.1)))
+  update_ok s qs y all small i e = absurd cc
 
   collect_values : (d : ℕ → Deed) (x : List ℕ) (qs : List Part) (y : Term × Shape) → collect_of d p.names x qs ≡ Ok y →
       (v : Term × Shape) × (vs : List (Term × Shape)) × (ys : List (Term × Shape)) × (k : ℕ) × (c : Collection) × Values qs (v ∷ vs)
@@ -292,25 +336,25 @@ module _ (p : Place) where
       by_type k c None i j f = absurd cc
 
   -- a call by the name of what changes
-  named_call : (a : Acting) (qs : List Part) (go : List ℕ → List Part → Result (Term × Shape) ℕ) (y : Term × Shape) →
-      ((x : List ℕ) (more : List Part) → go x more ≡ Ok y → Acts p a (target None x ∷ more) y) → by_name qs go ≡ Ok y → Acts p a qs y
-  named_call a qs go y one e = let b = by_name_ok qs go y e in subst (λ z. Acts p a z y) b.2 (one b.0 b.1 b.3)
+  named_call : (a : Acting) (qs : List Part) (go : List ℕ → List Part → Result (Term × Shape) ℕ) (y : Term × Shape) → large_given p.names p.screen a qs ≡ None →
+      ((x : List ℕ) (more : List Part) → large_given p.names p.screen a (target None x ∷ more) ≡ None → go x more ≡ Ok y → Acts p a (target None x ∷ more) y) → by_name qs go ≡ Ok y → Acts p a qs y
+  named_call a qs go y small one e =
+      let b = by_name_ok qs go y e in
+      subst (λ z. Acts p a z y) b.2 (one b.0 b.1 (subst (λ z. large_given p.names p.screen a z ≡ None) (sym b.2) small) b.3)
 
-  pub acts_ok : (a : Acting) (qs : List Part) (y : Term × Shape) → gives_variables p.names p.screen a qs ≡ true → acted p.names p.screen a qs ≡ Ok y → Acts p a qs y
-  acts_ok acts.Set qs y all e = named_call acts.Set qs (set_of p.names) y (λ x more f. set_ok x more y f) e
-  acts_ok acts.UpdateContext qs y all e = update_ok p.screen qs y all refl e
-  acts_ok acts.Collect qs y all e = named_call acts.Collect qs (collect_of deed.Collect p.names) y
-      (λ x more f. let b = collect_values deed.Collect x more y f in subst (Acts p acts.Collect (target None x ∷ more)) b.8 (Acting.collect b.5 b.6 b.7)) e
-  acts_ok acts.Clear qs y all e = named_call acts.Clear qs (clear_of p.names) y (λ x more f. clear_ok x more y f) e
-  acts_ok acts.ClearCollect qs y all e = named_call acts.ClearCollect qs (collect_of deed.ClearCollect p.names) y
-      (λ x more f. let b = collect_values deed.ClearCollect x more y f in subst (Acts p acts.ClearCollect (target None x ∷ more)) b.8 (Acting.clear_collect b.5 b.6 b.7)) e
-  acts_ok acts.Patch qs y all e = named_call acts.Patch qs (patch_of p.names) y (λ x more f. patch_ok x more y f) e
-  acts_ok acts.Remove qs y all e = named_call acts.Remove qs (remove_of p.names) y (λ x more f. remove_ok x more y f) e
-  acts_ok acts.RemoveIf qs y all e = remove_if_ok qs y e
-  acts_ok acts.UpdateIf qs y all e = update_if_ok qs y e
-  acts_ok acts.Navigate qs y all e = named_call acts.Navigate qs (navigate_of p.names) y (λ x more f. navigate_ok x more y f) e
-  acts_ok acts.Notify qs y all e = notify_ok qs y e
-  acts_ok acts.Reset qs y all e = named_call acts.Reset qs (reset_of p.names) y (λ x more f. reset_ok x more y f) e
+  pub acts_ok : (a : Acting) (qs : List Part) (y : Term × Shape) → gives_variables p.names p.screen a qs ≡ true → large_given p.names p.screen a qs ≡ None → acted p.names p.screen a qs ≡ Ok y → Acts p a qs y
+  acts_ok acts.Set qs y gives small e = named_call acts.Set qs (set_of p.names) y small (λ x more less f. set_ok x more y less f) e
+  acts_ok acts.UpdateContext qs y gives small e = update_ok p.screen qs y gives small refl e
+  acts_ok acts.Collect qs y gives small e = named_call acts.Collect qs (collect_of deed.Collect p.names) y small (λ x more less f. let b = collect_values deed.Collect x more y f in subst (Acts p acts.Collect (target None x ∷ more)) b.8 (Acting.collect b.5 b.6 (small_collection (collection_named p.names x) (b.3, b.4) b.6 less) b.7)) e
+  acts_ok acts.Clear qs y gives small e = named_call acts.Clear qs (clear_of p.names) y small (λ x more less f. clear_ok x more y f) e
+  acts_ok acts.ClearCollect qs y gives small e = named_call acts.ClearCollect qs (collect_of deed.ClearCollect p.names) y small (λ x more less f. let b = collect_values deed.ClearCollect x more y f in subst (Acts p acts.ClearCollect (target None x ∷ more)) b.8 (Acting.clear_collect b.5 b.6 (small_collection (collection_named p.names x) (b.3, b.4) b.6 less) b.7)) e
+  acts_ok acts.Patch qs y gives small e = named_call acts.Patch qs (patch_of p.names) y small (λ x more less f. patch_ok x more y f) e
+  acts_ok acts.Remove qs y gives small e = named_call acts.Remove qs (remove_of p.names) y small (λ x more less f. remove_ok x more y f) e
+  acts_ok acts.RemoveIf qs y gives small e = remove_if_ok qs y e
+  acts_ok acts.UpdateIf qs y gives small e = update_if_ok qs y e
+  acts_ok acts.Navigate qs y gives small e = named_call acts.Navigate qs (navigate_of p.names) y small (λ x more less f. navigate_ok x more y f) e
+  acts_ok acts.Notify qs y gives small e = notify_ok qs y e
+  acts_ok acts.Reset qs y gives small e = named_call acts.Reset qs (reset_of p.names) y small (λ x more less f. reset_ok x more y f) e
 
   -- ---- and back
   collect_goes : (d : ℕ → Deed) (x : List ℕ) (qs : List Part) (v : Term × Shape) (vs ys : List (Term × Shape)) (k : ℕ) (c : Collection) → Values qs (v ∷ vs) →
@@ -321,7 +365,7 @@ module _ (p : Place) where
       (then_goes (rows_given (shape c.ty) (v ∷ vs)) (λ zs. Ok (done_by (d k) (firsts zs))) ys (done_by (d k) (firsts ys)) (collected_goes (shape c.ty) (v ∷ vs) ys g) refl))
 
   pub acts_go : (a : Acting) (qs : List Part) (y : Term × Shape) → Acts p a qs y → acted p.names p.screen a qs ≡ Ok y
-  acts_go a qs z (Acting.set {x = x} {qs = more} {v = v} {y = y} {k = k} {g = g} h i w) =
+  acts_go a qs z (Acting.set {x = x} {qs = more} {v = v} {y = y} {k = k} {g = g} h i b w) =
       then_goes (values more) (λ xs. if_known (global_variable p.names x) (λ u. set_to u xs)) (v ∷ []) (done_by (deed.Set k) (y.0 ∷ [])) (values_are more (v ∷ []) h)
       (known_goes (global_variable p.names x) (λ u. set_to u (v ∷ [])) (k, g) (done_by (deed.Set k) (y.0 ∷ [])) i
       (then_goes (given (shape g.ty) v) (λ u. Ok (done_by (deed.Set k) (u.0 ∷ []))) y (done_by (deed.Set k) (y.0 ∷ [])) (given_goes (shape g.ty) v y w) refl))
@@ -329,10 +373,10 @@ module _ (p : Place) where
       ap (λ o. update_of p.names o (assigned ms xs ∷ [])) i
       ∙ then_goes (give_all p.names (Some s) ms xs) (λ hs. Ok (done_by (deed.UpdateContext (given_sources hs)) (given_terms hs))) gs _
       (subst (λ o. give_all p.names o ms xs ≡ Ok gs) i (give_goes p.names p.screen ms xs gs g)) refl
-  acts_go a qs z (Acting.collect {x = x} {qs = more} {v = v} {vs = vs} {ys = ys} {k = k} {c = c} h i g) = collect_goes deed.Collect x more v vs ys k c h i g
+  acts_go a qs z (Acting.collect {x = x} {qs = more} {v = v} {vs = vs} {ys = ys} {k = k} {c = c} h i b g) = collect_goes deed.Collect x more v vs ys k c h i g
   acts_go a qs z (Acting.clear {x = x} {k = k} {c = c} i j) =
       known_goes (collection_named p.names x) (λ (c : ℕ × Collection). clear_by c.0 (shape c.1.ty)) (k, c) (done_by (deed.Clear k) []) i (ap (clear_by k) j)
-  acts_go a qs z (Acting.clear_collect {x = x} {qs = more} {v = v} {vs = vs} {ys = ys} {k = k} {c = c} h i g) = collect_goes deed.ClearCollect x more v vs ys k c h i g
+  acts_go a qs z (Acting.clear_collect {x = x} {qs = more} {v = v} {vs = vs} {ys = ys} {k = k} {c = c} h i b g) = collect_goes deed.ClearCollect x more v vs ys k c h i g
   acts_go a qs z (Acting.patch {x = x} {qs = more} {t = t} {cs = cs} {base = base} {b = b} {vs = vs} {ys = ys} h i r e) =
       then_goes (values more) (λ xs. by_rows (rows_named p.names x) (λ r. patch_to r xs)) (base ∷ vs) _ (values_are more (base ∷ vs) h)
       (by_rows_goes (rows_named p.names x) (λ r. patch_to r (base ∷ vs)) t cs _ i
@@ -451,25 +495,39 @@ acts_could p a qs z (Acting.remove_if {a = b} {qs = more} {t = t} {cs = cs} {f =
 acts_could p a qs z (Acting.update_if {a = b} {q = q} {qs = more} {t = t} {cs = cs} {f = f} {v = v} {y = y} h i e c) =
     true_both (could_be_condition q) (all_could could_be_row more) ((both_true (could_be_condition q) true (filter_could t cs b (q ∷ []) f e)).0)
     (rows_could more (v ∷ []) h (true_both (is_row v.1) true (change_is_row cs t v y c) refl))
-acts_could p a qs z (Acting.set h i w) = refl
+acts_could p a qs z (Acting.set h i b w) = refl
 acts_could p a qs z (Acting.update_context i all g) = refl
-acts_could p a qs z (Acting.collect h i g) = refl
+acts_could p a qs z (Acting.collect h i b g) = refl
 acts_could p a qs z (Acting.clear i j) = refl
-acts_could p a qs z (Acting.clear_collect h i g) = refl
+acts_could p a qs z (Acting.clear_collect h i b g) = refl
 acts_could p a qs z (Acting.navigate i) = refl
 acts_could p a qs z (Acting.notify h b) = refl
 acts_could p a qs z (Acting.reset i j) = refl
 
 pub acts_give : (p : Place) (a : Acting) (qs : List Part) (y : Term × Shape) → Acts p a qs y → gives_variables p.names p.screen a qs ≡ true
-acts_give p a qs z (Acting.update_context i all g) = all
+acts_give p a qs z (Acting.update_context {ms = ms} i all g) = (from_screen p.names p.screen ms all).0
 acts_give p a qs z (Acting.patch h i r e) = refl
 acts_give p a qs z (Acting.remove h i e) = refl
 acts_give p a qs z (Acting.remove_if i e) = refl
 acts_give p a qs z (Acting.update_if h i e c) = refl
-acts_give p a qs z (Acting.set h i w) = refl
-acts_give p a qs z (Acting.collect h i g) = refl
+acts_give p a qs z (Acting.set h i b w) = refl
+acts_give p a qs z (Acting.collect h i b g) = refl
 acts_give p a qs z (Acting.clear i j) = refl
-acts_give p a qs z (Acting.clear_collect h i g) = refl
+acts_give p a qs z (Acting.clear_collect h i b g) = refl
 acts_give p a qs z (Acting.navigate i) = refl
 acts_give p a qs z (Acting.notify h b) = refl
 acts_give p a qs z (Acting.reset i j) = refl
+
+pub acts_small : (p : Place) (a : Acting) (qs : List Part) (y : Term × Shape) → Acts p a qs y → large_given p.names p.screen a qs ≡ None
+acts_small p a qs z (Acting.update_context {ms = ms} i all g) = (from_screen p.names p.screen ms all).1
+acts_small p a qs z (Acting.set {g = g} h i b w) = ap large_variable i ∙ small_bounded (shape g.ty) b
+acts_small p a qs z (Acting.collect {c = c} h i b g) = ap large_collection i ∙ small_bounded (shape c.ty) b
+acts_small p a qs z (Acting.clear_collect {c = c} h i b g) = ap large_collection i ∙ small_bounded (shape c.ty) b
+acts_small p a qs z (Acting.patch h i r e) = refl
+acts_small p a qs z (Acting.remove h i e) = refl
+acts_small p a qs z (Acting.remove_if i e) = refl
+acts_small p a qs z (Acting.update_if h i e c) = refl
+acts_small p a qs z (Acting.clear i j) = refl
+acts_small p a qs z (Acting.navigate i) = refl
+acts_small p a qs z (Acting.notify h b) = refl
+acts_small p a qs z (Acting.reset i j) = refl

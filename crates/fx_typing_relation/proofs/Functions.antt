@@ -9,7 +9,7 @@ use Rattle.fx_functions.specs.declared.rows.Takes.TheVariants as takes
 use Rattle.fx_functions.specs.Rows.{shape_of, takes_at, takes_count}
 use Rattle.fx_typed.specs.Term.{Term, of, all, Top}
 use Rattle.fx_names.specs.SourceTypes.{put_column}
-use Rattle.fx_typing.specs.Columns.{tells_error, and_then, field_in, without, only, if_there, if_free, with_new, with_renamed, label_of, by_label, names_there, value_column, row_columns, added, dropped, shown, renamed}
+use Rattle.fx_typing.specs.Columns.{tells_error, and_then, field_in, without, without_all, only, if_there, if_free, with_new, with_renamed, label_of, by_label, names_there, value_column, row_columns, added, dropped, shown, renamed}
 use Rattle.fx_typing.specs.Local.{Piece, value, label, coerced, by_way, exact_way, branch_way, when, without_kind, stand, put_first, stand_rest, stand_all, branches, join_all, all_scalar, some_text, some_acts, or_blank, common_or, common_of, firsts, answer_by, made_as, made_by}
 use Rattle.fx_typing.specs.WellTyped.{row_type, as_table, answered}
 use Rattle.fx_typing.specs.Ways.{Way, same, changed, refused, way, is_scalar, is_comparable}
@@ -241,7 +241,9 @@ answer_ok common answer.Common xs t e = subst (Answers common answer.Common xs) 
 answer_ok common answer.Added ((c, tables cs) ∷ xs) t e =
     let a = as_table_ok (added xs cs) t e in subst (Answers common answer.Added ((c, tables cs) ∷ xs)) a.2 (Functions.with_columns (adds_ok xs cs a.0 a.1))
 answer_ok common answer.Dropped ((c, tables cs) ∷ xs) t e =
-    let a = as_table_ok (dropped xs cs) t e in subst (Answers common answer.Dropped ((c, tables cs) ∷ xs)) a.2 (Functions.without_columns a.1)
+    let a = as_table_ok (dropped xs cs) t e in
+    let b = then_ok (names_there xs cs) (λ ns. Ok (without_all ns cs)) a.0 a.1 in
+    subst (Answers common answer.Dropped ((c, tables cs) ∷ xs)) (ap tables (ok_is (without_all b.0 cs) a.0 b.2) ∙ a.2) (Functions.without_columns (columns_ok cs xs b.0 b.1))
 answer_ok common answer.Shown ((c, tables cs) ∷ xs) t e =
     let a = as_table_ok (shown xs cs) t e in
     let b = then_ok (names_there xs cs) (λ ns. Ok (only ns cs)) a.0 a.1 in
@@ -261,7 +263,7 @@ answer_goes common a xs t Functions.a_row_where = refl
 answer_goes common a xs t Functions.of_a_found_row = refl
 answer_goes common a xs t Functions.a_branch = refl
 answer_goes common a xs t (Functions.with_columns {cs = cs} {ds = ds} {xs = more} e) = ap as_table (adds_go more cs ds e)
-answer_goes common a xs t (Functions.without_columns e) = ap as_table e
+answer_goes common a xs t (Functions.without_columns {cs = cs} {xs = more} {ns = ns} e) = ap as_table (ap (λ r. and_then r (λ ms. Ok (without_all ms cs))) (columns_go cs more ns e))
 answer_goes common a xs t (Functions.columns_alone {cs = cs} {xs = more} {ns = ns} e) = ap as_table (ap (λ r. and_then r (λ ms. Ok (only ms cs))) (columns_go cs more ns e))
 answer_goes common a xs t (Functions.columns_anew {cs = cs} {ds = ds} {xs = more} e) = ap as_table (renames_go more cs ds e)
 answer_goes common a xs t Functions.values_of = refl

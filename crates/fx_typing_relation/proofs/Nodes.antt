@@ -24,9 +24,9 @@ use Rattle.fx_typing.specs.Local.{Piece, value, label, join_all, firsts, made, f
 use Rattle.fx_typing.specs.Meaning.{Place, Meaning, valued, controlled, screened, enumerated, in_globals, meaning_of, named, dotted}
 use Rattle.fx_typing.specs.Operators.{function_of}
 use Rattle.fx_typing.specs.WellTyped.{last_type, head_of}
-use Rattle.fx_judge.specs.Breaks.{taken_at, mistells, could_act, gives_variables}
+use Rattle.fx_judge.specs.Breaks.{taken_at, mistells, could_act, gives_variables, large_given}
 use Rattle.fx_judge.specs.Builds.{is_bounded, bounded, types_of, are_distinct, record_by, put_fields, record_of, list_as, list_of, table_of, with_of, blank_record}
-use Rattle.fx_judge.specs.Calls.{literal_in, made_if, function_by, made_literal, acted_by, acted_or_lowest, defaults_of, called_by, called_with}
+use Rattle.fx_judge.specs.Calls.{literal_in, made_if, function_by, made_literal, acted_by, acted_on_screen, acted_or_lowest, defaults_of, called_by, called_with}
 use Rattle.fx_judge.specs.Deeds.{by_name, acted, until_settled, nothing_done}
 use Rattle.fx_judge.specs.Plans.{shape_in}
 use Rattle.fx_judge.specs.Parts.{Grant, nothing, acting, an_alias, a_column, a_target, aliased_target, a_meaning, on_screen, Part, piece, meant, target, assigned, Setting, may_act, plainly, as_part, pieces, values, unless}
@@ -37,7 +37,7 @@ use Rattle.fx_typing_relation.specs.Nodes
 use Rattle.fx_typing_relation.specs.Nodes.{Called, Node, IsForValue, IsForGlobal, IsForTarget, IsForAlias, IsForRecord}
 use Rattle.fx_typing_relation.specs.Places.{first_of, chosen_by, is_fourth_scope}
 use Rattle.fx_typing_relation.specs.Records.{Values, left_part, left_meaning, list_join}
-use Rattle.fx_typing_relation.proofs.Acting.{by_rows_ok, by_rows_goes, acts_ok, acts_go, acts_could, acts_give}
+use Rattle.fx_typing_relation.proofs.Acting.{by_rows_ok, by_rows_goes, acts_ok, acts_go, acts_could, acts_give, acts_small}
 use Rattle.fx_typing_relation.proofs.PartsOfCalls.{MayBeAll, all_pieces}
 use Rattle.fx_typing_relation.proofs.Taken.{ArePieces, none_taken}
 use Rattle.fx_typing_relation.proofs.Functions.{when_ok, stands_goes, made_ok, made_goes}
@@ -58,6 +58,10 @@ forms_go : (f : Form) (ps : List Piece) (y : Term × Shape) → Forms f ps y →
 forms_go f ps y e = made_goes (form_row f) (term.form f) ps y e
 
 -- ---- calls
+small_here : (o : Option Shape) (b : Bool) → b ≡ true → (is_some o && b) ≡ false → o ≡ None
+small_here None b e f = refl
+small_here (Some t) b e f = let z : true ≡ false = sym e ∙ f in absurd cc
+
 settled_is : (b : Bool) (r : Result (Term × Shape) ℕ) → b ≡ true → until_settled b r ≡ r
 settled_is b (Ok x) e = refl
 settled_is b (Err n) e = ap (λ c. if not c && nat_eq n 11 then Ok nothing_done else Err n) e
@@ -112,8 +116,9 @@ module _ (p : Place) (s : Setting) where
   acting_ok st a qs y e =
       let u = unless_ok (not (may_act s.grant)) 9 (unless (not (could_act a qs)) 6 (acted_by p a qs)) y e in
       let v = unless_ok (not (could_act a qs)) 6 (acted_by p a qs) y u.1 in
-      let w = unless_ok (not (gives_variables p.names p.screen a qs)) 15 (until_settled p.settled (acted p.names p.screen a qs)) y v.1 in
-      Nodes.acting_call (not_false (may_act s.grant) u.0) (acts_ok p a qs y (not_false (gives_variables p.names p.screen a qs) w.0) (sym (settled_is p.settled (acted p.names p.screen a qs) st) ∙ w.1))
+      let x = unless_ok (is_some (large_given p.names p.screen a qs) && p.settled) 13 (acted_on_screen p a qs) y v.1 in
+      let w = unless_ok (not (gives_variables p.names p.screen a qs)) 15 (until_settled p.settled (acted p.names p.screen a qs)) y x.1 in
+      Nodes.acting_call (not_false (may_act s.grant) u.0) (acts_ok p a qs y (not_false (gives_variables p.names p.screen a qs) w.0) (small_here (large_given p.names p.screen a qs) p.settled st x.0) (sym (settled_is p.settled (acted p.names p.screen a qs) st) ∙ w.1))
 
   called_ok : p.settled ≡ true → (f : SigShape) (qs : List Part) (y : Term × Shape) → called_by p s f qs ≡ Ok y → Called p s f qs y
   called_ok st (sig.One f) qs y e =
@@ -150,8 +155,9 @@ module _ (p : Place) (s : Setting) where
   called_go st f qs y are (Nodes.acting_call {a = a} m d) =
       unless_goes (not (may_act s.grant)) 9 (unless (not (could_act a qs)) 6 (acted_by p a qs)) y (false_not (may_act s.grant) m)
       (unless_goes (not (could_act a qs)) 6 (acted_by p a qs) y (false_not (could_act a qs) (acts_could p a qs y d))
+      (unless_goes (is_some (large_given p.names p.screen a qs) && p.settled) 13 (acted_on_screen p a qs) y (ap (λ o. is_some o && p.settled) (acts_small p a qs y d))
       (unless_goes (not (gives_variables p.names p.screen a qs)) 15 (until_settled p.settled (acted p.names p.screen a qs)) y (false_not (gives_variables p.names p.screen a qs) (acts_give p a qs y d))
-      (settled_is p.settled (acted p.names p.screen a qs) st ∙ acts_go p a qs y d)))
+      (settled_is p.settled (acted p.names p.screen a qs) st ∙ acts_go p a qs y d))))
 
   call_ok : p.settled ≡ true → (x : List ℕ) (o : Option Signature) (qs : List Part) (y : Term × Shape) →
       signature_in p.names.signatures.now (encode_utf8_all x) ≡ o → unless (is_too_deep p s (tree.call x) qs) 13 (called_with p s o qs) ≡ Ok y →

@@ -21,7 +21,7 @@ use Rattle.fx_typing.specs.Local.{value, coerced, firsts}
 use Rattle.fx_typing.specs.Meaning.{Place}
 use Rattle.fx_typing.specs.WellTyped.{target_source}
 use Rattle.fx_typing.specs.Ways.{way}
-use Rattle.fx_judge.specs.Breaks.{all_on_screen}
+use Rattle.fx_judge.specs.Builds.{is_bounded}
 use Rattle.fx_judge.specs.Deeds.{done_by, joins_to, given_sources, given_terms, rows_of, leaves_id, row_of_one}
 use Rattle.fx_judge.specs.Parts.{Part, target, assigned, pieces}
 use Rattle.fx_judge.specs.Targets.{global_variable, screen_variable, collection_named, screen_named, control_named, rows_named}
@@ -31,6 +31,16 @@ use Rattle.fx_typing_relation.specs.Records.{Values}
 -- a value that a variable of this type is given: it joins to exactly this type
 pub data Given (t : Shape) : Term × Shape → Term × Shape → Type 0 where
   given_as : {c d : Term} {u : Shape} → joins_to t u ≡ true → Becomes (way u t) c t d → Given t (c, u) (d, t)
+
+-- a variable of a type that keeps to the limits
+abbrev pub IsWithinLimits : Option (ℕ × Variable) → Type 0
+IsWithinLimits (Some v) = is_bounded (shape v.1.ty) ≡ true
+IsWithinLimits None = ⊥
+
+-- names of such variables of a screen
+abbrev pub AreOnScreen : Names → Option ℕ → List (List ℕ) → Type 0
+AreOnScreen n s [] = Unit {0}
+AreOnScreen n s (m ∷ ms) = IsWithinLimits (screen_variable n s m) × AreOnScreen n s ms
 
 -- variables of a screen with their values, in the order in which they are written
 pub data GivenAll (n : Names) (s : Option ℕ) : List (List ℕ) → List (Term × Shape) → List (Source × Term) → Type 0 where
@@ -75,16 +85,16 @@ Filtered t cs a qs y = Calls fun.Filter (value a (of (read (target_source t)) ni
 -- an acting call of these parts. But for Patch it answers true.
 pub data Acts (p : Place) : Acting → List Part → Term × Shape → Type 0 where
   set : {x : List ℕ} {qs : List Part} {v y : Term × Shape} {k : ℕ} {g : Variable} → Values qs (v ∷ []) →
-      global_variable p.names x ≡ Some (k, g) → Given (shape g.ty) v y → Acts p acts.Set (target None x ∷ qs) (done_by (deed.Set k) (y.0 ∷ []))
-  update_context : {s : ℕ} {ms : List (List ℕ)} {xs : List (Term × Shape)} {gs : List (Source × Term)} → p.screen ≡ Some s → all_on_screen p.names p.screen ms ≡ true →
+      global_variable p.names x ≡ Some (k, g) → is_bounded (shape g.ty) ≡ true → Given (shape g.ty) v y → Acts p acts.Set (target None x ∷ qs) (done_by (deed.Set k) (y.0 ∷ []))
+  update_context : {s : ℕ} {ms : List (List ℕ)} {xs : List (Term × Shape)} {gs : List (Source × Term)} → p.screen ≡ Some s → AreOnScreen p.names p.screen ms →
       GivenAll p.names p.screen ms xs gs →
       Acts p acts.UpdateContext (assigned ms xs ∷ []) (done_by (deed.UpdateContext (given_sources gs)) (given_terms gs))
   collect : {x : List ℕ} {qs : List Part} {v : Term × Shape} {vs ys : List (Term × Shape)} {k : ℕ} {c : Collection} → Values qs (v ∷ vs) →
-      collection_named p.names x ≡ Some (k, c) → Collected (shape c.ty) (v ∷ vs) ys → Acts p acts.Collect (target None x ∷ qs) (done_by (deed.Collect k) (firsts ys))
+      collection_named p.names x ≡ Some (k, c) → is_bounded (shape c.ty) ≡ true → Collected (shape c.ty) (v ∷ vs) ys → Acts p acts.Collect (target None x ∷ qs) (done_by (deed.Collect k) (firsts ys))
   clear : {x : List ℕ} {qs : List Part} {k : ℕ} {c : Collection} {cs : ColumnList} → collection_named p.names x ≡ Some (k, c) →
       shape c.ty ≡ tables cs → Acts p acts.Clear (target None x ∷ qs) (done_by (deed.Clear k) [])
   clear_collect : {x : List ℕ} {qs : List Part} {v : Term × Shape} {vs ys : List (Term × Shape)} {k : ℕ} {c : Collection} → Values qs (v ∷ vs) →
-      collection_named p.names x ≡ Some (k, c) → Collected (shape c.ty) (v ∷ vs) ys → Acts p acts.ClearCollect (target None x ∷ qs) (done_by (deed.ClearCollect k) (firsts ys))
+      collection_named p.names x ≡ Some (k, c) → is_bounded (shape c.ty) ≡ true → Collected (shape c.ty) (v ∷ vs) ys → Acts p acts.ClearCollect (target None x ∷ qs) (done_by (deed.ClearCollect k) (firsts ys))
   patch : {x : List ℕ} {qs : List Part} {t : Target} {cs : ColumnList} {base b : Term × Shape} {vs ys : List (Term × Shape)} → Values qs (base ∷ vs) →
       rows_named p.names x ≡ Some (t, tables cs) → NamedRow cs t base b → Each (Change cs t) vs ys →
       Acts p acts.Patch (target None x ∷ qs) (of (act (deed.Patch t)) (all (b.0 ∷ firsts ys)), records cs)

@@ -1,6 +1,6 @@
 -- One rule for all functions, operators and forms of the table: the parts that stand at the places of
 -- a row, and what it answers of them.
-use Rattle.std.specs.Prelude.{◌≡◌, ℕ, suc, List, [], ◌∷◌, true, false, ◌&&◌, length, Option, Some, None, Ok}
+use Rattle.std.specs.Prelude.{◌≡◌, ℕ, suc, List, [], ◌∷◌, true, false, ◌&&◌, length, Option, Some, None}
 use Rattle.fx_data.specs.Types.{Shape, blanks, texts, records, tables, ColumnList, no_columns}
 use Rattle.fx_data.specs.Values.{text}
 use Rattle.fx_functions.specs.declared.functions.Form.{Form}
@@ -14,7 +14,7 @@ use Rattle.fx_functions.specs.declared.rows.Takes.TheVariants as takes
 use Rattle.fx_functions.specs.Rows.{shape_of, row_of, form_row, takes_at, takes_count}
 use Rattle.fx_names.specs.SourceTypes.{put_column}
 use Rattle.fx_typed.specs.Term.{Term, of, nil, all, Top, const, form}
-use Rattle.fx_typing.specs.Columns.{tells_error, value_column, row_columns, field_in, without, only, label_of, dropped}
+use Rattle.fx_typing.specs.Columns.{tells_error, value_column, row_columns, field_in, without, only, label_of, without_all}
 use Rattle.fx_typing.specs.Local.{Piece, value, label, coerced, exact_way, branch_way, branches, join_all, all_scalar, some_text, some_acts, firsts}
 use Rattle.fx_typing.specs.WellTyped.{head_of, row_type}
 use Rattle.fx_typing.specs.Ways.{Way, same, changed, way, is_scalar, is_comparable}
@@ -110,8 +110,8 @@ pub data Answers (common : Shape) : Answer → List (Term × Shape) → Shape �
   a_branch : {xs : List (Term × Shape)} → Answers common answer.Common xs common
   with_columns : {c : Term} {cs ds : ColumnList} {xs : List (Term × Shape)} →
       Adds xs cs ds → Answers common answer.Added ((c, tables cs) ∷ xs) (tables ds)
-  without_columns : {c : Term} {cs ds : ColumnList} {xs : List (Term × Shape)} →
-      dropped xs cs ≡ Ok ds → Answers common answer.Dropped ((c, tables cs) ∷ xs) (tables ds)
+  without_columns : {c : Term} {cs : ColumnList} {xs : List (Term × Shape)} {ns : List (List ℕ)} →
+      AreColumns cs xs ns → Answers common answer.Dropped ((c, tables cs) ∷ xs) (tables (without_all ns cs))
   columns_alone : {c : Term} {cs : ColumnList} {xs : List (Term × Shape)} {ns : List (List ℕ)} →
       AreColumns cs xs ns → Answers common answer.Shown ((c, tables cs) ∷ xs) (tables (only ns cs))
   columns_anew : {c : Term} {cs ds : ColumnList} {xs : List (Term × Shape)} →
