@@ -5,5 +5,6 @@ pub mod Records
 pub mod Acting
 pub mod Taken
 pub mod PartsOfCalls
+pub mod Meanings
 pub mod Nodes
 pub mod Elaborates

@@ -41,6 +41,7 @@ use Rattle.fx_typing_relation.proofs.Acting.{by_rows_ok, by_rows_goes, acts_ok, 
 use Rattle.fx_typing_relation.proofs.PartsOfCalls.{MayBeAll, all_pieces}
 use Rattle.fx_typing_relation.proofs.Taken.{ArePieces, none_taken}
 use Rattle.fx_typing_relation.proofs.Functions.{when_ok, stands_goes, made_ok, made_goes}
+use Rattle.fx_typing_relation.proofs.Meanings.{globals_ok, globals_go, means_ok, means_go}
 use Rattle.fx_typing_relation.proofs.Places.{pick_is, depth_is}
 use Rattle.fx_typing_relation.proofs.Records.{dot_ok, behind_ok, behind_goes, list_ok, list_goes, with_ok, with_goes}
 use Rattle.fx_typing_relation.proofs.Steps.{ok_is, then_ok, then_goes, as_part_ok, unless_ok, unless_goes, if_true, if_false, if_ok, both_true, not_false, false_not, bounded_ok, bounded_goes, values_ok, values_are}
@@ -206,14 +207,14 @@ module _ (p : Place) (s : Setting) where
       as_value : IsForValue s.grant → as_part (named (meaning_of p s.scopes s.catches x)) ≡ Ok q → Node p s (tree.name x) [] q
       as_value j f =
           let a = as_part_ok (named (meaning_of p s.scopes s.catches x)) q f in
-          subst (Node p s (tree.name x) []) a.2 (Nodes.named_value j (named_ok (meaning_of p s.scopes s.catches x) a.0 a.1))
+          subst (Node p s (tree.name x) []) a.2 (Nodes.named_value j (means_ok p s.scopes s.catches x (valued a.0.0 a.0.1) (named_ok (meaning_of p s.scopes s.catches x) a.0 a.1)))
 
       by_grant : (h : Grant) → s.grant ≡ h → name_by h x (meaning_of p s.scopes s.catches x) ≡ Ok q → Node p s (tree.name x) [] q
       by_grant a_column j f = subst (Node p s (tree.name x) []) (ok_is (piece (label x)) q f) (Nodes.named_column j)
       by_grant a_target j f = subst (Node p s (tree.name x) []) (ok_is (target None x) q f) (Nodes.named_target (subst IsForTarget (sym j) tt))
       by_grant aliased_target j f = subst (Node p s (tree.name x) []) (ok_is (target None x) q f) (Nodes.named_target (subst IsForTarget (sym j) tt))
       by_grant (a_meaning b) j f =
-          let a = left_ok (meaning_of p s.scopes s.catches x) q f in subst (Node p s (tree.name x) []) a.2 (Nodes.named_left j a.1)
+          let a = left_ok (meaning_of p s.scopes s.catches x) q f in subst (Node p s (tree.name x) []) a.2 (Nodes.named_left j (means_ok p s.scopes s.catches x a.0 a.1))
       by_grant nothing j f = as_value (subst IsForValue (sym j) tt) f
       by_grant acting j f = as_value (subst IsForValue (sym j) tt) f
       by_grant an_alias j f = as_value (subst IsForValue (sym j) tt) f
@@ -225,14 +226,14 @@ module _ (p : Place) (s : Setting) where
       as_value : IsForGlobal s.grant → as_part (named (in_globals p.names x)) ≡ Ok q → Node p s (tree.global x) [] q
       as_value j f =
           let a = as_part_ok (named (in_globals p.names x)) q f in
-          subst (Node p s (tree.global x) []) a.2 (Nodes.global_value j (named_ok (in_globals p.names x) a.0 a.1))
+          subst (Node p s (tree.global x) []) a.2 (Nodes.global_value j (globals_ok p.names x (valued a.0.0 a.0.1) (named_ok (in_globals p.names x) a.0 a.1)))
 
       by_grant : (h : Grant) → s.grant ≡ h → global_by h x (in_globals p.names x) ≡ Ok q → Node p s (tree.global x) [] q
       by_grant a_column j f = as_value (subst IsForGlobal (sym j) tt) f
       by_grant a_target j f = subst (Node p s (tree.global x) []) (ok_is (target None x) q f) (Nodes.global_target (subst IsForTarget (sym j) tt))
       by_grant aliased_target j f = subst (Node p s (tree.global x) []) (ok_is (target None x) q f) (Nodes.global_target (subst IsForTarget (sym j) tt))
       by_grant (a_meaning b) j f =
-          let a = left_ok (in_globals p.names x) q f in subst (Node p s (tree.global x) []) a.2 (Nodes.global_left j a.1)
+          let a = left_ok (in_globals p.names x) q f in subst (Node p s (tree.global x) []) a.2 (Nodes.global_left j (globals_ok p.names x a.0 a.1))
       by_grant nothing j f = as_value (subst IsForGlobal (sym j) tt) f
       by_grant acting j f = as_value (subst IsForGlobal (sym j) tt) f
       by_grant an_alias j f = as_value (subst IsForGlobal (sym j) tt) f
@@ -407,15 +408,15 @@ module _ (p : Place) (s : Setting) where
   node_goes st h qs q n may Nodes.a_number = refl
   node_goes st h qs q n may Nodes.a_text = refl
   node_goes st h qs q n may Nodes.a_truth = refl
-  node_goes st h qs q n may (Nodes.named_value {x = x} {c = c} {t = t} i m) = ap (name_by s.grant x) m ∙ value_goes s.grant x c t i
+  node_goes st h qs q n may (Nodes.named_value {x = x} {c = c} {t = t} i m) = ap (name_by s.grant x) (means_go p s.scopes s.catches x (valued c t) m) ∙ value_goes s.grant x c t i
   node_goes st h qs q n may (Nodes.named_column {x = x} i) = ap (λ g. name_by g x (meaning_of p s.scopes s.catches x)) i
   node_goes st h qs q n may (Nodes.named_target {x = x} i) = (target_goes s.grant x (meaning_of p s.scopes s.catches x) i).0
   node_goes st h qs q n may (Nodes.named_left {x = x} {b = b} {m = m} i j) =
-      ap (λ g. name_by g x (meaning_of p s.scopes s.catches x)) i ∙ ap left_of_dot j ∙ left_goes m
-  node_goes st h qs q n may (Nodes.global_value {x = x} {c = c} {t = t} i m) = ap (global_by s.grant x) m ∙ global_goes s.grant x c t i
+      ap (λ g. name_by g x (meaning_of p s.scopes s.catches x)) i ∙ ap left_of_dot (means_go p s.scopes s.catches x m j) ∙ left_goes m
+  node_goes st h qs q n may (Nodes.global_value {x = x} {c = c} {t = t} i m) = ap (global_by s.grant x) (globals_go p.names x (valued c t) m) ∙ global_goes s.grant x c t i
   node_goes st h qs q n may (Nodes.global_target {x = x} i) = (target_goes s.grant x (in_globals p.names x) i).1
   node_goes st h qs q n may (Nodes.global_left {x = x} {b = b} {m = m} i j) =
-      ap (λ g. global_by g x (in_globals p.names x)) i ∙ ap left_of_dot j ∙ left_goes m
+      ap (λ g. global_by g x (in_globals p.names x)) i ∙ ap left_of_dot (globals_go p.names x m j) ∙ left_goes m
   node_goes st h qs q n may (Nodes.behind_dot {x = x} {q = r} {m = m} {y = y} i b) = ap as_part (dot_goes x r m y i (behind_goes p.names x m y b))
   node_goes st h qs q n may (Nodes.a_call {x = x} {f = f} {y = y} i l c b d) = ap as_part (call_goes st x f qs y n may i l c b d)
   node_goes st h qs q n may (Nodes.negated {y = y} c) = ap as_part (calls_go fun.Negate (pieces qs) y c)

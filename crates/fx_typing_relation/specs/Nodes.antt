@@ -20,7 +20,7 @@ use Rattle.fx_syntax.specs.Tree.{Head}
 use Rattle.fx_syntax.specs.Tree as tree
 use Rattle.fx_typed.specs.Term.{Term, of, nil, cons, all, const, read, within, chain}
 use Rattle.fx_typing.specs.Local.{value, label, join_all, firsts}
-use Rattle.fx_typing.specs.Meaning.{Place, Meaning, valued, in_globals, meaning_of}
+use Rattle.fx_typing.specs.Meaning.{Place, Meaning, valued}
 use Rattle.fx_typing.specs.Operators.{function_of}
 use Rattle.fx_typing.specs.WellTyped.{last_type}
 use Rattle.fx_judge.specs.Builds.{is_bounded, types_of, are_distinct, record_by, put_fields, blank_record}
@@ -29,6 +29,7 @@ use Rattle.fx_judge.specs.Parts.{Grant, an_alias, a_column, a_target, aliased_ta
 use Rattle.fx_judge.specs.Targets.{rows_named}
 use Rattle.fx_typing_relation.specs.Acting.{Acts}
 use Rattle.fx_typing_relation.specs.Functions.{Calls, Forms}
+use Rattle.fx_typing_relation.specs.Meanings.{IsGlobal, Means}
 use Rattle.fx_typing_relation.specs.Places.{first_of, chosen_by, is_fourth_scope}
 use Rattle.fx_typing_relation.specs.Records.{Values, left_part, left_meaning, Behind, Rows, list_join, IsRecord}
 
@@ -88,16 +89,16 @@ pub data Node (p : Place) (s : Setting) : Head → List Part → Part → Type 0
   a_number : {z : ℤ} → Node p s (tree.num z) [] (plainly (of (const (values.number z)) nil, numbers))
   a_text : {x : List ℕ} → Node p s (tree.text x) [] (plainly (of (const (values.text x)) nil, texts))
   a_truth : {b : Bool} → Node p s (tree.truth b) [] (plainly (of (const (values.boolean b)) nil, booleans))
-  named_value : {x : List ℕ} {c : Term} {t : Shape} → IsForValue s.grant → meaning_of p s.scopes s.catches x ≡ Some (valued c t) →
+  named_value : {x : List ℕ} {c : Term} {t : Shape} → IsForValue s.grant → Means p s.scopes s.catches x (valued c t) →
       Node p s (tree.name x) [] (plainly (c, t))
   named_column : {x : List ℕ} → s.grant ≡ a_column → Node p s (tree.name x) [] (piece (label x))
   named_target : {x : List ℕ} → IsForTarget s.grant → Node p s (tree.name x) [] (target None x)
-  named_left : {x : List ℕ} {b : Bool} {m : Meaning} → s.grant ≡ a_meaning b → meaning_of p s.scopes s.catches x ≡ Some m →
+  named_left : {x : List ℕ} {b : Bool} {m : Meaning} → s.grant ≡ a_meaning b → Means p s.scopes s.catches x m →
       Node p s (tree.name x) [] (left_part m)
-  global_value : {x : List ℕ} {c : Term} {t : Shape} → IsForGlobal s.grant → in_globals p.names x ≡ Some (valued c t) →
+  global_value : {x : List ℕ} {c : Term} {t : Shape} → IsForGlobal s.grant → IsGlobal p.names x (valued c t) →
       Node p s (tree.global x) [] (plainly (c, t))
   global_target : {x : List ℕ} → IsForTarget s.grant → Node p s (tree.global x) [] (target None x)
-  global_left : {x : List ℕ} {b : Bool} {m : Meaning} → s.grant ≡ a_meaning b → in_globals p.names x ≡ Some m →
+  global_left : {x : List ℕ} {b : Bool} {m : Meaning} → s.grant ≡ a_meaning b → IsGlobal p.names x m →
       Node p s (tree.global x) [] (left_part m)
   behind_dot : {x : List ℕ} {q : Part} {m : Meaning} {y : Term × Shape} → left_meaning q ≡ Some m → Behind p.names x m y →
       Node p s (tree.dot x) (q ∷ []) (plainly y)
