@@ -42,37 +42,37 @@ never_made (Ok x) q h e = h
 never_made (Err n) q h e = absurd cc
 
 -- a call that is admitted declares nothing itself
-call_silent : (p : Place) (s : Setting) (o : Option Signature) (b : Bool) (at : ℕ) (x : Option (List ℕ)) (qs : List Part) (q : Part) → may_act s.grant ≡ false →
-    as_part (unless b 13 (called_with p s o qs)) ≡ Ok q → declaration at (declared_by (option_map (λ (f : Signature). f.shape) o)) x ≡ []
-call_silent p s None b at x qs q e h = refl
-call_silent p s (Some f) b at x qs q e h = elim (refuses p s f.shape qs e) [
-  | inl quiet ↦ ap (λ k. declaration at k x) quiet
+call_silent : (p : Place) (s : Setting) (o : Option Signature) (b : Bool) (x : Option (List ℕ × ℕ)) (qs : List Part) (q : Part) → may_act s.grant ≡ false →
+    as_part (unless b 13 (called_with p s o qs)) ≡ Ok q → declaration (declared_by (option_map (λ (f : Signature). f.shape) o)) x ≡ []
+call_silent p s None b x qs q e h = refl
+call_silent p s (Some f) b x qs q e h = elim (refuses p s f.shape qs e) [
+  | inl quiet ↦ ap (λ k. declaration k x) quiet
   | inr never ↦ absurd (never_made (unless b 13 (called_with p s (Some f) qs)) q (unless_quiet Never b 13 (called_with p s (Some f) qs)
       (if_quiet Never (is_within f.least f.most (length qs)) (bounded (called_by p s f.shape qs)) (Err 7) (bounded_never (called_by p s f.shape qs) never) tt)) h)
 ]
 
-here_silent : (m : Names) (s : Setting) (h : Head) (at : ℕ) (ts : Forest) (qs : List Part) (q : Part) → may_do s.grant ≡ false → admit (alone m) s h qs ≡ Ok q →
-    declared_at m.signatures.now at h ts ≡ []
-here_silent m s (tree.call x) at ts qs q g e =
-    call_silent (alone m) s (signature_in m.signatures.now (encode_utf8_all x)) (is_too_deep (alone m) s (tree.call x) qs) at (first_name ts) qs q (act_of s.grant g) e
-here_silent m s (tree.num z) at ts qs q g e = refl
-here_silent m s (tree.text z) at ts qs q g e = refl
-here_silent m s (tree.truth z) at ts qs q g e = refl
-here_silent m s (tree.name z) at ts qs q g e = refl
-here_silent m s (tree.global z) at ts qs q g e = refl
-here_silent m s (tree.dot z) at ts qs q g e = refl
-here_silent m s tree.neg at ts qs q g e = refl
-here_silent m s tree.opposite at ts qs q g e = refl
-here_silent m s tree.percent at ts qs q g e = refl
-here_silent m s (tree.pair z) at ts qs q g e = refl
-here_silent m s tree.joined at ts qs q g e = refl
-here_silent m s tree.all at ts qs q g e = refl
-here_silent m s tree.any at ts qs q g e = refl
-here_silent m s tree.chain at ts qs q g e = refl
-here_silent m s (tree.alias z) at ts qs q g e = refl
-here_silent m s (tree.rec z) at ts qs q g e = refl
-here_silent m s tree.list at ts qs q g e = refl
-here_silent m s tree.woven at ts qs q g e = refl
+here_silent : (m : Names) (s : Setting) (h : Head) (ts : Forest) (qs : List Part) (q : Part) → may_do s.grant ≡ false → admit (alone m) s h qs ≡ Ok q →
+    declared_at m.signatures.now h ts ≡ []
+here_silent m s (tree.call x) ts qs q g e =
+    call_silent (alone m) s (signature_in m.signatures.now (encode_utf8_all x)) (is_too_deep (alone m) s (tree.call x) qs) (first_name ts) qs q (act_of s.grant g) e
+here_silent m s (tree.num z) ts qs q g e = refl
+here_silent m s (tree.text z) ts qs q g e = refl
+here_silent m s (tree.truth z) ts qs q g e = refl
+here_silent m s (tree.name z) ts qs q g e = refl
+here_silent m s (tree.global z) ts qs q g e = refl
+here_silent m s (tree.dot z) ts qs q g e = refl
+here_silent m s tree.neg ts qs q g e = refl
+here_silent m s tree.opposite ts qs q g e = refl
+here_silent m s tree.percent ts qs q g e = refl
+here_silent m s (tree.pair z) ts qs q g e = refl
+here_silent m s tree.joined ts qs q g e = refl
+here_silent m s tree.all ts qs q g e = refl
+here_silent m s tree.any ts qs q g e = refl
+here_silent m s tree.chain ts qs q g e = refl
+here_silent m s (tree.alias z) ts qs q g e = refl
+here_silent m s (tree.rec z) ts qs q g e = refl
+here_silent m s tree.list ts qs q g e = refl
+here_silent m s tree.woven ts qs q g e = refl
 
 both_none : (xs ys : List Declared) → xs ≡ [] → ys ≡ [] → xs ++ ys ≡ []
 both_none xs ys e k = ap (λ zs. zs ++ ys) e ∙ k
@@ -81,8 +81,8 @@ mutual
   node_silent : (m : Names) (s : Setting) (e : Tree) (q : Part) → may_do s.grant ≡ false → judge (alone m) s e ≡ Ok q → declared_in m.signatures.now e ≡ []
   node_silent m s (node at h ts) q g e =
       let a = onward_ok (judge_parts (alone m) s h (parts_in ts) [] ts) (λ qs. at_node at (admit (alone m) s h qs)) q e in
-      both_none (declared_at m.signatures.now at h ts) (declared_among m.signatures.now ts)
-      (here_silent m s h at ts a.0 q g (at_node_ok at (admit (alone m) s h a.0) q a.2)) (parts_silent m s h (parts_in ts) [] ts a.0 g a.1)
+      both_none (declared_at m.signatures.now h ts) (declared_among m.signatures.now ts)
+      (here_silent m s h ts a.0 q g (at_node_ok at (admit (alone m) s h a.0) q a.2)) (parts_silent m s h (parts_in ts) [] ts a.0 g a.1)
 
   parts_silent : (m : Names) (s : Setting) (h : Head) (n : ℕ) (done : List Part) (ts : Forest) (qs : List Part) → may_do s.grant ≡ false →
       judge_parts (alone m) s h n done ts ≡ Ok qs → declared_among m.signatures.now ts ≡ []

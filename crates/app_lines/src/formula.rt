@@ -8,7 +8,7 @@ use fx_typed::Core;
 #[derive(Drop)]
 pub struct Formula {
     pub name: Words,
-    /// The number of its cell: its place among all formulas, by their names.
+    /// The number of its cell: its place among the formulas of its text, counted from 0.
     pub cell: u32,
     /// Its typed tree.
     pub core: Core,

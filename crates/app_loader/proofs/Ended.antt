@@ -1,21 +1,13 @@
 -- What lines and texts are judged as, stage by stage.
-use Rattle.std.proofs.Common.{◌≡◌, ℕ, ◌≤◌, List, [], ◌∷◌, Bool, true, false, nat_eq, All, length, map, Option, Some, None, Result, Ok, Err, refl, sym, subst, ◌∙◌, arith}
+use Rattle.std.proofs.Common.{◌≡◌, ℕ, ◌≤◌, List, [], ◌∷◌, Bool, true, false, nat_eq, All, length, map, Result, Ok, Err, IfErr, IfOk, refl, sym, subst, ◌∙◌, arith}
 use Rattle.std.proofs.lemmas.List.Elements.{All-map}
-use Rattle.std.proofs.lemmas.List.Sorted.{All-permutation}
-use Rattle.app_names.specs.Cells.{AreCells}
-use Rattle.app_names.specs.NameRules.{name_breaks}
-use Rattle.std.proofs.Common.{IfErr, IfOk, MatchOption, Vec, Global}
 use Rattle.std.specs.Str.{IsUtf8}
-use Rattle.app_loader.specs.Admitted.{AreBreaks, AreLoaded, Breaks, IsAdmitted, UsesLater, names_at}
-use Rattle.app_loader.specs.Bare.{HasLater}
+use Rattle.app_names.specs.NameRules.{name_breaks}
+use Rattle.app_loader.specs.Admitted.{AreRefused}
 use Rattle.app_loader.specs.Cells.{cell_of}
 use Rattle.app_loader.specs.Judged.{AreNamedLines, AreTypedLines, AreUnread, Judged, JudgedLines, JudgedText, Tells, longest, unsettled}
 use Rattle.app_loader.specs.declared.app.App.{App}
-use Rattle.app_lines.specs.ReadyLines.{AreReady}
-use Rattle.app_lines.specs.declared.formula.Formula.{Formula}
 use Rattle.app_loader.specs.Judged as judge
-use Rattle.app_loader.proofs.Bareness.{apart_lines}
-use Rattle.app_loader.proofs.Settled.{is_told}
 use Rattle.app_loader.proofs.Tellings.{tells_this, tells_weaker}
 use Rattle.fx_depths.specs.Depths.{EntriesAreNoDeeper}
 use Rattle.fx_functions.specs.declared.signatures.Signature.{Signature}
@@ -36,9 +28,6 @@ use Rattle.fx_sig.specs.Entries.{entries, entry}
 abbrev pub AreShallow : List Named → Type 0
 AreShallow = All (λ (n : Named). tree_depth n.expr ≤ 256)
 
-pub shallow_cells : (lines cells : List Named) → AreCells lines cells → AreShallow lines → AreShallow cells
-shallow_cells lines cells c h = All-permutation (λ (n : Named). tree_depth n.expr ≤ 256) lines cells c.rearranged h
-
 pub shallow_lines : EntriesAreNoDeeper → (source : List ℕ) (lines : List Named) → IsNamedText 64 source lines → AreShallow lines
 shallow_lines law source lines named =
     let es : List Entry = named.0 in
@@ -51,29 +40,23 @@ shallow_lines law source lines named =
 nonempty : (b : Bool) → b ≡ false → b ≡ true → ⊥
 nonempty b e k = let q : true ≡ false = sym k ∙ e in absurd cc
 
-pub misnamed : (lines cells : List Named) (functions : List Signature) (bs : List Broken) → AreCells lines cells → map entry functions ≡ entries → bs ≡ name_breaks functions cells →
+pub misnamed : (lines : List Named) (functions : List Signature) (bs : List Broken) → map entry functions ≡ entries → bs ≡ name_breaks functions lines →
     nat_eq (length bs) 0 ≡ false → JudgedLines lines (Err bs)
-misnamed lines cells functions [] c f e k = absurd (nonempty true k refl)
-misnamed lines cells functions (b ∷ bs) c f e k = judge.misnamed lines cells functions b bs c f (sym e)
+misnamed lines functions [] f e k = absurd (nonempty true k refl)
+misnamed lines functions (b ∷ bs) f e k = judge.misnamed lines functions b bs f (sym e)
 
-pub refused : (lines cells : List Named) (m : Names) (bs : List Broken) → AreTypedLines lines cells m → AreBreaks (IsAdmitted m) (Breaks m) cells bs →
-    nat_eq (length bs) 0 ≡ false → JudgedLines lines (Err bs)
-refused lines cells m [] t h k = absurd (nonempty true k refl)
-refused lines cells m (b ∷ bs) t h k = judge.refused lines cells m b bs t h
-
-pub unordered : (lines cells : List Named) (m : Names) (bs : List Broken) → AreTypedLines lines cells m → AreBreaks (IsAdmitted m) (Breaks m) cells [] → HasLater m lines →
-    AreBreaks (λ (n : Named). IsAdmitted (names_at m lines n) n) (UsesLater m lines) cells bs → JudgedLines lines (Err bs)
-unordered lines cells m [] t fine late h = absurd (is_told m lines cells t.named.in_order.rearranged (apart_lines cells lines m t) late h)
-unordered lines cells m (b ∷ bs) t fine late h = judge.unordered lines cells m b bs t fine h
+pub refused : (lines : List Named) (m : Names) (bs : List Broken) → AreTypedLines lines m → AreRefused m lines bs → nat_eq (length bs) 0 ≡ false → JudgedLines lines (Err bs)
+refused lines m [] t h k = absurd (nonempty true k refl)
+refused lines m (b ∷ bs) t h k = judge.refused lines m b bs t h
 
 limit_is : (b : Broken) → IsRoundsLimit b → b ≡ unsettled
 limit_is b h = λ i. record { cell = h.0 i; rule = h.1 i; at = h.2 i; detail = h.3 i }
 
-pub unsettling : (lines cells : List Named) (n : Names) (ws : List Written) (b : Broken) → AreNamedLines lines cells n → map cell ws ≡ map cell_of cells → StillChanges (map cell ws) n → IsRoundsLimit b →
+pub unsettling : (lines : List Named) (n : Names) (ws : List Written) (b : Broken) → AreNamedLines lines n → map cell ws ≡ map cell_of lines → StillChanges (map cell ws) n → IsRoundsLimit b →
     (e : AppEnd) → Tells (λ bs. bs ≡ b ∷ []) e → Tells (λ bs. JudgedLines lines (Err bs)) e
-unsettling lines cells n ws b named same still limit =
+unsettling lines n ws b named same still limit =
     tells_this (λ bs. JudgedLines lines (Err bs)) b unsettled (limit_is b limit)
-    (judge.unsettling lines cells n named (subst (λ (cs : List Cell). StillChanges cs n) same still))
+    (judge.unsettling lines n named (subst (λ (cs : List Cell). StillChanges cs n) same still))
 
 -- ---- texts
 pub read_end : (source : List ℕ) (lines : List Named) → IsNamedText 64 source lines → (e : AppEnd) → Tells (λ bs. JudgedLines lines (Err bs)) e → Tells (λ bs. JudgedText source (Err bs)) e
@@ -101,13 +84,3 @@ bytes_ok bytes source l e u (Err x) h = tt
 pub bytes_err : (bytes source : List ℕ) → length bytes ≤ longest → source ≡ bytes → IsUtf8 bytes → (r : Result App AppEnd) → IfErr r (Tells (λ bs. JudgedText source (Err bs))) → IfErr r (Tells (λ bs. Judged bytes (Err bs)))
 bytes_err bytes source l e u (Ok a) h = tt
 bytes_err bytes source l e u (Err x) h = tells_weaker (λ bs. JudgedText source (Err bs)) (λ bs. Judged bytes (Err bs)) (λ bs k. as_text bytes source (Err bs) l e u k) x h
-
--- ---- lines that are loaded
-abbrev pub IsLoading : Names → List Named → Option (Vec Formula Global) → Type 0
-IsLoading m lines o = MatchOption o (HasLater m lines) (λ v. AreLoaded m lines v.items × AreReady v.items)
-
-pub loaded_in : (m : Names) (lines : List Named) (o : Option (Vec Formula Global)) (v : Vec Formula Global) → IsLoading m lines o → o ≡ Some v → AreLoaded m lines v.items × AreReady v.items
-loaded_in m lines o v h e = subst (IsLoading m lines) e h
-
-pub late_in : (m : Names) (lines : List Named) (o : Option (Vec Formula Global)) → IsLoading m lines o → o ≡ None → HasLater m lines
-late_in m lines o h e = subst (IsLoading m lines) e h

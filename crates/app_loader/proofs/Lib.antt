@@ -1,12 +1,7 @@
 pub mod Tellings
-pub mod KnownLines
-pub mod Distinct
-pub mod Settled
-pub mod ReadySteps
 pub mod BreakLists
-pub mod Bareness
 pub mod Writes
+pub mod Known
+pub mod ReadySteps
 pub mod Loads
-pub mod Behind
-pub mod Numbers
 pub mod Ended

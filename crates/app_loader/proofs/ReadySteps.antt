@@ -1,15 +1,12 @@
 -- A line's formula is ready behind those before it.
-use Rattle.std.proofs.Common.{◌≡◌, ◌≢◌, ℕ, zero, suc, ◌<◌, ◌≤◌, ◌^◌, ◌++◌, List, [], ◌∷◌, Bool, true, false, length, map, take, Option, Some, None, option_map, option_and_then, Ok, bytes_eq, slice_get, refl, ap, sym, subst, ◌∙◌, arith, All, if◌then◌else◌}
+use Rattle.std.proofs.Common.{◌≡◌, ℕ, zero, suc, ◌<◌, ◌≤◌, ◌++◌, List, [], ◌∷◌, Bool, true, false, length, map, take, Option, Some, None, option_map, option_and_then, Ok, slice_get, refl, ap, sym, subst, ◌∙◌, arith, All, if◌then◌else◌}
 use Rattle.std.specs.Prelude.{nat_eq}
 use Rattle.std.proofs.Math.Path.{fun_ext}
-use Rattle.std.specs.List.{find}
 use Rattle.app_laws.specs.Laws.{AdmittedIsLawful, alone}
-use Rattle.fx_names.specs.Formulas.{formula_named}
 use Rattle.app_lines.specs.ReadyLines.{AreReady, AreReadyBehind, IsReadyBehind, behind, sources_behind, type_of}
 use Rattle.app_lines.specs.declared.formula.Formula.{Formula}
-use Rattle.app_loader.specs.Admitted.{judged, known_by, names_behind, put_known}
-use Rattle.app_loader.specs.Bare.{AreApart, IsBare, IsNone}
-use Rattle.app_loader.proofs.KnownLines.{found_true}
+use Rattle.app_loader.specs.Admitted.{judged, names_before}
+use Rattle.app_loader.specs.Bare.{IsBare}
 use Rattle.fx_data.specs.TypeView.{shape}
 use Rattle.fx_data.specs.Types.{Shape, dates}
 use Rattle.fx_fresh.proofs.Whole.{lawful_here}
@@ -26,7 +23,6 @@ use Rattle.fx_names.specs.declared.names.Property.{Property}
 use Rattle.fx_names.specs.declared.names.Variable.{Variable}
 use Rattle.fx_parser.specs.declared.entries.Named.{Named}
 use Rattle.fx_typing.specs.WellTyped.{Context, IsTyped}
-use Rattle.fx_value.proofs.Widenings.{own_name, same_name}
 
 -- formulas with their types, and as they are known
 abbrev pub AreAlike : List Formula → List FormulaName → Type 0
@@ -41,94 +37,45 @@ alike_more [] (j ∷ ks) f k a n t = absurd a
 alike_more (g ∷ fs) [] f k a n t = absurd a
 
 -- ---- lawful names
-no_long : {A : Type 0} (xs : List A) → xs ≡ [] → length xs < 2 ^ 32
-no_long xs e = rw e (omega arith)
-
 no_all : {A : Type 0} (P : A → Type 0) (xs : List A) → xs ≡ [] → All P xs
 no_all P xs e = subst (All P) (sym e) (λ k d l. absurd (omega (arith, l)))
-
-known_short : (fs : List FormulaName) (ns : List Named) → length (known_by fs ns) ≤ length ns
-known_short fs [] = omega arith
-known_short fs (n ∷ ns) = by (formula_named n.name fs) (known_short fs ns)
-  where
-    by : (o : Option FormulaName) → length (known_by fs ns) ≤ length ns → length (put_known o (known_by fs ns)) ≤ suc (length ns)
-    by (Some f) l = omega (arith, l)
-    by None l = omega (arith, l)
 
 abbrev cells : List FormulaName → List ℕ
 cells fs = map (λ (f : FormulaName). f.cell) fs
 
--- two that are found have two numbers, or are one
-other_number : (c : ℕ) (fs : List FormulaName) (q : FormulaName → Bool) (l : FormulaName) → DiffersFromAll c (cells fs) → find q fs ≡ Some l → c ≢ l.cell
-other_number c [] q l d e = λ s. absurd cc
-other_number c (f ∷ fs) q l d e = by (q f) (λ h. other_number c fs q l d.1 h) e
-  where
-    by : (b : Bool) → (find q fs ≡ Some l → c ≢ l.cell) → (if b then Some f else find q fs) ≡ Some l → c ≢ l.cell
-    by true more e = let same : f ≡ l = cc in λ s. d.0 (s ∙ ap (λ (g : FormulaName). g.cell) (sym same))
-    by false more e = more e
+differs_first : (c : ℕ) (fs : List FormulaName) (i : ℕ) → DiffersFromAll c (cells fs) → DiffersFromAll c (cells (take i fs))
+differs_first c fs zero d = tt
+differs_first c [] (suc i) d = tt
+differs_first c (f ∷ fs) (suc i) d = (d.0, differs_first c fs i d.1)
 
-one_number : (fs : List FormulaName) (p q : FormulaName → Bool) (k l : FormulaName) → AreDistinct (cells fs) → find p fs ≡ Some k → find q fs ≡ Some l → k.cell ≡ l.cell → k ≡ l
-one_number [] p q k l d e h s = absurd cc
-one_number (f ∷ fs) p q k l d e h s = by (p f) (q f) (λ i j. one_number fs p q k l d.1 i j s) e h
-  where
-    by : (b c : Bool) → (find p fs ≡ Some k → find q fs ≡ Some l → k ≡ l) → (if b then Some f else find p fs) ≡ Some k → (if c then Some f else find q fs) ≡ Some l → k ≡ l
-    by true true more e h = cc
-    by true false more e h = let same : f ≡ k = cc in absurd (other_number f.cell fs q l d.0 h (ap (λ (g : FormulaName). g.cell) same ∙ s))
-    by false true more e h = let same : f ≡ l = cc in absurd (other_number f.cell fs p k d.0 e (ap (λ (g : FormulaName). g.cell) same ∙ sym s))
-    by false false more e h = more e h
+distinct_first : (fs : List FormulaName) (i : ℕ) → AreDistinct (cells fs) → AreDistinct (cells (take i fs))
+distinct_first fs zero d = tt
+distinct_first [] (suc i) d = tt
+distinct_first (f ∷ fs) (suc i) d = (differs_first f.cell fs i d.0, distinct_first fs i d.1)
 
-differs_known : (fs : List FormulaName) (ns : List Named) (x : List ℕ) (k : FormulaName) → AreDistinct (cells fs) → formula_named x fs ≡ Some k → IsNone x ns → DiffersFromAll k.cell (cells (known_by fs ns))
-differs_known fs [] x k d e h = tt
-differs_known fs (n ∷ ns) x k d e h = by (formula_named n.name fs) refl (differs_known fs ns x k d e h.1)
-  where
-    by : (o : Option FormulaName) → formula_named n.name fs ≡ o → DiffersFromAll k.cell (cells (known_by fs ns)) → DiffersFromAll k.cell (cells (put_known o (known_by fs ns)))
-    by None q more = more
-    by (Some l) q more = (
-      λ s.
-          let one : k ≡ l = one_number fs (λ (f : FormulaName). bytes_eq f.name x) (λ (f : FormulaName). bytes_eq f.name n.name) k l d e q s in
-          let mine : k.name ≡ x = same_name k.name x (found_true (λ (f : FormulaName). bytes_eq f.name x) fs k e) in
-          let theirs : l.name ≡ n.name = same_name l.name n.name (found_true (λ (f : FormulaName). bytes_eq f.name n.name) fs l q) in
-          let both : n.name ≡ x = sym theirs ∙ ap (λ (f : FormulaName). f.name) (sym one) ∙ mine in
-          let past : true ≡ false = sym (subst (λ (y : List ℕ). bytes_eq y x ≡ true) (sym both) (own_name x)) ∙ h.0 in absurd cc,
-      more,
-    )
+short_first : (fs : List FormulaName) (i : ℕ) → length (take i fs) ≤ length fs
+short_first fs zero = omega arith
+short_first [] (suc i) = omega arith
+short_first (f ∷ fs) (suc i) = let s = short_first fs i in omega (arith, s)
 
-known_distinct : (fs : List FormulaName) (ns : List Named) → AreDistinct (cells fs) → AreApart ns → AreDistinct (cells (known_by fs ns))
-known_distinct fs [] d a = tt
-known_distinct fs (n ∷ ns) d a = by (formula_named n.name fs) refl (known_distinct fs ns d a.1)
-  where
-    by : (o : Option FormulaName) → formula_named n.name fs ≡ o → AreDistinct (cells (known_by fs ns)) → AreDistinct (cells (put_known o (known_by fs ns)))
-    by None q more = more
-    by (Some k) q more = (differs_known fs ns n.name k d q a.0, more)
-
-none_first : (x : List ℕ) (ns : List Named) (i : ℕ) → IsNone x ns → IsNone x (take i ns)
-none_first x ns zero h = tt
-none_first x [] (suc i) h = tt
-none_first x (n ∷ ns) (suc i) h = (h.0, none_first x ns i h.1)
-
-pub apart_first : (ns : List Named) (i : ℕ) → AreApart ns → AreApart (take i ns)
-apart_first ns zero h = tt
-apart_first [] (suc i) h = tt
-apart_first (n ∷ ns) (suc i) h = (none_first n.name ns i h.0, apart_first ns i h.1)
-
-pub behind_none : {A : Type 0} (xs : List A) → xs ++ [] ≡ xs
+behind_none : {A : Type 0} (xs : List A) → xs ++ [] ≡ xs
 behind_none [] = refl
 behind_none (x ∷ xs) = ap (λ us. x ∷ us) (behind_none xs)
 
-pub lawful_behind : (m : Names) (ns : List Named) → IsLawful m → IsBare m → AreApart ns → length ns < 2 ^ 32 → IsLawful (names_behind m ns)
-lawful_behind m ns l b a short =
+pub lawful_before : (m : Names) (i : ℕ) → IsLawful m → IsBare m → IsLawful (names_before i m)
+lawful_before m i l b =
     let own : AreDistinct (cells m.formulas) =
     subst AreDistinct (ap (λ (ps : List Property). cells m.formulas ++ map (λ (p : Property). p.cell) ps) b.properties ∙ behind_none (cells m.formulas)) l.cells in
     record {
       schema = l.schema;
       screens = l.screens;
-      controls = (l.controls.0, no_all (IsLawfulControl (names_behind m ns)) m.controls b.controls);
-      properties = (l.properties.0, no_all (IsLawfulProperty (names_behind m ns)) m.properties b.properties);
-      formulas = let k = known_short m.formulas ns in omega (arith, k, short);
-      variables = (l.variables.0, no_all (λ (v : Variable). IsLawfulScreen (names_behind m ns) v.screen) m.variables b.variables);
+      controls = (l.controls.0, no_all (IsLawfulControl (names_before i m)) m.controls b.controls);
+      properties = (l.properties.0, no_all (IsLawfulProperty (names_before i m)) m.properties b.properties);
+      formulas = let k = short_first m.formulas i in let few = l.formulas in omega (arith, k, few);
+      variables = (l.variables.0, no_all (λ (v : Variable). IsLawfulScreen (names_before i m) v.screen) m.variables b.variables);
       collections = l.collections;
-      cells = subst AreDistinct (sym (ap (λ (ps : List Property). cells (known_by m.formulas ns) ++ map (λ (p : Property). p.cell) ps) b.properties ∙ behind_none (cells (known_by m.formulas ns))))
-          (known_distinct m.formulas ns own a);
+      cells = subst AreDistinct (sym (ap (λ (ps : List Property). cells (take i m.formulas) ++ map (λ (p : Property). p.cell) ps) b.properties ∙ behind_none (cells (take i m.formulas))))
+          (distinct_first m.formulas i own);
     }
 
 -- ---- contexts
@@ -156,20 +103,20 @@ none_at {A = A} xs k e = subst (λ (ys : List A). slice_get ys k ≡ None) (sym 
     by zero = refl
     by (suc k) = refl
 
-each_source : (m : Names) (ns : List Named) (fs : List Formula) → IsBare m → AreAlike fs (known_by m.formulas ns) → (s : Source) → sources_behind fs s ≡ sources (names_behind m ns) s
-each_source m ns fs b a (source.Cell k) = types_alike (names_behind m ns) fs (known_by m.formulas ns) k b.properties a
-each_source m ns fs b a source.Today = refl
-each_source m ns fs b a (source.Global k) = sym (ap (option_and_then _) (none_at m.variables k b.variables))
-each_source m ns fs b a (source.Context k) = sym (ap (option_and_then _) (none_at m.variables k b.variables))
-each_source m ns fs b a (source.Gathered k) = sym (ap (option_map _) (none_at m.collections k b.collections))
-each_source m ns fs b a (source.Input k) = sym (ap (option_and_then _) (none_at m.controls k b.controls))
-each_source m ns fs b a (source.Chosen k) = sym (ap (option_and_then _) (none_at m.controls k b.controls))
-each_source m ns fs b a (source.Table k) = sym (ap (option_map _) (none_at m.schema.tables k b.tables))
+each_source : (m : Names) (i : ℕ) (fs : List Formula) → IsBare m → AreAlike fs (take i m.formulas) → (s : Source) → sources_behind fs s ≡ sources (names_before i m) s
+each_source m i fs b a (source.Cell k) = types_alike (names_before i m) fs (take i m.formulas) k b.properties a
+each_source m i fs b a source.Today = refl
+each_source m i fs b a (source.Global k) = sym (ap (option_and_then _) (none_at m.variables k b.variables))
+each_source m i fs b a (source.Context k) = sym (ap (option_and_then _) (none_at m.variables k b.variables))
+each_source m i fs b a (source.Gathered k) = sym (ap (option_map _) (none_at m.collections k b.collections))
+each_source m i fs b a (source.Input k) = sym (ap (option_and_then _) (none_at m.controls k b.controls))
+each_source m i fs b a (source.Chosen k) = sym (ap (option_and_then _) (none_at m.controls k b.controls))
+each_source m i fs b a (source.Table k) = sym (ap (option_map _) (none_at m.schema.tables k b.tables))
 
-same_context : (m : Names) (ns : List Named) (fs : List Formula) → IsBare m → AreAlike fs (known_by m.formulas ns) → context_of (alone (names_behind m ns)) (outermost false) ≡ behind fs
-same_context m ns fs b a = λ i. record {
-  sources = fun_ext (λ s. sym (each_source m ns fs b a s)) i;
-  screens = ap (length {A = List ℕ}) b.screens i;
+same_context : (m : Names) (i : ℕ) (fs : List Formula) → IsBare m → AreAlike fs (take i m.formulas) → context_of (alone (names_before i m)) (outermost false) ≡ behind fs
+same_context m i fs b a = λ j. record {
+  sources = fun_ext (λ s. sym (each_source m i fs b a s)) j;
+  screens = ap (length {A = List ℕ}) b.screens j;
   rows = [];
   item = None;
   caught = false;
@@ -197,7 +144,7 @@ source_lawful fs r (source.Table k) t e = absurd cc
 context_lawful : (fs : List Formula) → AreReady fs → IsLawfulContext (behind fs)
 context_lawful fs r = record { of_sources = source_lawful fs r; of_scopes = tt; of_item = λ t e. absurd cc }
 
-pub assoc : {A : Type 0} (xs ys zs : List A) → (xs ++ ys) ++ zs ≡ xs ++ (ys ++ zs)
+assoc : {A : Type 0} (xs ys zs : List A) → (xs ++ ys) ++ zs ≡ xs ++ (ys ++ zs)
 assoc [] ys zs = refl
 assoc (x ∷ xs) ys zs = ap (λ us. x ∷ us) (assoc xs ys zs)
 
@@ -206,12 +153,12 @@ ready_behind : (before fs : List Formula) (f : Formula) → AreReadyBehind befor
 ready_behind before [] f r h = (subst (λ gs. IsReadyBehind gs f) (behind_none before) h, tt)
 ready_behind before (g ∷ fs) f r h = (r.0, ready_behind (before ++ g ∷ []) fs f r.1 (subst (λ gs. IsReadyBehind gs f) (sym (assoc before (g ∷ []) fs)) h))
 
--- THE step: a line's formula that is admitted under the names that it finds is ready behind those before it
-pub ready_line : AdmittedIsTyped → AdmittedIsLawful → TypingsLawful → PureIsQuiet → (m : Names) (ns : List Named) (fs : List Formula) (n : Named) (f : Formula) →
-    IsBare m → IsLawful (names_behind m ns) → AreAlike fs (known_by m.formulas ns) → AreReady fs → judged (names_behind m ns) n ≡ Ok (f.core, shape f.ty) → AreReady (fs ++ f ∷ [])
-ready_line types_law lawful_law typings_law quiet_law m ns fs n f b l a r e =
-    let N = names_behind m ns in
-    let same = same_context m ns fs b a in
+-- THE step: a line's formula that is admitted under the names that it may use is ready behind those before it
+pub ready_line : AdmittedIsTyped → AdmittedIsLawful → TypingsLawful → PureIsQuiet → (m : Names) (i : ℕ) (fs : List Formula) (n : Named) (f : Formula) →
+    IsBare m → IsLawful (names_before i m) → AreAlike fs (take i m.formulas) → AreReady fs → judged (names_before i m) n ≡ Ok (f.core, shape f.ty) → AreReady (fs ++ f ∷ [])
+ready_line types_law lawful_law typings_law quiet_law m i fs n f b l a r e =
+    let N = names_before i m in
+    let same = same_context m i fs b a in
     let typed : IsTyped (behind fs) f.core (shape f.ty) = subst (λ (c : Context). IsTyped c f.core (shape f.ty)) same (types_law (alone N) false None n.expr (f.core, shape f.ty) l e) in
     let around = subst IsLawfulContext (sym same) (context_lawful fs r) in
     let tree = lawful_law N n.expr (f.core, shape f.ty) l (record { tables = b.tables; controls = b.controls; collections = b.collections }) around e in

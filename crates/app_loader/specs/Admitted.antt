@@ -1,10 +1,9 @@
 -- Named formulas under names: which are admitted, and where others are broken.
-use Rattle.std.specs.Prelude.{◌≡◌, ◌⊎◌, ℕ, ◌++◌, List, [], ◌∷◌, false, Option, Some, None, Result, Ok, Err, bytes_eq, codes, if◌then◌else◌}
+use Rattle.std.specs.Prelude.{◌≡◌, ◌⊎◌, ℕ, suc, List, [], ◌∷◌, false, None, Result, Ok, Err, codes, take}
 use Rattle.fx_data.specs.TypeView.{shape}
 use Rattle.fx_data.specs.Types.{Shape}
 use Rattle.fx_judge.specs.Details.{IsToldBrokenWhole}
 use Rattle.fx_judge.specs.Typing.{judge_whole}
-use Rattle.fx_names.specs.declared.names.FormulaName.{FormulaName}
 use Rattle.fx_names.specs.declared.names.Names.{Names}
 use Rattle.fx_parser.specs.declared.entries.Named.{Named}
 use Rattle.fx_rules.specs.Rules.{number_of}
@@ -13,7 +12,6 @@ use Rattle.fx_rules.specs.declared.rule.Rule.{Rule}
 use Rattle.fx_rules.specs.declared.rule.Rule.TheVariants as rule
 use Rattle.fx_typed.specs.Term.{Term}
 use Rattle.app_laws.specs.Laws.{alone}
-use Rattle.fx_names.specs.Formulas.{formula_named}
 use Rattle.app_lines.specs.declared.formula.Formula.{Formula}
 use Rattle.app_names.specs.NameRules.{in_formula}
 
@@ -30,54 +28,44 @@ Breaks m n b =
     (r : Rule) × (at : ℕ) × (said : List ℕ) × (judged m n ≡ Err (at, number_of r))
     × IsToldBrokenWhole (alone m) false None n.expr at (number_of r) said × (b ≡ in_formula n r at said)
 
--- the formulas of these lines, as they are known by name
-abbrev pub put_known : Option FormulaName → List FormulaName → List FormulaName
-put_known (Some f) fs = f ∷ fs
-put_known None fs = fs
+-- the names that the formula of this number may use: of the formulas those before it alone
+abbrev pub names_before : ℕ → Names → Names
+names_before k m = record m { formulas = take k m.formulas }
 
-abbrev pub known_by : List FormulaName → List Named → List FormulaName
-known_by fs [] = []
-known_by fs (n ∷ ns) = put_known (formula_named n.name fs) (known_by fs ns)
+-- A formula uses the name of a formula that none before it gives: where those before it alone are, it is broken there.
+abbrev pub UsesLater : Names → ℕ → Named → Broken → Type 0
+UsesLater m k n b =
+    (at : ℕ) × (r : ℕ) × (judged (names_before k m) n ≡ Err (at, r)) × (b ≡ in_formula n rule.NotBuilt at (codes "name"))
 
--- the names that are there behind these lines
-abbrev pub names_behind : Names → List Named → Names
-names_behind m lines = record m { formulas = known_by m.formulas lines }
+-- these are the breaks of formulas, whose numbers begin with this one, in the order of their text: one at most of
+-- each, and none of one that is fine
+abbrev pub AreBreaks : (ℕ → Named → Type 0) → (ℕ → Named → Broken → Type 0) → ℕ → List Named → List Broken → Type 0
+AreBreaks IsFine IsBroken k [] bs = bs ≡ []
+AreBreaks IsFine IsBroken k (n ∷ ns) bs =
+    (IsFine k n × AreBreaks IsFine IsBroken (suc k) ns bs)
+    ⊎ ((b : Broken) × (more : List Broken) × (bs ≡ b ∷ more) × IsBroken k n b × AreBreaks IsFine IsBroken (suc k) ns more)
 
--- the lines before the one of this name
-abbrev pub lines_before : List ℕ → List Named → List Named
-lines_before x [] = []
-lines_before x (n ∷ ns) = if bytes_eq n.name x then [] else n ∷ lines_before x ns
+-- the breaks of formulas that aren't admitted
+abbrev pub AreRefused : Names → List Named → List Broken → Type 0
+AreRefused m lines bs = AreBreaks (λ k. IsAdmitted m) (λ k. Breaks m) 0 lines bs
 
--- the names that a formula's line finds
-abbrev pub names_at : Names → List Named → Named → Names
-names_at m lines n = names_behind m (lines_before n.name lines)
+-- the breaks of formulas that use the names of later ones
+abbrev pub AreUnordered : Names → List Named → List Broken → Type 0
+AreUnordered m lines bs = AreBreaks (λ k. IsAdmitted (names_before k m)) (UsesLater m) 0 lines bs
 
--- A formula uses the name of a formula that no line before its own gives: where those lines alone are, it is
--- broken there.
-abbrev pub UsesLater : Names → List Named → Named → Broken → Type 0
-UsesLater m lines n b =
-    (at : ℕ) × (r : ℕ) × (judged (names_at m lines n) n ≡ Err (at, r)) × (b ≡ in_formula n rule.NotBuilt at (codes "name"))
-
--- these are the breaks of formulas, one at most of each, in their order: of one that is fine there is none
-abbrev pub AreBreaks : (Named → Type 0) → (Named → Broken → Type 0) → List Named → List Broken → Type 0
-AreBreaks IsFine IsBroken [] bs = bs ≡ []
-AreBreaks IsFine IsBroken (n ∷ ns) bs =
-    (IsFine n × AreBreaks IsFine IsBroken ns bs)
-    ⊎ ((b : Broken) × (more : List Broken) × (bs ≡ b ∷ more) × IsBroken n b × AreBreaks IsFine IsBroken ns more)
-
--- a line's formula as it is loaded behind these lines: the number by which it is known, and its tree and its
--- type, which are the same under all names as behind those lines
-pub record IsLoaded (m : Names) (before : List Named) (n : Named) (f : Formula) : Type 0 where
+-- A formula as it is loaded: its name, its number, and its tree and its type, which are the same under all names as
+-- under those that it may use.
+pub record IsLoaded (m : Names) (k : ℕ) (n : Named) (f : Formula) : Type 0 where
   pub name : f.name ≡ n.name
-  pub known : (k : FormulaName) × (formula_named n.name m.formulas ≡ Some k) × (f.cell ≡ k.cell)
-  pub here : judged (names_behind m before) n ≡ Ok (f.core, shape f.ty)
+  pub number : f.cell ≡ k
+  pub here : judged (names_before k m) n ≡ Ok (f.core, shape f.ty)
   pub anywhere : judged m n ≡ Ok (f.core, shape f.ty)
 
-abbrev pub AreLoadedBehind : Names → List Named → List Named → List Formula → Type 0
-AreLoadedBehind m before [] fs = fs ≡ []
-AreLoadedBehind m before (n ∷ ns) [] = ⊥
-AreLoadedBehind m before (n ∷ ns) (f ∷ fs) = IsLoaded m before n f × AreLoadedBehind m (before ++ n ∷ []) ns fs
+abbrev pub AreLoadedFrom : Names → ℕ → List Named → List Formula → Type 0
+AreLoadedFrom m k [] fs = fs ≡ []
+AreLoadedFrom m k (n ∷ ns) [] = ⊥
+AreLoadedFrom m k (n ∷ ns) (f ∷ fs) = IsLoaded m k n f × AreLoadedFrom m (suc k) ns fs
 
--- these are the formulas of lines, one behind the other
+-- these are the formulas of lines, in the order of their text
 abbrev pub AreLoaded : Names → List Named → List Formula → Type 0
-AreLoaded m lines fs = AreLoadedBehind m [] lines fs
+AreLoaded m lines fs = AreLoadedFrom m 0 lines fs

@@ -18,9 +18,8 @@ use Rattle.fx_rules.specs.declared.rule.Rule.TheVariants as rule
 use Rattle.fx_sig.specs.Entries.{entries, entry}
 use Rattle.fx_functions.specs.declared.signatures.Signature.{Signature}
 use Rattle.app_loader.specs.declared.app.App.{App}
-use Rattle.app_loader.specs.Admitted.{AreBreaks, AreLoaded, Breaks, IsAdmitted, UsesLater, names_at}
+use Rattle.app_loader.specs.Admitted.{AreLoaded, AreRefused, AreUnordered}
 use Rattle.app_names.specs.AppNames.{AreNames}
-use Rattle.app_names.specs.Cells.{AreCells}
 use Rattle.app_loader.specs.Cells.{cell_of}
 use Rattle.app_names.specs.NameRules.{in_app, name_breaks}
 
@@ -46,31 +45,27 @@ AreUnread source bs = (b : Broken) × (bs ≡ b ∷ []) × Unread source b
 abbrev pub unsettled : Broken
 unsettled = in_app rule.LimitPassed (codes "rounds 256")
 
--- the names of lines are in order: these are their cells and their names, of which nothing is broken
-pub record AreNamedLines (lines cells : List Named) (n : Names) : Type 0 where
-  pub in_order : AreCells lines cells
-  pub named : AreNames cells n
-  pub unbroken : name_breaks n.signatures.now cells ≡ []
+-- these are the names of lines, of which nothing is broken
+pub record AreNamedLines (lines : List Named) (n : Names) : Type 0 where
+  pub named : AreNames lines n
+  pub unbroken : name_breaks n.signatures.now lines ≡ []
 
 -- besides, these are the names with their final types
-pub record AreTypedLines (lines cells : List Named) (m : Names) : Type 0 where
+pub record AreTypedLines (lines : List Named) (m : Names) : Type 0 where
   pub first : Names
-  pub named : AreNamedLines lines cells first
-  pub final : IsFinal (map cell_of cells) first m
+  pub named : AreNamedLines lines first
+  pub final : IsFinal (map cell_of lines) first m
 
 -- Lines of named formulas, judged: something is broken among their names; their types don't settle; some aren't
 -- admitted; some use a name that no line before them gives; or they are loaded.
 pub data JudgedLines : List Named → Result App (List Broken) → Type 0 where
-  misnamed : (lines cells : List Named) (functions : List Signature) (b : Broken) (bs : List Broken) → AreCells lines cells
-      → map entry functions ≡ entries → name_breaks functions cells ≡ b ∷ bs → JudgedLines lines (Err (b ∷ bs))
-  unsettling : (lines cells : List Named) (n : Names) → AreNamedLines lines cells n → StillChanges (map cell_of cells) n
-      → JudgedLines lines (Err (unsettled ∷ []))
-  refused : (lines cells : List Named) (m : Names) (b : Broken) (bs : List Broken) → AreTypedLines lines cells m
-      → AreBreaks (IsAdmitted m) (Breaks m) cells (b ∷ bs) → JudgedLines lines (Err (b ∷ bs))
-  unordered : (lines cells : List Named) (m : Names) (b : Broken) (bs : List Broken) → AreTypedLines lines cells m
-      → AreBreaks (IsAdmitted m) (Breaks m) cells []
-      → AreBreaks (λ n. IsAdmitted (names_at m lines n) n) (UsesLater m lines) cells (b ∷ bs) → JudgedLines lines (Err (b ∷ bs))
-  loaded : (lines cells : List Named) (a : App) → AreTypedLines lines cells a.names → AreLoaded a.names lines a.lines → JudgedLines lines (Ok a)
+  misnamed : (lines : List Named) (functions : List Signature) (b : Broken) (bs : List Broken) → map entry functions ≡ entries
+      → name_breaks functions lines ≡ b ∷ bs → JudgedLines lines (Err (b ∷ bs))
+  unsettling : (lines : List Named) (n : Names) → AreNamedLines lines n → StillChanges (map cell_of lines) n → JudgedLines lines (Err (unsettled ∷ []))
+  refused : (lines : List Named) (m : Names) (b : Broken) (bs : List Broken) → AreTypedLines lines m → AreRefused m lines (b ∷ bs) → JudgedLines lines (Err (b ∷ bs))
+  unordered : (lines : List Named) (m : Names) (b : Broken) (bs : List Broken) → AreTypedLines lines m → AreRefused m lines [] → AreUnordered m lines (b ∷ bs)
+      → JudgedLines lines (Err (b ∷ bs))
+  loaded : (lines : List Named) (a : App) → AreTypedLines lines a.names → AreLoaded a.names lines a.lines → JudgedLines lines (Ok a)
 
 -- The same of a text, which is parsed before.
 pub data JudgedText : List ℕ → Result App (List Broken) → Type 0 where

@@ -1,6 +1,6 @@
 //! Which formulas are admitted under names, and what is broken of the others.
 ghost use Rattle.std.specs.Prelude.{◌≡◌, ◌≤◌, All, IfOk, MatchOption, MatchResult, Ok};
-ghost use Rattle.app_loader.specs.Admitted.{AreBreaks, Breaks, IsAdmitted, judged};
+ghost use Rattle.app_loader.specs.Admitted.{AreRefused, Breaks, IsAdmitted, judged};
 ghost use Rattle.fx_infer.specs.Below.{tree_depth};
 ghost use Rattle.fx_local.specs.TypedView.{typed};
 ghost use Rattle.fx_names.specs.Lawful.{IsLawful};
@@ -50,15 +50,15 @@ fn rule_break(alloc: Global, names: &Names, formula: &Named) -> Result<Option<Br
     }
 }
 
-/// What is broken of cells under names, one break at most of each.
-pub fn rule_breaks(alloc: Global, names: &Names, cells: &[Named]) -> Result<Vec<Broken>, Memory>
+/// What is broken of formulas under names, one break at most of each, in the order of their text.
+pub fn rule_breaks(alloc: Global, names: &Names, lines: &[Named]) -> Result<Vec<Broken>, Memory>
     requires lawful { IsLawful names.now }
-    requires shallow { All (λ n. tree_depth n.expr ≤ 256) cells.now }
-    ensures { IfOk result (λ v. AreBreaks (IsAdmitted names.now) (Breaks names.now) cells.now v.items) }
+    requires shallow { All (λ n. tree_depth n.expr ≤ 256) lines.now }
+    ensures { IfOk result (λ v. AreRefused names.now lines.now v.items) }
 {
     let mut breaks = Vec::new(alloc);
-    for cell in cells {
-        let broken = rule_break(alloc, names, cell)?;
+    for line in lines {
+        let broken = rule_break(alloc, names, line)?;
         put_break(&mut breaks, broken)?;
     }
     Ok(breaks)

@@ -1,26 +1,23 @@
 //! Lines of named formulas, one behind the other.
-ghost use Rattle.std.specs.Prelude.{◌≡◌, ◌<◌, ◌≤◌, ◌^◌, ◌++◌, [], All, IfOk, IsSome, MatchOption, OnOk, Some, length};
-ghost use Rattle.std.specs.List.{filter_map};
-ghost use Rattle.std.specs.List.Sorted.{IsPermutation};
-ghost use Rattle.app_lines.specs.ReadyLines.{AreReady};
-ghost use Rattle.app_loader.specs.Admitted.{AreBreaks, AreLoaded, IsAdmitted, UsesLater, names_at, names_behind, put_known};
-ghost use Rattle.app_loader.specs.Bare.{AreApart, AreKnown, AreNumbered, AreSettled, AreToldByNumber, HasLater, IsBare, IsFormulaOf, IsNamedSo, UsesMissing, cell_number, later_of};
+ghost use Rattle.std.specs.Prelude.{◌≡◌, ◌≤◌, ◌++◌, ◌∷◌, [], All, Err, IfErr, IfOk, MatchResult, OnOk};
+ghost use Rattle.app_loader.specs.Admitted.{AreLoaded, AreRefused, names_before};
+ghost use Rattle.app_loader.specs.Bare.{IsBare, IsFormulaOf, IsNamedSo, UsesMissing, later_of};
+ghost use Rattle.app_loader.specs.Judged.{AreTypedLines, JudgedLines, Tells};
 ghost use Rattle.fx_infer.specs.Below.{tree_depth};
 ghost use Rattle.fx_local.specs.TypedView.{typed};
-ghost use Rattle.fx_names.specs.Formulas.{formula_named};
 ghost use Rattle.fx_names.specs.Lawful.{IsLawful};
 
 use crate::admitting::judged;
-use app_laws::{admitted_is_lawful, more_names_same_tree};
-use app_lines::Formula;
+use app_laws::{admitted_declares_nothing, admitted_is_lawful, more_names_same_tree};
+use app_lines::{Formula, Lines};
 use app_names::broken::word;
-use fx_base::Memory;
+use fx_base::{InOrder, Memory};
 use fx_fresh::typings_are_lawful;
 use fx_judge::{admitted_is_typed, pure_is_quiet};
 use fx_local::Typed;
 use fx_names::{FormulaList, FormulaName, Names, Schema};
 use fx_parser::Named;
-use fx_rules::{Broken, Rule};
+use fx_rules::{AppEnd, Broken, Rule};
 use std::alloc::Global;
 
 fn copy_of(alloc: Global, formula: &FormulaName) -> Result<FormulaName, Memory>
@@ -36,7 +33,7 @@ fn copy_of(alloc: Global, formula: &FormulaName) -> Result<FormulaName, Memory>
 // The names before the first line.
 fn bare(alloc: Global, names: &Names) -> Names
     requires { IsBare names.now }
-    ensures { result ≡ names_behind names.now [] }
+    ensures { result ≡ names_before 0 names.now }
 {
     Names {
         signatures: names.signatures,
@@ -52,17 +49,15 @@ fn bare(alloc: Global, names: &Names) -> Names
     }
 }
 
-// Adds the formula of a line, as it is known by its name.
-fn give(alloc: Global, names: &Names, line: &Named, found: &mut Names) -> Result<(), Memory>
-    ensures { OnOk result (found.new ≡ record found.old { formulas = found.old.formulas ++ put_known (formula_named line.now.name names.now.formulas) [] }) }
+// Adds a formula, as it is known by its name.
+fn give(alloc: Global, known: &FormulaName, found: &mut Names) -> Result<(), Memory>
+    ensures { OnOk result (found.new ≡ record found.old { formulas = found.old.formulas ++ known.now ∷ [] }) }
 {
-    if let Some(formula) = names.formulas.find(&line.name) {
-        found.formulas.push(alloc, copy_of(alloc, formula)?)?;
-    }
+    found.formulas.push(alloc, copy_of(alloc, known)?)?;
     Ok(())
 }
 
-// That a formula uses a later name, where something is broken of it behind the lines before its own.
+// That a formula uses a later name, where something is broken of it under the names that are found.
 fn later(alloc: Global, broken: Broken) -> Result<Broken, Memory>
     ensures { IfOk result (λ b. b ≡ later_of broken) }
 {
@@ -74,153 +69,85 @@ fn later(alloc: Global, broken: Broken) -> Result<Broken, Memory>
     })
 }
 
-// Where a line's formula uses the name of a formula that isn't among these, if it does.
-fn line_break(alloc: Global, found: &Names, line: &Named) -> Result<Option<Broken>, Memory>
-    requires lawful { IsLawful found.now }
-    requires shallow { tree_depth line.now.expr ≤ 256 }
-    ensures { IfOk result (λ o. MatchOption o (IsAdmitted found.now line.now) (UsesMissing found.now line.now)) }
-{
-    match judged(alloc, found, line)? {
-        Ok(_) => Ok(None),
-        Err(broken) => Ok(Some(later(alloc, broken)?)),
-    }
-}
-
-// The number of a line's cell.
-fn number_of(names: &Names, line: &Named) -> usize
-    requires { IsSome (cell_number names.now line.now) }
-    ensures { cell_number names.now line.now ≡ Some result }
-{
-    match names.formulas.find(&line.name) {
-        Some(formula) => formula.cell as usize,
-        None => unreachable!(),
-    }
-}
-
-// No break of any of these cells.
-fn no_breaks(alloc: Global, cells: &[Named]) -> Result<Vec<Option<Broken>>, Memory>
-    ensures { IfOk result (λ v. length v.items ≡ length cells.now) }
-{
-    Ok(cells.iter().map(|_| None).collect(alloc)?)
-}
-
-// Where each cell uses the name of a formula that no line before its own gives, if it does. The lines are
-// judged one behind the other, and what is broken of one is kept at the number of its cell.
-fn breaks_by_number(
-    alloc: Global,
-    names: &Names,
-    lines: &[Named],
-    cells: &[Named],
-) -> Result<Vec<Option<Broken>>, Memory>
-    requires lawful { IsLawful names.now }
-    requires bare { IsBare names.now }
-    requires apart { AreApart lines.now }
-    requires few { length lines.now < 2 ^ 32 }
-    requires shallow { All (λ n. tree_depth n.expr ≤ 256) lines.now }
-    requires rearranged { IsPermutation lines.now cells.now }
-    requires numbered { AreNumbered names.now cells.now }
-    ensures { IfOk result (λ v. AreToldByNumber names.now lines.now cells.now v.items) }
-{
-    let mut found = bare(alloc, names);
-    let mut breaks = no_breaks(alloc, cells)?;
-    for line in lines {
-        let number = number_of(names, line);
-        breaks[number] = line_break(alloc, &found, line)?;
-        give(alloc, names, line, &mut found)?;
-    }
-    Ok(breaks)
-}
-
-// The breaks that there are, in order.
-fn only_breaks(alloc: Global, all: Vec<Option<Broken>>) -> Result<Vec<Broken>, Memory>
-    ensures { IfOk result (λ v. v.items ≡ filter_map (λ o. o) all.items) }
-{
-    Ok(all.into_iter().filter_map(|one| one).collect(alloc)?)
-}
-
-/// Where cells use the name of a formula that no line before their own gives, one break at most of each.
-pub fn line_breaks(
-    alloc: Global,
-    names: &Names,
-    lines: &[Named],
-    cells: &[Named],
-) -> Result<Vec<Broken>, Memory>
-    requires lawful { IsLawful names.now }
-    requires bare { IsBare names.now }
-    requires apart { AreApart lines.now }
-    requires few { length lines.now < 2 ^ 32 }
-    requires shallow { All (λ n. tree_depth n.expr ≤ 256) cells.now }
-    requires rearranged { IsPermutation lines.now cells.now }
-    requires numbered { AreNumbered names.now cells.now }
-    ensures { IfOk result (λ v. AreBreaks (λ n. IsAdmitted (names_at names.now lines.now n) n) (UsesLater names.now lines.now) cells.now v.items) }
-{
-    let by_number = breaks_by_number(alloc, names, lines, cells)?;
-    only_breaks(alloc, by_number)
-}
-
 // A line's formula with its typed tree.
-fn loaded(alloc: Global, names: &Names, line: &Named, value: Typed) -> Result<Formula, Memory>
-    requires { IsSome (formula_named line.now.name names.now.formulas) }
-    ensures { IfOk result (IsNamedSo names.now line.now (typed value)) }
+fn loaded(
+    alloc: Global,
+    known: &FormulaName,
+    line: &Named,
+    value: Typed,
+) -> Result<Formula, Memory>
+    ensures { IfOk result (IsNamedSo known.now line.now (typed value)) }
 {
-    match names.formulas.find(&line.name) {
-        Some(formula) => Ok(Formula {
-            name: line.name.copy(alloc)?,
-            cell: formula.cell,
-            core: value.core,
-            ty: value.ty,
-        }),
-        None => unreachable!(),
-    }
+    Ok(Formula {
+        name: line.name.copy(alloc)?,
+        cell: known.cell,
+        core: value.core,
+        ty: value.ty,
+    })
 }
 
-// A line's formula, if it is admitted under the names that its line finds.
+// A line's formula, if it is admitted under the names that are found, or where it uses a name that isn't.
 fn line_formula(
     alloc: Global,
-    names: &Names,
     found: &Names,
+    known: &FormulaName,
     line: &Named,
-) -> Result<Option<Formula>, Memory>
-    requires known { IsSome (formula_named line.now.name names.now.formulas) }
+) -> Result<Result<Formula, Broken>, Memory>
     requires lawful { IsLawful found.now }
     requires shallow { tree_depth line.now.expr ≤ 256 }
-    ensures { IfOk result (λ o. MatchOption o (IsAdmitted found.now line.now → ⊥) (IsFormulaOf names.now found.now line.now)) }
+    ensures { IfOk result (λ r. MatchResult r (IsFormulaOf found.now known.now line.now) (UsesMissing found.now line.now)) }
 {
     match judged(alloc, found, line)? {
-        Ok(value) => Ok(Some(loaded(alloc, names, line, value)?)),
-        Err(_) => Ok(None),
+        Ok(value) => Ok(Ok(loaded(alloc, known, line, value)?)),
+        Err(broken) => Ok(Err(later(alloc, broken)?)),
     }
 }
 
-/// The formulas of lines, each admitted behind those before it, or None where one uses a later name.
-pub fn load_lines(
-    alloc: Global,
-    names: &Names,
-    lines: &[Named],
-) -> Result<Option<Vec<Formula>>, Memory>
-    requires lawful { IsLawful names.now }
-    requires bare { IsBare names.now }
-    requires apart { AreApart lines.now }
-    requires few { length lines.now < 2 ^ 32 }
-    requires shallow { All (λ n. tree_depth n.expr ≤ 256) lines.now }
-    requires known { AreKnown names.now lines.now }
-    requires settled { AreSettled names.now lines.now }
-    ensures { IfOk result (λ o. MatchOption o (HasLater names.now lines.now)
-        (λ v. AreLoaded names.now lines.now v.items × AreReady v.items)) }
+// Adds a formula to those that are loaded, or its break to the breaks.
+fn put(
+    one: Result<Formula, Broken>,
+    formulas: &mut Vec<Formula>,
+    breaks: &mut Vec<Broken>,
+) -> Result<(), Memory>
+    ensures { OnOk result (MatchResult one
+        (λ f. (formulas.new.items ≡ formulas.old.items ++ f ∷ []) × (breaks.new.items ≡ breaks.old.items))
+        (λ b. (formulas.new.items ≡ formulas.old.items) × (breaks.new.items ≡ breaks.old.items ++ b ∷ []))) }
 {
+    match one {
+        Ok(formula) => formulas.push(formula)?,
+        Err(broken) => breaks.push(broken)?,
+    }
+    Ok(())
+}
+
+/// The formulas of lines that are all admitted, each under the names of those before it, or the breaks of those
+/// that use later names, one at most of each, in the order of their text.
+pub fn load_lines(alloc: Global, names: &Names, lines: &[Named]) -> Result<Lines, AppEnd>
+    requires lawful { IsLawful names.now }
+    requires settled { AreTypedLines lines.now names.now }
+    requires admitted { AreRefused names.now lines.now [] }
+    requires shallow { All (λ n. tree_depth n.expr ≤ 256) lines.now }
+    ensures loaded { IfOk result (AreLoaded names.now lines.now) }
+    ensures refused { IfErr result (Tells (λ bs. JudgedLines lines.now (Err bs))) }
+{
+    admitted_declares_nothing();
     more_names_same_tree();
     admitted_is_lawful();
     admitted_is_typed();
     pure_is_quiet();
     typings_are_lawful();
+    let known = names.formulas.as_slice();
     let mut found = bare(alloc, names);
     let mut formulas = Vec::new(alloc);
-    for line in lines {
-        let Some(formula) = line_formula(alloc, names, &found, line)? else {
-            return Ok(None);
-        };
-        formulas.push(formula)?;
-        give(alloc, names, line, &mut found)?;
+    let mut breaks = Vec::new(alloc);
+    for (number, line) in lines.iter().enumerate() {
+        let one = line_formula(alloc, &found, &known[number], line)?;
+        put(one, &mut formulas, &mut breaks)?;
+        give(alloc, &known[number], &mut found)?;
     }
-    Ok(Some(formulas))
+    if breaks.is_empty() {
+        Ok(Lines::of(formulas))
+    } else {
+        Err(AppEnd::Refused(breaks))
+    }
 }

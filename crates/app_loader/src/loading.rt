@@ -1,18 +1,15 @@
 //! From a text of named formulas to its app.
-ghost use Rattle.std.specs.Prelude.{◌≡◌, ◌≤◌, [], All, Err, IfErr, IfOk, Ok, length};
-ghost use Rattle.app_loader.specs.Admitted.{AreBreaks, Breaks, IsAdmitted};
+ghost use Rattle.std.specs.Prelude.{◌≤◌, All, Err, IfErr, IfOk, Ok, length};
 ghost use Rattle.app_loader.specs.Judged.{AreNamedLines, AreTypedLines, Judged, JudgedLines, JudgedText, Tells, longest};
 ghost use Rattle.fx_infer.specs.Below.{tree_depth};
 ghost use Rattle.fx_names.specs.Lawful.{IsLawful};
 
 use crate::admitting::rule_breaks;
 use crate::app::App;
-use crate::lining::{line_breaks, load_lines};
+use crate::lining::load_lines;
 use crate::refusing::{in_app, only, unread};
 use crate::writing::all_written;
-use app_laws::admitted_declares_nothing;
-use app_lines::Lines;
-use app_names::{in_app_order, name_breaks, names_of};
+use app_names::{name_breaks, names_of};
 use fx_base::Memory;
 use fx_depths::no_deeper;
 use fx_infer::InferEnd;
@@ -60,62 +57,43 @@ fn named_app(alloc: Global, lines: &[Named]) -> Result<App, AppEnd>
     ensures app { IfOk result (λ a. JudgedLines lines.now (Ok a)) }
     ensures refused { IfErr result (Tells (λ bs. JudgedLines lines.now (Err bs))) }
 {
-    let cells = in_app_order(alloc, lines)?;
     let functions = fx_sig::all();
-    let breaks = name_breaks(alloc, functions, &cells)?;
+    let breaks = name_breaks(alloc, functions, lines)?;
     if !breaks.is_empty() {
         return Err(AppEnd::Refused(breaks));
     }
-    let names = names_of(alloc, functions, &cells)?;
-    typed_app(alloc, lines, &cells, names)
+    let names = names_of(alloc, functions, lines)?;
+    typed_app(alloc, lines, names)
 }
 
 // The app of lines of whose names nothing is broken, by the rounds of their types.
-fn typed_app(alloc: Global, lines: &[Named], cells: &[Named], first: Names) -> Result<App, AppEnd>
-    requires named { AreNamedLines lines.now cells.now first }
+fn typed_app(alloc: Global, lines: &[Named], first: Names) -> Result<App, AppEnd>
+    requires named { AreNamedLines lines.now first }
     requires lawful { IsLawful first }
     requires shallow { All (λ n. tree_depth n.expr ≤ 256) lines.now }
     ensures app { IfOk result (λ a. JudgedLines lines.now (Ok a)) }
     ensures refused { IfErr result (Tells (λ bs. JudgedLines lines.now (Err bs))) }
 {
-    let written = all_written(alloc, cells)?;
+    let written = all_written(alloc, lines)?;
     match type_rounds(alloc, first, &written) {
-        Ok(names) => judged_app(alloc, lines, cells, names),
+        Ok(names) => judged_app(alloc, lines, names),
         Err(InferEnd::Broken(broken)) => Err(only(alloc, broken)),
         Err(InferEnd::Memory) => Err(AppEnd::Memory),
     }
 }
 
-// The app of lines whose types are settled, by their formulas.
-fn judged_app(alloc: Global, lines: &[Named], cells: &[Named], names: Names) -> Result<App, AppEnd>
-    requires settled { AreTypedLines lines.now cells.now names }
+// The app of lines whose types are settled, by their formulas and then by their order.
+fn judged_app(alloc: Global, lines: &[Named], names: Names) -> Result<App, AppEnd>
+    requires settled { AreTypedLines lines.now names }
     requires lawful { IsLawful names }
     requires shallow { All (λ n. tree_depth n.expr ≤ 256) lines.now }
     ensures app { IfOk result (λ a. JudgedLines lines.now (Ok a)) }
     ensures refused { IfErr result (Tells (λ bs. JudgedLines lines.now (Err bs))) }
 {
-    let breaks = rule_breaks(alloc, &names, cells)?;
+    let breaks = rule_breaks(alloc, &names, lines)?;
     if !breaks.is_empty() {
         return Err(AppEnd::Refused(breaks));
     }
-    ordered_app(alloc, lines, cells, names)
-}
-
-// The app of lines that are all admitted, by their order.
-fn ordered_app(alloc: Global, lines: &[Named], cells: &[Named], names: Names) -> Result<App, AppEnd>
-    requires settled { AreTypedLines lines.now cells.now names }
-    requires lawful { IsLawful names }
-    requires shallow { All (λ n. tree_depth n.expr ≤ 256) lines.now }
-    requires admitted { AreBreaks (IsAdmitted names) (Breaks names) cells.now [] }
-    ensures app { IfOk result (λ a. JudgedLines lines.now (Ok a)) }
-    ensures refused { IfErr result (Tells (λ bs. JudgedLines lines.now (Err bs))) }
-{
-    admitted_declares_nothing();
-    match load_lines(alloc, &names, lines)? {
-        Some(formulas) => {
-            let lines = Lines::of(formulas);
-            Ok(App { lines, names })
-        }
-        None => Err(AppEnd::Refused(line_breaks(alloc, &names, lines, cells)?)),
-    }
+    let lines = load_lines(alloc, &names, lines)?;
+    Ok(App { lines, names })
 }

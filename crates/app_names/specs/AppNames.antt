@@ -12,7 +12,7 @@ use Rattle.app_names.specs.declared.declarations.Declared.{Declared}
 use Rattle.app_names.specs.declared.declarations.Thing.TheVariants as thing
 use Rattle.app_names.specs.Declarations.{is_kind, things_of}
 
--- formulas by their names, with the numbers of their cells from this one on
+-- formulas with their names and the numbers of their cells: their places, counted from this one on
 abbrev pub formulas_from : ℕ → List Named → List FormulaName
 formulas_from k [] = []
 formulas_from k (n ∷ ns) = record { name = n.name; cell = k; ty = ty.Blank } ∷ formulas_from (suc k) ns
@@ -29,8 +29,8 @@ as_variable d = record { name = d.name; screen = None; ty = ty.Blank }
 abbrev pub as_collection : Declared → Collection
 as_collection d = record { name = d.name; ty = ty.Blank }
 
--- The names of cells: all functions, the formulas, and what these declare, each of type Blank so far. There
--- is no table, no screen and no control.
+-- The names of named formulas in the order of their text: all functions, the formulas, and what these declare,
+-- each of type Blank so far. There is no table, no screen and no control.
 pub record AreNames (cells : List Named) (n : Names) : Type 0 where
   pub signatures : map entry n.signatures.now ≡ entries
   pub tables : n.schema.tables ≡ []

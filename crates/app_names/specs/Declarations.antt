@@ -23,24 +23,25 @@ declared_by s = None
 abbrev pub called_as : List Signature → List ℕ → Option SigShape
 called_as functions f = option_map (λ (s : Signature). s.shape) (signature_in functions (encode_utf8_all f))
 
--- the name that stands first among the parts of a call
-abbrev pub first_name : Forest → Option (List ℕ)
-first_name (more (node at (tree.name x) ts) ks) = Some x
-first_name (more (node at (tree.global x) ts) ks) = Some x
+-- the name that stands first among the parts of a call, and the byte of the text at which it begins
+abbrev pub first_name : Forest → Option (List ℕ × ℕ)
+first_name (more (node at (tree.name x) ts) ks) = Some (x, at)
+first_name (more (node at (tree.global x) ts) ks) = Some (x, at)
 first_name ts = None
 
-abbrev pub declaration : ℕ → Option Thing → Option (List ℕ) → List Declared
-declaration at (Some k) (Some x) = record { thing = k; name = x; at = at } ∷ []
-declaration at k x = []
+-- what a call declares stands at its name
+abbrev pub declaration : Option Thing → Option (List ℕ × ℕ) → List Declared
+declaration (Some k) (Some named) = record { thing = k; name = named.0; at = named.1 } ∷ []
+declaration k named = []
 
-abbrev pub declared_at : List Signature → ℕ → Head → Forest → List Declared
-declared_at functions at (tree.call f) ts = declaration at (declared_by (called_as functions f)) (first_name ts)
-declared_at functions at h ts = []
+abbrev pub declared_at : List Signature → Head → Forest → List Declared
+declared_at functions (tree.call f) ts = declaration (declared_by (called_as functions f)) (first_name ts)
+declared_at functions h ts = []
 
 abbrev mutual
   -- what a tree declares, by the functions of a table: a node before its parts
   pub declared_in : List Signature → Tree → List Declared
-  declared_in functions (node at h ts) = declared_at functions at h ts ++ declared_among functions ts
+  declared_in functions (node at h ts) = declared_at functions h ts ++ declared_among functions ts
 
   pub declared_among : List Signature → Forest → List Declared
   declared_among functions none = []

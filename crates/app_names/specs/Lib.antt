@@ -1,5 +1,4 @@
 pub mod Declarations
 pub mod Tops
-pub mod Cells
 pub mod AppNames
 pub mod NameRules

@@ -14,7 +14,7 @@ below (node at h ts) = ts
 
 -- what a tree declares at its top
 abbrev pub declared_here : List Signature → Tree → List Declared
-declared_here functions (node at h ts) = declared_at functions at h ts
+declared_here functions (node at h ts) = declared_at functions h ts
 
 -- the set has this name
 abbrev pub has : BTreeSet (List ℕ) → List ℕ → Bool

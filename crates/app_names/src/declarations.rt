@@ -24,7 +24,7 @@ pub enum Thing {
 pub struct Declared {
     pub thing: Thing,
     pub name: Words,
-    /// The byte of the text at which the call begins.
+    /// The byte of the text at which the name begins.
     pub at: u32,
 }
 
@@ -47,15 +47,15 @@ fn called_as(functions: &[Signature], name: &Words) -> Option<SigShape>
     signature_in(functions, name.as_str()).map(|signature| signature.shape)
 }
 
-// The name that stands first among the parts of a call.
-fn first_name(parts: &[Expr]) -> Option<&Words>
-    ensures { option_map (λ w. w.now) result ≡ table.first_name (forest parts.now) }
+// The name that stands first among the parts of a call, and the byte of the text at which it begins.
+fn first_name(parts: &[Expr]) -> Option<(&Words, u32)>
+    ensures { option_map (λ p. (p.0.now, p.1)) result ≡ table.first_name (forest parts.now) }
 {
     match parts {
         [] => None,
         [first, ..] => match &first.node {
-            Node::Name(name) => Some(name),
-            Node::Global(name) => Some(name),
+            Node::Name(name) => Some((name, first.at)),
+            Node::Global(name) => Some((name, first.at)),
             _ => None,
         },
     }
@@ -77,9 +77,8 @@ fn declare_here(
         declared_by(called_as(functions, function)),
         first_name(parts.as_slice()),
     ) {
-        (Some(thing), Some(name)) => {
+        (Some(thing), Some((name, at))) => {
             let name = name.copy(alloc)?;
-            let at = whole.at;
             found.push(Declared { thing, name, at })?;
             Ok(())
         }

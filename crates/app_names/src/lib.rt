@@ -3,7 +3,6 @@
 
 pub mod breaks;
 pub mod broken;
-pub mod cells;
 pub mod declarations;
 pub mod limits;
 pub mod naming;
@@ -11,6 +10,5 @@ pub mod taken;
 pub mod things;
 
 pub use breaks::name_breaks;
-pub use cells::in_app_order;
 pub use declarations::{Declared, Thing};
 pub use naming::names_of;

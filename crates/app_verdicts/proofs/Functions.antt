@@ -50,13 +50,13 @@ module _ (ss ts : List Signature) (same : map entry ss ≡ map entry ts) where
       ∙ sym (called_shape (signature_in ts f))
 
   -- what is declared
-  here_alike : (at : ℕ) (h : Head) (ks : Forest) → declared_at ss at h ks ≡ declared_at ts at h ks
-  here_alike at (tree.call f) ks = ap (λ (o : Option SigShape). declaration at (declared_by o) (first_name ks)) (called_alike f)
-  here_alike at h ks = refl
+  here_alike : (h : Head) (ks : Forest) → declared_at ss h ks ≡ declared_at ts h ks
+  here_alike (tree.call f) ks = ap (λ (o : Option SigShape). declaration (declared_by o) (first_name ks)) (called_alike f)
+  here_alike h ks = refl
 
   mutual
     in_alike : (e : Tree) → declared_in ss e ≡ declared_in ts e
-    in_alike (node at h ks) = λ i. here_alike at h ks i ++ among_alike ks i
+    in_alike (node at h ks) = λ i. here_alike h ks i ++ among_alike ks i
 
     among_alike : (ks : Forest) → declared_among ss ks ≡ declared_among ts ks
     among_alike none = refl

@@ -1,5 +1,4 @@
 mod OneText
-mod OneOrder
 mod Functions
 mod Judging
 mod Rounds

@@ -4,18 +4,15 @@ use Rattle.std.proofs.lemmas.Bool.{cases_lt}
 use Rattle.std.proofs.lemmas.List.{length-take-le, take-take}
 use Rattle.std.specs.Str.{chars}
 use Rattle.app_laws.specs.Laws.{alone}
-use Rattle.app_loader.specs.Admitted.{AreBreaks, Breaks, IsAdmitted, UsesLater, judged, names_at}
+use Rattle.app_loader.specs.Admitted.{AreBreaks, AreRefused, AreUnordered, Breaks, IsAdmitted, UsesLater, judged, names_before}
 use Rattle.app_loader.specs.Cells.{cell_of}
 use Rattle.app_loader.specs.Judged.{AreNamedLines, AreTypedLines, Judged, JudgedLines, JudgedText, Unread, bad_token, in_formulas, loaded, misnamed, no_formulas, no_text, read, refused, text, too_deep, too_long, unordered, unread, unsettling}
 use Rattle.app_loader.specs.declared.app.App.{App}
-use Rattle.app_names.specs.AppNames.{AreNames}
-use Rattle.app_names.specs.Cells.{AreCells}
 use Rattle.app_names.specs.NameRules.{in_formula, name_breaks}
 use Rattle.app_verdicts.specs.Verdicts.{AreSameBreaks, IsOneRefusalOfAText}
 use Rattle.app_verdicts.proofs.Functions.{breaks_alike}
-use Rattle.app_verdicts.proofs.OneOrder.{one_order}
 use Rattle.app_verdicts.proofs.OneText.{lexed_of, not_unread, one_text}
-use Rattle.app_verdicts.proofs.OneVerdict.{judged_at, not_both, same_cells, same_names}
+use Rattle.app_verdicts.proofs.OneVerdict.{judged_at, judged_before, not_both, not_some, same_names}
 use Rattle.app_verdicts.proofs.Rounds.{AreAlike, functions_at, settles_alike}
 use Rattle.app_verdicts.proofs.Told.{whole_once, whole_told_alike}
 use Rattle.fx_data.specs.Types.{Shape}
@@ -125,19 +122,19 @@ one_break : (r q : Result (Term × Shape) (ℕ × ℕ)) (w v : ℕ × ℕ) → r
 one_break r q w v e x y = let both : ◌≡◌ {A = Result (Term × Shape) (ℕ × ℕ)} (Err w) (Err v) = sym x ∙ e ∙ y in cc
 
 -- lists of breaks of the same formulas are one, where each formula's is
-breaks_one : (F G : Named → Type 0) (B C : Named → Broken → Type 0) → ((n : Named) (c : Broken) → F n → C n c → ⊥) → ((n : Named) (b : Broken) → G n → B n b → ⊥)
-    → ((n : Named) (b c : Broken) → B n b → C n c → b ≡ c) → (ns : List Named) (bs cs : List Broken) → AreBreaks F B ns bs → AreBreaks G C ns cs → bs ≡ cs
-breaks_one F G B C f g h [] bs cs x y = x ∙ sym y
-breaks_one F G B C f g h (n ∷ ns) bs cs (inl x) (inl y) = breaks_one F G B C f g h ns bs cs x.1 y.1
-breaks_one F G B C f g h (n ∷ ns) bs cs (inl x) (inr y) = absurd (f n y.0 x.0 y.3)
-breaks_one F G B C f g h (n ∷ ns) bs cs (inr x) (inl y) = absurd (g n x.0 y.0 x.3)
-breaks_one F G B C f g h (n ∷ ns) bs cs (inr x) (inr y) =
-    let rest = breaks_one F G B C f g h ns x.1 y.1 x.4 y.4 in
-    let first = h n x.0 y.0 x.3 y.3 in
+breaks_one : (F G : ℕ → Named → Type 0) (B C : ℕ → Named → Broken → Type 0) → ((k : ℕ) (n : Named) (c : Broken) → F k n → C k n c → ⊥) → ((k : ℕ) (n : Named) (b : Broken) → G k n → B k n b → ⊥)
+    → ((k : ℕ) (n : Named) (b c : Broken) → B k n b → C k n c → b ≡ c) → (k : ℕ) (ns : List Named) (bs cs : List Broken) → AreBreaks F B k ns bs → AreBreaks G C k ns cs → bs ≡ cs
+breaks_one F G B C f g h k [] bs cs x y = x ∙ sym y
+breaks_one F G B C f g h k (n ∷ ns) bs cs (inl x) (inl y) = breaks_one F G B C f g h (suc k) ns bs cs x.1 y.1
+breaks_one F G B C f g h k (n ∷ ns) bs cs (inl x) (inr y) = absurd (f k n y.0 x.0 y.3)
+breaks_one F G B C f g h k (n ∷ ns) bs cs (inr x) (inl y) = absurd (g k n x.0 y.0 x.3)
+breaks_one F G B C f g h k (n ∷ ns) bs cs (inr x) (inr y) =
+    let rest = breaks_one F G B C f g h (suc k) ns x.1 y.1 x.4 y.4 in
+    let first = h k n x.0 y.0 x.3 y.3 in
     x.2 ∙ (λ i. first i ∷ rest i) ∙ sym y.2
 
 -- two names that differ in the place of the table of functions alone
-module _ (lines : List Named) (m k : Names) (e : k ≡ functions_at m k.signatures) (alike : AreAlike k.signatures m.signatures) where
+module _ (m k : Names) (e : k ≡ functions_at m k.signatures) (alike : AreAlike k.signatures m.signatures) where
   told_at : (n : Named) (w r : ℕ) (said : List ℕ) → IsToldBrokenWhole (alone k) false None n.expr w r said → IsToldBrokenWhole (alone m) false None n.expr w r said
   told_at n w r said x =
       whole_told_alike m k.signatures m.signatures alike n.expr w r said (subst (λ (z : Names). IsToldBrokenWhole (alone z) false None n.expr w r said) e x)
@@ -153,28 +150,27 @@ module _ (lines : List Named) (m k : Names) (e : k ≡ functions_at m k.signatur
       let said : x.2 ≡ y.2 = whole_once (alone m) false None n.expr y.1 (number_of y.0) x.2 y.2 told (told_at n y.1 (number_of y.0) y.2 y.4) in
       x.5 ∙ (λ i. in_formula n (rule_one x.0 y.0 number i) (at i) (said i)) ∙ sym y.5
 
-  later_judged : (n : Named) → judged (names_at k lines n) n ≡ judged (names_at m lines n) n
-  later_judged n = judged_at (names_at m lines n) (names_at k lines n) n (ap (λ (z : Names). names_at z lines n) e) alike
+  later_judged : (i : ℕ) (n : Named) → judged (names_before i k) n ≡ judged (names_before i m) n
+  later_judged i n = judged_before m k i n e alike
 
-  later_one : (n : Named) (b c : Broken) → UsesLater m lines n b → UsesLater k lines n c → b ≡ c
-  later_one n b c x y =
-      let place : ◌≡◌ {A = ℕ × ℕ} (x.0, x.1) (y.0, y.1) = one_break (judged (names_at m lines n) n) (judged (names_at k lines n) n) (x.0, x.1) (y.0, y.1) (sym (later_judged n)) x.2 y.2 in
+  later_one : (i : ℕ) (n : Named) (b c : Broken) → UsesLater m i n b → UsesLater k i n c → b ≡ c
+  later_one i n b c x y =
+      let place : ◌≡◌ {A = ℕ × ℕ} (x.0, x.1) (y.0, y.1) = one_break (judged (names_before i m) n) (judged (names_before i k) n) (x.0, x.1) (y.0, y.1) (sym (later_judged i n)) x.2 y.2 in
       x.3 ∙ ap (λ (w : ℕ × ℕ). in_formula n rule.NotBuilt w.0 (codes "name")) place ∙ sym y.3
 
-  refused_one : (cells : List Named) (bs cs : List Broken) → AreBreaks (IsAdmitted m) (Breaks m) cells bs → AreBreaks (IsAdmitted k) (Breaks k) cells cs → bs ≡ cs
-  refused_one cells bs cs =
-      breaks_one (IsAdmitted m) (IsAdmitted k) (Breaks m) (Breaks k)
-      (λ n c x y. not_both x.0 (y.1, number_of y.0) (judged k n) (judged_at m k n e alike ∙ x.1) y.3)
-      (λ n b x y. not_both x.0 (y.1, number_of y.0) (judged m n) (sym (judged_at m k n e alike) ∙ x.1) y.3)
-      break_one cells bs cs
+  refused_one : (lines : List Named) (bs cs : List Broken) → AreRefused m lines bs → AreRefused k lines cs → bs ≡ cs
+  refused_one lines bs cs =
+      breaks_one (λ i. IsAdmitted m) (λ i. IsAdmitted k) (λ i. Breaks m) (λ i. Breaks k)
+      (λ i n c x y. not_both x.0 (y.1, number_of y.0) (judged k n) (judged_at m k n e alike ∙ x.1) y.3)
+      (λ i n b x y. not_both x.0 (y.1, number_of y.0) (judged m n) (sym (judged_at m k n e alike) ∙ x.1) y.3)
+      (λ i. break_one) 0 lines bs cs
 
-  unordered_one : (cells : List Named) (bs cs : List Broken) → AreBreaks (λ n. IsAdmitted (names_at m lines n) n) (UsesLater m lines) cells bs
-      → AreBreaks (λ n. IsAdmitted (names_at k lines n) n) (UsesLater k lines) cells cs → bs ≡ cs
-  unordered_one cells bs cs =
-      breaks_one (λ n. IsAdmitted (names_at m lines n) n) (λ n. IsAdmitted (names_at k lines n) n) (UsesLater m lines) (UsesLater k lines)
-      (λ n c x y. not_both x.0 (y.0, y.1) (judged (names_at k lines n) n) (later_judged n ∙ x.1) y.2)
-      (λ n b x y. not_both x.0 (y.0, y.1) (judged (names_at m lines n) n) (sym (later_judged n) ∙ x.1) y.2)
-      later_one cells bs cs
+  unordered_one : (lines : List Named) (bs cs : List Broken) → AreUnordered m lines bs → AreUnordered k lines cs → bs ≡ cs
+  unordered_one lines bs cs =
+      breaks_one (λ i. IsAdmitted (names_before i m)) (λ i. IsAdmitted (names_before i k)) (UsesLater m) (UsesLater k)
+      (λ i n c x y. not_both x.0 (y.0, y.1) (judged (names_before i k) n) (later_judged i n ∙ x.1) y.2)
+      (λ i n b x y. not_both x.0 (y.0, y.1) (judged (names_before i m) n) (sym (later_judged i n) ∙ x.1) y.2)
+      later_one 0 lines bs cs
 
 -- ---- stages
 -- two refusals tell the same
@@ -183,61 +179,41 @@ SameRefusal (Ok a) w = Unit {0}
 SameRefusal (Err bs) (Ok a) = Unit {0}
 SameRefusal (Err bs) (Err cs) = bs ≡ cs
 
--- where names are in order nothing is broken among them
-in_order : (lines cells others : List Named) (functions : List Signature) (b : Broken) (bs : List Broken) (n : Names) → AreCells lines cells → map entry functions ≡ entries
-    → name_breaks functions cells ≡ b ∷ bs → AreNamedLines lines others n → ⊥
-in_order lines cells others functions b bs n c f e h =
-    let same = one_order lines others cells h.in_order c in
-    let past : [] ≡ b ∷ bs = sym h.unbroken ∙ breaks_alike n.signatures.now functions (h.named.signatures ∙ sym f) others ∙ ap (name_breaks functions) same ∙ e in cc
+-- nothing is broken among names of which nothing is, wherever the table of functions stands
+unbroken : (lines : List Named) (functions : List Signature) (b : Broken) (bs : List Broken) (n : Names) → map entry functions ≡ entries → name_breaks functions lines ≡ b ∷ bs → AreNamedLines lines n → ⊥
+unbroken lines functions b bs n f e h = not_some b bs (name_breaks n.signatures.now lines) h.unbroken (breaks_alike n.signatures.now functions (h.named.signatures ∙ sym f) lines ∙ e)
 
-both_misnamed : (lines cells others : List Named) (fs gs : List Signature) → AreCells lines cells → AreCells lines others → map entry fs ≡ entries → map entry gs ≡ entries
-    → name_breaks fs cells ≡ name_breaks gs others
-both_misnamed lines cells others fs gs c d f g = ap (name_breaks fs) (one_order lines cells others c d) ∙ breaks_alike fs gs (f ∙ sym g) others
+settles : (lines : List Named) (n m : Names) → AreNamedLines lines n → StillChanges (map cell_of lines) n → AreTypedLines lines m → ⊥
+settles lines n m h still t = settles_alike (map cell_of lines) lines t.first n m t.named.named h.named t.final still
 
-settles : (lines cells others : List Named) (n m : Names) → AreNamedLines lines cells n → StillChanges (map cell_of cells) n → AreTypedLines lines others m → ⊥
-settles lines cells others n m h still t =
-    let same : cells ≡ others = one_order lines cells others h.in_order t.named.in_order in
-    settles_alike (map cell_of others) others t.first n m t.named.named (subst (λ (cs : List Named). AreNames cs n) same h.named) t.final
-    (subst (λ (cs : List Named). StillChanges (map cell_of cs) n) same still)
+both_refused : (lines : List Named) (m k : Names) (bs cs : List Broken) → AreTypedLines lines m → AreTypedLines lines k → AreRefused m lines bs → AreRefused k lines cs → bs ≡ cs
+both_refused lines m k bs cs t u x y = let same = same_names lines m k t u in refused_one m k same.0 same.1 lines bs cs x y
 
-both_refused : (lines cells others : List Named) (m k : Names) (bs cs : List Broken) → AreTypedLines lines cells m → AreTypedLines lines others k
-    → AreBreaks (IsAdmitted m) (Breaks m) cells bs → AreBreaks (IsAdmitted k) (Breaks k) others cs → bs ≡ cs
-both_refused lines cells others m k bs cs t u x y =
-    let same = same_names lines cells others m k t u in
-    refused_one lines m k same.0 same.1 cells bs cs x (subst (λ (ns : List Named). AreBreaks (IsAdmitted k) (Breaks k) ns cs) (same_cells lines cells others m k t u) y)
-
-both_unordered : (lines cells others : List Named) (m k : Names) (bs cs : List Broken) → AreTypedLines lines cells m → AreTypedLines lines others k
-    → AreBreaks (λ n. IsAdmitted (names_at m lines n) n) (UsesLater m lines) cells bs → AreBreaks (λ n. IsAdmitted (names_at k lines n) n) (UsesLater k lines) others cs → bs ≡ cs
-both_unordered lines cells others m k bs cs t u x y =
-    let same = same_names lines cells others m k t u in
-    unordered_one lines m k same.0 same.1 cells bs cs x
-    (subst (λ (ns : List Named). AreBreaks (λ n. IsAdmitted (names_at k lines n) n) (UsesLater k lines) ns cs) (same_cells lines cells others m k t u) y)
-
-some_none : (b : Broken) (bs : List Broken) → b ∷ bs ≡ [] → ⊥
-some_none b bs e = cc
+both_unordered : (lines : List Named) (m k : Names) (bs cs : List Broken) → AreTypedLines lines m → AreTypedLines lines k → AreUnordered m lines bs → AreUnordered k lines cs → bs ≡ cs
+both_unordered lines m k bs cs t u x y = let same = same_names lines m k t u in unordered_one m k same.0 same.1 lines bs cs x y
 
 lines_refused : {lines : List Named} {v w : Result App (List Broken)} → JudgedLines lines v → JudgedLines lines w → SameRefusal v w
-lines_refused (misnamed lines cells f b bs c g e) (misnamed _ others k d ds h j q) = sym e ∙ both_misnamed lines cells others f k c h g j ∙ q
-lines_refused (misnamed lines cells f b bs c g e) (unsettling _ others k h still) = absurd (in_order lines cells others f b bs k c g e h)
-lines_refused (misnamed lines cells f b bs c g e) (refused _ others k d ds u y) = absurd (in_order lines cells others f b bs u.first c g e u.named)
-lines_refused (misnamed lines cells f b bs c g e) (unordered _ others k d ds u fine y) = absurd (in_order lines cells others f b bs u.first c g e u.named)
-lines_refused (misnamed lines cells f b bs c g e) (loaded _ others a u y) = tt
-lines_refused (unsettling lines cells n h still) (misnamed _ others k d ds c j q) = absurd (in_order lines others cells k d ds n c j q h)
-lines_refused (unsettling lines cells n h still) (unsettling _ others k g also) = refl
-lines_refused (unsettling lines cells n h still) (refused _ others k d ds u y) = absurd (settles lines cells others n k h still u)
-lines_refused (unsettling lines cells n h still) (unordered _ others k d ds u fine y) = absurd (settles lines cells others n k h still u)
-lines_refused (unsettling lines cells n h still) (loaded _ others a u y) = tt
-lines_refused (refused lines cells m b bs t x) (misnamed _ others k d ds c j q) = absurd (in_order lines others cells k d ds t.first c j q t.named)
-lines_refused (refused lines cells m b bs t x) (unsettling _ others k h still) = absurd (settles lines others cells k m h still t)
-lines_refused (refused lines cells m b bs t x) (refused _ others k d ds u y) = both_refused lines cells others m k (b ∷ bs) (d ∷ ds) t u x y
-lines_refused (refused lines cells m b bs t x) (unordered _ others k d ds u fine y) = absurd (some_none b bs (both_refused lines cells others m k (b ∷ bs) [] t u x fine))
-lines_refused (refused lines cells m b bs t x) (loaded _ others a u y) = tt
-lines_refused (unordered lines cells m b bs t fine x) (misnamed _ others k d ds c j q) = absurd (in_order lines others cells k d ds t.first c j q t.named)
-lines_refused (unordered lines cells m b bs t fine x) (unsettling _ others k h still) = absurd (settles lines others cells k m h still t)
-lines_refused (unordered lines cells m b bs t fine x) (refused _ others k d ds u y) = absurd (some_none d ds (both_refused lines others cells k m (d ∷ ds) [] u t y fine))
-lines_refused (unordered lines cells m b bs t fine x) (unordered _ others k d ds u also y) = both_unordered lines cells others m k (b ∷ bs) (d ∷ ds) t u x y
-lines_refused (unordered lines cells m b bs t fine x) (loaded _ others a u y) = tt
-lines_refused (loaded lines cells a t l) q = tt
+lines_refused (misnamed lines f b bs g e) (misnamed _ k d ds j q) = sym e ∙ breaks_alike f k (g ∙ sym j) lines ∙ q
+lines_refused (misnamed lines f b bs g e) (unsettling _ k h still) = absurd (unbroken lines f b bs k g e h)
+lines_refused (misnamed lines f b bs g e) (refused _ k d ds u y) = absurd (unbroken lines f b bs u.first g e u.named)
+lines_refused (misnamed lines f b bs g e) (unordered _ k d ds u fine y) = absurd (unbroken lines f b bs u.first g e u.named)
+lines_refused (misnamed lines f b bs g e) (loaded _ a u y) = tt
+lines_refused (unsettling lines n h still) (misnamed _ k d ds j q) = absurd (unbroken lines k d ds n j q h)
+lines_refused (unsettling lines n h still) (unsettling _ k g also) = refl
+lines_refused (unsettling lines n h still) (refused _ k d ds u y) = absurd (settles lines n k h still u)
+lines_refused (unsettling lines n h still) (unordered _ k d ds u fine y) = absurd (settles lines n k h still u)
+lines_refused (unsettling lines n h still) (loaded _ a u y) = tt
+lines_refused (refused lines m b bs t x) (misnamed _ k d ds j q) = absurd (unbroken lines k d ds t.first j q t.named)
+lines_refused (refused lines m b bs t x) (unsettling _ k h still) = absurd (settles lines k m h still t)
+lines_refused (refused lines m b bs t x) (refused _ k d ds u y) = both_refused lines m k (b ∷ bs) (d ∷ ds) t u x y
+lines_refused (refused lines m b bs t x) (unordered _ k d ds u fine y) = absurd (not_some b bs (b ∷ bs) (both_refused lines m k (b ∷ bs) [] t u x fine) refl)
+lines_refused (refused lines m b bs t x) (loaded _ a u y) = tt
+lines_refused (unordered lines m b bs t fine x) (misnamed _ k d ds j q) = absurd (unbroken lines k d ds t.first j q t.named)
+lines_refused (unordered lines m b bs t fine x) (unsettling _ k h still) = absurd (settles lines k m h still t)
+lines_refused (unordered lines m b bs t fine x) (refused _ k d ds u y) = absurd (not_some d ds (d ∷ ds) (both_refused lines k m (d ∷ ds) [] u t y fine) refl)
+lines_refused (unordered lines m b bs t fine x) (unordered _ k d ds u also y) = both_unordered lines m k (b ∷ bs) (d ∷ ds) t u x y
+lines_refused (unordered lines m b bs t fine x) (loaded _ a u y) = tt
+lines_refused (loaded lines a t l) q = tt
 
 -- ---- texts and bytes
 abbrev AlikeRefusal : Result App (List Broken) → Result App (List Broken) → Type 0

@@ -1,10 +1,7 @@
-use Rattle.app_loader.proofs.Ended.{refused, shallow_cells}
+use Rattle.app_loader.proofs.Ended.{refused}
 use Rattle.std.proofs.Common.{ℕ, ap, nat_eq, sym, ◌∙◌}
 use Rattle.app_loader.proofs.loading.judged_app.Goals as goal
 
-pub rule_breaks-requires-clause-shallow : goal.rule_breaks-requires-clause-shallow
-rule_breaks-requires-clause-shallow c = shallow_cells c.args.lines.now c.args.cells.now c.requires.settled.named.in_order c.requires.shallow
-
 pub returns-then-not-is_empty-clause-refused : goal.returns-then-not-is_empty-clause-refused
 returns-then-not-is_empty-clause-refused c =
-    refused c.args.lines.now c.args.cells.now c.args.names c.in_ok-breaks.breaks.items c.requires.settled c.in_ok-breaks.ensures (ap (λ (k : ℕ). nat_eq k 0) (sym c.in_ok-breaks.breaks.ok.0) ∙ sym c.is_empty.ensures ∙ c.if-not-is_empty.true)
+    refused c.args.lines.now c.args.names c.in_ok-breaks.breaks.items c.requires.settled c.in_ok-breaks.ensures (ap (λ (k : ℕ). nat_eq k 0) (sym c.in_ok-breaks.breaks.ok.0) ∙ sym c.is_empty.ensures ∙ c.if-not-is_empty.true)
