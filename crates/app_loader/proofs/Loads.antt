@@ -1,5 +1,6 @@
 -- Lines, loaded one behind the other.
 use Rattle.std.proofs.Common.{◌≡◌, ℕ, zero, suc, ◌+◌, ◌<◌, ◌≤◌, ◌++◌, List, [], ◌∷◌, Bool, true, false, length, get_or, take, Some, Result, Ok, Err, nat_eq, refl, ap, sym, subst, ◌∙◌, arith, if◌then◌else◌}
+use Rattle.std.proofs.lemmas.Bool.{eqb-true}
 use Rattle.std.specs.Prelude.{MatchResult}
 use Rattle.std.specs.List.{find}
 use Rattle.app_laws.specs.Laws.{AdmittedIsLawful, AreKnownTo, MoreNamesSameTree}
@@ -51,7 +52,7 @@ loaded_behind m k (o ∷ ns) [] n f j e h l = absurd h
 loaded_behind m k (o ∷ ns) (g ∷ fs) n f j e h l = (h.0, loaded_behind m (suc k) ns fs n f j (omega (arith, e)) h.1 l)
 
 -- the first i lines are loaded as these
-record AreFine (m : Names) (lines : List Named) (i : ℕ) (fs : List Formula) : Type 0 where
+pub record AreFine (m : Names) (lines : List Named) (i : ℕ) (fs : List Formula) : Type 0 where
   pub loaded : AreLoadedFrom m 0 (take i lines) fs
   pub alike : AreAlike fs (take i m.formulas)
   pub ready : AreReady fs
@@ -128,7 +129,7 @@ all_taken (x ∷ xs) (suc i) l = ap (λ us. x ∷ us) (all_taken xs i (omega (ar
 
 no_breaks : (bs : List Broken) → nat_eq (length bs) 0 ≡ true → bs ≡ []
 no_breaks [] e = refl
-no_breaks (b ∷ bs) e = let past : false ≡ true = e in absurd cc
+no_breaks (b ∷ bs) e = let past : length (b ∷ bs) ≡ 0 = eqb-true (length (b ∷ bs)) 0 e in absurd (omega (arith, past))
 
 pub are_ready : (m : Names) (lines : List Named) (i : ℕ) (now : Names) (fs : List Formula) (bs : List Broken) → AreLoadedSo m lines i now fs bs → nat_eq (length bs) 0 ≡ true → AreReady fs
 are_ready m lines i now fs bs so e = (so.fine (no_breaks bs e)).ready

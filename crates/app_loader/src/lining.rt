@@ -141,9 +141,10 @@ pub fn load_lines(alloc: Global, names: &Names, lines: &[Named]) -> Result<Lines
     let mut formulas = Vec::new(alloc);
     let mut breaks = Vec::new(alloc);
     for (number, line) in lines.iter().enumerate() {
-        let one = line_formula(alloc, &found, &known[number], line)?;
+        let formula = &known[number];
+        let one = line_formula(alloc, &found, formula, line)?;
         put(one, &mut formulas, &mut breaks)?;
-        give(alloc, &known[number], &mut found)?;
+        give(alloc, formula, &mut found)?;
     }
     if breaks.is_empty() {
         Ok(Lines::of(formulas))
