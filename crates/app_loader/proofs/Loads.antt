@@ -16,7 +16,6 @@ use Rattle.app_loader.proofs.ReadySteps.{AreAlike, alike_more, lawful_before, re
 use Rattle.fx_data.specs.TypeView.{shape}
 use Rattle.fx_fresh.specs.Sound.{TypingsLawful}
 use Rattle.fx_judge.specs.Laws.{AdmittedIsTyped, PureIsQuiet}
-use Rattle.fx_names.specs.Formulas.{formula_named}
 use Rattle.fx_names.specs.Lawful.{IsLawful}
 use Rattle.fx_names.specs.declared.names.FormulaName.{FormulaName}
 use Rattle.fx_names.specs.declared.names.Names.{Names}

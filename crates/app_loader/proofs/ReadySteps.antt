@@ -1,5 +1,5 @@
 -- A line's formula is ready behind those before it.
-use Rattle.std.proofs.Common.{◌≡◌, ℕ, zero, suc, ◌<◌, ◌≤◌, ◌++◌, List, [], ◌∷◌, Bool, true, false, length, map, take, Option, Some, None, option_map, option_and_then, Ok, slice_get, refl, ap, sym, subst, ◌∙◌, arith, All, if◌then◌else◌}
+use Rattle.std.proofs.Common.{◌≡◌, ℕ, zero, suc, ◌≤◌, ◌++◌, List, [], ◌∷◌, Bool, true, false, length, map, take, Option, Some, None, option_map, option_and_then, Ok, slice_get, refl, ap, sym, subst, ◌∙◌, arith, All, if◌then◌else◌}
 use Rattle.std.specs.Prelude.{nat_eq}
 use Rattle.std.proofs.Math.Path.{fun_ext}
 use Rattle.app_laws.specs.Laws.{AdmittedIsLawful, alone}

@@ -1,5 +1,5 @@
 -- Names of formulas alone, and a formula under those of the formulas before it.
-use Rattle.std.specs.Prelude.{◌≡◌, ℕ, List, [], Ok, Err, codes}
+use Rattle.std.specs.Prelude.{◌≡◌, ℕ, [], Ok, Err, codes}
 use Rattle.app_loader.specs.Admitted.{judged}
 use Rattle.app_lines.specs.declared.formula.Formula.{Formula}
 use Rattle.fx_data.specs.TypeView.{shape}

@@ -70,12 +70,7 @@ fn later(alloc: Global, broken: Broken) -> Result<Broken, Memory>
 }
 
 // A line's formula with its typed tree.
-fn loaded(
-    alloc: Global,
-    known: &FormulaName,
-    line: &Named,
-    value: Typed,
-) -> Result<Formula, Memory>
+fn loaded(alloc: Global, known: &FormulaName, line: &Named, value: Typed) -> Result<Formula, Memory>
     ensures { IfOk result (IsNamedSo known.now line.now (typed value)) }
 {
     Ok(Formula {

@@ -1,5 +1,5 @@
 -- A text has one verdict, and an app that is accepted is one.
-use Rattle.std.proofs.Common.{inl, inr, ◌≡◌, ℕ, suc, ◌≤◌, List, [], ◌∷◌, length, map, Some, None, false, Result, Ok, Err, refl, ap, sym, subst, ◌∙◌, arith}
+use Rattle.std.proofs.Common.{inl, inr, ◌≡◌, ℕ, suc, ◌≤◌, List, [], ◌∷◌, length, map, None, false, Result, Ok, Err, refl, ap, sym, subst, ◌∙◌, arith}
 use Rattle.std.specs.Str.{IsUtf8}
 use Rattle.app_lines.specs.declared.formula.Formula.{Formula}
 use Rattle.app_loader.specs.Admitted.{AreBreaks, AreLoaded, AreLoadedFrom, AreRefused, AreUnordered, Breaks, IsAdmitted, IsLoaded, UsesLater, judged, names_before}
