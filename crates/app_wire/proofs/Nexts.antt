@@ -1,47 +1,101 @@
 -- From what the framer found of the bytes that came to what the whole rest of the conversation begins with.
-use Rattle.std.proofs.Common.{◌≡◌, ℕ, ◌<◌, ◌≤◌, ◌⊎◌, inl, inr, false, true, List, [], ◌++◌, Some, None, Result, Ok, Err, IfOk, OnErr, length, drop, refl, ap, sym, ◌∙◌, subst, append_assoc, arith}
-use Rattle.std.proofs.lemmas.List.{append-nil, drop-append-le, length-append}
+use Rattle.std.proofs.Common.{◌≡◌, ℕ, ◌<◌, ◌≤◌, ◌⊎◌, inl, inr, false, true, List, [], ◌∷◌, ◌++◌, Some, None, Result, Ok, Err, IfOk, OnErr, length, refl, ap, sym, ◌∙◌, subst, append_assoc, arith}
+use Rattle.std.proofs.lemmas.List.{append-nil, append_cancel_left, length-append}
 use Rattle.fx_base.specs.declared.Memory.{Memory}
-use Rattle.app_wire.specs.Doorway.{Doorway, Reads}
-use Rattle.app_wire.specs.Framing.{asked, Refuses, Feeds, Framing, IsOpen, whole, refused}
-use Rattle.app_wire.specs.NextRequest.{found_in, FindsNext, HasCode, Keeps, ReadsLittle}
+use Rattle.app_wire.specs.Doorway.{Doorway, Reads, Takes}
+use Rattle.app_wire.specs.Framing.{Refuses, Feeds, Framing, IsOpen, refused}
+use Rattle.app_wire.specs.NextRequest.{Begins, found_in, FindsNext, HasCode, Keeps, ReadsLittle}
 use Rattle.app_wire.specs.declared.framer.Fed.{Fed}
 use Rattle.app_wire.specs.declared.framer.Fed.TheVariants as fed
 use Rattle.app_wire.specs.declared.next.Found.{Found}
 use Rattle.app_wire.specs.declared.next.Found.TheVariants as next
+use Rattle.app_wire.proofs.Doorways.{takes_join, takes_none}
 use Rattle.app_wire.proofs.Stands.{whole_more, refusal_more}
 
-at_found : (found at : Found) (held held' : List ℕ) (a b : Doorway) → Some at ≡ Some found → FindsNext at held held' a b → FindsNext found held held' a b
-at_found found at held held' a b e h = let same : at ≡ found = cc in subst (λ x. FindsNext x held held' a b) same h
+-- what was found, where it is another way of saying it
+begins_as : (found at : Found) (rest came held' : List ℕ) → Some at ≡ Some found → Begins at rest came held' → Begins found rest came held'
+begins_as found at rest came held' e h = let same : at ≡ found = cc in subst (λ x. Begins x rest came held') same h
 
--- what is held and what is unread make up the rest of the conversation
-pub rest_of : (held held' : List ℕ) (a b : Doorway) → Keeps held held' a b → held' ++ b.unread ≡ held ++ a.unread
-rest_of held held' a b k = ap (λ s. s ++ b.unread) k.1 ∙ append_assoc held k.0 b.unread ∙ ap (λ s. held ++ s) (sym k.2)
-
-keeps_as : (held came held' : List ℕ) (a b : Doorway) → held' ≡ came → Keeps held came a b → Keeps held held' a b
-keeps_as held came held' a b e k = (k.0, e ∙ k.1, k.2, k.3)
-
--- a byte that came is one of the rest of the conversation
-came_some : (held came : List ℕ) (a b : Doorway) → Keeps held came a b → 0 < length came → 0 < length (held ++ a.unread)
-came_some held came a b k some = omega (arith, ap length (rest_of held came a b k), length-append came b.unread, some)
+-- what came and what is unread make up the rest of the conversation
+pub rest_of : (held read : List ℕ) (a b : Doorway) → Takes read a b → (held ++ read) ++ b.unread ≡ held ++ a.unread
+rest_of held read a b t = append_assoc held read b.unread ∙ ap (λ s. held ++ s) (sym t.front)
 
 -- of the bytes that came the framer found this
+begins : (answer : Result Fed Memory) (found : Found) (came unread held' : List ℕ) → IfOk answer (λ answer. Feeds came answer held') → found_in answer ≡ Some found
+    → OnErr answer (0 < length came) → Begins found (came ++ unread) came held'
+begins (Ok fed.Need) found came unread held' h e some = cc
+begins (Ok (fed.Whole request)) found came unread held' h e some =
+    begins_as found (next.Whole request) (came ++ unread) came held' e (h.0, whole_more unread h.1, h.1.front.within, h.2)
+begins (Ok (fed.Refused code)) found came unread held' h e some =
+    begins_as found (next.Refused code) (came ++ unread) came held' e (refusal_more came unread true code h.0, h.1)
+begins (Err error) found came unread held' h e some =
+    begins_as found next.Memory (came ++ unread) came held' e (omega (arith, length-append came unread, some))
+
 pub found_next : (answer : Result Fed Memory) (found : Found) (came held' : List ℕ) → IfOk answer (λ answer. Feeds came answer held') → found_in answer ≡ Some found
-    → OnErr answer (0 < length came) → (held : List ℕ) (a b : Doorway) → Keeps held came a b → ReadsLittle held a b → FindsNext found held held' a b
-found_next (Ok fed.Need) found came held' h e some held a b k little = cc
-found_next (Ok (fed.Whole request)) found came held' h e some held a b k little = let all = rest_of held came a b k in at_found found (next.Whole request) held held' a b e (
-  h.0,
-  subst (λ bytes. Framing bytes true (whole (asked request) h.0)) all (whole_more b.unread h.1),
-  ap (λ s. s ++ b.unread) h.2 ∙ sym (drop-append-le h.0 came b.unread h.1.front.within) ∙ ap (drop h.0) all,
-  k.3,
-  little,
-)
-found_next (Ok (fed.Refused code)) found came held' h e some held a b k little = at_found found (next.Refused code) held held' a b e (
-  subst (λ bytes. Framing bytes true (refused code)) (rest_of held came a b k) (refusal_more came b.unread true code h.0),
-  keeps_as held came held' a b h.1 k,
-  little,
-)
-found_next (Err error) found came held' h e some held a b k little = at_found found next.Memory held held' a b e (came_some held came a b k some, k.3, little)
+    → OnErr answer (0 < length came) → (held : List ℕ) (a b : Doorway) → Keeps held came a b → ((read : List ℕ) → came ≡ held ++ read → ReadsLittle held read) → FindsNext found held held' a b
+found_next answer found came held' h e some held a b k little = record {
+  read = k.read;
+  takes = k.takes;
+  little = little k.read k.held_is;
+  begins = subst (λ rest. Begins found rest (held ++ k.read) held') (rest_of held k.read a b k.takes)
+      (subst (λ c. Begins found (c ++ b.unread) c held') k.held_is (begins answer found came b.unread held' h e some));
+}
+
+-- nothing was read yet
+pub keeps_none : (held : List ℕ) (a : Doorway) → Keeps held held a a
+keeps_none held a = record { read = []; held_is = sym (append-nil held); takes = takes_none a }
+
+-- what is held now is what came
+pub keeps_as : (first came held' : List ℕ) (a b : Doorway) → held' ≡ came → Keeps first came a b → Keeps first held' a b
+keeps_as first came held' a b e k = record { read = k.read; held_is = e ∙ k.held_is; takes = k.takes }
+
+pub none_little : (held read : List ℕ) → held ≡ held ++ read → ReadsLittle held read
+none_little held [] e = inl refl
+none_little held (x ∷ xs) e = absurd (omega (arith, ap length e, length-append held (x ∷ xs)))
+
+-- after a read: what was read is held too
+pub after_read : (first held bytes : List ℕ) (room : ℕ) (a b c : Doorway) → Keeps first held a b → Reads bytes room b c → Keeps first (held ++ bytes) a c
+after_read first held bytes room a b c k r = record {
+  read = k.read ++ bytes;
+  held_is = ap (λ s. s ++ bytes) k.held_is ∙ append_assoc first k.read bytes;
+  takes = takes_join k.read bytes a b c k.takes r.takes;
+}
+
+-- what is held, where nothing is left to read
+all_read : (held held' : List ℕ) (a b : Doorway) → Keeps held held' a b → b.unread ≡ [] → held' ≡ held ++ a.unread
+all_read held held' a b k none = sym (append-nil held') ∙ ap (λ u. held' ++ u) (sym none) ∙ ap (λ h. h ++ b.unread) k.held_is ∙ rest_of held k.read a b k.takes
+
+open_little : (held held' : List ℕ) (a b : Doorway) (k : Keeps held held' a b) → IsOpen held' → ReadsLittle held k.read
+open_little held held' a b k is_open = inr (k.read, [], subst IsOpen k.held_is is_open, omega arith, sym (append-nil k.read))
+
+-- no request was begun, where none is cut short
+none_begun : (held : List ℕ) → IsOpen held → (Framing held true (refused 6) → ⊥) → held ≡ []
+none_begun held (inl none) whole_so_far = none
+none_begun held (inr need) whole_so_far = absurd (whole_so_far (inr (inr (inr (refl, refl, need.1)))))
+
+-- the end of the input came, and a request is cut short, or none was begun
+pub found_cut : (held held' bytes : List ℕ) (room : ℕ) → bytes ≡ [] → IsOpen held' → Framing held' true (refused 6) → 0 < room → (a b c : Doorway) → Keeps held held' a b → Reads bytes room b c → FindsNext (next.Refused 6) held held' a c
+found_cut held held' bytes room none is_open cut some a b c k r =
+    let more : Keeps held held' a c = keeps_as held (held' ++ bytes) held' a c (sym (ap (λ s. held' ++ s) none ∙ append-nil held')) (after_read held held' bytes room a b c k r) in
+    let whole = all_read held held' a c more (r.end (ap length none) some) in
+    record {
+      read = more.read;
+      takes = more.takes;
+      little = open_little held held' a c more is_open;
+      begins = (subst (λ bytes. Framing bytes true (refused 6)) whole cut, more.held_is);
+    }
+
+pub found_quiet : (held held' bytes : List ℕ) (room : ℕ) → bytes ≡ [] → IsOpen held' → (Framing held' true (refused 6) → ⊥) → 0 < room → (a b c : Doorway) → Keeps held held' a b → Reads bytes room b c → FindsNext next.Quiet held held' a c
+found_quiet held held' bytes room none is_open whole_so_far some a b c k r =
+    let more : Keeps held held' a c = keeps_as held (held' ++ bytes) held' a c (sym (ap (λ s. held' ++ s) none ∙ append-nil held')) (after_read held held' bytes room a b c k r) in
+    let quiet = none_begun held' is_open whole_so_far in
+    let whole = all_read held held' a c more (r.end (ap length none) some) in
+    record {
+      read = more.read;
+      takes = more.takes;
+      little = open_little held held' a c more is_open;
+      begins = (sym whole ∙ quiet, more.held_is);
+    }
 
 pub still_open : (answer : Result Fed Memory) (came held' : List ℕ) → IfOk answer (λ answer. Feeds came answer held') → found_in answer ≡ None → IsOpen held' × (held' ≡ came)
 still_open (Ok fed.Need) came held' h e = (subst IsOpen (sym h.1) h.0, h.1)
@@ -49,23 +103,10 @@ still_open (Ok (fed.Whole request)) came held' h e = cc
 still_open (Ok (fed.Refused code)) came held' h e = cc
 still_open (Err error) came held' h e = cc
 
--- nothing was read yet
-pub keeps_none : (held : List ℕ) (a : Doorway) → Keeps held held a a
-keeps_none held a = ([], sym (append-nil held), refl, refl)
-
--- after a read: what was read is held too
-pub after_read : (first held bytes : List ℕ) (room : ℕ) (a b c : Doorway) → Keeps first held a b → Reads bytes room b c → Keeps first (held ++ bytes) a c
-after_read first held bytes room a b c k r = (
-  k.0 ++ bytes,
-  ap (λ s. s ++ bytes) k.1 ∙ append_assoc first k.0 bytes,
-  k.2 ∙ ap (λ s. k.0 ++ s) r.front ∙ sym (append_assoc k.0 bytes c.unread),
-  r.rest ∙ ap (λ (d : Doorway). record d { unread = c.unread }) k.3,
-)
-
 -- and what was held before it was open
-pub little_after : (first held bytes : List ℕ) (room : ℕ) (a b c : Doorway) → Keeps first held a b → Reads bytes room b c → IsOpen held → length bytes ≤ 512 → ReadsLittle first a c
-little_after first held bytes room a b c k r open_before short =
-    inr (k.0, bytes, subst IsOpen k.1 open_before, short, k.2 ∙ ap (λ s. k.0 ++ s) r.front)
+pub little_after : (first held bytes : List ℕ) (a b : Doorway) → Keeps first held a b → IsOpen held → length bytes ≤ 512 → (read : List ℕ) → held ++ bytes ≡ first ++ read → ReadsLittle first read
+little_after first held bytes a b k open_before short read e =
+    inr (k.read, bytes, subst IsOpen k.held_is open_before, short, append_cancel_left first read (k.read ++ bytes) (sym e ∙ ap (λ s. s ++ bytes) k.held_is ∙ append_assoc first k.read bytes))
 
 numbered : (bytes : List ℕ) (code : ℕ) → Refuses bytes false code → (code ≡ 1) ⊎ (code ≡ 2) ⊎ (code ≡ 5) ⊎ (code ≡ 6)
 numbered bytes code (inl h) = inl h.0

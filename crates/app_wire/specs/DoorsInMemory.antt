@@ -1,7 +1,7 @@
 -- Doors in memory, as contracts see them.
-use Rattle.std.specs.Prelude.{ℕ, Bool, false, List, [], None}
+use Rattle.std.specs.Prelude.{ℕ, Bool, List, [], None, Option, option_map, slice_get}
 use Rattle.fx_base.specs.Faults.{Plan, planned}
-use Rattle.app_wire.specs.Doorway.{Doorway}
+use Rattle.app_wire.specs.Doorway.{Doorway, Talk}
 
 pub record DoorsInMemory : Type 0 where
   -- what is told
@@ -14,7 +14,11 @@ pub record DoorsInMemory : Type 0 where
 -- before any call
 abbrev pub at_first : List (List ℕ) → Bool → List ℕ → DoorsInMemory
 at_first conversations one fails = record {
-  way = record { port = None; coming = conversations; unread = []; written = []; is_open = false };
+  way = record { port = None; coming = conversations; unread = []; begun = [] };
   single = one;
   plan = planned fails;
 }
+
+-- what was written to a conversation, counted from 0, if it has become the present one
+abbrev pub written_to : ℕ → Doorway → Option (List ℕ)
+written_to n way = option_map (λ (t : Talk). t.written) (slice_get way.begun n)

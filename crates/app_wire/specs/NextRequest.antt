@@ -1,7 +1,7 @@
 -- The next request of a conversation over doors.
-use Rattle.std.specs.Prelude.{◌≡◌, ◌⊎◌, ◌<◌, ◌≤◌, ℕ, true, List, ◌++◌, length, drop, Option, Some, None, Result, Ok, Err}
+use Rattle.std.specs.Prelude.{◌≡◌, ◌⊎◌, ◌<◌, ◌≤◌, ℕ, true, List, [], ◌++◌, length, drop, Option, Some, None, Result, Ok, Err}
 use Rattle.fx_base.specs.declared.Memory.{Memory}
-use Rattle.app_wire.specs.Doorway.{Doorway}
+use Rattle.app_wire.specs.Doorway.{Doorway, Takes}
 use Rattle.app_wire.specs.Framing.{asked, nothing, refused, whole, Framing, IsOpen}
 use Rattle.app_wire.specs.declared.framer.Fed.{Fed}
 use Rattle.app_wire.specs.declared.framer.Fed.TheVariants as fed
@@ -15,31 +15,34 @@ found_in (Ok (fed.Whole request)) = Some (next.Whole request)
 found_in (Ok (fed.Refused code)) = Some (next.Refused code)
 found_in (Err e) = Some next.Memory
 
--- nothing that is told changed but what is unread
-abbrev pub OnlyRead : Doorway → Doorway → Type 0
-OnlyRead a b = b ≡ record a { unread = b.unread }
-
--- what was read is held after what was held, and nothing else that is told changed
-abbrev pub Keeps : List ℕ → List ℕ → Doorway → Doorway → Type 0
-Keeps held held' a b =
-    (read : List ℕ) × (held' ≡ held ++ read) × (a.unread ≡ read ++ b.unread) × OnlyRead a b
+-- what was read is held after what was held
+pub record Keeps (held held' : List ℕ) (a b : Doorway) : Type 0 where
+  pub read : List ℕ
+  pub held_is : held' ≡ held ++ read
+  pub takes : Takes read a b
 
 -- nothing was read, or the last read, of at most 512 bytes, was made while no request was whole and none refused
-abbrev pub ReadsLittle : List ℕ → Doorway → Doorway → Type 0
-ReadsLittle held a b =
-    (b.unread ≡ a.unread)
-    ⊎ ((earlier : List ℕ) × (last : List ℕ) × IsOpen (held ++ earlier) × (length last ≤ 512) × (a.unread ≡ earlier ++ (last ++ b.unread)))
+abbrev pub ReadsLittle : List ℕ → List ℕ → Type 0
+ReadsLittle held read =
+    (read ≡ [])
+    ⊎ ((earlier : List ℕ) × (last : List ℕ) × IsOpen (held ++ earlier) × (length last ≤ 512) × (read ≡ earlier ++ last))
 
--- what the rest of the conversation, to its end, begins with; memory runs out only where a byte is left
-abbrev pub FindsNext : Found → List ℕ → List ℕ → Doorway → Doorway → Type 0
-FindsNext (next.Whole request) held held' a b =
-    (len : ℕ) × Framing (held ++ a.unread) true (whole (asked request) len)
-    × (held' ++ b.unread ≡ drop len (held ++ a.unread)) × OnlyRead a b × ReadsLittle held a b
-FindsNext (next.Refused code) held held' a b =
-    Framing (held ++ a.unread) true (refused code) × Keeps held held' a b × ReadsLittle held a b
-FindsNext next.Quiet held held' a b = Framing (held ++ a.unread) true nothing × Keeps held held' a b
-FindsNext next.Memory held held' a b = (0 < length (held ++ a.unread)) × OnlyRead a b × ReadsLittle held a b
-FindsNext next.Failed held held' a b = IsOpen held' × Keeps held held' a b
+-- What the rest of the conversation, to its end, begins with, where these bytes of it came, and what of them is held then.
+-- Memory runs out only where a byte is left.
+abbrev pub Begins : Found → List ℕ → List ℕ → List ℕ → Type 0
+Begins (next.Whole request) rest came held' =
+    (len : ℕ) × Framing rest true (whole (asked request) len) × (len ≤ length came) × (held' ≡ drop len came)
+Begins (next.Refused code) rest came held' = Framing rest true (refused code) × (held' ≡ came)
+Begins next.Quiet rest came held' = Framing rest true nothing × (held' ≡ came)
+Begins next.Memory rest came held' = 0 < length rest
+Begins next.Failed rest came held' = IsOpen came × (held' ≡ came)
+
+-- it was found by reading this, and nothing else was done with the doors
+pub record FindsNext (found : Found) (held held' : List ℕ) (a b : Doorway) : Type 0 where
+  pub read : List ℕ
+  pub takes : Takes read a b
+  pub little : ReadsLittle held read
+  pub begins : Begins found (held ++ a.unread) (held ++ read) held'
 
 -- a refusal has one of the codes of framing, also where nothing is told
 abbrev pub HasCode : Found → Type 0

@@ -13,5 +13,6 @@ pub mod reply;
 pub mod route;
 pub mod routes;
 pub mod stream;
+mod talk;
 #[cfg(test)]
 mod tests;

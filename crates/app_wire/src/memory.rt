@@ -1,11 +1,10 @@
 //! Doors in memory, which can fail at any call.
-ghost use Rattle.std.specs.Prelude.{◌≡◌, ◌<◌, map, option_map, slice_get};
-ghost use Rattle.std.specs.Bool.{OnFalse, OnTrue};
-ghost use Rattle.app_wire.specs.DoorsInMemory.{at_first};
-ghost use Rattle.app_wire.specs.Doorway.{sent_last};
+ghost use Rattle.std.specs.Prelude.{◌≡◌, ◌<◌, map, option_map};
+ghost use Rattle.app_wire.specs.DoorsInMemory.{at_first, written_to};
 
 use crate::doors::Doors;
 use crate::framer::drop_front;
+use crate::talk::{MemoryTalk, hang_up_last, take_of_last, write_to_last};
 use fx_base::Failed;
 use fx_base::plan::FaultPlan;
 use std::alloc::Global;
@@ -18,8 +17,7 @@ pub struct MemoryDoors {
     port: Option<u16>,
     coming: Vec<Vec<u8>>,
     unread: Vec<u8>,
-    written: Vec<Vec<u8>>,
-    is_open: bool,
+    talks: Vec<MemoryTalk>,
     piece: usize,
     one: bool,
     plan: FaultPlan,
@@ -32,7 +30,7 @@ impl Model for MemoryDoors {
     ghost Value = { DoorsInMemory };
 
     ghost view = { λ m. record {
-      way = record { port = m.port; coming = map (λ c. c.items) m.coming.items; unread = m.unread.items; written = map (λ c. c.items) m.written.items; is_open = m.is_open };
+      way = record { port = m.port; coming = map (λ c. c.items) m.coming.items; unread = m.unread.items; begun = m.talks.items };
       single = m.one;
       plan = m.plan;
     } };
@@ -59,8 +57,7 @@ impl MemoryDoors {
             port: None,
             coming: conversations,
             unread: Vec::new(alloc),
-            written: Vec::new(alloc),
-            is_open: false,
+            talks: Vec::new(alloc),
             piece,
             one,
             plan: FaultPlan::new(fails),
@@ -69,27 +66,12 @@ impl MemoryDoors {
 
     /// What was written to a conversation, counted from 0; none for one that hasn't become the present one yet.
     pub fn written(&self, conversation: usize) -> Option<&[u8]>
-        ensures { option_map (λ bytes. bytes.now) result ≡ slice_get self.now.way.written conversation }
+        ensures { option_map (λ bytes. bytes.now) result ≡ written_to conversation self.now.way }
     {
-        match self.written.get(conversation) {
-            Some(bytes) => Some(bytes),
+        match self.talks.get(conversation) {
+            Some(talk) => Some(talk.written()),
             None => None,
         }
-    }
-}
-
-/// Adds a piece to the last of the lists. It says no where there is none, and where memory runs out.
-fn add_to_last(lists: &mut Vec<Vec<u8>>, piece: &[u8]) -> bool
-    ensures yes { OnTrue result (map (λ c. c.items) lists.new.items ≡ sent_last (map (λ c. c.items) lists.old.items) piece.now) }
-    ensures no { OnFalse result (map (λ c. c.items) lists.new.items ≡ map (λ c. c.items) lists.old.items) }
-{
-    let count = lists.len();
-    if count == 0 {
-        return false;
-    }
-    match lists[count - 1].extend_from_slice(piece) {
-        Ok(()) => true,
-        Err(_) => false,
     }
 }
 
@@ -117,7 +99,7 @@ impl Doors for MemoryDoors {
         if self.coming.is_empty() {
             return Ok(false);
         }
-        match self.written.push(Vec::new(self.alloc)) {
+        match self.talks.push(MemoryTalk::new(self.alloc)) {
             Ok(()) => {}
             Err(_) => {
                 self.plan.raise();
@@ -125,7 +107,6 @@ impl Doors for MemoryDoors {
             }
         }
         self.unread = self.coming.remove(0);
-        self.is_open = true;
         Ok(true)
     }
 
@@ -134,6 +115,10 @@ impl Doors for MemoryDoors {
             return Err(Failed);
         }
         let n = self.piece.min(room.len()).min(self.unread.len());
+        if !take_of_last(&mut self.talks, &self.unread[..n]) {
+            self.plan.raise();
+            return Err(Failed);
+        }
         room[..n].copy_from_slice(&self.unread[..n]);
         drop_front(&mut self.unread, n);
         Ok(n)
@@ -144,7 +129,7 @@ impl Doors for MemoryDoors {
             return Err(Failed);
         }
         let n = self.piece.min(piece.len());
-        if add_to_last(&mut self.written, &piece[..n]) {
+        if write_to_last(&mut self.talks, &piece[..n]) {
             return Ok(n);
         }
         self.plan.raise();
@@ -153,7 +138,7 @@ impl Doors for MemoryDoors {
 
     fn hang_up(&mut self) {
         self.unread.clear();
-        self.is_open = false;
+        hang_up_last(&mut self.talks);
     }
 
     fn one(&self) -> bool {
