@@ -1,25 +1,22 @@
 -- How a conversation goes on by one reply, and how it ends.
-use Rattle.std.proofs.Common.{◌≡◌, ℕ, IsTrue, suc, zero, ◌+◌, ◌<◌, ◌≤◌, ◌⊎◌, inl, inr, Bool, true, false, List, [], ◌∷◌, ◌++◌, Option, length, drop, refl, ap, sym, ◌∙◌, subst, append_assoc, arith}
-use Rattle.std.specs.List.{concat}
-use Rattle.std.proofs.lemmas.List.{append-nil, length-append}
-use Rattle.std.proofs.lemmas.List.Folds.{concat-append}
+use Rattle.std.proofs.Common.{◌≡◌, ◌≢◌, ℕ, IsTrue, suc, zero, ◌+◌, ◌<◌, ◌≤◌, ◌⊎◌, inl, inr, Bool, true, false, List, [], ◌∷◌, ◌++◌, Option, length, drop, refl, ap, sym, ◌∙◌, subst, append_assoc, arith}
+use Rattle.std.proofs.lemmas.List.{append-nil, drop-append-le, length-append, map-append}
 use Rattle.fx_base.specs.Telling.{Tells}
-use Rattle.app_wire.specs.Doorway.{Doorway, Writes, WritesPart, sent_last}
+use Rattle.app_wire.specs.Doorway.{Doorway, Takes, Talk, Writes, WritesPart, with_last, with_taken, with_written}
 use Rattle.app_wire.specs.Framing.{Asked, Framing, asked, whole}
 use Rattle.app_wire.specs.Moments.{Tick, Ticks}
-use Rattle.app_wire.specs.NextRequest.{FindsNext, OnlyRead}
+use Rattle.app_wire.specs.NextRequest.{FindsNext}
 use Rattle.app_wire.specs.ReplyBytes.{is_fixed}
 use Rattle.app_wire.specs.declared.framer.Request.{Request}
+use Rattle.app_wire.specs.declared.next.Found.{Found}
 use Rattle.app_wire.specs.declared.next.Found.TheVariants as next
-use Rattle.app_wire.proofs.Doorways.{sent_join, writes_none}
+use Rattle.app_wire.proofs.Doorways.{last_join, last_same}
 use Rattle.office.specs.State.{State}
 use Rattle.office.proofs.Taken.{little}
 use Rattle.office.specs.Step.{Answered}
-use Rattle.office.specs.Answers.{Run, IsOver, Talked, Goes, Ends, Fails, Fills, most_requests}
-
--- one change that is told, as another
-pub seen_as : {P Q : Doorway → Doorway → Type 0} {x y : Option Doorway} → ((a b : Doorway) → P a b → Q a b) → Tells P x y → Tells Q x y
-seen_as see first a e = let one = first a e in (one.0, one.1, see a one.0 one.2)
+use Rattle.office.specs.Answers.{Converses, Exchange, Frames, GoesOn, IsCount, IsOver, IsSpent, Plays, Says, Talked, TakesLittle, moments_of, most_read, most_requests, said_in, with_bytes}
+use Rattle.office.specs.declared.converse.ConvEnd.{ConvEnd}
+use Rattle.office.specs.declared.converse.ConvEnd.TheVariants.{Ended, Faulted, Full}
 
 -- two changes that are told, one after the other
 pub two : {P Q R : Doorway → Doorway → Type 0} {x y z : Option Doorway} → ((a b c : Doorway) → P a b → Q b c → R a c) → Tells P x y → Tells Q y z → Tells R x z
@@ -36,198 +33,262 @@ three join first second third a e =
     let last = third other.0 other.1 in
     (last.0, last.1, join a one.0 other.0 last.0 one.2 other.2 last.2)
 
--- one reply more
-run_more : (old : State) (bytes moments : List ℕ) (replies : List (List ℕ)) (mid : State) (left : List ℕ) → Run old bytes moments replies mid left
-    → (moment : ℕ) (request : Asked) (len : ℕ) (said : List ℕ) (new : State) → Framing left true (whole request len) → Answered mid moment request said new
-    → Run old bytes (moments ++ moment ∷ []) (replies ++ said ∷ []) new (drop len left)
-run_more old bytes [] [] mid left r moment request len said new first answered =
-    (request, len, new, subst (λ l. Framing l true (whole request len)) r.1 first, subst (λ m. Answered m moment request said new) r.0 answered, (refl, ap (drop len) r.1))
-run_more old bytes (m ∷ ms) (x ∷ xs) mid left r moment request len said new first answered =
-    (r.0, r.1, r.2, r.3, r.4, run_more r.2 (drop r.1 bytes) ms xs mid left r.5 moment request len said new first answered)
-run_more old bytes [] (x ∷ xs) mid left r moment request len said new first answered = absurd r
-run_more old bytes (m ∷ ms) [] mid left r moment request len said new first answered = absurd r
+-- So far these were exchanged, and this is held behind them.
+pub record Goes (xs : List Exchange) (held : List ℕ) (a b : Doorway) : Type 0 where
+  pub taken : List ℕ
+  pub frames : Frames a.unread xs (held ++ b.unread)
+  pub few : length held ≤ most_read
+  pub talked : Talked taken (said_in xs) a b
 
--- one moment more
-pub ticks_more : (old : Option (List ℕ)) (moments : List ℕ) (mid new : Option (List ℕ)) (m : ℕ) → Ticks old moments mid → Tick m mid new → Ticks old (moments ++ m ∷ []) new
-ticks_more old [] mid new m h k = (new, subst (λ o. Tick m o new) h k, refl)
-ticks_more old (x ∷ xs) mid new m h k = (h.0, h.1, ticks_more h.0 xs mid new m h.2 k)
+-- one exchange more
+pub plays_more : (old : State) (xs : List Exchange) (mid : State) → Plays old xs mid → (x : Exchange) → Answered mid x.moment x.asked x.said x.state → Plays old (xs ++ x ∷ []) x.state
+plays_more old [] mid h x answered = (subst (λ m. Answered m x.moment x.asked x.said x.state) h answered, refl)
+plays_more old (y ∷ ys) mid h x answered = (h.0, plays_more y.state ys mid h.1 x answered)
 
-concat_more : (replies : List (List ℕ)) (said : List ℕ) → concat (replies ++ said ∷ []) ≡ concat replies ++ said
-concat_more replies said = concat-append replies (said ∷ []) ∙ ap (λ s. concat replies ++ s) (append-nil said)
+frames_more : (bytes : List ℕ) (xs : List Exchange) (left : List ℕ) → Frames bytes xs left → (x : Exchange) (len : ℕ) → Framing left true (whole x.asked len) → Frames bytes (xs ++ x ∷ []) (drop len left)
+frames_more bytes [] left h x len first = (len, subst (λ l. Framing l true (whole x.asked len)) h first, ap (drop len) h)
+frames_more bytes (y ∷ ys) left h x len first = (h.0, h.1, frames_more (drop h.0 bytes) ys left h.2 x len first)
+
+said_more : (xs : List Exchange) (x : Exchange) → said_in (xs ++ x ∷ []) ≡ said_in xs ++ x.said
+said_more [] x = append-nil x.said
+said_more (y ∷ ys) x = ap (λ s. y.said ++ s) (said_more ys x) ∙ sym (append_assoc y.said (said_in ys) x.said)
+
+pub length_more : (xs : List Exchange) (x : Exchange) (n : ℕ) → length xs ≡ n → length (xs ++ x ∷ []) ≡ n + 1
+length_more xs x n e = length-append xs (x ∷ []) ∙ omega (arith, e)
+
+tick_more : (old : Option (List ℕ)) (moments : List ℕ) (mid new : Option (List ℕ)) (m : ℕ) → Ticks old moments mid → Tick m mid new → Ticks old (moments ++ m ∷ []) new
+tick_more old [] mid new m h k = (new, subst (λ o. Tick m o new) h k, refl)
+tick_more old (x ∷ xs) mid new m h k = (h.0, h.1, tick_more h.0 xs mid new m h.2 k)
+
+pub ticks_more : (old : Option (List ℕ)) (xs : List Exchange) (mid new : Option (List ℕ)) (x : Exchange) → Ticks old (moments_of xs) mid → Tick x.moment mid new → Ticks old (moments_of (xs ++ x ∷ [])) new
+ticks_more old xs mid new x h k =
+    subst (λ ms. Ticks old ms new) (sym (map-append (λ (y : Exchange). y.moment) xs (x ∷ []))) (tick_more old (moments_of xs) mid new x.moment h k)
 
 -- more was read
-talked_read : (out : List ℕ) (a b c : Doorway) → Talked out a b → OnlyRead b c → Talked out a c
-talked_read out a b c t only = record {
-  is = only ∙ ap (λ (x : Doorway). record x { unread = c.unread }) t.is;
+read_join : (taken written read : List ℕ) (t : Talk) → with_taken read (with_bytes taken written t) ≡ with_bytes (taken ++ read) written t
+read_join taken written read t = ap (λ (s : List ℕ). record t { taken = s; written = t.written ++ written }) (append_assoc t.taken taken read)
+
+talked_read : (taken written read : List ℕ) (a b c : Doorway) → Talked taken written a b → Takes read b c → Talked (taken ++ read) written a c
+talked_read taken written read a b c t r = record {
+  front = t.front ∙ ap (λ u. taken ++ u) r.front ∙ sym (append_assoc taken read c.unread);
+  is = r.rest ∙ ap (λ (d : Doorway). record d { unread = c.unread; begun = with_last (with_taken read) d.begun }) t.is
+      ∙ ap (λ (ts : List Talk). record a { unread = c.unread; begun = ts }) (last_join (with_bytes taken written) (with_taken read) (with_bytes (taken ++ read) written) (read_join taken written read) a.begun);
 }
 
 -- what was written goes on
-talked_more : (out said : List ℕ) (a b c d : Doorway) → Talked out a b → OnlyRead b c → Writes said c d → Talked (out ++ said) a d
-talked_more out said a b c d t only w =
-    let same : c.unread ≡ d.unread = sym (ap (λ (x : Doorway). x.unread) w) in
+write_join : (taken written more : List ℕ) (t : Talk) → with_written more (with_bytes taken written t) ≡ with_bytes taken (written ++ more) t
+write_join taken written more t = ap (λ (s : List ℕ). record t { taken = t.taken ++ taken; written = s }) (append_assoc t.written written more)
+
+talked_more : (taken written more : List ℕ) (a b c : Doorway) → Talked taken written a b → Writes more b c → Talked taken (written ++ more) a c
+talked_more taken written more a b c t w =
+    let same : c.unread ≡ b.unread = ap (λ (x : Doorway). x.unread) w in
     record {
-      is = w ∙ ap (λ (x : Doorway). record x { written = sent_last x.written said }) (only ∙ ap (λ (x : Doorway). record x { unread = c.unread }) t.is)
-          ∙ ap (λ (s : List (List ℕ)). record a { unread = c.unread; written = s }) (sent_join a.written out said)
-          ∙ ap (λ (u : List ℕ). record a { unread = u; written = sent_last a.written (out ++ said) }) same;
+      front = t.front ∙ ap (λ u. taken ++ u) (sym same);
+      is = w ∙ ap (λ (d : Doorway). record d { begun = with_last (with_written more) d.begun }) t.is
+          ∙ ap (λ (ts : List Talk). record a { unread = b.unread; begun = ts }) (last_join (with_bytes taken written) (with_written more) (with_bytes taken (written ++ more)) (write_join taken written more) a.begun)
+          ∙ ap (λ (u : List ℕ). record a { unread = u; begun = with_last (with_bytes taken (written ++ more)) a.begun }) (sym same);
     }
 
-few : (one : Bool) (n m : ℕ) → (0 < n → one ≡ false) → m ≡ n → one ≡ true → m ≤ 1
-few one zero m only e h = omega (arith, e)
-few one (suc k) m only e h = let no : false ≡ true = sym (only (omega arith)) ∙ h in absurd (cc)
-
-few_more : (one : Bool) (n m : ℕ) → (0 < n → one ≡ false) → m ≡ n + 1 → one ≡ true → m ≤ 1
-few_more one zero m only e h = omega (arith, e)
-few_more one (suc k) m only e h = let no : false ≡ true = sym (only (omega arith)) ∙ h in absurd (cc)
-
-none_before : (n : ℕ) (one : Bool) → (0 < n → one ≡ false) → one ≡ true → n ≡ 0
-none_before zero one only h = refl
-none_before (suc k) one only h = let no : false ≡ true = sym (only (omega arith)) ∙ h in absurd (cc)
-
-not_after_one : (n m : ℕ) (one : Bool) → (0 < n → one ≡ false) → m ≡ n → one ≡ true → m ≡ 1 → ⊥
-not_after_one n m one only e h single = let no : false ≡ true = sym (only (omega (arith, e, single))) ∙ h in cc
-
 -- before anything came
-pub goes_first : (old : State) (a : Doorway) → Goes [] old old [] 0 a a
-goes_first old a = record { replies = []; run = (refl, refl); count_is = refl; few = omega arith; talked = record { is = writes_none a } }
+bytes_none : (t : Talk) → with_bytes [] [] t ≡ t
+bytes_none t = ap (λ (s : List ℕ). record t { taken = s; written = t.written ++ [] }) (append-nil t.taken) ∙ ap (λ (s : List ℕ). record t { written = s }) (append-nil t.written)
 
-length_more : (replies : List (List ℕ)) (said : List ℕ) (n : ℕ) → length replies ≡ n → length (replies ++ said ∷ []) ≡ n + 1
-length_more replies said n e = length-append replies (said ∷ []) ∙ omega (arith, e)
-
-pub goes_on : (moments : List ℕ) (moment : ℕ) (old s new : State) (n : ℕ) (held held' said : List ℕ) (request : Request) (a b c d : Doorway)
-    → Goes moments old s held n a b → FindsNext (next.Whole request) held held' b c → Answered s moment (asked request) said new → Writes said c d → Goes (moments ++ moment ∷ []) old new held' (n + 1) a d
-goes_on moments moment old s new n held held' said request a b c d g f answered w = record {
-  replies = g.replies ++ said ∷ [];
-  run = subst (λ l. Run old a.unread (moments ++ moment ∷ []) (g.replies ++ said ∷ []) new l)
-      (sym f.2 ∙ ap (λ u. held' ++ u) (sym (ap (λ (x : Doorway). x.unread) w)))
-      (run_more old a.unread moments g.replies s (held ++ b.unread) g.run moment (asked request) f.0 said new f.1 answered);
-  count_is = length_more g.replies said n g.count_is;
-  few = little held held' request b c g.few f;
-  talked = subst (λ out. Talked out a d) (sym (concat_more g.replies said)) (talked_more (concat g.replies) said a b c d g.talked f.3 w);
+pub goes_first : (a : Doorway) → Goes [] [] a a
+goes_first a = record {
+  taken = [];
+  frames = refl;
+  few = omega arith;
+  talked = record { front = refl; is = ap (λ (ts : List Talk). record a { begun = ts }) (sym (last_same (with_bytes [] []) bytes_none a.begun)) };
 }
+
+-- what is held and unread behind a request that was found
+left_is : (held held' : List ℕ) (request : Request) (b c : Doorway) (f : FindsNext (next.Whole request) held held' b c) → drop f.begins.0 (held ++ b.unread) ≡ held' ++ c.unread
+left_is held held' request b c f =
+    ap (λ u. drop f.begins.0 (held ++ u)) f.takes.front ∙ ap (drop f.begins.0) (sym (append_assoc held f.read c.unread))
+    ∙ drop-append-le f.begins.0 (held ++ f.read) c.unread f.begins.2 ∙ ap (λ h. h ++ c.unread) (sym f.begins.3)
+
+few_held : (held held' : List ℕ) (request : Request) (b c : Doorway) → length held ≤ most_read → FindsNext (next.Whole request) held held' b c → length held' ≤ most_read
+few_held held held' request b c few f =
+    let whole = subst (λ u. Framing (held ++ u) true (whole (asked request) f.begins.0)) f.takes.front f.begins.1 in
+    subst (λ h. length h ≤ most_read) (sym f.begins.3) (little held f.read c.unread (asked request) f.begins.0 few whole f.little)
+
+-- a request was found: its exchange is that of a list with one more
+frames_found : (xs : List Exchange) (x : Exchange) (held held' : List ℕ) (request : Request) → x.asked ≡ asked request → (a b c : Doorway)
+    → Goes xs held a b → FindsNext (next.Whole request) held held' b c → Frames a.unread (xs ++ x ∷ []) (held' ++ c.unread)
+frames_found xs x held held' request same a b c g f =
+    subst (Frames a.unread (xs ++ x ∷ [])) (left_is held held' request b c f)
+    (frames_more a.unread xs (held ++ b.unread) g.frames x f.begins.0 (subst (λ r. Framing (held ++ b.unread) true (whole r f.begins.0)) (sym same) f.begins.1))
+
+pub goes_on : (xs : List Exchange) (x : Exchange) (held held' : List ℕ) (request : Request) → x.asked ≡ asked request → (a b c d : Doorway)
+    → Goes xs held a b → FindsNext (next.Whole request) held held' b c → Writes x.said c d → Goes (xs ++ x ∷ []) held' a d
+goes_on xs x held held' request same a b c d g f w =
+    let unread : c.unread ≡ d.unread = sym (ap (λ (y : Doorway). y.unread) w) in
+    record {
+      taken = g.taken ++ f.read;
+      frames = subst (λ u. Frames a.unread (xs ++ x ∷ []) (held' ++ u)) unread (frames_found xs x held held' request same a b c g f);
+      few = few_held held held' request b c g.few f;
+      talked = subst (λ out. Talked (g.taken ++ f.read) out a d) (sym (said_more xs x))
+          (talked_more (g.taken ++ f.read) (said_in xs) x.said a c d (talked_read g.taken (said_in xs) f.read a b c g.talked f.takes) w);
+    }
 
 -- a reply that broke off
-pub breaks_off : (moments : List ℕ) (moment : ℕ) (one : Bool) (old s new : State) (n : ℕ) (held held' said : List ℕ) (request : Request)
-    → n < most_requests → (0 < n → one ≡ false) → Answered s moment (asked request) said new → (a b c d : Doorway)
-    → Goes moments old s held n a b → FindsNext (next.Whole request) held held' b c → WritesPart said c d → Fails one (moments ++ moment ∷ []) old new a d
-breaks_off moments moment one old s new n held held' said request below only answered a b c d g f p = record {
-  out = concat g.replies ++ p.part;
-  breaks = record {
-    replies = g.replies ++ said ∷ [];
-    left = drop f.0 (held ++ b.unread);
-    run = run_more old a.unread moments g.replies s (held ++ b.unread) g.run moment (asked request) f.0 said new f.1 answered;
-    single = few_more one n (length (g.replies ++ said ∷ [])) only (length_more g.replies said n g.count_is);
-    few = omega (arith, below, length_more g.replies said n g.count_is);
-    cut = inr (inl (
-      record { front = g.replies; reply = said; part = p.part; rest = p.rest; replies_are = refl; reply_is = p.is; short = p.short; out_is = refl },
-      (held', sym f.2 ∙ ap (λ u. held' ++ u) (sym (ap (λ (x : Doorway). x.unread) p.sent)), little held held' request b c g.few f),
-    ));
-  };
-  talked = talked_more (concat g.replies) p.part a b c d g.talked f.3 p.sent;
-}
+pub breaks_off : (one : Bool) (xs : List Exchange) (x : Exchange) (held held' : List ℕ) (request : Request) → x.asked ≡ asked request → (a b c d : Doorway)
+    → Goes xs held a b → FindsNext (next.Whole request) held held' b c → WritesPart x.said c d → Converses one Faulted (xs ++ x ∷ []) a d
+breaks_off one xs x held held' request same a b c d g f p =
+    let unread : c.unread ≡ d.unread = sym (ap (λ (y : Doorway). y.unread) p.sent) in
+    let talked = talked_more (g.taken ++ f.read) (said_in xs) p.part a c d (talked_read g.taken (said_in xs) f.read a b c g.talked f.takes) p.sent in
+    record {
+      taken = g.taken ++ f.read;
+      written = said_in xs ++ p.part;
+      talk = record {
+        unread = d.unread;
+        bytes_are = talked.front;
+        left = held' ++ d.unread;
+        frames = subst (λ u. Frames a.unread (xs ++ x ∷ []) (held' ++ u)) unread (frames_found xs x held held' request same a b c g f);
+        ends = inr (inl (record { front = xs; last = x; xs_are = refl; part = p.part; cut = p.cut; written_is = refl; little = (held', refl, few_held held held' request b c g.few f) }));
+      };
+      talked = talked;
+    }
+
+-- doors that take one reply go on only before it
+pub goes_on_before : (one : Bool) (xs : List Exchange) (n : ℕ) → length xs ≡ n → (0 < n → one ≡ false) → GoesOn one xs
+goes_on_before true [] n e only = tt
+goes_on_before true (x ∷ xs) n e only = let no : true ≡ false = only (omega (arith, e)) in cc
+goes_on_before false xs n e only = tt
+
+spent_over : (one : Bool) (xs : List Exchange) (left unread words : List ℕ) → GoesOn one xs → IsSpent left words → IsOver one xs left unread words
+spent_over true [] left unread words on spent = spent
+spent_over true (x ∷ xs) left unread words on spent = absurd on
+spent_over false xs left unread words on spent = spent
+
+over_after_one : (xs : List Exchange) (x : Exchange) (left unread : List ℕ) → TakesLittle left unread → IsOver true (xs ++ x ∷ []) left unread []
+over_after_one [] x left unread few = (refl, few)
+over_after_one (y ∷ ys) x left unread few = (refl, few)
 
 -- after the one reply
-ends_after_one : (moments : List ℕ) (old s : State) (n : ℕ) (held : List ℕ) (a b : Doorway) → Goes moments old s held n a b → n ≡ 1 → Ends true moments old s a b
-ends_after_one moments old s n held a b g only = record {
-  out = concat g.replies;
-  answers = record {
-    replies = g.replies;
-    left = held ++ b.unread;
-    run = g.run;
-    single = λ _. omega (arith, g.count_is);
-    few = omega (arith, g.count_is);
-    last = [];
-    over = inr (inr (inr (refl, g.count_is ∙ only, refl)));
-    out_is = ap concat (sym (append-nil g.replies));
-  };
-  taken = λ _ _. (held, refl, g.few);
-  talked = g.talked;
-}
+pub ends_one : (one : Bool) (xs : List Exchange) (x : Exchange) (held held' : List ℕ) (request : Request) → one ≡ true → x.asked ≡ asked request → (a b c d : Doorway)
+    → Goes xs held a b → FindsNext (next.Whole request) held held' b c → Writes x.said c d → Converses one Ended (xs ++ x ∷ []) a d
+ends_one one xs x held held' request single same a b c d g f w =
+    let on : Goes (xs ++ x ∷ []) held' a d = goes_on xs x held held' request same a b c d g f w in
+    record {
+      taken = on.taken;
+      written = said_in (xs ++ x ∷ []);
+      talk = record {
+        unread = d.unread;
+        bytes_are = on.talked.front;
+        left = held' ++ d.unread;
+        frames = on.frames;
+        ends = (
+          [],
+          subst (λ o. IsOver o (xs ++ x ∷ []) (held' ++ d.unread) d.unread []) (sym single) (over_after_one xs x (held' ++ d.unread) d.unread (held', refl, on.few)),
+          sym (append-nil (said_in (xs ++ x ∷ []))),
+        );
+      };
+      talked = on.talked;
+    }
 
-pub ends_one : (moments : List ℕ) (moment : ℕ) (one : Bool) (old s new : State) (n : ℕ) (held held' said : List ℕ) (request : Request) → one ≡ true → (0 < n → one ≡ false)
-    → Answered s moment (asked request) said new → (a b c d : Doorway) → Goes moments old s held n a b → FindsNext (next.Whole request) held held' b c → Writes said c d → Ends one (moments ++ moment ∷ []) old new a d
-ends_one moments moment one old s new n held held' said request h only answered a b c d g f w =
-    let none : n ≡ 0 = none_before n one only h in
-    subst (λ o. Ends o (moments ++ moment ∷ []) old new a d) (sym h)
-    (ends_after_one (moments ++ moment ∷ []) old new (n + 1) held' a d (goes_on moments moment old s new n held held' said request a b c d g f answered w) (omega (arith, none)))
-
--- with last words
-pub ends_saying : (moments : List ℕ) (one : Bool) (old s : State) (n : ℕ) (held words : List ℕ) → n < most_requests → (0 < n → one ≡ false) → (a b c d : Doorway)
-    → Goes moments old s held n a b → OnlyRead b c
-    → ((count : ℕ) → IsOver one count (held ++ b.unread) (words ∷ [])) → Writes words c d → Ends one moments old s a d
-ends_saying moments one old s n held words below only a b c d g only_read over w = record {
-  out = concat g.replies ++ words;
-  answers = record {
-    replies = g.replies;
-    left = held ++ b.unread;
-    run = g.run;
-    single = few one n (length g.replies) only g.count_is;
-    few = omega (arith, below, g.count_is);
-    last = words ∷ [];
-    over = over (length g.replies);
-    out_is = sym (concat_more g.replies words);
-  };
-  taken = λ single after_one. absurd (not_after_one n (length g.replies) one only g.count_is single after_one);
-  talked = talked_more (concat g.replies) words a b c d g.talked only_read w;
-}
-
-pub breaks_saying : (moments : List ℕ) (one : Bool) (old s : State) (n : ℕ) (held words : List ℕ) → n < most_requests → (0 < n → one ≡ false) → (a b c d : Doorway)
-    → Goes moments old s held n a b → OnlyRead b c
-    → ((count : ℕ) → IsOver one count (held ++ b.unread) (words ∷ [])) → WritesPart words c d → Fails one moments old s a d
-breaks_saying moments one old s n held words below only a b c d g only_read over p = record {
-  out = concat g.replies ++ p.part;
-  breaks = record {
-    replies = g.replies;
-    left = held ++ b.unread;
-    run = g.run;
-    single = few one n (length g.replies) only g.count_is;
-    few = omega (arith, below, g.count_is);
-    cut = inr (inr (words ∷ [], over (length g.replies), record { front = g.replies; reply = words; part = p.part; rest = p.rest; replies_are = refl; reply_is = p.is; short = p.short; out_is = refl }));
-  };
-  talked = talked_more (concat g.replies) p.part a b c d g.talked only_read p.sent;
-}
+-- with last words, or a first part of them
+pub ends_saying : (one : Bool) (end : ConvEnd) (xs : List Exchange) (found : Found) (held held' words : List ℕ) → GoesOn one xs → (a b c d : Doorway)
+    → Goes xs held a b → FindsNext found held held' b c → IsSpent (held ++ b.unread) words → Says end words c d → Converses one end xs a d
+ends_saying one Ended xs found held held' words on a b c d g f spent w =
+    let talked = talked_more (g.taken ++ f.read) (said_in xs) words a c d (talked_read g.taken (said_in xs) f.read a b c g.talked f.takes) w in
+    record {
+      taken = g.taken ++ f.read;
+      written = said_in xs ++ words;
+      talk = record {
+        unread = d.unread;
+        bytes_are = talked.front;
+        left = held ++ b.unread;
+        frames = g.frames;
+        ends = (words, spent_over one xs (held ++ b.unread) d.unread words on spent, refl);
+      };
+      talked = talked;
+    }
+ends_saying one Faulted xs found held held' words on a b c d g f spent p =
+    let talked = talked_more (g.taken ++ f.read) (said_in xs) p.part a c d (talked_read g.taken (said_in xs) f.read a b c g.talked f.takes) p.sent in
+    record {
+      taken = g.taken ++ f.read;
+      written = said_in xs ++ p.part;
+      talk = record {
+        unread = d.unread;
+        bytes_are = talked.front;
+        left = held ++ b.unread;
+        frames = g.frames;
+        ends = inr (inr (record { on = on; words = words; spent = spent; part = p.part; cut = p.cut; written_is = refl }));
+      };
+      talked = talked;
+    }
+ends_saying one Full xs found held held' words on a b c d g f spent w = absurd w
 
 -- at the end of the bytes
-pub ends_quiet : (moments : List ℕ) (one : Bool) (old s : State) (n : ℕ) (held held' : List ℕ) → n < most_requests → (0 < n → one ≡ false) → (a b c : Doorway)
-    → Goes moments old s held n a b → FindsNext next.Quiet held held' b c → Ends one moments old s a c
-ends_quiet moments one old s n held held' below only a b c g f = record {
-  out = concat g.replies;
-  answers = record {
-    replies = g.replies;
-    left = held ++ b.unread;
-    run = g.run;
-    single = few one n (length g.replies) only g.count_is;
-    few = omega (arith, below, g.count_is);
-    last = [];
-    over = inl (f.0, refl);
-    out_is = ap concat (sym (append-nil g.replies));
-  };
-  taken = λ single after_one. absurd (not_after_one n (length g.replies) one only g.count_is single after_one);
-  talked = talked_read (concat g.replies) a b c g.talked f.1.3;
-}
+pub ends_quiet : (one : Bool) (xs : List Exchange) (held held' : List ℕ) → GoesOn one xs → (a b c : Doorway)
+    → Goes xs held a b → FindsNext next.Quiet held held' b c → Converses one Ended xs a c
+ends_quiet one xs held held' on a b c g f =
+    let talked = talked_read g.taken (said_in xs) f.read a b c g.talked f.takes in
+    record {
+      taken = g.taken ++ f.read;
+      written = said_in xs;
+      talk = record {
+        unread = c.unread;
+        bytes_are = talked.front;
+        left = held ++ b.unread;
+        frames = g.frames;
+        ends = ([], spent_over one xs (held ++ b.unread) c.unread [] on (inl (f.begins.0, refl)), sym (append-nil (said_in xs)));
+      };
+      talked = talked;
+    }
 
 -- in a read
-pub breaks_reading : (moments : List ℕ) (one : Bool) (old s : State) (n : ℕ) (held held' : List ℕ) → n < most_requests → (0 < n → one ≡ false) → (a b c : Doorway)
-    → Goes moments old s held n a b → FindsNext next.Failed held held' b c → Fails one moments old s a c
-breaks_reading moments one old s n held held' below only a b c g f = record {
-  out = concat g.replies;
-  breaks = record {
-    replies = g.replies;
-    left = held ++ b.unread;
-    run = g.run;
-    single = few one n (length g.replies) only g.count_is;
-    few = omega (arith, below, g.count_is);
-    cut = inl (held', ap (λ u. held ++ u) f.1.2 ∙ sym (append_assoc held f.1.0 c.unread) ∙ ap (λ h. h ++ c.unread) (sym f.1.1), f.0, refl);
-  };
-  talked = talked_read (concat g.replies) a b c g.talked f.1.3;
-}
+pub breaks_reading : (one : Bool) (xs : List Exchange) (held held' : List ℕ) → GoesOn one xs → (a b c : Doorway)
+    → Goes xs held a b → FindsNext next.Failed held held' b c → Converses one Faulted xs a c
+breaks_reading one xs held held' on a b c g f =
+    let talked = talked_read g.taken (said_in xs) f.read a b c g.talked f.takes in
+    record {
+      taken = g.taken ++ f.read;
+      written = said_in xs;
+      talk = record {
+        unread = c.unread;
+        bytes_are = talked.front;
+        left = held ++ b.unread;
+        frames = g.frames;
+        ends = inl (record {
+          on = on;
+          held = held ++ f.read;
+          left_is = ap (λ u. held ++ u) f.takes.front ∙ sym (append_assoc held f.read c.unread);
+          begun = f.begins.0;
+          written_is = refl;
+        });
+      };
+      talked = talked;
+    }
 
 -- after the most requests
-pub fills : (moments : List ℕ) (old s : State) (n : ℕ) (held : List ℕ) → n ≡ most_requests → (a b : Doorway) → Goes moments old s held n a b → Fills moments old s a b
-fills moments old s n held most a b g = record {
-  out = concat g.replies;
-  answers = record { replies = g.replies; left = held ++ b.unread; run = g.run; most = g.count_is ∙ most; out_is = refl; taken = (held, refl, g.few) };
+pub fills : (one : Bool) (xs : List Exchange) (held : List ℕ) (a b : Doorway) → Goes xs held a b → Converses one Full xs a b
+fills one xs held a b g = record {
+  taken = g.taken;
+  written = said_in xs;
+  talk = record { unread = b.unread; bytes_are = g.talked.front; left = held ++ b.unread; frames = g.frames; ends = (refl, (held, refl, g.few)) };
   talked = g.talked;
 }
+
+-- before any reply, where doors take one
+none_before : (one : Bool) (n : ℕ) → (0 < n → one ≡ false) → one ≡ true → n ≡ 0
+none_before one zero only single = refl
+none_before one (suc k) only single = let no : false ≡ true = sym (only (omega arith)) ∙ single in absurd (cc)
+
+-- how many were answered: before the most that may be
+pub count_saying : (end : ConvEnd) (one : Bool) (n : ℕ) {m : ℕ} → m ≡ n → end ≢ Full → n < most_requests → (0 < n → one ≡ false) → IsCount end one m
+count_saying Ended one n e other below only = (omega (arith, below, e), λ single. omega (arith, e, none_before one n only single))
+count_saying Faulted one n e other below only = (omega (arith, below, e), λ single. omega (arith, e, none_before one n only single))
+count_saying Full one n e other below only = absurd (other refl)
+
+-- with a reply that broke off
+pub count_answered : (m : ℕ) (one : Bool) (n : ℕ) → m ≡ n + 1 → n < most_requests → (0 < n → one ≡ false) → IsCount Faulted one m
+count_answered m one n e below only = (omega (arith, below, e), λ single. omega (arith, e, none_before one n only single))
+
+-- with the one reply
+pub count_one : (m : ℕ) (one : Bool) (n : ℕ) → m ≡ n + 1 → one ≡ true → (0 < n → one ≡ false) → IsCount Ended one m
+count_one m one n e single only = let none = none_before one n only single in (omega (arith, e, none), λ _. omega (arith, e, none))
 
 -- the codes of framing are those of replies that take no memory
 pub is_number : (code : ℕ) → (code ≡ 1) ⊎ (code ≡ 2) ⊎ (code ≡ 5) ⊎ (code ≡ 6) → IsTrue (is_fixed code)

@@ -1,11 +1,13 @@
 -- A conversation of no bytes.
-use Rattle.std.proofs.Common.{◌≡◌, ◌⊎◌, ℕ, inl, inr, Bool, true, List, [], ◌∷◌, ◌++◌, length, refl, ap, sym, ◌∙◌, subst, arith}
-use Rattle.std.specs.List.{concat}
+use Rattle.std.proofs.Common.{◌≡◌, ◌⊎◌, ℕ, inl, inr, Bool, true, false, List, [], ◌∷◌, ◌++◌, length, refl, ap, sym, ◌∙◌, subst, arith}
 use Rattle.std.proofs.lemmas.List.{length-append}
+use Rattle.app_wire.specs.Doorway.{IsCutOff}
 use Rattle.app_wire.specs.Framing.{Refuses}
 use Rattle.app_wire.proofs.Blanks.{front_byte}
-use Rattle.office.specs.Answers.{Answers, Breaks, BreaksOff, IsCut, IsOver, Run}
+use Rattle.office.specs.Answers.{EndsSo, Exchange, Frames, IsOver, IsSpent, IsTalk, Plays, said_in}
 use Rattle.office.specs.State.{State}
+use Rattle.office.specs.declared.converse.ConvEnd.{ConvEnd}
+use Rattle.office.specs.declared.converse.ConvEnd.TheVariants.{Ended, Faulted, Full}
 
 -- no refusal of no bytes
 unrefused : (code : ℕ) → Refuses [] true code → ⊥
@@ -15,47 +17,39 @@ unrefused code (inr (inr (inl h))) = omega (arith, front_byte [] h.1.len h.1.fro
 unrefused code (inr (inr (inr h))) = omega (arith, h.2.some)
 
 -- no request begins there
-unanswered : (old : State) (moments : List ℕ) (replies : List (List ℕ)) (new : State) (left : List ℕ) → Run old [] moments replies new left
-    → (moments ≡ []) × (replies ≡ []) × (new ≡ old) × (left ≡ [])
-unanswered old [] [] new left r = (refl, refl, r.0, r.1)
-unanswered old (m ∷ ms) (x ∷ xs) new left r = absurd (omega (arith, front_byte [] r.1 r.3.front))
-unanswered old [] (x ∷ xs) new left r = absurd r
-unanswered old (m ∷ ms) [] new left r = absurd r
+unanswered : (xs : List Exchange) (left : List ℕ) → Frames [] xs left → (xs ≡ []) × (left ≡ [])
+unanswered [] left h = (refl, h)
+unanswered (x ∷ xs) left h = absurd (omega (arith, front_byte [] h.0 h.1.front))
 
 -- nothing is said
-nothing_last : (one : Bool) (last : List (List ℕ)) → IsOver one 0 [] last → last ≡ []
-nothing_last one last (inl h) = h.1
-nothing_last one last (inr (inl h)) = absurd (unrefused h.0 h.1)
-nothing_last one last (inr (inr (inl h))) = absurd (omega (arith, h.0))
-nothing_last one last (inr (inr (inr h))) = h.2
+unsaid : (words : List ℕ) → IsSpent [] words → words ≡ []
+unsaid words (inl h) = h.1
+unsaid words (inr (inl h)) = absurd (unrefused h.0 h.1)
+unsaid words (inr (inr h)) = absurd (omega (arith, h.0))
 
-none_joined : (replies last : List (List ℕ)) → replies ≡ [] → last ≡ [] → replies ++ last ≡ []
-none_joined replies last none end = rw (none, end) refl
+no_last : (one : Bool) (unread words : List ℕ) → IsOver one [] [] unread words → words ≡ []
+no_last true unread words h = unsaid words h
+no_last false unread words h = unsaid words h
 
-over_none : (one : Bool) (replies : List (List ℕ)) (left : List ℕ) (last : List (List ℕ)) → replies ≡ [] → left ≡ [] → IsOver one (length replies) left last → IsOver one 0 [] last
-over_none one replies left last none end over =
-    subst (λ l. IsOver one 0 l last) end (subst (λ (r : List (List ℕ)). IsOver one (length r) left last) none over)
+-- nothing breaks off there
+uncut : (part : List ℕ) → IsCutOff part [] → ⊥
+uncut part h = omega (arith, h.short, ap length h.is, length-append part h.rest)
 
-answered : (one : Bool) (old new : State) (moments out : List ℕ) → Answers one old moments [] out new → (out ≡ []) × (moments ≡ []) × (new ≡ old)
-answered one old new moments out a =
-    let run = unanswered old moments a.replies new a.left a.run in
-    let last : a.last ≡ [] = nothing_last one a.last (over_none one a.replies a.left a.last run.1 run.3 a.over) in
-    (a.out_is ∙ ap concat (none_joined a.replies a.last run.1 last), run.0, run.2)
+ends_silent : (end : ConvEnd) (one : Bool) (unread written : List ℕ) → EndsSo end one [] [] unread written → written ≡ []
+ends_silent Ended one unread written h = h.2 ∙ no_last one unread h.0 h.1
+ends_silent Full one unread written h = h.0
+ends_silent Faulted one unread written (inl h) = h.written_is
+ends_silent Faulted one unread written (inr (inl h)) = absurd (omega (arith, ap length h.xs_are, length-append h.front (h.last ∷ [])))
+ends_silent Faulted one unread written (inr (inr h)) = absurd (uncut h.part (subst (IsCutOff h.part) (unsaid h.words h.spent) h.cut))
 
--- nothing breaks off where nothing is said
-unbroken : (replies : List (List ℕ)) (out : List ℕ) → replies ≡ [] → BreaksOff replies out → ⊥
-unbroken replies out none b = omega (arith, ap length (sym none ∙ b.replies_are), length-append b.front (b.reply ∷ []))
+plays_none : (old new : State) (xs : List Exchange) → xs ≡ [] → Plays old xs new → new ≡ old
+plays_none old new xs none plays = subst (λ ys. Plays old ys new) none plays
 
-cut_silent : (one : Bool) (replies : List (List ℕ)) (left unread out : List ℕ) → replies ≡ [] → left ≡ [] → IsCut one replies left unread out → out ≡ []
-cut_silent one replies left unread out none end (inl h) = h.3 ∙ ap concat none
-cut_silent one replies left unread out none end (inr (inl h)) = absurd (unbroken replies out none h.0)
-cut_silent one replies left unread out none end (inr (inr h)) =
-    absurd (unbroken (replies ++ h.0) out (none_joined replies h.0 none (nothing_last one h.0 (over_none one replies left h.0 none end h.1))) h.2)
-
-pub silent : (one : Bool) (old new : State) (moments out : List ℕ)
-    → Answers one old moments [] out new ⊎ ((unread : List ℕ) × Breaks one old moments [] out new unread)
-    → (out ≡ []) × (moments ≡ []) × (new ≡ old)
-silent one old new moments out (inl a) = answered one old new moments out a
-silent one old new moments out (inr h) =
-    let run = unanswered old moments h.1.replies new h.1.left h.1.run in
-    (cut_silent one h.1.replies h.1.left h.0 out run.1 run.3 h.1.cut, run.0, run.2)
+pub silent : (one : Bool) (end : ConvEnd) (old new : State) (xs : List Exchange) (taken written : List ℕ)
+    → Plays old xs new → IsTalk one end xs [] taken written → (written ≡ []) × (xs ≡ []) × (new ≡ old)
+silent one end old new xs taken written plays talk =
+    let none = unanswered xs talk.left talk.frames in (
+      ends_silent end one talk.unread written (subst (λ ys. EndsSo end one ys [] talk.unread written) none.0 (subst (λ l. EndsSo end one xs l talk.unread written) none.1 talk.ends)),
+      none.0,
+      plays_none old new xs none.0 plays,
+    )

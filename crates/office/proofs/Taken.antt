@@ -1,11 +1,8 @@
 -- How much is taken of a conversation past a request.
-use Rattle.std.proofs.Common.{◌≡◌, ℕ, zero, suc, ◌≤◌, ◌⊎◌, inl, inr, List, [], ◌∷◌, ◌++◌, length, take, drop, refl, ap, sym, ◌∙◌, subst, append_assoc, arith}
+use Rattle.std.proofs.Common.{◌≡◌, ℕ, zero, suc, ◌≤◌, inl, inr, List, [], ◌∷◌, ◌++◌, length, take, drop, refl, ap, sym, ◌∙◌, subst, append_assoc, arith}
 use Rattle.std.proofs.lemmas.List.{length-append, length-drop, take-append-le}
-use Rattle.app_wire.specs.Doorway.{Doorway}
-use Rattle.app_wire.specs.Framing.{Asked, EndsBlank, IsOpen, IsWhole, asked}
-use Rattle.app_wire.specs.NextRequest.{FindsNext}
-use Rattle.app_wire.specs.declared.framer.Request.{Request}
-use Rattle.app_wire.specs.declared.next.Found.TheVariants as next
+use Rattle.app_wire.specs.Framing.{Asked, EndsBlank, IsOpen, IsWhole}
+use Rattle.app_wire.specs.NextRequest.{ReadsLittle}
 
 take_none : (n : ℕ) → take {A = ℕ} n [] ≡ []
 take_none zero = refl
@@ -21,28 +18,13 @@ ends_past held more request len (inl none) w le =
     none_ends (subst EndsBlank (take-append-le len held more le ∙ ap (take len) none ∙ take_none len) w.front.blank)
 ends_past held more request len (inr need) w le = need.1.none len le (subst EndsBlank (take-append-le len held more le) w.front.blank)
 
-by_read : (held held' unread unread' : List ℕ) (request : Asked) (len : ℕ) → length held ≤ 512
-    → IsWhole (held ++ unread) request len → held' ++ unread' ≡ drop len (held ++ unread)
-    → (unread' ≡ unread) ⊎ ((earlier : List ℕ) × (last : List ℕ) × IsOpen (held ++ earlier) × (length last ≤ 512) × (unread ≡ earlier ++ (last ++ unread')))
-    → length held' ≤ 512
-by_read held held' unread unread' request len few w rest (inl same) =
-    omega (arith, few, ap length same, length-append held' unread', ap length rest, length-drop len (held ++ unread), length-append held unread)
-by_read held held' unread unread' request len few w rest (inr r) =
-    let whole : held ++ unread ≡ (held ++ r.0) ++ (r.1 ++ unread') = ap (λ u. held ++ u) r.4 ∙ sym (append_assoc held r.0 (r.1 ++ unread')) in
-    let past : len ≤ length (held ++ r.0) → ⊥ = ends_past (held ++ r.0) (r.1 ++ unread') request len r.2 (subst (λ bytes. IsWhole bytes request len) whole w) in
-    omega (
-      arith,
-      r.3,
-      past,
-      length-append held r.0,
-      length-append held' unread',
-      ap length rest,
-      length-drop len (held ++ unread),
-      ap length whole,
-      length-append (held ++ r.0) (r.1 ++ unread'),
-      length-append r.1 unread',
-    )
-
 -- what is held past a request is at most what one read takes
-pub little : (held held' : List ℕ) (request : Request) (b c : Doorway) → length held ≤ 512 → FindsNext (next.Whole request) held held' b c → length held' ≤ 512
-little held held' request b c few f = by_read held held' b.unread c.unread (asked request) f.0 few f.1 f.2 f.4
+pub little : (held read unread : List ℕ) (request : Asked) (len : ℕ) → length held ≤ 512
+    → IsWhole (held ++ (read ++ unread)) request len → ReadsLittle held read → length (drop len (held ++ read)) ≤ 512
+little held read unread request len few w (inl none) =
+    omega (arith, few, length-drop len (held ++ read), length-append held read, ap length none)
+little held read unread request len few w (inr r) =
+    let whole : held ++ (read ++ unread) ≡ (held ++ r.0) ++ (r.1 ++ unread) =
+    ap (λ u. held ++ (u ++ unread)) r.4 ∙ ap (λ u. held ++ u) (append_assoc r.0 r.1 unread) ∙ sym (append_assoc held r.0 (r.1 ++ unread)) in
+    let past : len ≤ length (held ++ r.0) → ⊥ = ends_past (held ++ r.0) (r.1 ++ unread) request len r.2 (subst (λ bytes. IsWhole bytes request len) whole w) in
+    omega (arith, r.3, past, length-append held r.0, length-drop len (held ++ read), length-append held read, ap length r.4, length-append r.0 r.1)

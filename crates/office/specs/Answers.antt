@@ -1,46 +1,54 @@
 -- Whole conversations: which bytes are answered, and how the office goes on.
-use Rattle.std.specs.Prelude.{◌≡◌, ◌⊎◌, ℕ, ◌<◌, ◌≤◌, Bool, true, List, [], ◌∷◌, ◌++◌, length, drop}
-use Rattle.std.specs.List.{concat}
-use Rattle.app_wire.specs.Doorway.{Doorway, sent_last}
+use Rattle.std.specs.Prelude.{◌≡◌, ◌⊎◌, ℕ, ◌<◌, ◌≤◌, Bool, true, false, List, [], ◌∷◌, ◌++◌, length, drop, map, flat_map}
+use Rattle.app_wire.specs.Doorway.{Doorway, IsCutOff, Talk, Writes, WritesPart, with_last, with_taken, with_written}
 use Rattle.app_wire.specs.Framing.{Asked, Framing, IsOpen, nothing, refused, whole}
 use Rattle.app_wire.specs.ReplyBytes.{refusal}
 use Rattle.office.specs.State.{State}
 use Rattle.office.specs.Step.{Answered}
+use Rattle.office.specs.declared.converse.ConvEnd.{ConvEnd}
+use Rattle.office.specs.declared.converse.ConvEnd.TheVariants.{Ended, Faulted, Full}
 
--- From old, these are the replies to the requests that the bytes begin with, each at its moment. They leave the office so, and these bytes are left.
-abbrev pub Run : State → List ℕ → List ℕ → List (List ℕ) → State → List ℕ → Type 0
-Run old bytes [] [] new left = (new ≡ old) × (left ≡ bytes)
-Run old bytes (moment ∷ moments) (said ∷ replies) new left =
-    (request : Asked) × (len : ℕ) × (mid : State)
-    × Framing bytes true (whole request len) × Answered old moment request said mid × Run mid (drop len bytes) moments replies new left
-Run old bytes [] (said ∷ replies) new left = ⊥
-Run old bytes (moment ∷ moments) [] new left = ⊥
+-- a request and the moment at which it was whole, with its reply and the office after it
+pub record Exchange : Type 0 where
+  pub asked : Asked
+  pub moment : ℕ
+  pub said : List ℕ
+  pub state : State
 
--- Why a conversation is over after so many replies, and what is said last: no byte is left, the bytes that are left are
--- refused, memory ran out in finding a request in them, or the doors end it after one reply.
-abbrev pub IsOver : Bool → ℕ → List ℕ → List (List ℕ) → Type 0
-IsOver one count left last =
-    (Framing left true nothing × (last ≡ []))
-    ⊎ ((code : ℕ) × Framing left true (refused code) × (last ≡ refusal code ∷ []))
-    ⊎ ((0 < length left) × (last ≡ refusal 26 ∷ []))
-    ⊎ ((one ≡ true) × (count ≡ 1) × (last ≡ []))
+-- their moments, and all of their replies
+abbrev pub moments_of : List Exchange → List ℕ
+moments_of xs = map (λ x. x.moment) xs
+
+abbrev pub said_in : List Exchange → List ℕ
+said_in xs = flat_map (λ x. x.said) xs
+
+-- From old the office answers these, one after another, and is new then.
+abbrev pub Plays : State → List Exchange → State → Type 0
+Plays old [] new = new ≡ old
+Plays old (x ∷ xs) new = Answered old x.moment x.asked x.said x.state × Plays x.state xs new
+
+-- The bytes begin with the requests of these, one after another, and these bytes are left.
+abbrev pub Frames : List ℕ → List Exchange → List ℕ → Type 0
+Frames bytes [] left = left ≡ bytes
+Frames bytes (x ∷ xs) left = (len : ℕ) × Framing bytes true (whole x.asked len) × Frames (drop len bytes) xs left
 
 -- the most requests that are answered in one conversation
 abbrev pub most_requests : ℕ
 most_requests = 1000000
 
--- These bytes are the answer to the whole conversation of these bytes, with a moment for each request.
-pub record Answers (one : Bool) (old : State) (moments bytes out : List ℕ) (new : State) : Type 0 where
-  pub replies : List (List ℕ)
-  pub left : List ℕ
-  pub run : Run old bytes moments replies new left
-  pub single : one ≡ true → length replies ≤ 1
-  pub few : length replies < most_requests
-  pub last : List (List ℕ)
-  pub over : IsOver one (length replies) left last
-  pub out_is : out ≡ concat (replies ++ last)
+-- so many are answered in a conversation that ends so, where doors take one reply, or go on
+abbrev pub IsCount : ConvEnd → Bool → ℕ → Type 0
+IsCount Ended one count = (count < most_requests) × (one ≡ true → count ≤ 1)
+IsCount Faulted one count = (count ≤ most_requests) × (one ≡ true → count ≤ 1)
+IsCount Full one count = (count ≡ most_requests) × (one ≡ false)
 
--- The most bytes that one read takes.
+-- the doors take a request after these: all but those that take one reply, which was given
+abbrev pub GoesOn : Bool → List Exchange → Type 0
+GoesOn true (x ∷ xs) = ⊥
+GoesOn true [] = Unit {0}
+GoesOn false xs = Unit {0}
+
+-- the most bytes that one read takes
 abbrev pub most_read : ℕ
 most_read = 512
 
@@ -49,79 +57,86 @@ most_read = 512
 abbrev pub TakesLittle : List ℕ → List ℕ → Type 0
 TakesLittle left unread = (held : List ℕ) × (left ≡ held ++ unread) × (length held ≤ most_read)
 
--- These bytes are the answer to the most requests that one conversation may have. No more is read then.
-pub record AnswersMost (old : State) (moments bytes out : List ℕ) (new : State) (unread : List ℕ) : Type 0 where
-  pub replies : List (List ℕ)
-  pub left : List ℕ
-  pub run : Run old bytes moments replies new left
-  pub most : length replies ≡ most_requests
-  pub out_is : out ≡ concat replies
-  pub taken : TakesLittle left unread
+-- What is left ends a conversation with these words: no byte is left, or it is refused, or memory ran out in finding a
+-- request in it.
+abbrev pub IsSpent : List ℕ → List ℕ → Type 0
+IsSpent left words =
+    (Framing left true nothing × (words ≡ []))
+    ⊎ ((code : ℕ) × Framing left true (refused code) × (words ≡ refusal code))
+    ⊎ ((0 < length left) × (words ≡ refusal 26))
 
--- All but the last of these replies were written, and a first part of the last, which isn't all of it.
-pub record BreaksOff (replies : List (List ℕ)) (out : List ℕ) : Type 0 where
-  pub front : List (List ℕ)
-  pub reply : List ℕ
+-- The conversation is over, with these last words. Doors that take one reply take no word after it.
+abbrev pub IsOver : Bool → List Exchange → List ℕ → List ℕ → List ℕ → Type 0
+IsOver true (x ∷ xs) left unread words = (words ≡ []) × TakesLittle left unread
+IsOver true [] left unread words = IsSpent left words
+IsOver false xs left unread words = IsSpent left words
+
+-- Doors failed in a read, with all replies written. What was taken and not answered begins no request, or none that is whole.
+pub record IsCutInRead (one : Bool) (xs : List Exchange) (left unread written : List ℕ) : Type 0 where
+  pub on : GoesOn one xs
+  pub held : List ℕ
+  pub left_is : left ≡ held ++ unread
+  pub begun : IsOpen held
+  pub written_is : written ≡ said_in xs
+
+-- they failed in a reply: all that came before it were written
+pub record IsCutInReply (xs : List Exchange) (left unread written : List ℕ) : Type 0 where
+  pub front : List Exchange
+  pub last : Exchange
+  pub xs_are : xs ≡ front ++ last ∷ []
   pub part : List ℕ
-  pub rest : List ℕ
-  pub replies_are : replies ≡ front ++ reply ∷ []
-  pub reply_is : reply ≡ part ++ rest
-  pub short : 0 < length rest
-  pub out_is : out ≡ concat front ++ part
+  pub cut : IsCutOff part last.said
+  pub written_is : written ≡ said_in front ++ part
+  pub little : TakesLittle left unread
 
--- Where doors fail: in a read, while what is held begins no request or isn't a whole one yet; in the reply to a request;
--- or in the last words.
-abbrev pub IsCut : Bool → List (List ℕ) → List ℕ → List ℕ → List ℕ → Type 0
-IsCut one replies left unread out =
-    ((held : List ℕ) × (left ≡ held ++ unread) × IsOpen held × (out ≡ concat replies))
-    ⊎ (BreaksOff replies out × TakesLittle left unread)
-    ⊎ ((last : List (List ℕ)) × IsOver one (length replies) left last × BreaksOff (replies ++ last) out)
+-- they failed in the last words
+pub record IsCutInWords (one : Bool) (xs : List Exchange) (left written : List ℕ) : Type 0 where
+  pub on : GoesOn one xs
+  pub words : List ℕ
+  pub spent : IsSpent left words
+  pub part : List ℕ
+  pub cut : IsCutOff part words
+  pub written_is : written ≡ said_in xs ++ part
 
--- The doors failed in the conversation of these bytes: the office is as after all of these replies, and they were written
--- but for the rest of the one that broke off.
-pub record Breaks (one : Bool) (old : State) (moments bytes out : List ℕ) (new : State) (unread : List ℕ) : Type 0 where
-  pub replies : List (List ℕ)
+-- how a conversation ended so, of which this is left behind the requests that were answered
+abbrev pub EndsSo : ConvEnd → Bool → List Exchange → List ℕ → List ℕ → List ℕ → Type 0
+EndsSo Ended one xs left unread written = (words : List ℕ) × IsOver one xs left unread words × (written ≡ said_in xs ++ words)
+EndsSo Full one xs left unread written = (written ≡ said_in xs) × TakesLittle left unread
+EndsSo Faulted one xs left unread written =
+    IsCutInRead one xs left unread written ⊎ IsCutInReply xs left unread written ⊎ IsCutInWords one xs left written
+
+-- In a conversation of these bytes these requests were answered, it ended so, and this was taken of it and written to it.
+pub record IsTalk (one : Bool) (end : ConvEnd) (xs : List Exchange) (bytes taken written : List ℕ) : Type 0 where
+  pub unread : List ℕ
+  pub bytes_are : bytes ≡ taken ++ unread
   pub left : List ℕ
-  pub run : Run old bytes moments replies new left
-  pub single : one ≡ true → length replies ≤ 1
-  pub few : length replies ≤ most_requests
-  pub cut : IsCut one replies left unread out
+  pub frames : Frames bytes xs left
+  pub ends : EndsSo end one xs left unread written
 
--- the doors gave some bytes of the present conversation and took out, and nothing else that is told changed
-pub record Talked (out : List ℕ) (a b : Doorway) : Type 0 where
-  pub is : b ≡ record a { unread = b.unread; written = sent_last a.written out }
+-- this more was read and written
+abbrev pub with_bytes : List ℕ → List ℕ → Talk → Talk
+with_bytes taken written t = with_written written (with_taken taken t)
 
--- so far, with what is held after the requests that were answered
-pub record Goes (moments : List ℕ) (old new : State) (held : List ℕ) (count : ℕ) (a b : Doorway) : Type 0 where
-  pub replies : List (List ℕ)
-  pub run : Run old a.unread moments replies new (held ++ b.unread)
-  pub count_is : length replies ≡ count
-  pub few : length held ≤ most_read
-  pub talked : Talked (concat replies) a b
+-- this was read of the present conversation and written to it, and nothing else was done
+pub record Talked (taken written : List ℕ) (a b : Doorway) : Type 0 where
+  pub front : a.unread ≡ taken ++ b.unread
+  pub is : b ≡ record a { unread = b.unread; begun = with_last (with_bytes taken written) a.begun }
 
--- The present conversation was answered to its end. Where the doors ended it after one reply, little was taken of what
--- follows.
-pub record Ends (one : Bool) (moments : List ℕ) (old new : State) (a b : Doorway) : Type 0 where
-  pub out : List ℕ
-  pub answers : Answers one old moments a.unread out new
-  pub taken : one ≡ true → length answers.replies ≡ 1 → TakesLittle answers.left b.unread
-  pub talked : Talked out a b
+-- so much of the present conversation
+pub record Converses (one : Bool) (end : ConvEnd) (xs : List Exchange) (a b : Doorway) : Type 0 where
+  pub taken : List ℕ
+  pub written : List ℕ
+  pub talk : IsTalk one end xs a.unread taken written
+  pub talked : Talked taken written a b
 
--- as many requests of it were answered as may be
-pub record Fills (moments : List ℕ) (old new : State) (a b : Doorway) : Type 0 where
-  pub out : List ℕ
-  pub answers : AnswersMost old moments a.unread out new b.unread
-  pub talked : Talked out a b
-
--- the doors failed in it
-pub record Fails (one : Bool) (moments : List ℕ) (old new : State) (a b : Doorway) : Type 0 where
-  pub out : List ℕ
-  pub breaks : Breaks one old moments a.unread out new b.unread
-  pub talked : Talked out a b
+-- the last words were written, or a first part of them where the conversation ended by a fault
+abbrev pub Says : ConvEnd → List ℕ → Doorway → Doorway → Type 0
+Says Ended words a b = Writes words a b
+Says Faulted words a b = WritesPart words a b
+Says Full words a b = ⊥
 
 -- a conversation of no bytes gets none, and changes nothing, also where the doors fail in it
 abbrev pub IsSilent : Type 0
 IsSilent =
-    (one : Bool) (old new : State) (moments out : List ℕ)
-    → Answers one old moments [] out new ⊎ ((unread : List ℕ) × Breaks one old moments [] out new unread)
-    → (out ≡ []) × (moments ≡ []) × (new ≡ old)
+    (one : Bool) (end : ConvEnd) (old new : State) (xs : List Exchange) (taken written : List ℕ)
+    → Plays old xs new → IsTalk one end xs [] taken written → (written ≡ []) × (xs ≡ []) × (new ≡ old)

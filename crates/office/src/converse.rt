@@ -1,11 +1,10 @@
 //! Whole conversations.
-ghost use Rattle.std.specs.Prelude.{◌≡◌, ◌≢◌, ◌≤◌, ℕ, IsTrue, List, false};
+ghost use Rattle.std.specs.Prelude.{◌≡◌, ◌≢◌, ◌≤◌, IsTrue, List, length};
 ghost use Rattle.fx_base.specs.Faults.{Rose};
 ghost use Rattle.fx_base.specs.Telling.{Tells};
-ghost use Rattle.app_wire.specs.Doorway.{Writes, WritesPart};
 ghost use Rattle.app_wire.specs.Moments.{Ticks};
 ghost use Rattle.app_wire.specs.ReplyBytes.{is_fixed, refusal};
-ghost use Rattle.office.specs.Answers.{Ends, Fails, Fills};
+ghost use Rattle.office.specs.Answers.{Converses, Exchange, IsCount, Plays, Says, moments_of};
 ghost use Rattle.office.specs.State.{state_of};
 
 use crate::machine::Office;
@@ -42,13 +41,9 @@ impl Office {
         clock: &mut C,
         steps: &mut Steps<L>,
     ) -> ConvEnd
-        ensures ended { result ≡ ConvEnd.Ended → (moments : List ℕ) × Ticks (C.told clock.old) moments (C.told clock.new)
-            × Tells (Ends (D.single doors.old) moments (state_of self.old) (state_of self.new)) (D.told doors.old) (D.told doors.new) }
-        ensures full { result ≡ ConvEnd.Full → (moments : List ℕ) × Ticks (C.told clock.old) moments (C.told clock.new)
-            × Tells (Fills moments (state_of self.old) (state_of self.new)) (D.told doors.old) (D.told doors.new) }
-        ensures full_not_single { result ≡ ConvEnd.Full → D.single doors.old ≡ false }
-        ensures faulted { result ≡ ConvEnd.Faulted → (moments : List ℕ) × Ticks (C.told clock.old) moments (C.told clock.new)
-            × Tells (Fails (D.single doors.old) moments (state_of self.old) (state_of self.new)) (D.told doors.old) (D.told doors.new) }
+        ensures talked { (exchanges : List Exchange) × Ticks (C.told clock.old) (moments_of exchanges) (C.told clock.new)
+            × Plays (state_of self.old) exchanges (state_of self.new) × IsCount result (D.single doors.old) (length exchanges)
+            × Tells (Converses (D.single doors.old) result exchanges) (D.told doors.old) (D.told doors.new) }
         ensures cause { result ≡ ConvEnd.Faulted → Rose (D.faults doors.old) (D.faults doors.new) }
         ensures later { D.faults doors.old ≤ D.faults doors.new }
         ensures single { D.single doors.new ≡ D.single doors.old }
@@ -80,8 +75,7 @@ impl Office {
 /// Says the last words of a conversation.
 fn last_words<D: Doors>(doors: &mut D, code: u8) -> ConvEnd
     requires { IsTrue (is_fixed code) }
-    ensures ended { result ≡ ConvEnd.Ended → Tells (Writes (refusal code)) (D.told doors.old) (D.told doors.new) }
-    ensures faulted { result ≡ ConvEnd.Faulted → Tells (WritesPart (refusal code)) (D.told doors.old) (D.told doors.new) }
+    ensures said { Tells (Says result (refusal code)) (D.told doors.old) (D.told doors.new) }
     ensures never_full { result ≢ ConvEnd.Full }
     ensures cause { result ≡ ConvEnd.Faulted → Rose (D.faults doors.old) (D.faults doors.new) }
     ensures later { D.faults doors.old ≤ D.faults doors.new }
