@@ -1,12 +1,17 @@
 -- One conversation more.
-use Rattle.std.proofs.Common.{◌≡◌, inl, inr, ℕ, ◌+◌, ◌<◌, Bool, true, false, List, [], ◌∷◌, ◌++◌, Option, length, refl, ap, sym, ◌∙◌, subst, append_assoc}
+use Rattle.std.proofs.Common.{◌≡◌, ℕ, ◌+◌, ◌<◌, ◌≤◌, Bool, true, false, List, [], ◌∷◌, ◌++◌, Option, Some, None, length, flat_map, refl, ap, sym, ◌∙◌, subst, append_assoc}
 use Rattle.std.proofs.lemmas.List.{append-nil, length-append}
-use Rattle.app_wire.specs.Doorway.{Doorway, Closes, Comes, sent_last}
+use Rattle.fx_base.specs.Telling.{Tells}
+use Rattle.app_wire.specs.Doorway.{Closes, Comes, Doorway, fresh_talk, with_hang_up, with_last}
 use Rattle.app_wire.specs.Moments.{Ticks}
-use Rattle.app_wire.proofs.Doorways.{sent_at_end}
-use Rattle.office.specs.Answers.{Ends, Fails, Fills, Talked}
+use Rattle.app_wire.proofs.Doorways.{last_at_end}
+use Rattle.office.specs.Answers.{Converses, moments_of, with_bytes}
+use Rattle.office.proofs.Plays.{two}
 use Rattle.office.specs.State.{State}
-use Rattle.fx_cli.specs.Held.{FailsNext, FillsNext, Held, Holds, HoldsAll, HoldsNext, HoldsThen, Kept, Sends, most_conversations}
+use Rattle.office.specs.declared.converse.ConvEnd.{ConvEnd}
+use Rattle.fx_cli.specs.Held.{Conversation, EndsIn, GoesOnAfter, Held, HoldsNext, IsHeld, LeavesNone, Replayed, Sends, SendsOne, all_moments, most_conversations}
+use Rattle.fx_cli.specs.declared.replay.ReplayEnd.{ReplayEnd}
+use Rattle.fx_cli.specs.declared.replay.ReplayEnd.TheVariants.{Done, Fault, Full}
 
 -- moments, and then more
 pub ticks_join : (old : Option (List ℕ)) (moments : List ℕ) (mid : Option (List ℕ)) (more : List ℕ) (new : Option (List ℕ))
@@ -14,86 +19,74 @@ pub ticks_join : (old : Option (List ℕ)) (moments : List ℕ) (mid : Option (L
 ticks_join old [] mid more new h k = subst (λ o. Ticks o more new) h k
 ticks_join old (x ∷ xs) mid more new h k = (h.0, h.1, ticks_join h.0 xs mid more new h.2 k)
 
--- no conversation
-sends_none : (a : Doorway) → Sends [] [] a a
-sends_none a = record { came = refl; sent = sym (append-nil a.written); port = refl; hung_up = λ h. h }
+moments_more : (cs : List Conversation) (c : Conversation) → all_moments (cs ++ c ∷ []) ≡ all_moments cs ++ moments_of c.exchanges
+moments_more [] c = append-nil (moments_of c.exchanges)
+moments_more (d ∷ ds) c = ap (λ ms. moments_of d.exchanges ++ ms) (moments_more ds c) ∙ sym (append_assoc (moments_of d.exchanges) (all_moments ds) (moments_of c.exchanges))
 
--- conversations, and then more
-sends_more : (taken outs more outs_more : List (List ℕ)) (a b c : Doorway) → Sends taken outs a b → Sends more outs_more b c
-    → Sends (taken ++ more) (outs ++ outs_more) a c
-sends_more taken outs more outs_more a b c h k = record {
-  came = h.came ∙ ap (λ s. taken ++ s) k.came ∙ sym (append_assoc taken more c.coming);
-  sent = k.sent ∙ ap (λ s. s ++ outs_more) h.sent ∙ append_assoc a.written outs outs_more;
-  port = k.port ∙ h.port;
-  hung_up = λ closed. k.hung_up (h.hung_up closed);
-}
+pub ticks_more : (old : Option (List ℕ)) (cs : List Conversation) (mid : Option (List ℕ)) (c : Conversation) (new : Option (List ℕ))
+    → Ticks old (all_moments cs) mid → Ticks mid (moments_of c.exchanges) new → Ticks old (all_moments (cs ++ c ∷ [])) new
+ticks_more old cs mid c new h k = subst (λ ms. Ticks old ms new) (sym (moments_more cs c)) (ticks_join old (all_moments cs) mid (moments_of c.exchanges) new h k)
 
 -- a conversation that came, was talked to, and was hung up
-sends_one : (out : List ℕ) (a b c d : Doorway) → Comes true a b → Talked out b c → Closes c d → Sends (b.unread ∷ []) (out ∷ []) a d
-sends_one out a b c d came talked closed =
-    let whole : d ≡ record b { written = sent_last b.written out; unread = []; is_open = false } =
-    closed ∙ ap (λ (x : Doorway). record x { unread = []; is_open = false }) talked.is in
+pub sends_one : (one : Bool) (c : Conversation) (w x y z : Doorway) → Comes true w x → Converses one c.end c.exchanges x y → Closes y z → SendsOne one c w z
+sends_one one c w x y z came t closed =
+    let whole : z ≡ record x { unread = []; begun = with_last with_hang_up (with_last (with_bytes t.taken t.written) x.begun) } =
+    closed ∙ ap (λ (d : Doorway). record d { unread = []; begun = with_last with_hang_up d.begun }) t.talked.is in
     record {
-      came = came.2 ∙ (ap (λ (x : Doorway). x.unread ∷ x.coming) (sym came.3)) ∙ ap (λ (x : Doorway). b.unread ∷ x.coming) (sym whole);
-      sent = ap (λ (x : Doorway). x.written) whole ∙ ap (λ (x : Doorway). sent_last x.written out) came.3 ∙ sent_at_end a.written [] out;
-      port = ap (λ (x : Doorway). x.port) whole ∙ ap (λ (x : Doorway). x.port) came.3;
-      hung_up = λ _. ap (λ (x : Doorway). x.is_open) whole;
+      bytes = x.unread;
+      taken = t.taken;
+      written = t.written;
+      talk = t.talk;
+      came = came.2 ∙ ap (λ (d : Doorway). d.unread ∷ d.coming) (sym came.3) ∙ ap (λ (d : Doorway). x.unread ∷ d.coming) (sym whole);
+      begun = ap (λ (d : Doorway). d.begun) whole
+          ∙ ap (λ (d : Doorway). with_last with_hang_up (with_last (with_bytes t.taken t.written) d.begun)) came.3
+          ∙ ap (with_last with_hang_up) (last_at_end (with_bytes t.taken t.written) w.begun fresh_talk)
+          ∙ last_at_end with_hang_up w.begun (with_bytes t.taken t.written fresh_talk);
+      unread = ap (λ (d : Doorway). d.unread) whole;
+      port = ap (λ (d : Doorway). d.port) whole ∙ ap (λ (d : Doorway). d.port) came.3;
     }
 
-pub next_ends : (one : Bool) (moments : List ℕ) (old new : State) (a b c d : Doorway) → Comes true a b → Ends one moments old new b c → Closes c d → HoldsNext one old moments new a d
-next_ends one moments old new a b c d came e closed =
-    record { bytes = b.unread; out = e.out; is = inl e.answers; sends = sends_one e.out a b c d came e.talked closed }
+pub sends_more : (one : Bool) (cs : List Conversation) (c : Conversation) (x y z : Doorway) → Sends one cs x y → SendsOne one c y z → Sends one (cs ++ c ∷ []) x z
+sends_more one [] c x y z h k = (z, subst (λ d. SendsOne one c d z) h k, refl)
+sends_more one (d ∷ ds) c x y z h k = (h.0, h.1, sends_more one ds c h.0 y z h.2 k)
 
-pub next_fills : (moments : List ℕ) (old new : State) (a b c d : Doorway) → Comes true a b → Fills moments old new b c → Closes c d → FillsNext old moments a d
-next_fills moments old new a b c d came e closed =
-    record { bytes = b.unread; out = e.out; is = (new, c.unread, e.answers); sends = sends_one e.out a b c d came e.talked closed }
+pub held_more : (one : Bool) (old : State) (count : ℕ) (cs : List Conversation) (mid : State) (between : ℕ) → Held one old count cs mid between
+    → (c : Conversation) → IsHeld one mid between c → GoesOnAfter one c.end → Held one old count (cs ++ c ∷ []) c.state c.after
+held_more one old count [] mid between h c k on = (subst (λ n. IsHeld one old n c) h.1 (subst (λ s. IsHeld one s between c) h.0 k), on, (refl, refl))
+held_more one old count (d ∷ ds) mid between h c k on = (h.0, h.1, held_more one d.state d.after ds mid between h.2 c k on)
 
-pub next_fails_one : (one : Bool) (moments : List ℕ) (old new : State) → one ≡ true → (a b c d : Doorway) → Comes true a b → Fails one moments old new b c → Closes c d → HoldsNext one old moments new a d
-next_fails_one one moments old new single a b c d came e closed =
-    record { bytes = b.unread; out = e.out; is = inr (single, c.unread, e.breaks); sends = sends_one e.out a b c d came e.talked closed }
+leaves_any : (stop : ReplayEnd) (one : Bool) (end : ConvEnd) → EndsIn stop one end → (b : Doorway) → LeavesNone stop b
+leaves_any Done one end is b = absurd is
+leaves_any Fault one end is b = tt
+leaves_any Full one end is b = tt
 
-pub next_fails : (one : Bool) (moments : List ℕ) (old new : State) (a b c d : Doorway) → Comes true a b → Fails one moments old new b c → Closes c d → FailsNext one old moments a d
-next_fails one moments old new a b c d came e closed =
-    inl (record { bytes = b.unread; out = e.out; is = (new, c.unread, e.breaks); sends = sends_one e.out a b c d came e.talked closed })
-
-held_more : (one : Bool) (old : State) (moments : List ℕ) (taken outs : List (List ℕ)) (mid : State) → Held one old moments taken outs mid
-    → (more bytes out : List ℕ) (new : State) → Kept one mid more bytes out new → Held one old (moments ++ more) (taken ++ bytes ∷ []) (outs ++ out ∷ []) new
-held_more one old moments [] [] mid h more bytes out new k =
-    (more, [], new, ap (λ m. m ++ more) h.0 ∙ sym (append-nil more), subst (λ m. Kept one m more bytes out new) h.1 k, (refl, refl))
-held_more one old moments (x ∷ xs) (y ∷ ys) mid h more bytes out new k =
-    (h.0, h.1 ++ more, h.2, ap (λ m. m ++ more) h.3 ∙ append_assoc h.0 h.1 more, h.4, held_more one h.2 h.1 xs ys mid h.5 more bytes out new k)
-held_more one old moments [] (y ∷ ys) mid h more bytes out new k = absurd h
-held_more one old moments (x ∷ xs) [] mid h more bytes out new k = absurd h
-
-pub holds_none : (one : Bool) (s : State) (a : Doorway) → Holds one 0 s [] s a a
-holds_none one s a = record { taken = []; outs = []; count_is = refl; held = (refl, refl); sends = sends_none a }
-
-pub holds_more : (one : Bool) (count : ℕ) (old : State) (moments : List ℕ) (mid : State) (more : List ℕ) (new : State) (a b c : Doorway)
-    → Holds one count old moments mid a b → HoldsNext one mid more new b c → Holds one (count + 1) old (moments ++ more) new a c
-holds_more one count old moments mid more new a b c h k = record {
-  taken = h.taken ++ k.bytes ∷ [];
-  outs = h.outs ++ k.out ∷ [];
-  count_is = length-append h.taken (k.bytes ∷ []) ∙ ap (λ n. n + 1) h.count_is;
-  held = held_more one old moments h.taken h.outs mid h.held more k.bytes k.out new k.is;
-  sends = sends_more h.taken h.outs (k.bytes ∷ []) (k.out ∷ []) a b c h.sends k.sends;
+-- a conversation that ends a replay
+pub replay_stops : (one : Bool) (old mid new : State) (count between now : ℕ) (clock clock_mid clock_now : Option (List ℕ)) (doors doors_mid doors_now : Option Doorway)
+    (cs : List Conversation) (end : ConvEnd) (stop : ReplayEnd) → length cs < most_conversations → Ticks clock (all_moments cs) clock_mid → Held one old count cs mid between
+    → Tells (Sends one cs) doors doors_mid → HoldsNext one end mid new between now clock_mid clock_now doors_mid doors_now → EndsIn stop one end
+    → Replayed one old count now clock clock_now doors doors_now stop
+replay_stops one old mid new count between now clock clock_mid clock_now doors doors_mid doors_now cs end stop few ticks is_held sends h is = record {
+  held = cs;
+  last = Some h.conversation;
+  mid = mid;
+  between = between;
+  is_held = is_held;
+  ends = (few, h.held, subst (EndsIn stop one) (sym h.ended) is, sym h.counted);
+  ticks = ticks_more clock cs clock_mid h.conversation clock_now ticks h.ticks;
+  told = two (λ x y z s k. (sends_more one cs h.conversation x y z s k, leaves_any stop one end is z)) sends h.told;
 }
 
--- no more are left
-pub holds_all : (one : Bool) (count : ℕ) (old : State) (moments : List ℕ) (new : State) → count < most_conversations → (a b c : Doorway)
-    → Holds one count old moments new a b → Comes false b c → HoldsAll one old moments a c
-holds_all one count old moments new few a b c h none =
-    let all : a.coming ≡ h.taken = h.sends.came ∙ ap (λ s. h.taken ++ s) none.0 ∙ append-nil h.taken in
-    subst (λ x. HoldsAll one old moments a x) (sym none.1) (record {
-      outs = h.outs;
-      new = new;
-      few = subst (λ n. n < most_conversations) (sym (ap length all ∙ h.count_is)) few;
-      held = subst (λ t. Held one old moments t h.outs new) (sym all) h.held;
-      sends = subst (λ t. Sends t h.outs a b) (sym all) h.sends;
-      none_left = none.0;
-    })
-
--- the last conversation
-pub holds_then : (one : Bool) (Last : State → List ℕ → Doorway → Doorway → Type 0) (count : ℕ) (old : State) (first : List ℕ) (mid : State) (later : List ℕ)
-    → count < most_conversations → (a b c : Doorway) → Holds one count old first mid a b → Last mid later b c → HoldsThen one Last old (first ++ later) a c
-holds_then one Last count old first mid later few a b c h k =
-    record { count = count; few = few; first = first; later = later; moments_are = refl; mid = mid; between = b; holds = h; last = k }
+-- one after which it goes on
+pub held_on : (one : Bool) (old mid new : State) (count between now : ℕ) (clock clock_mid clock_now : Option (List ℕ)) (doors doors_mid doors_now : Option Doorway)
+    (cs : List Conversation) (n : ℕ) (end : ConvEnd) → Ticks clock (all_moments cs) clock_mid → Held one old count cs mid between → length cs ≡ n
+    → Tells (Sends one cs) doors doors_mid → HoldsNext one end mid new between now clock_mid clock_now doors_mid doors_now → GoesOnAfter one end
+    → (cs' : List Conversation) × Ticks clock (all_moments cs') clock_now × Held one old count cs' new now × (length cs' ≡ n + 1) × Tells (Sends one cs') doors doors_now
+held_on one old mid new count between now clock clock_mid clock_now doors doors_mid doors_now cs n end ticks is_held e sends h on = (
+  cs ++ h.conversation ∷ [],
+  ticks_more clock cs clock_mid h.conversation clock_now ticks h.ticks,
+  subst (λ k. Held one old count (cs ++ h.conversation ∷ []) new k) h.counted
+      (subst (λ s. Held one old count (cs ++ h.conversation ∷ []) s h.conversation.after) h.left
+      (held_more one old count cs mid between is_held h.conversation h.held (subst (GoesOnAfter one) (sym h.ended) on))),
+  length-append cs (h.conversation ∷ []) ∙ ap (λ k. k + 1) e,
+  two (sends_more one cs h.conversation) sends h.told,
+)

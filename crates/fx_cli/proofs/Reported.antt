@@ -1,6 +1,5 @@
 -- How a run ends where the first bytes of its file are told.
-use Rattle.std.proofs.Common.{◌≡◌, ◌≢◌, ℕ, ◌⊎◌, inl, inr, List, [], Option, Some, None, Result, Ok, Err, String, refl, ap, sym, ◌∙◌, subst}
-use Rattle.std.proofs.lemmas.Bool.{cases_eq}
+use Rattle.std.proofs.Common.{◌≡◌, ℕ, ◌⊎◌, inl, inr, List, [], Option, Some, None, Result, Ok, Err, String, refl, ap, sym, ◌∙◌, subst}
 use Rattle.std.specs.declared.alloc.Global.{Global}
 use Rattle.app_loader.specs.declared.app.App.{App}
 use Rattle.app_loader.specs.Judged.{Judged}
@@ -139,14 +138,3 @@ replayed_by told asked faults old new shows ends w (Replayed end) h = h
 pub replayed_so : {F : Type 0} (told : F → Option Contents) (asked : F → List (List ℕ)) (faults : F → ℕ) (old new : F) (shows : App → String Global → Type 0) (ends : App → ReplayEnd → Type 0) (v w : Wanted) (r : Report)
     → v ≡ w → Reports told asked faults old new no_show ends v r → Reports told asked faults old new shows ends w r
 replayed_so told asked faults old new shows ends v w r e h = subst (λ (x : Wanted). Reports told asked faults old new shows ends x r) e (replayed_by told asked faults old new shows ends v r h)
-
--- a status is that of the report, or 7 by a fault of the sink
-pub or_fault : (wanted status reported : ℕ) (files_rose sink_rose : Type 0) → (status ≢ 7 → status ≡ reported) → (status ≡ 7 → sink_rose)
-    → EndsWith wanted reported files_rose sink_rose → EndsWith wanted status files_rose sink_rose
-or_fault wanted status reported files_rose sink_rose said fault ends =
-    elim (cases_eq status 7) [ inl is ↦ inr (inr (inr (fault is))) | inr other ↦ rw (said other) ends ]
-
-pub or_fault_replayed : (status reported : ℕ) (files_rose sink_rose : Type 0) → (status ≢ 7 → status ≡ reported) → (status ≡ 7 → sink_rose)
-    → (reported ≡ 6) ⊎ (reported ≡ 9) ⊎ EndsWith 0 reported files_rose sink_rose → (status ≡ 6) ⊎ (status ≡ 9) ⊎ EndsWith 0 status files_rose sink_rose
-or_fault_replayed status reported files_rose sink_rose said fault ends =
-    elim (cases_eq status 7) [ inl is ↦ inr (inr (inr (inr (inr (fault is))))) | inr other ↦ rw (said other) ends ]

@@ -1,101 +1,124 @@
 -- Lists of conversations, and how a replay of them ends.
-use Rattle.std.specs.Prelude.{◌≡◌, ◌⊎◌, ℕ, ◌<◌, Bool, true, false, List, [], ◌∷◌, ◌++◌, length, Option}
+use Rattle.std.specs.Prelude.{◌≡◌, ℕ, ◌<◌, ◌≤◌, Bool, true, false, List, [], ◌∷◌, ◌++◌, length, flat_map, Option, Some, None}
+use Rattle.fx_base.specs.Faults.{Rose}
 use Rattle.fx_base.specs.Telling.{Tells}
 use Rattle.app_wire.specs.Doorway.{Doorway}
 use Rattle.app_wire.specs.Moments.{Ticks}
-use Rattle.office.specs.Answers.{Answers, AnswersMost, Breaks}
+use Rattle.office.specs.Answers.{Exchange, IsCount, IsTalk, Plays, moments_of}
 use Rattle.office.specs.State.{State}
+use Rattle.office.specs.declared.converse.ConvEnd.{ConvEnd}
+use Rattle.office.specs.declared.converse.ConvEnd.TheVariants as conv
 use Rattle.fx_cli.specs.declared.replay.ReplayEnd.{ReplayEnd}
 use Rattle.fx_cli.specs.declared.replay.ReplayEnd.TheVariants.{Done, Fault, Full}
 
--- One conversation of these bytes, with a moment for each request: it was answered to its end or, where each has one reply, to a fault of the doors.
-abbrev pub Kept : Bool → State → List ℕ → List ℕ → List ℕ → State → Type 0
-Kept one old moments bytes out new =
-    Answers one old moments bytes out new
-    ⊎ ((one ≡ true) × (unread : List ℕ) × Breaks one old moments bytes out new unread)
+-- What was answered in a conversation, how it ended, the office after it, and the doors' count of faults as it came and as
+-- it was over.
+pub record Conversation : Type 0 where
+  pub exchanges : List Exchange
+  pub end : ConvEnd
+  pub state : State
+  pub before : ℕ
+  pub after : ℕ
 
--- Conversations of these bytes were answered with these, one after another, and each went on from where the one before left the office.
-abbrev pub Held : Bool → State → List ℕ → List (List ℕ) → List (List ℕ) → State → Type 0
-Held one old moments [] [] new = (moments ≡ []) × (new ≡ old)
-Held one old moments (bytes ∷ rest) (out ∷ outs) new =
-    (first : List ℕ) × (later : List ℕ) × (mid : State)
-    × (moments ≡ first ++ later) × Kept one old first bytes out mid × Held one mid later rest outs new
-Held one old moments [] (out ∷ outs) new = ⊥
-Held one old moments (bytes ∷ rest) [] new = ⊥
+-- From this state and this count it was held, over doors of one reply or of more. It broke off only by a fault that was
+-- counted in it.
+pub record IsHeld (one : Bool) (old : State) (count : ℕ) (c : Conversation) : Type 0 where
+  pub plays : Plays old c.exchanges c.state
+  pub few : IsCount c.end one (length c.exchanges)
+  pub since : count ≤ c.before
+  pub later : c.before ≤ c.after
+  pub cause : c.end ≡ conv.Faulted → Rose c.before c.after
 
--- the doors took these conversations, sent these bytes to them, and hung up each
-pub record Sends (taken outs : List (List ℕ)) (a b : Doorway) : Type 0 where
-  pub came : a.coming ≡ taken ++ b.coming
-  pub sent : b.written ≡ a.written ++ outs
+-- a replay goes on after such an end: one that broke off ends it but where each conversation has one reply
+abbrev pub GoesOnAfter : Bool → ConvEnd → Type 0
+GoesOnAfter one conv.Ended = Unit {0}
+GoesOnAfter one conv.Faulted = one ≡ true
+GoesOnAfter one conv.Full = ⊥
+
+-- They were held one after another, each from where the one before left the office and the count, and after each the
+-- replay went on.
+abbrev pub Held : Bool → State → ℕ → List Conversation → State → ℕ → Type 0
+Held one old count [] new now = (new ≡ old) × (now ≡ count)
+Held one old count (c ∷ cs) new now = IsHeld one old count c × GoesOnAfter one c.end × Held one c.state c.after cs new now
+
+-- the moments of all their requests
+abbrev pub all_moments : List Conversation → List ℕ
+all_moments cs = flat_map (λ c. moments_of c.exchanges) cs
+
+-- The doors took the next conversation, of these bytes, and hung it up once. Nothing else that is told changed.
+pub record SendsOne (one : Bool) (c : Conversation) (a b : Doorway) : Type 0 where
+  pub bytes : List ℕ
+  pub taken : List ℕ
+  pub written : List ℕ
+  pub talk : IsTalk one c.end c.exchanges bytes taken written
+  pub came : a.coming ≡ bytes ∷ b.coming
+  pub begun : b.begun ≡ a.begun ++ record { taken = taken; written = written; hang_ups = 1 } ∷ []
+  pub unread : b.unread ≡ []
   pub port : b.port ≡ a.port
-  pub hung_up : a.is_open ≡ false → b.is_open ≡ false
+
+-- these, one after another
+abbrev pub Sends : Bool → List Conversation → Doorway → Doorway → Type 0
+Sends one [] a b = b ≡ a
+Sends one (c ∷ cs) a b = (between : Doorway) × SendsOne one c a between × Sends one cs between b
 
 -- the most conversations of a replay
 abbrev pub most_conversations : ℕ
 most_conversations = 1000000
 
--- so many conversations of the doors were held
-pub record Holds (one : Bool) (count : ℕ) (old : State) (moments : List ℕ) (new : State) (a b : Doorway) : Type 0 where
-  pub taken : List (List ℕ)
-  pub outs : List (List ℕ)
-  pub count_is : length taken ≡ count
-  pub held : Held one old moments taken outs new
-  pub sends : Sends taken outs a b
+-- A replay ended so behind so many conversations: none was left, the doors failed in going to the next one, or no more may
+-- be taken.
+abbrev pub EndsBetween : ReplayEnd → ℕ → ℕ → ℕ → Type 0
+EndsBetween Done held count now = (held < most_conversations) × (count ≤ now)
+EndsBetween Fault held count now = (held < most_conversations) × Rose count now
+EndsBetween Full held count now = (held ≡ most_conversations) × (now ≡ count)
 
--- All conversations of the doors were held, and fewer than may be taken.
-pub record HoldsAll (one : Bool) (old : State) (moments : List ℕ) (a b : Doorway) : Type 0 where
-  pub outs : List (List ℕ)
-  pub new : State
-  pub few : length a.coming < most_conversations
-  pub held : Held one old moments a.coming outs new
-  pub sends : Sends a.coming outs a b
-  pub none_left : b.coming ≡ []
+-- It ended so by a conversation: one that broke off, where conversations have more than one reply, or one of the most
+-- requests.
+abbrev pub EndsIn : ReplayEnd → Bool → ConvEnd → Type 0
+EndsIn Done one end = ⊥
+EndsIn Fault one end = (end ≡ conv.Faulted) × (one ≡ false)
+EndsIn Full one end = end ≡ conv.Full
 
--- one conversation was taken, sent some bytes, and hung up
-pub record TakesOne (Is : List ℕ → List ℕ → Type 0) (a b : Doorway) : Type 0 where
-  pub bytes : List ℕ
-  pub out : List ℕ
-  pub is : Is bytes out
-  pub sends : Sends (bytes ∷ []) (out ∷ []) a b
+-- it ended so, with a last conversation that ended it, or without one
+abbrev pub ReplayEnds : ReplayEnd → Bool → State → ℕ → ℕ → Option Conversation → ℕ → Type 0
+ReplayEnds end one mid count held None now = EndsBetween end held count now
+ReplayEnds end one mid count held (Some c) now =
+    (held < most_conversations) × IsHeld one mid count c × EndsIn end one c.end × (now ≡ c.after)
 
--- the next conversation was held
-abbrev pub HoldsNext : Bool → State → List ℕ → State → Doorway → Doorway → Type 0
-HoldsNext one old moments new = TakesOne (λ bytes out. Kept one old moments bytes out new)
+-- with the last one, if there is one
+abbrev pub and_last : List Conversation → Option Conversation → List Conversation
+and_last held None = held
+and_last held (Some c) = held ++ c ∷ []
 
--- the doors failed in the next conversation, or in going to it
-abbrev pub FailsNext : Bool → State → List ℕ → Doorway → Doorway → Type 0
-FailsNext one old moments a b =
-    TakesOne (λ bytes out. (new : State) × (unread : List ℕ) × Breaks one old moments bytes out new unread) a b
-    ⊎ ((moments ≡ []) × (b ≡ a))
+-- none is left to come
+abbrev pub LeavesNone : ReplayEnd → Doorway → Type 0
+LeavesNone Done b = b.coming ≡ []
+LeavesNone Fault b = Unit {0}
+LeavesNone Full b = Unit {0}
 
--- as many requests of the next conversation were answered as may be
-abbrev pub FillsNext : State → List ℕ → Doorway → Doorway → Type 0
-FillsNext old moments = TakesOne (λ bytes out. (new : State) × (unread : List ℕ) × AnswersMost old moments bytes out new unread)
-
--- fewer conversations were held than may be taken, and then this happened
-pub record HoldsThen (one : Bool) (Last : State → List ℕ → Doorway → Doorway → Type 0) (old : State) (moments : List ℕ) (a b : Doorway) : Type 0 where
-  pub count : ℕ
-  pub few : count < most_conversations
-  pub first : List ℕ
-  pub later : List ℕ
-  pub moments_are : moments ≡ first ++ later
+-- A replay that began in this state and with this count ended so: these conversations were held, with the moments that the
+-- clock gave.
+pub record Replayed (one : Bool) (old : State) (count now : ℕ) (clock clock_now : Option (List ℕ)) (doors doors_now : Option Doorway) (end : ReplayEnd) : Type 0 where
+  pub held : List Conversation
+  pub last : Option Conversation
   pub mid : State
-  pub between : Doorway
-  pub holds : Holds one count old first mid a between
-  pub last : Last mid later between b
+  pub between : ℕ
+  pub is_held : Held one old count held mid between
+  pub ends : ReplayEnds end one mid between (length held) last now
+  pub ticks : Ticks clock (all_moments (and_last held last)) clock_now
+  pub told : Tells (λ a b. Sends one (and_last held last) a b × LeavesNone end b) doors doors_now
 
--- as many conversations were held as may be taken
-pub record HoldsMost (one : Bool) (old : State) (moments : List ℕ) (a b : Doorway) : Type 0 where
-  pub new : State
-  pub holds : Holds one most_conversations old moments new a b
+-- the next conversation was held, and ended so
+pub record HoldsNext (one : Bool) (end : ConvEnd) (old new : State) (count now : ℕ) (clock clock_now : Option (List ℕ)) (doors doors_now : Option Doorway) : Type 0 where
+  pub conversation : Conversation
+  pub ended : conversation.end ≡ end
+  pub left : conversation.state ≡ new
+  pub counted : conversation.after ≡ now
+  pub held : IsHeld one old count conversation
+  pub ticks : Ticks clock (moments_of conversation.exchanges) clock_now
+  pub told : Tells (SendsOne one conversation) doors doors_now
 
--- what the doors did, by how the replay ended
-abbrev pub Replays : ReplayEnd → Bool → State → List ℕ → Doorway → Doorway → Type 0
-Replays Done one old moments a b = HoldsAll one old moments a b
-Replays Fault one old moments a b = HoldsThen one (FailsNext one) old moments a b
-Replays Full one old moments a b = HoldsThen one FillsNext old moments a b ⊎ HoldsMost one old moments a b
-
--- a replay that began in this state ended so, with the moments that the clock gave
-abbrev pub Replayed : (one : Bool) (old : State) (clock clock_now : Option (List ℕ)) (doors doors_now : Option Doorway) → ReplayEnd → Type 0
-Replayed one old clock clock_now doors doors_now end =
-    (moments : List ℕ) × Ticks clock moments clock_now × Tells (Replays end one old moments) doors doors_now
+-- how a conversation that ended so ends a replay, if it does
+abbrev pub StopsAt : ConvEnd → Bool → Option ReplayEnd → Type 0
+StopsAt end one None = GoesOnAfter one end
+StopsAt end one (Some stop) = EndsIn stop one end

@@ -2,6 +2,7 @@
 use Rattle.std.specs.Prelude.{◌≡◌, ℕ, ◌+◌, ◌++◌, [], ◌∷◌, ◌⊎◌, List, Option, Some, None, IsSome, Result, Ok, Err, String, codes, flat_map, option_map, string_bytes, take}
 use Rattle.std.specs.declared.alloc.Global.{Global}
 use Rattle.fx_base.specs.Faults.{Rose}
+use Rattle.fx_base.specs.Telling.{Tells}
 use Rattle.app_loader.specs.declared.app.App.{App}
 use Rattle.app_loader.specs.Judged.{Judged, longest}
 use Rattle.app_wire.specs.Moments.{Tick}
@@ -16,7 +17,7 @@ use Rattle.fx_cli.specs.declared.report.Report.{Report}
 use Rattle.fx_cli.specs.declared.report.Report.TheVariants.{Shown, Broken, Usage, OutOfMemory, Unread, Replayed}
 use Rattle.fx_cli.specs.declared.words.Form.{Form}
 use Rattle.fx_cli.specs.declared.words.Form.TheVariants.{View, Replay}
-use Rattle.fx_cli.specs.Telling.{AreFirst, Contents}
+use Rattle.fx_cli.specs.Telling.{AreFirst, Contents, Grows, GrowsInPart}
 
 unfoldable pub usage_text : List ℕ
 usage_text = codes "usage: pfx view FILE | check APP | replay APP | serve APP DB PORT [COUNT] | gen N\n"
@@ -41,6 +42,10 @@ most_read Replay = most_bytes + 1
 -- a form of words, and a file that goes with it
 abbrev pub Wanted : Type 0
 Wanted = Option (Form × List ℕ)
+
+-- this form is wanted
+abbrev pub Wants : Form → Wanted → Type 0
+Wants form wanted = (name : List ℕ) × (wanted ≡ Some (form, name))
 
 -- This name is the file that is wanted, and the one that the files were asked for.
 pub record AsksFor {F : Type 0} (asked : F → List (List ℕ)) (old new : F) (wanted : Wanted) (form : Form) (name : List ℕ) : Type 0 where
@@ -111,6 +116,15 @@ IsTimeless (Replayed end) = ⊥
 abbrev pub IsReadOnceAtMost : {C : Type 0} → (C → Option (List ℕ)) → C → C → Type 0
 IsReadOnceAtMost told old new = (new ≡ old) ⊎ ((moment : ℕ) × Tick moment (told old) (told new))
 
+-- What a run that came to a report left alone: the files, the doors, the clock, or the clock but for one reading.
+abbrev pub Leaves : Wanted → Type 0 → Type 0 → Type 0 → Type 0 → Report → Type 0
+Leaves wanted files doors clock once (Shown text) = doors
+Leaves wanted files doors clock once (Broken text) = doors × clock
+Leaves wanted files doors clock once Usage = files × doors × clock
+Leaves wanted files doors clock once OutOfMemory = doors × (Wants Replay wanted → clock) × (Wants View wanted → once)
+Leaves wanted files doors clock once (Unread text) = doors × clock
+Leaves wanted files doors clock once (Replayed end) = Unit {0}
+
 -- it says that a file of this name could not be read, or memory ran out
 abbrev pub IsUnread : List ℕ → Report → Type 0
 IsUnread name (Unread text) = string_bytes text ≡ unread_text name
@@ -162,12 +176,12 @@ text_of OutOfMemory = memory_text
 text_of (Unread text) = string_bytes text
 text_of (Replayed end) = text_of_end end
 
--- the statuses of a run, and those of `view`
-abbrev pub IsViewStatus : ℕ → Type 0
-IsViewStatus status = (status ≡ 0) ⊎ (status ≡ 1) ⊎ (status ≡ 2) ⊎ (status ≡ 3) ⊎ (status ≡ 4) ⊎ (status ≡ 7)
-
-abbrev pub IsStatus : ℕ → Type 0
-IsStatus status = (status ≡ 6) ⊎ (status ≡ 9) ⊎ IsViewStatus status
+-- a report was said: the run ends with its status and wrote its text, or a fault of the sink was counted, the run ends with
+-- 7 and wrote a first part of the text
+abbrev pub IsSaid : Report → ℕ → Type 0 → Option (List ℕ) → Option (List ℕ) → Type 0
+IsSaid report status sink_rose out out_now =
+    ((status ≡ status_of report) × Tells (Grows (text_of report)) out out_now)
+    ⊎ ((status ≡ 7) × sink_rose × Tells (GrowsInPart (text_of report)) out out_now)
 
 -- a run ended with this status, or for want of memory, or by a counted fault
 abbrev pub EndsWith : ℕ → ℕ → Type 0 → Type 0 → Type 0

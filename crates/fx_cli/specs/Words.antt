@@ -12,7 +12,3 @@ wanted (command ∷ file ∷ []) =
     if bytes_eq (string_bytes command) (codes "view") then Some (View, string_bytes file)
     else (if bytes_eq (string_bytes command) (codes "replay") then Some (Replay, string_bytes file) else None)
 wanted (command ∷ file ∷ other ∷ words) = None
-
--- the words are of this form
-abbrev pub IsForm : Form → List (String Global) → Type 0
-IsForm form words = (name : List ℕ) × (wanted words ≡ Some (form, name))

@@ -1,11 +1,10 @@
 //! All conversations of doors, one after another.
-ghost use Rattle.std.specs.Prelude.{◌≡◌, ℕ, ◌≤◌, List, false};
+ghost use Rattle.std.specs.Prelude.{◌≡◌, ◌≤◌, IfOk, IfSome, None, Ok, OnErr, false};
 ghost use Rattle.fx_base.specs.Faults.{Rose};
-ghost use Rattle.fx_base.specs.Telling.{Tells};
+ghost use Rattle.fx_base.specs.Telling.{Stays, Tells};
 ghost use Rattle.app_wire.specs.Doorway.{Comes};
-ghost use Rattle.app_wire.specs.Moments.{Ticks};
 ghost use Rattle.office.specs.State.{state_of};
-ghost use Rattle.fx_cli.specs.Held.{FailsNext, FillsNext, HoldsNext, Replayed};
+ghost use Rattle.fx_cli.specs.Held.{HoldsNext, Replayed, StopsAt};
 
 use app_wire::clock::Clock;
 use app_wire::doors::Doors;
@@ -28,15 +27,6 @@ pub enum ReplayEnd {
     Full,
 }
 
-/// What became of the next conversation.
-#[derive(Clone, Copy, Debug, PartialEq, Eq)]
-enum Turn {
-    Held,
-    NoneLeft,
-    Fault,
-    Full,
-}
-
 /// Answers all conversations of the doors, and hangs up each.
 pub fn replay<D: Doors, C: Clock, L: Ledger>(
     office: &mut Office,
@@ -44,52 +34,61 @@ pub fn replay<D: Doors, C: Clock, L: Ledger>(
     clock: &mut C,
     steps: &mut Steps<L>,
 ) -> ReplayEnd
-    ensures replayed { Replayed (D.single doors.old) (state_of office.old) (C.told clock.old) (C.told clock.new) (D.told doors.old) (D.told doors.new) result }
+    ensures replayed { Replayed (D.single doors.old) (state_of office.old) (D.faults doors.old) (D.faults doors.new) (C.told clock.old) (C.told clock.new) (D.told doors.old) (D.told doors.new) result }
     ensures cause { result ≡ ReplayEnd.Fault → Rose (D.faults doors.old) (D.faults doors.new) }
     ensures later { D.faults doors.old ≤ D.faults doors.new }
     ensures single { D.single doors.new ≡ D.single doors.old }
 {
     for held in 0..MOST_CONVERSATIONS {
         match hold_next(office, doors, clock, steps) {
-            Turn::Held => {}
-            Turn::NoneLeft => return ReplayEnd::Done,
-            Turn::Fault => return ReplayEnd::Fault,
-            Turn::Full => return ReplayEnd::Full,
+            Err(Failed) => return ReplayEnd::Fault,
+            Ok(None) => return ReplayEnd::Done,
+            Ok(Some(end)) => {
+                if let Some(stop) = stop_at(end, doors.one()) {
+                    return stop;
+                }
+            }
         }
     }
     ReplayEnd::Full
 }
 
-/// Answers the next conversation, if one is left, and hangs up.
+/// How a conversation that ended so ends a replay, if it does. `one` says whether each has one reply.
+fn stop_at(end: ConvEnd, one: bool) -> Option<ReplayEnd>
+    ensures { StopsAt end one result }
+{
+    match end {
+        ConvEnd::Ended => None,
+        ConvEnd::Faulted => {
+            if one {
+                None
+            } else {
+                Some(ReplayEnd::Fault)
+            }
+        }
+        ConvEnd::Full => Some(ReplayEnd::Full),
+    }
+}
+
+/// Answers the next conversation, if one is left, and hangs up. It says how that one ended.
 fn hold_next<D: Doors, C: Clock, L: Ledger>(
     office: &mut Office,
     doors: &mut D,
     clock: &mut C,
     steps: &mut Steps<L>,
-) -> Turn
-    ensures held { result ≡ Turn.Held → (moments : List ℕ) × Ticks (C.told clock.old) moments (C.told clock.new)
-        × Tells (HoldsNext (D.single doors.old) (state_of office.old) moments (state_of office.new)) (D.told doors.old) (D.told doors.new) }
-    ensures none { result ≡ Turn.NoneLeft → Tells (Comes false) (D.told doors.old) (D.told doors.new) }
-    ensures same { result ≡ Turn.NoneLeft → (clock.new ≡ clock.old) × (office.new ≡ office.old) }
-    ensures fault { result ≡ Turn.Fault → (moments : List ℕ) × Ticks (C.told clock.old) moments (C.told clock.new)
-        × Tells (FailsNext (D.single doors.old) (state_of office.old) moments) (D.told doors.old) (D.told doors.new) }
-    ensures full { result ≡ Turn.Full → (moments : List ℕ) × Ticks (C.told clock.old) moments (C.told clock.new)
-        × Tells (FillsNext (state_of office.old) moments) (D.told doors.old) (D.told doors.new) }
-    ensures cause { result ≡ Turn.Fault → Rose (D.faults doors.old) (D.faults doors.new) }
+) -> Result<Option<ConvEnd>, Failed>
+    ensures held { IfOk result (λ turn. IfSome turn (λ end. HoldsNext (D.single doors.old) end (state_of office.old) (state_of office.new) (D.faults doors.old) (D.faults doors.new) (C.told clock.old) (C.told clock.new) (D.told doors.old) (D.told doors.new))) }
+    ensures none { result ≡ Ok None → Tells (Comes false) (D.told doors.old) (D.told doors.new) }
+    ensures same { result ≡ Ok None → (clock.new ≡ clock.old) × (office.new ≡ office.old) }
+    ensures failed { OnErr result (Tells Stays (D.told doors.old) (D.told doors.new) × (clock.new ≡ clock.old) × (office.new ≡ office.old)) }
+    ensures cause { OnErr result (Rose (D.faults doors.old) (D.faults doors.new)) }
     ensures later { D.faults doors.old ≤ D.faults doors.new }
     ensures single { D.single doors.new ≡ D.single doors.old }
 {
-    match doors.next() {
-        Err(Failed) => Turn::Fault,
-        Ok(false) => Turn::NoneLeft,
-        Ok(true) => {
-            let end = office.converse(doors, clock, steps);
-            doors.hang_up();
-            match end {
-                ConvEnd::Ended => Turn::Held,
-                ConvEnd::Full => Turn::Full,
-                ConvEnd::Faulted => { if doors.one() { Turn::Held } else { Turn::Fault } }
-            }
-        }
+    if !doors.next()? {
+        return Ok(None);
     }
+    let end = office.converse(doors, clock, steps);
+    doors.hang_up();
+    Ok(Some(end))
 }

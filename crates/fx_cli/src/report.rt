@@ -1,5 +1,5 @@
 //! What a run says before it ends.
-ghost use Rattle.std.specs.Prelude.{◌≡◌, ◌≤◌, Err, IfErr, IfOk, List, None, Ok, Some, string_bytes};
+ghost use Rattle.std.specs.Prelude.{◌≡◌, ◌≤◌, Err, IfErr, IfOk, List, Ok, Some, string_bytes};
 ghost use Rattle.app_loader.specs.Judged.{Tells};
 ghost use Rattle.app_loader.specs.declared.app.App.{App as Loaded};
 ghost use Rattle.fx_base.specs.Faults.{Rose};
@@ -7,8 +7,8 @@ ghost use Rattle.office.specs.AppFile.{JudgedApp};
 ghost use Rattle.office.specs.State.{formulas_of, started, state_of};
 ghost use Rattle.fx_cli.specs.Held.{Replayed};
 ghost use Rattle.fx_cli.specs.Plain.{IsShown, IsShownNow};
-ghost use Rattle.fx_cli.specs.Report.{IsIdle, IsReadOnceAtMost, IsRefusal, IsShowing, IsTimeless, IsUnread, Reports, fault_text, limit_text, memory_text, no_replay, no_show, status_of, status_of_end, text_of, text_of_end, unread_text, usage_text};
-ghost use Rattle.fx_cli.specs.Words.{IsForm, wanted};
+ghost use Rattle.fx_cli.specs.Report.{IsIdle, IsReadOnceAtMost, IsRefusal, IsShowing, IsTimeless, IsUnread, Leaves, Reports, fault_text, limit_text, memory_text, no_replay, no_show, status_of, status_of_end, text_of, text_of_end, unread_text, usage_text};
+ghost use Rattle.fx_cli.specs.Words.{wanted};
 ghost use Rattle.fx_cli.specs.declared.words.Form.TheVariants.{Replay, View};
 
 use crate::files::{FileEnd, Files};
@@ -137,16 +137,12 @@ pub fn carry_out<D: Doors, F: Files, C: Clock, L: Ledger>(
 ) -> Report
     ensures reports { Reports F.told F.asked F.faults files.old files.new
         (λ app text. IsShownNow (C.told clock.old) (C.told clock.new) (formulas_of app) (string_bytes text))
-        (λ app end. Replayed (D.single doors.old) (started (formulas_of app)) (C.told clock.old) (C.told clock.new) (D.told doors.old) (D.told doors.new) end) (wanted words.now) result }
+        (λ app end. Replayed (D.single doors.old) (started (formulas_of app)) (D.faults doors.old) (D.faults doors.new) (C.told clock.old) (C.told clock.new) (D.told doors.old) (D.told doors.new) end) (wanted words.now) result }
     ensures cause { result ≡ Report.Replayed ReplayEnd.Fault → Rose (D.faults doors.old) (D.faults doors.new) }
-    ensures idle { IsIdle result → doors.new ≡ doors.old }
-    ensures timeless { IsTimeless result → clock.new ≡ clock.old }
-    ensures clock { IsForm View words.now → IsReadOnceAtMost C.told clock.old clock.new }
-    ensures replay_clock { IsForm Replay words.now → result ≡ Report.OutOfMemory → clock.new ≡ clock.old }
+    ensures leaves { Leaves (wanted words.now) (files.new ≡ files.old) (doors.new ≡ doors.old) (clock.new ≡ clock.old) (IsReadOnceAtMost C.told clock.old clock.new) result }
     ensures later { F.faults files.old ≤ F.faults files.new }
     ensures doors_later { D.faults doors.old ≤ D.faults doors.new }
     ensures told { F.told files.new ≡ F.told files.old }
-    ensures untouched { wanted words.now ≡ None → files.new ≡ files.old }
 {
     match form_of(words) {
         Some((Form::View, name)) => view_file(alloc, name, files, clock, steps),
@@ -201,7 +197,7 @@ fn replay_file<D: Doors, F: Files, C: Clock, L: Ledger>(
     steps: &mut Steps<L>,
 ) -> Report
     ensures reports { Reports F.told F.asked F.faults files.old files.new no_show
-        (λ app end. Replayed (D.single doors.old) (started (formulas_of app)) (C.told clock.old) (C.told clock.new) (D.told doors.old) (D.told doors.new) end) (Some (Replay, name.now)) result }
+        (λ app end. Replayed (D.single doors.old) (started (formulas_of app)) (D.faults doors.old) (D.faults doors.new) (C.told clock.old) (C.told clock.new) (D.told doors.old) (D.told doors.new) end) (Some (Replay, name.now)) result }
     ensures cause { result ≡ Report.Replayed ReplayEnd.Fault → Rose (D.faults doors.old) (D.faults doors.new) }
     ensures idle { IsIdle result → (doors.new ≡ doors.old) × (clock.new ≡ clock.old) }
     ensures later { F.faults files.old ≤ F.faults files.new }

@@ -1,8 +1,8 @@
-use Rattle.std.proofs.Common.{◌≡◌, ◌≤◌, ℕ, List}
+use Rattle.std.proofs.Common.{◌≡◌, ◌≤◌, List, length}
 use Rattle.fx_base.specs.Telling.{Tells}
 use Rattle.app_wire.specs.Moments.{Ticks}
 use Rattle.office.specs.State.{state_of}
-use Rattle.fx_cli.specs.Held.{Holds}
+use Rattle.fx_cli.specs.Held.{Conversation, Held, Sends, all_moments}
 use Rattle.fx_cli.proofs.replay.replay.Given as goal
 
 abbrev pub invariant-loop-held : goal.invariant-loop-held
@@ -12,8 +12,9 @@ invariant-loop-held g l =
     let single = g.D.Doors.single in
     let clock = g.C.Clock.told in
     record {
-      told : (moments : List ℕ) × Ticks (clock l.fn.clock) moments (clock l.clock)
-          × Tells (Holds (single l.fn.doors) l.held (state_of l.fn.office) moments (state_of l.office)) (told l.fn.doors) (told l.doors);
+      told : (cs : List Conversation) × Ticks (clock l.fn.clock) (all_moments cs) (clock l.clock)
+          × Held (single l.fn.doors) (state_of l.fn.office) (faults l.fn.doors) cs (state_of l.office) (faults l.doors)
+          × (length cs ≡ l.held) × Tells (Sends (single l.fn.doors) cs) (told l.fn.doors) (told l.doors);
       single : single l.doors ≡ single l.fn.doors;
       later : faults l.fn.doors ≤ faults l.doors;
     }

@@ -15,7 +15,7 @@ returns-clause-reports g c =
       first = c.in-Ok.ensures.bytes;
     } in
     let tells = subst (λ bs. Tells (λ breaks. JudgedAs Replay bs (Err breaks)) c.in-Err.end) c.deref.ensures.value c.in-Err.ensures.refused in
-    reports_refused g.F.Files.told g.F.Files.asked g.F.Files.faults c.args.files.now c.read.new.self no_show (λ app end. Replayed (g.D.Doors.single c.args.doors.now) (started (formulas_of app)) (g.C.Clock.told c.args.clock.now) (g.C.Clock.told c.args.clock.now) (g.D.Doors.told c.args.doors.now) (g.D.Doors.told c.args.doors.now) end) Replay c.args.name.now c.in-Ok.file.items c.in-Err.end c.refused.result
+    reports_refused g.F.Files.told g.F.Files.asked g.F.Files.faults c.args.files.now c.read.new.self no_show (λ app end. Replayed (g.D.Doors.single c.args.doors.now) (started (formulas_of app)) (g.D.Doors.faults c.args.doors.now) (g.D.Doors.faults c.args.doors.now) (g.C.Clock.told c.args.clock.now) (g.C.Clock.told c.args.clock.now) (g.D.Doors.told c.args.doors.now) (g.D.Doors.told c.args.doors.now) end) Replay c.args.name.now c.in-Ok.file.items c.in-Err.end c.refused.result
     taken tells c.refused.ensures
 
 pub returns-in-Ok-office_of-clause-reports : goal.returns-in-Ok-office_of-clause-reports
