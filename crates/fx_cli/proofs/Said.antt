@@ -9,7 +9,7 @@ use Rattle.fx_cli.specs.declared.replay.ReplayEnd.TheVariants as replay
 use Rattle.fx_cli.specs.declared.report.Report.{Report}
 use Rattle.fx_cli.specs.declared.report.Report.TheVariants.{Shown, Broken, Usage, OutOfMemory, Unread, Replayed}
 use Rattle.fx_cli.specs.declared.words.Form.TheVariants.{View, Replay}
-use Rattle.fx_cli.specs.Report.{EndsWith, IsIdle, IsSaid, IsTimeless, Leaves, Reports, Takes, Wanted, Wants, status_of, text_of, text_of_end}
+use Rattle.fx_cli.specs.Report.{EndsWith, IsIdle, IsSaid, IsTimeless, Leaves, Reports, Takes, Wanted, status_of, text_of, text_of_end}
 use Rattle.fx_cli.specs.Telling.{Contents, Grows}
 use Rattle.fx_cli.proofs.Reported.{not_both}
 

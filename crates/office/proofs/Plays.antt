@@ -3,7 +3,7 @@ use Rattle.std.proofs.Common.{◌≡◌, ◌≢◌, ℕ, IsTrue, suc, zero, ◌+
 use Rattle.std.proofs.lemmas.List.{append-nil, drop-append-le, length-append, map-append}
 use Rattle.fx_base.specs.Telling.{Tells}
 use Rattle.app_wire.specs.Doorway.{Doorway, Takes, Talk, Writes, WritesPart, with_last, with_taken, with_written}
-use Rattle.app_wire.specs.Framing.{Asked, Framing, asked, whole}
+use Rattle.app_wire.specs.Framing.{Framing, asked, whole}
 use Rattle.app_wire.specs.Moments.{Tick, Ticks}
 use Rattle.app_wire.specs.NextRequest.{FindsNext}
 use Rattle.app_wire.specs.ReplyBytes.{is_fixed}

@@ -1,10 +1,10 @@
 -- A conversation of no bytes.
-use Rattle.std.proofs.Common.{◌≡◌, ◌⊎◌, ℕ, inl, inr, Bool, true, false, List, [], ◌∷◌, ◌++◌, length, refl, ap, sym, ◌∙◌, subst, arith}
+use Rattle.std.proofs.Common.{◌≡◌, ℕ, inl, inr, Bool, true, false, List, [], ◌∷◌, length, refl, ap, ◌∙◌, subst, arith}
 use Rattle.std.proofs.lemmas.List.{length-append}
 use Rattle.app_wire.specs.Doorway.{IsCutOff}
 use Rattle.app_wire.specs.Framing.{Refuses}
 use Rattle.app_wire.proofs.Blanks.{front_byte}
-use Rattle.office.specs.Answers.{EndsSo, Exchange, Frames, IsOver, IsSpent, IsTalk, Plays, said_in}
+use Rattle.office.specs.Answers.{EndsSo, Exchange, Frames, IsOver, IsSpent, IsTalk, Plays}
 use Rattle.office.specs.State.{State}
 use Rattle.office.specs.declared.converse.ConvEnd.{ConvEnd}
 use Rattle.office.specs.declared.converse.ConvEnd.TheVariants.{Ended, Faulted, Full}

@@ -1,4 +1,4 @@
-use Rattle.std.proofs.Common.{◌≡◌, ◌<◌, length, subst, sym, ◌∙◌, arith}
+use Rattle.std.proofs.Common.{◌≡◌, ◌<◌, length, subst, ◌∙◌, arith}
 use Rattle.office.specs.State.{state_of}
 use Rattle.fx_cli.specs.Held.{HoldsNext, StopsAt, most_conversations}
 use Rattle.fx_cli.proofs.Replays.{held_on, replay_stops}

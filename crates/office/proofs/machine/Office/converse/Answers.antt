@@ -1,11 +1,11 @@
 use Rattle.std.proofs.Common.{[], ◌∷◌, ◌++◌, inl, inr, refl, sym, ◌∙◌, subst, arith}
 use Rattle.app_wire.specs.Framing.{asked}
 use Rattle.app_wire.specs.ReplyBytes.{refusal}
-use Rattle.office.specs.Answers.{Exchange, Plays}
+use Rattle.office.specs.Answers.{Exchange}
 use Rattle.office.specs.State.{state_of}
 use Rattle.office.specs.Step.{Answered}
-use Rattle.office.specs.declared.converse.ConvEnd.TheVariants.{Ended, Faulted, Full}
-use Rattle.office.proofs.Plays.{breaks_off, breaks_reading, count_answered, count_one, count_saying, ends_one, ends_quiet, ends_saying, fills, goes_first, goes_on, goes_on_before, is_number, length_more, plays_more, three, ticks_more, two}
+use Rattle.office.specs.declared.converse.ConvEnd.TheVariants.{Ended, Faulted}
+use Rattle.office.proofs.Plays.{breaks_off, breaks_reading, count_answered, count_one, count_saying, ends_one, ends_quiet, ends_saying, goes_first, goes_on, goes_on_before, is_number, length_more, plays_more, three, ticks_more, two}
 use Rattle.office.proofs.machine.Office.converse.Goals as goal
 
 pub last_words-requires : goal.last_words-requires
