@@ -7,7 +7,7 @@ use std::{io, str};
 /// The first bytes of each reply, and of no part of one.
 const REPLY: &str = "HTTP/1.1 ";
 
-/// Prints the status, what was said, if anything, and the replies.
+/// Prints the status, what was said, if anything, and the replies; `next` where another conversation came.
 pub fn print_end(rt: &(impl Print + AllocGlobal), ended: &Ended) -> io::Result<()> {
     let status = ended.status;
     println!(rt; "status {status}")?;
@@ -15,7 +15,13 @@ pub fn print_end(rt: &(impl Print + AllocGlobal), ended: &Ended) -> io::Result<(
         let said = escaped(rt.alloc(), text(&ended.said))?;
         println!(rt; "says {said}")?;
     }
-    print_replies(rt, text(&ended.answered))
+    for (conversation, answered) in ended.answered.iter().enumerate() {
+        if conversation > 0 {
+            println!(rt; "next")?;
+        }
+        print_replies(rt, text(answered))?;
+    }
+    Ok(())
 }
 
 /// Prints each reply in a line, and those that repeat it with their count. What comes before the first is printed alone.

@@ -3,7 +3,7 @@
 use crate::escapes::add_unescaped;
 use std::alloc::{AllocError, Global};
 
-/// The words of a run, its one file and its one conversation, and which calls, counted from 1, fail.
+/// The words of a run, its one file, its conversations and its moments, and which calls, counted from 1, fail.
 #[derive(Drop)]
 pub struct Row {
     pub words: Vec<String>,
@@ -11,11 +11,15 @@ pub struct Row {
     pub file: String,
     /// The bytes of the file.
     pub bytes: Vec<u8>,
-    /// What the conversation sends.
+    /// What the conversations before the last one send.
+    pub earlier: Vec<Vec<u8>>,
+    /// What the last conversation sends.
     pub stream: Vec<u8>,
+    /// The moments that the clock gives, of which the last repeats.
+    pub moments: Vec<u64>,
     /// The most bytes that a read or a write takes, at least 1.
     pub piece: usize,
-    /// Whether the conversation ends after one reply.
+    /// Whether a conversation ends after one reply.
     pub one: bool,
     pub file_fails: Vec<u64>,
     pub sink_fails: Vec<u64>,
@@ -23,13 +27,15 @@ pub struct Row {
 }
 
 impl Row {
-    /// No words, an empty file without a name, and an empty conversation. Nothing fails.
+    /// No words, an empty file without a name, one empty conversation, and a clock that gives 0. Nothing fails.
     pub fn new(alloc: Global) -> Row {
         Row {
             words: Vec::new(alloc),
             file: String::new(alloc),
             bytes: Vec::new(alloc),
+            earlier: Vec::new(alloc),
             stream: Vec::new(alloc),
+            moments: Vec::new(alloc),
             piece: 4096,
             one: false,
             file_fails: Vec::new(alloc),
@@ -39,7 +45,7 @@ impl Row {
     }
 
     /// Sets what a line says, and answers whether it says anything. `bytes` and `stream` add to what is there, and with
-    /// `*N` behind them N times.
+    /// `*N` behind them N times; `next` begins another conversation.
     pub fn set(&mut self, alloc: Global, key: &str, text: &str) -> Result<bool, AllocError> {
         let (key, count) = counted(key);
         match key {
@@ -47,6 +53,8 @@ impl Row {
             "file" => self.file = String::from_str(alloc, text)?,
             "bytes" => add_times(alloc, &mut self.bytes, text, count)?,
             "stream" => add_times(alloc, &mut self.stream, text, count)?,
+            "next" => self.begin_next(alloc)?,
+            "moments" => self.moments = numbers(alloc, text)?,
             "piece" => self.piece = text.parse::<usize>().unwrap_or(1).max(1),
             "one" => self.one = true,
             "file_fails" => self.file_fails = numbers(alloc, text)?,
@@ -55,6 +63,13 @@ impl Row {
             _ => return Ok(false),
         }
         Ok(true)
+    }
+
+    /// Begins another conversation.
+    fn begin_next(&mut self, alloc: Global) -> Result<(), AllocError> {
+        self.earlier.push(Vec::from_slice(alloc, &self.stream)?)?;
+        self.stream.clear();
+        Ok(())
     }
 }
 

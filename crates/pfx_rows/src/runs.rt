@@ -12,12 +12,12 @@ use std::alloc::{AllocError, Global};
 use std::marker::Brand;
 use std::sync::ledger::{Blank, Ledger};
 
-/// How a run ended, what it said, and what it answered to the conversation.
+/// How a run ended, what it said, and what it answered to each conversation that came.
 #[derive(Drop)]
 pub struct Ended {
     pub status: u8,
     pub said: Vec<u8>,
-    pub answered: Vec<u8>,
+    pub answered: Vec<Vec<u8>>,
 }
 
 /// A run in memory.
@@ -30,35 +30,47 @@ pub fn ran(alloc: Global, row: &Row) -> Result<Ended, AllocError> {
     let mut files = files(alloc, row)?;
     let status = status::<Brand>(
         alloc,
-        &row.words,
+        row,
         &mut doors,
         &mut files,
         &mut out,
+        ListClock::new(Vec::from_slice(alloc, &row.moments)?),
         Blank::new(1),
     );
     Ok(Ended {
         status,
         said: Vec::from_slice(alloc, out.written())?,
-        answered: Vec::from_slice(alloc, doors.written(0).unwrap_or(b""))?,
+        answered: answered(alloc, &doors, row.earlier.len())?,
     })
 }
 
-/// The status that a run ends with. Its clock gives 0.
+/// What was written to each conversation that came, up to the one of this number, counted from 0.
+fn answered(alloc: Global, doors: &MemoryDoors, last: usize) -> Result<Vec<Vec<u8>>, AllocError> {
+    let mut answered = Vec::new(alloc);
+    for conversation in 0..=last {
+        if let Some(bytes) = doors.written(conversation) {
+            answered.push(Vec::from_slice(alloc, bytes)?)?;
+        }
+    }
+    Ok(answered)
+}
+
+/// The status that a run ends with.
 fn status<L: Ledger>(
     alloc: Global,
-    words: &[String],
+    row: &Row,
     doors: &mut MemoryDoors,
     files: &mut MemoryFiles,
     out: &mut PieceSink,
+    mut clock: ListClock,
     blank: Blank,
 ) -> u8
     requires name { blank.name ≡ L.name }
     requires parts { blank.parts ≡ L.parts }
     requires some { 0 < L.parts }
 {
-    let mut clock = ListClock::new(Vec::new(alloc));
     let mut steps = Steps::<L>::new(blank);
-    run(alloc, words, doors, files, out, &mut clock, &mut steps).0
+    run(alloc, &row.words, doors, files, out, &mut clock, &mut steps).0
 }
 
 /// The one file of a row.
@@ -69,9 +81,12 @@ fn files(alloc: Global, row: &Row) -> Result<MemoryFiles, AllocError> {
     Ok(MemoryFiles::new(alloc, files, fails))
 }
 
-/// The one conversation of a row.
+/// The conversations of a row.
 fn doors(alloc: Global, row: &Row) -> Result<MemoryDoors, AllocError> {
     let mut conversations = Vec::new(alloc);
+    for earlier in &row.earlier {
+        conversations.push(Vec::from_slice(alloc, earlier)?)?;
+    }
     conversations.push(Vec::from_slice(alloc, &row.stream)?)?;
     let fails = Vec::from_slice(alloc, &row.door_fails)?;
     let piece = row.piece.max(1);
