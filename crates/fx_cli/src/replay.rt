@@ -59,7 +59,8 @@ fn stop_at(end: ConvEnd, one: bool) -> Option<ReplayEnd>
 {
     match end {
         ConvEnd::Ended => None,
-        ConvEnd::Faulted => { if one { None } else { Some(ReplayEnd::Fault) } }
+        ConvEnd::Faulted if one => None,
+        ConvEnd::Faulted => Some(ReplayEnd::Fault),
         ConvEnd::Full => Some(ReplayEnd::Full),
     }
 }
