@@ -1,6 +1,9 @@
-use Rattle.std.proofs.Common.{◌≡◌, ◌<◌, length, subst, ◌∙◌, arith}
+use Rattle.std.proofs.Common.{None, Ok, ap, refl, sym, ◌≡◌, ◌<◌, length, subst, ◌∙◌, arith}
 use Rattle.office.specs.State.{state_of}
-use Rattle.fx_cli.specs.Held.{HoldsNext, StopsAt, most_conversations}
+use Rattle.fx_cli.specs.Held.{HoldsNext, Sends, all_moments, StopsAt, most_conversations}
+use Rattle.app_wire.specs.Doorway.{Doorway}
+use Rattle.app_wire.specs.Moments.{Ticks}
+use Rattle.office.proofs.Plays.{two}
 use Rattle.fx_cli.proofs.Replays.{held_on, replay_stops}
 use Rattle.fx_cli.proofs.replay.replay.Goals as goal
 
@@ -37,4 +40,50 @@ loop-held-preserved g c =
           inv.0 c.loop-held.held c.in-Ok-Some.end inv.1 inv.2 inv.3 inv.4 next (rw c.in_default.is at stops);
       single = c.in-Ok-Some.ensures.single ∙ c.loop-held.invariant.single;
       later = omega (arith, c.loop-held.invariant.later, c.in-Ok-Some.ensures.later);
+    }
+
+pub returns-in-Err-clause-replayed : goal.returns-in-Err-clause-replayed
+returns-in-Err-clause-replayed g c =
+    let inv = c.loop-held.invariant.told in
+    let one = g.D.Doors.single c.args.doors.now in
+    let failed = c.in-Err.ensures.failed in
+    record {
+      held = inv.0;
+      last = None;
+      mid = state_of c.loop-held.office;
+      between = g.D.Doors.faults c.loop-held.doors;
+      is_held = inv.2;
+      ends = (omega (arith, c.loop-held-test.true, inv.3), c.in-Err.ensures.cause);
+      ticks = subst (λ k. Ticks (g.C.Clock.told c.args.clock.now) (all_moments inv.0) (g.C.Clock.told k)) (sym failed.1) inv.1;
+      told = two (λ x y z s k. (subst (Sends one inv.0 x) (sym k) s, tt)) inv.4 failed.0;
+    }
+
+pub returns-clause-replayed : goal.returns-clause-replayed
+returns-clause-replayed g c =
+    let inv = c.loop-held.invariant.told in
+    record {
+      held = inv.0;
+      last = None;
+      mid = state_of c.loop-held.office;
+      between = g.D.Doors.faults c.loop-held.doors;
+      is_held = inv.2;
+      ends = (inv.3 ∙ omega (arith, c.loop-held-test.false, c.loop-held.auto.held-end), refl);
+      ticks = inv.1;
+      told = λ a e. let it = inv.4 a e in (it.0, it.1, (it.2, tt));
+    }
+
+pub returns-in-Ok-None-clause-replayed : goal.returns-in-Ok-None-clause-replayed
+returns-in-Ok-None-clause-replayed g c =
+    let inv = c.loop-held.invariant.told in
+    let one = g.D.Doors.single c.args.doors.now in
+    let none = ap Ok c.in-Ok-None.field-0-is in
+    record {
+      held = inv.0;
+      last = None;
+      mid = state_of c.loop-held.office;
+      between = g.D.Doors.faults c.loop-held.doors;
+      is_held = inv.2;
+      ends = (omega (arith, c.loop-held-test.true, inv.3), c.in-Ok-None.ensures.later);
+      ticks = subst (λ k. Ticks (g.C.Clock.told c.args.clock.now) (all_moments inv.0) (g.C.Clock.told k)) (sym (c.in-Ok-None.ensures.same none).0) inv.1;
+      told = two (λ x y z s k. (subst (Sends one inv.0 x) (sym k.1) s, ap (λ (d : Doorway). d.coming) k.1 ∙ k.0)) inv.4 (c.in-Ok-None.ensures.none none);
     }

@@ -1,11 +1,11 @@
-use Rattle.std.proofs.Common.{[], ◌∷◌, ◌++◌, inl, inr, refl, sym, ◌∙◌, subst, arith}
+use Rattle.std.proofs.Common.{◌≡◌, [], ◌∷◌, ◌++◌, inl, inr, refl, sym, ◌∙◌, subst, arith}
 use Rattle.app_wire.specs.Framing.{asked}
 use Rattle.app_wire.specs.ReplyBytes.{refusal}
-use Rattle.office.specs.Answers.{Exchange}
+use Rattle.office.specs.Answers.{Exchange, most_requests}
 use Rattle.office.specs.State.{state_of}
 use Rattle.office.specs.Step.{Answered}
 use Rattle.office.specs.declared.converse.ConvEnd.TheVariants.{Ended, Faulted}
-use Rattle.office.proofs.Plays.{breaks_off, breaks_reading, count_answered, count_one, count_saying, ends_one, ends_quiet, ends_saying, goes_first, goes_on, goes_on_before, is_number, length_more, plays_more, three, ticks_more, two}
+use Rattle.office.proofs.Plays.{breaks_off, breaks_reading, count_answered, count_one, count_saying, ends_one, ends_quiet, ends_saying, fills, goes_first, goes_on, goes_on_before, is_number, length_more, plays_more, three, ticks_more, two}
 use Rattle.office.proofs.machine.Office.converse.Goals as goal
 
 pub last_words-requires : goal.last_words-requires
@@ -111,4 +111,15 @@ returns-in-Failed-clause-talked g c =
       count_saying Faulted single c.loop-answered.answered inv.3 (λ e. cc) c.loop-answered-test.true c.loop-answered.invariant.only,
       two (breaks_reading single inv.0 c.loop-answered.framer c.next_request.new.framer (goes_on_before single inv.0 c.loop-answered.answered inv.3 c.loop-answered.invariant.only))
           inv.4 c.in-Failed.ensures.found,
+    )
+
+pub returns-clause-talked : goal.returns-clause-talked
+returns-clause-talked g c =
+    let inv = c.loop-answered.invariant.told in
+    let most : c.loop-answered.answered ≡ most_requests = omega (arith, c.loop-answered-test.false, c.loop-answered.auto.answered-end) in (
+      inv.0,
+      inv.1,
+      inv.2,
+      (inv.3 ∙ most, c.loop-answered.invariant.only (omega (arith, most))),
+      λ a e. let it = inv.4 a e in (it.0, it.1, fills (g.D.Doors.single c.args.doors.now) inv.0 c.loop-answered.framer a it.0 it.2),
     )
