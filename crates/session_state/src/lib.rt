@@ -1,0 +1,18 @@
+//! What is kept of those who send requests: sessions, and desks.
+#![tactic(auto)]
+
+mod caller;
+pub mod change;
+pub mod desk;
+mod lists;
+pub mod session;
+pub mod turn;
+mod weight;
+
+pub use change::Change;
+pub use desk::Desk;
+pub use session::Session;
+pub use turn::Turn;
+
+#[cfg(test)]
+mod tests;
