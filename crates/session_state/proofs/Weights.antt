@@ -1,6 +1,6 @@
 -- The weight where one value of a list is changed.
 use Rattle.std.proofs.Common.{◌≡◌, ℕ, ◌+◌, ◌-◌, ◌<◌, ◌≤◌, List, length, get_or, set, map, arith, sym, ◌∙◌, ap}
-use Rattle.std.proofs.lemmas.List.{length-map, get_or-map, get_or_read, map-set}
+use Rattle.std.proofs.lemmas.List.{length-map, get_or-map, map-set}
 use Rattle.std.proofs.lemmas.List.Sums.{sum_by-set, get_or-le-sum_by}
 use Rattle.std.specs.List.{sum_by}
 use Rattle.fx_data.specs.Values.{Data, blank}

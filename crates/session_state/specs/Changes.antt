@@ -1,5 +1,5 @@
 -- What changes make of a session, which are refused, and what fits an app's names.
-use Rattle.std.specs.Prelude.{◌≡◌, ◌≢◌, ℕ, ◌<◌, ◌++◌, ◌∷◌, [], nat_le, not, ◌||◌, List, length, slice_set, Bool, true, false, Option, Some, None, option_map}
+use Rattle.std.specs.Prelude.{◌≡◌, ℕ, ◌<◌, ◌++◌, ◌∷◌, [], nat_le, not, ◌||◌, length, slice_set, Bool, true, false, Some, None, option_map}
 use Rattle.fx_data.specs.Values.{Data, blank, tab, no_rows}
 use Rattle.fx_data.specs.ValueView.{view}
 use Rattle.fx_data.specs.Types.{Shape}

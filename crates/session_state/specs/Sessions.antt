@@ -1,5 +1,5 @@
 -- What is kept of a session.
-use Rattle.std.specs.Prelude.{ℕ, ◌+◌, ◌-◌, ◌^◌, ◌<◌, min, nat_lt, nat_le, ◌||◌, List, [], length, map, Bool, false, Option, Some, None, unwrap_or, replicate}
+use Rattle.std.specs.Prelude.{ℕ, ◌+◌, ◌-◌, ◌^◌, ◌<◌, min, nat_le, ◌||◌, List, [], length, Bool, false, Option, None, unwrap_or, replicate}
 use Rattle.std.specs.List.{slice_index_or, sum_by}
 use Rattle.fx_data.specs.Values.{Data, blank, tab, no_rows}
 use Rattle.fx_value.specs.Weight.{weight_of}

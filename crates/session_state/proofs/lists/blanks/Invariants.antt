@@ -1,6 +1,6 @@
 use Rattle.std.proofs.Common.{◌≡◌, map}
 use Rattle.std.specs.Prelude.{replicate}
-use Rattle.fx_data.specs.Values.{blank, tab, no_rows}
+use Rattle.fx_data.specs.Values.{blank}
 use Rattle.fx_data.specs.ValueView.{view}
 use Rattle.session_state.proofs.lists.blanks.Given as goal
 

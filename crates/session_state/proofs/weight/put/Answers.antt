@@ -1,4 +1,4 @@
-use Rattle.std.proofs.Common.{◌≡◌, ℕ, ◌+◌, ◌-◌, ◌<◌, ◌≤◌, length, set, map, arith, sym, ◌∙◌, ap, true, false}
+use Rattle.std.proofs.Common.{◌<◌, ◌≤◌, length, map, arith, sym, ◌∙◌, ap}
 use Rattle.std.specs.List.{sum_by}
 use Rattle.fx_data.specs.ValueView.{view}
 use Rattle.session_state.specs.Sessions.{weighed, may_weigh}

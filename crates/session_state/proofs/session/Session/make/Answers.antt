@@ -1,4 +1,4 @@
-use Rattle.std.proofs.Common.{◌≡◌, ap, subst, sym, map, set, ◌∙◌}
+use Rattle.std.proofs.Common.{◌≡◌, ap, subst, sym, map, set}
 use Rattle.std.specs.Prelude.{option_map, List, Option}
 use Rattle.std.proofs.lemmas.List.{map-set}
 use Rattle.fx_data.specs.Values.{Data}

@@ -1,4 +1,4 @@
-use Rattle.std.proofs.Common.{◌≡◌, ℕ, ◌+◌, refl, subst, map, set, arith}
+use Rattle.std.proofs.Common.{◌≡◌, refl, subst, map, set}
 use Rattle.std.specs.Prelude.{if◌then◌else◌}
 use Rattle.std.specs.List.{sum_by}
 use Rattle.fx_data.specs.ValueView.{view}
