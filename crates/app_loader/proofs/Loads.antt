@@ -1,9 +1,9 @@
 -- Lines, loaded one behind the other.
-use Rattle.std.proofs.Common.{◌≡◌, ℕ, zero, suc, ◌+◌, ◌<◌, ◌≤◌, ◌++◌, List, [], ◌∷◌, Bool, true, false, length, get_or, take, Some, Result, Ok, Err, nat_eq, refl, ap, sym, subst, ◌∙◌, arith, if◌then◌else◌}
+use Rattle.std.proofs.Common.{◌≡◌, ℕ, zero, suc, ◌+◌, ◌<◌, ◌≤◌, ◌++◌, List, [], ◌∷◌, Bool, true, false, length, get_or, take, Some, None, Result, Ok, Err, nat_eq, refl, ap, sym, subst, ◌∙◌, arith, if◌then◌else◌}
 use Rattle.std.proofs.lemmas.Bool.{eqb-true}
 use Rattle.std.specs.Prelude.{MatchResult}
 use Rattle.std.specs.List.{find}
-use Rattle.app_laws.specs.Laws.{AdmittedIsLawful, AreKnownTo, MoreNamesSameTree}
+use Rattle.app_laws.specs.Laws.{alone, AdmittedIsLawful, AreKnownTo, MoreNamesSameTree}
 use Rattle.app_lines.specs.ReadyLines.{AreReady}
 use Rattle.app_lines.specs.declared.formula.Formula.{Formula}
 use Rattle.app_loader.specs.Admitted.{AreBreaks, AreLoaded, AreLoadedFrom, AreRefused, AreUnordered, IsAdmitted, IsLoaded, UsesLater, judged, names_before}
@@ -21,6 +21,7 @@ use Rattle.fx_names.specs.declared.names.FormulaName.{FormulaName}
 use Rattle.fx_names.specs.declared.names.Names.{Names}
 use Rattle.fx_parser.specs.declared.entries.Named.{Named}
 use Rattle.fx_rules.specs.declared.broken.Broken.{Broken}
+use Rattle.fx_typing_relation.proofs.Elaborates.{whole_elaborates}
 
 -- ---- the names of the first formulas
 -- what is found among the first is found among all
@@ -77,11 +78,14 @@ one_fine : Laws → (m : Names) (lines : List Named) (i : ℕ) (n : Named) (k : 
     i < length lines → i < length m.formulas → n ≡ get_or lines i n → k ≡ get_or m.formulas i k → now ≡ names_before i m → AreFine m lines i fs → IsFormulaOf now k n f → AreFine m lines (i + 1) (fs ++ f ∷ [])
 one_fine laws m lines i n k now fs f t b l less room own known found old h =
     let here : judged (names_before i m) n ≡ Ok (f.core, shape f.ty) = subst (λ (z : Names). judged z n ≡ Ok (f.core, shape f.ty)) found h.admitted in
+    let anywhere : judged m n ≡ Ok (f.core, shape f.ty) =
+    laws.same_tree m (take i m.formulas) n.expr (f.core, shape f.ty) (record { tables = b.tables; controls = b.controls; screens = b.screens }) (knows_first m.formulas i) here in
     let it : IsLoaded m i n f = record {
       name = h.named.name;
       number = h.named.number ∙ numbered lines m i k t less known;
       here = here;
-      anywhere = laws.same_tree m (take i m.formulas) n.expr (f.core, shape f.ty) (record { tables = b.tables; controls = b.controls; screens = b.screens }) (knows_first m.formulas i) here;
+      anywhere = anywhere;
+      related = whole_elaborates (alone m) false None n.expr (f.core, shape f.ty) refl anywhere;
     } in
     let types : shape f.ty ≡ shape k.ty = sym (settled lines m i n k (f.core, shape f.ty) t less own known it.anywhere) in
     record {

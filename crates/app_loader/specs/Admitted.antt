@@ -11,6 +11,7 @@ use Rattle.fx_rules.specs.declared.broken.Broken.{Broken}
 use Rattle.fx_rules.specs.declared.rule.Rule.{Rule}
 use Rattle.fx_rules.specs.declared.rule.Rule.TheVariants as rule
 use Rattle.fx_typed.specs.Term.{Term}
+use Rattle.fx_typing_relation.specs.Elaborates.{FormulaElaborates}
 use Rattle.app_laws.specs.Laws.{alone}
 use Rattle.app_lines.specs.declared.formula.Formula.{Formula}
 use Rattle.app_names.specs.NameRules.{in_formula}
@@ -54,12 +55,13 @@ abbrev pub AreUnordered : Names → List Named → List Broken → Type 0
 AreUnordered m lines bs = AreBreaks (λ k. IsAdmitted (names_before k m)) (UsesLater m) 0 lines bs
 
 -- A formula as it is loaded: its name, its number, and its tree and its type, which are the same under all names as
--- under those that it may use.
+-- under those that it may use. They are what the relation of types relates to it.
 pub record IsLoaded (m : Names) (k : ℕ) (n : Named) (f : Formula) : Type 0 where
   pub name : f.name ≡ n.name
   pub number : f.cell ≡ k
   pub here : judged (names_before k m) n ≡ Ok (f.core, shape f.ty)
   pub anywhere : judged m n ≡ Ok (f.core, shape f.ty)
+  pub related : FormulaElaborates (alone m) false None n.expr (f.core, shape f.ty)
 
 abbrev pub AreLoadedFrom : Names → ℕ → List Named → List Formula → Type 0
 AreLoadedFrom m k [] fs = fs ≡ []

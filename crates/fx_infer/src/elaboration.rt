@@ -9,8 +9,10 @@ ghost use Rattle.fx_names.specs.Lawful.{IsLawful};
 ghost use Rattle.fx_rules.specs.Rules.{number_of};
 ghost use Rattle.fx_rules.specs.declared.broken.Broken.{Broken};
 ghost use Rattle.fx_syntax.specs.Tree.{Tree};
+ghost use Rattle.fx_typed.specs.Term.{Term};
 ghost use Rattle.fx_typing.specs.Meaning.{Place};
 ghost use Rattle.fx_typing.specs.WellTyped.{IsTyped};
+ghost use Rattle.fx_typing_relation.specs.Elaborates.{FormulaElaborates, FormulaIsNothing};
 ghost use Rattle.fx_local.specs.Answers.{Answers};
 ghost use Rattle.fx_local.specs.TypedView.{typed};
 ghost use Rattle.fx_scopes.specs.PartView.{part};
@@ -33,6 +35,7 @@ use fx_names::names::Names;
 use fx_rules::{Broken, Rule};
 use fx_scopes::{Grant, Part, Place as Standpoint, Scopes, Stand};
 use fx_syntax::expr::Expr;
+use fx_typing_relation::{admitted_elaborates, broken_elaborates_nothing};
 use std::alloc::Global;
 
 /// What the place of a formula allows.
@@ -200,8 +203,19 @@ pub fn elaborate(alloc: Global, names: &Names, cell: &Written) -> Result<Typed, 
         → IsToldBrokenWhole (place_of names.now cell.now) (may_act cell.now.place)
         (option_map shape cell.now.wanted) cell.now.expr b.at (number_of b.rule) b.detail }
     ensures cell { (b : Broken) → result ≡ Err (end.Broken b) → b.cell ≡ cell.now.cell }
+    // The relation of types relates to the formula what is answered; to a broken one it relates nothing, and nothing to
+    // the node that is told, of which it relates all parts.
+    ensures related { IfOk result (λ t. FormulaElaborates (place_of names.now cell.now) (may_act cell.now.place)
+        (option_map shape cell.now.wanted) cell.now.expr (typed t)) }
+    ensures unrelated { (b : Broken) → result ≡ Err (end.Broken b)
+        → FormulaIsNothing (place_of names.now cell.now) (may_act cell.now.place)
+        (option_map shape cell.now.wanted) cell.now.expr b.at
+        × ((x : Term × Shape) → FormulaElaborates (place_of names.now cell.now) (may_act cell.now.place)
+        (option_map shape cell.now.wanted) cell.now.expr x → ⊥) }
 {
     admitted_is_typed();
+    admitted_elaborates();
+    broken_elaborates_nothing();
     judged(alloc, names, cell, &cell.wanted)
 }
 

@@ -1,6 +1,8 @@
-use Rattle.std.proofs.Common.{option_map}
+use Rattle.std.proofs.Common.{option_map, refl}
+use Rattle.std.proofs.lemmas.Result.{IfOk-weaker}
 use Rattle.fx_data.specs.TypeView.{shape}
 use Rattle.fx_rules.specs.Rules.{number_of}
+use Rattle.fx_local.specs.TypedView.{typed}
 use Rattle.fx_infer.specs.Written.{may_act, place_of}
 use Rattle.fx_infer.proofs.Wholes.{ends_admitted, ends_typed, ends_told, whole_broken}
 use Rattle.fx_infer.proofs.elaboration.elaborate.Goals as goal
@@ -33,3 +35,18 @@ pub returns-clause-cell : goal.returns-clause-cell
 returns-clause-cell c =
     let w = c.args.cell.now in
     λ b k. (ends_told (place_of c.args.names.now w) (may_act w.place) (option_map shape w.wanted) w.expr w.cell c.judged.result b c.judged.ensures k).1
+
+pub returns-clause-related : goal.returns-clause-related
+returns-clause-related c =
+    let w = c.args.cell.now in
+    let p = place_of c.args.names.now w in
+    IfOk-weaker c.judged.result _ _ (λ t h. c.admitted_elaborates.ensures.whole p (may_act w.place) (option_map shape w.wanted) w.expr (typed t) refl h)
+    (ends_admitted p (may_act w.place) (option_map shape w.wanted) w.expr w.cell c.judged.result c.judged.ensures)
+
+pub returns-clause-unrelated : goal.returns-clause-unrelated
+returns-clause-unrelated c =
+    let w = c.args.cell.now in
+    let p = place_of c.args.names.now w in
+    λ b k. c.broken_elaborates_nothing.ensures.whole p (may_act w.place) (option_map shape w.wanted) w.expr b.at (number_of b.rule) refl
+    (whole_broken p (may_act w.place) (option_map shape w.wanted) w.expr b.at (number_of b.rule) b.detail
+    (ends_told p (may_act w.place) (option_map shape w.wanted) w.expr w.cell c.judged.result b c.judged.ensures k).0)
