@@ -1,0 +1,5 @@
+pub mod Conjuncts
+pub mod KeyOrder
+pub mod Missed
+pub mod Places
+pub mod SpanLaws
