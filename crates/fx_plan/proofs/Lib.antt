@@ -1,5 +1,6 @@
 pub mod Conjuncts
 pub mod KeyOrder
 pub mod Missed
+pub mod Outlined
 pub mod Places
 pub mod SpanLaws

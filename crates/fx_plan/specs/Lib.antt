@@ -1,2 +1,6 @@
+pub mod OutlineCode
+pub mod OutlineFalls
+pub mod OutlineView
+pub mod Outlines
 pub mod Ranges
 pub mod Spans

@@ -1,6 +1,10 @@
 //! Plans of queries.
 #![tactic(auto)]
 
+pub mod filling;
+pub mod patterns;
 pub mod ranges;
 
+pub use filling::filled;
+pub use patterns::{Pattern, PatternNode, Patterns};
 pub use ranges::{Reach, no_row_is_missed, ranges_of};
