@@ -3,7 +3,7 @@ use Rattle.std.proofs.Common.{◌≡◌, ℕ, zero, suc, ◌+◌, ◌<◌, List,
 use Rattle.std.proofs.lemmas.List.{take_more}
 use Rattle.fx_data.specs.Values.{Data}
 use Rattle.fx_plan.specs.Outlines.{AreWithin, IsWithin, Outline, all_filled, filled, list_size, outline_list, outline_size}
-use Rattle.row_queries.specs.Conditions.{Condition, ConditionList, also, condition_list}
+use Rattle.row_queries.specs.Conditions.{Condition, also, condition_list}
 
 pub part_within : (n : ℕ) (os : List Outline) (i : ℕ) (o : Outline) → i < length os → o ≡ get_or os i o → AreWithin n (outline_list os) → IsWithin n o
 part_within n [] i o l e h = absurd (omega (arith, l))

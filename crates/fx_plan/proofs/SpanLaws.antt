@@ -255,19 +255,19 @@ blank_lies keys total op n t o d s b e = absurd o
 
 -- ---- one comparison
 
-value_lies : (keys : KeysOrder) (total : IsTotalOrder order) → (op : Cmp) → op ≢ Ne → (t : Shape) (c : Data) → IsTaken t (op, c) → is_blank c ≡ false → (d : Data) → IsScalar d → IsProper d → fits_in d t ≡ true → is_blank d ≡ false →
+value_lies : (keys : KeysOrder) (total : IsTotalOrder order) → (op : Cmp) → op ≢ Ne → (t : Shape) (c : Data) → IsProper c → IsTaken t (op, c) → is_blank c ≡ false → (d : Data) → IsScalar d → IsProper d → fits_in d t ≡ true → is_blank d ≡ false →
     in_range (key_bytes d) (range_by op c) ≡ holds_of op d c
-value_lies keys total op n t c k v d s p e b =
-    lies_by keys total op n d c (one_type t d c s k.scalar b v e k.fits) p k.proper s b ∙ holds_is op n t k.operator d c s k.scalar b v e k.fits
+value_lies keys total op n t c q k v d s p e b =
+    lies_by keys total op n d c (one_type t d c s k.scalar b v e k.fits) p q s b ∙ holds_is op n t k.operator d c s k.scalar b v e k.fits
 
-pub part_lies : (keys : KeysOrder) (total : IsTotalOrder order) → (op : Cmp) → op ≢ Ne → (t : Shape) (c : Data) → IsTaken t (op, c) → (d : Data) → IsScalar d → IsProper d → fits_in d t ≡ true → is_blank d ≡ false →
+pub part_lies : (keys : KeysOrder) (total : IsTotalOrder order) → (op : Cmp) → op ≢ Ne → (t : Shape) (c : Data) → IsProper c → IsTaken t (op, c) → (d : Data) → IsScalar d → IsProper d → fits_in d t ≡ true → is_blank d ≡ false →
     in_range (key_bytes d) (range_of op (is_numbers t) c) ≡ holds_of op d c
-part_lies keys total op n t blank k d s p e b = blank_lies keys total op n t k.operator d s b e p
-part_lies keys total op n t (number z) k d s p e b = value_lies keys total op n t (number z) k refl d s p e b
-part_lies keys total op n t (text cs) k d s p e b = value_lies keys total op n t (text cs) k refl d s p e b
-part_lies keys total op n t (boolean x) k d s p e b = value_lies keys total op n t (boolean x) k refl d s p e b
-part_lies keys total op n t (date z) k d s p e b = value_lies keys total op n t (date z) k refl d s p e b
-part_lies keys total op n t c k d s p e b = absurd (k.scalar)
+part_lies keys total op n t blank q k d s p e b = blank_lies keys total op n t k.operator d s b e p
+part_lies keys total op n t (number z) q k d s p e b = value_lies keys total op n t (number z) q k refl d s p e b
+part_lies keys total op n t (text cs) q k d s p e b = value_lies keys total op n t (text cs) q k refl d s p e b
+part_lies keys total op n t (boolean x) q k d s p e b = value_lies keys total op n t (boolean x) q k refl d s p e b
+part_lies keys total op n t (date z) q k d s p e b = value_lies keys total op n t (date z) q k refl d s p e b
+part_lies keys total op n t c q k d s p e b = absurd (k.scalar)
 
 by_above : (op : Cmp) (c : Data) → IsScalar c → is_blank c ≡ false → is_le (R least (range_by op c).from) ≡ true
 by_above Eq c s b = key_above c s b
@@ -295,15 +295,15 @@ part_above op n (date z) s = by_above op (date z) s refl
 part_above op n c s = absurd s
 
 -- the span of one comparison
-pub one_span : (keys : KeysOrder) (total : IsTotalOrder order) → (op : Cmp) → op ≢ Ne → (n : Bool) (c : Data) → IsScalar c → (s : Span) → s.range ≡ range_of op n c → s.blank ≡ holds_of op blank c → (n ≡ true → s.zero ≡ holds_of op (number (pos 0)) c) →
+pub one_span : (keys : KeysOrder) (total : IsTotalOrder order) → (op : Cmp) → op ≢ Ne → (n : Bool) (c : Data) → IsScalar c → IsProper c → (s : Span) → s.range ≡ range_of op n c → s.blank ≡ holds_of op blank c → (n ≡ true → s.zero ≡ holds_of op (number (pos 0)) c) →
     IsSpan n s ((op, c) ∷ [])
-one_span keys total op n m c u s r b z = record {
+one_span keys total op n m c u q s r b z = record {
   some = refl;
   blank = b ∙ sym (and_right (holds_of op blank c));
   zero = λ e. z e ∙ sym (and_right (holds_of op (number (pos 0)) c));
   above = ap (λ (x : KeyRange). is_le (R least x.from)) r ∙ part_above op m c u;
   lies = λ t e k d s p f h.
-      ap (λ (x : KeyRange). in_range (key_bytes d) x) (r ∙ ap (λ y. range_of op y c) (sym e)) ∙ part_lies keys total op n t c k.0 d s p f h ∙ sym (and_right (holds_of op d c));
+      ap (λ (x : KeyRange). in_range (key_bytes d) x) (r ∙ ap (λ y. range_of op y c) (sym e)) ∙ part_lies keys total op n t c q k.0 d s p f h ∙ sym (and_right (holds_of op d c));
 }
 
 -- ---- two spans

@@ -2,5 +2,6 @@ pub mod OutlineCode
 pub mod OutlineFalls
 pub mod OutlineView
 pub mod Outlines
+pub mod Plans
 pub mod Ranges
 pub mod Spans

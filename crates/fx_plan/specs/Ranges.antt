@@ -107,7 +107,6 @@ Compares op t = ⊥
 pub record IsTaken (t : Shape) (p : Comparison) : Type 0 where
   pub operator : Compares p.0 t
   pub scalar : IsScalar p.1
-  pub proper : IsProper p.1
   pub fits : fits_in p.1 t ≡ true
 
 abbrev pub AllTaken : Shape → List Comparison → Type 0

@@ -3,8 +3,10 @@
 
 pub mod filling;
 pub mod patterns;
+pub mod plans;
 pub mod ranges;
 
 pub use filling::filled;
 pub use patterns::{Pattern, PatternNode, Patterns};
+pub use plans::{Sketch, plan};
 pub use ranges::{Reach, no_row_is_missed, ranges_of};

@@ -7,7 +7,7 @@ ghost use Rattle.fx_data.specs.Values.{number};
 ghost use Rattle.fx_order.specs.Keys.{key_bytes};
 ghost use Rattle.fx_order.specs.Operators.{holds_of};
 ghost use Rattle.fx_order.specs.Order.{IsScalar};
-ghost use Rattle.fx_plan.specs.Ranges.{AllTaken, IsReach, NoRowIsMissed, TakesComparisons, all_comparisons, comparisons, is_numbers, is_reached, serves};
+ghost use Rattle.fx_plan.specs.Ranges.{AllTaken, IsReach, NoRowIsMissed, TakesComparisons, everything as everything_of, all_comparisons, comparisons, is_numbers, is_reached, serves};
 ghost use Rattle.fx_plan.specs.Spans.{AreTakenBy, IsSpan, IsSpanOf, after as after_key, both_from, both_ranges, both_spans, both_upto, joined_spans, least as least_key, no_keys as nothing, range_by as by_constant, range_by_blank as by_blank, range_of as of_constant, span_ranges};
 ghost use Rattle.row_queries.specs.Conditions.{condition_list};
 ghost use Rattle.row_queries.specs.Queries.{IsIndexed};
@@ -17,7 +17,7 @@ use fx_base::{InOrder, Memory};
 use fx_data::{Cmp, Ty, Value};
 use fx_names::{Column, TableShape};
 use fx_number::Num;
-use fx_order::{compare_is_total, holds, key_of, keys_order};
+use fx_order::{compare_is_total, holds, key_of, keys_order, value_is_proper};
 use row_queries::{Key, KeyRange, RangeList, Test, TestNode};
 use std::alloc::Global;
 
@@ -44,6 +44,7 @@ pub fn ranges_of(alloc: Global, table: &TableShape, test: &Test) -> Result<Reach
     requires taken { TakesComparisons table.now test.now }
     requires few { length table.now.columns ≤ 63 }
     ensures ranges { IfOk result (λ r. IsReach table.now test.now r) }
+    ensures within { IfOk result (λ r. r.column ≤ length table.now.columns) }
     ensures rises { IfOk result (λ r. AreRising r.ranges) }
     ensures reaches { IfOk result (λ r. IsIndexed table.now r.column ⊎ HoldEveryKey r.ranges) }
 {
@@ -84,9 +85,9 @@ fn is_number(column: &Column) -> bool
     matches!(column.ty, Ty::Number)
 }
 
-// All keys.
-fn everything(alloc: Global) -> Result<Reach, Memory>
-    ensures { IfOk result (λ r. (r.column ≡ 0) × (r.ranges ≡ (record { from = []; upto = None }) ∷ [])) }
+/// All keys.
+pub fn everything(alloc: Global) -> Result<Reach, Memory>
+    ensures { IfOk result (λ r. (r.column ≡ 0) × (r.ranges ≡ everything_of)) }
 {
     let mut ranges = InOrder::new(alloc);
     let from = Key::from_bytes(Vec::new(alloc));
@@ -211,6 +212,7 @@ fn one(alloc: Global, op: Cmp, constant: &Value, numbers: bool) -> Result<Span, 
 {
     keys_order();
     compare_is_total();
+    value_is_proper(constant);
     let range = range_of(alloc, op, constant, numbers)?;
     let blank = holds(op, &Value::Blank, constant);
     let zero = zero_holds(op, constant, numbers);
