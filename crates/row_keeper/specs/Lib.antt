@@ -1,0 +1,4 @@
+pub mod Causes
+pub mod Changes
+pub mod RowRules
+pub mod Tables

@@ -1,0 +1,328 @@
+//! What keeps the rows of tables, with transactions.
+ghost use Rattle.row_keeper.specs.declared.keeper.KeeperEnd.TheVariants.{Memory as OutOfMemory, Failed as CallFailed};
+ghost use Rattle.std.specs.Prelude.{◌≡◌, ◌≢◌, ℕ, ◌≤◌, Bool, true, false, List, length, Option, Some, None, slice_get, IfNone, IfOk, IfSome, IsSome, IsSomeAnd, OnErr, OnOk};
+ghost use Rattle.std.specs.List.{All};
+ghost use Rattle.fx_base.specs.Silence.{Goes, IsLater, IsLost, Marks};
+ghost use Rattle.fx_base.specs.Telling.{Stays};
+ghost use Rattle.fx_names.specs.Lawful.{IsLawfulSchema};
+ghost use Rattle.fx_names.specs.declared.schema.Schema.{Schema as KeptSchema};
+ghost use Rattle.row_queries.specs.Queries.{CanTotal, IsQuery};
+ghost use Rattle.row_queries.specs.RowTests.{HasNoFaults};
+ghost use Rattle.row_queries.specs.TableRows.{AreCellsOf, IsRowOf};
+ghost use Rattle.row_queries.specs.Visits.{VisitsAtLeast, VisitsTold};
+ghost use Rattle.row_keeper.specs.Causes.{HasCause, end_of};
+ghost use Rattle.row_keeper.specs.Changes.{Counts, Inserts, IsInserted, IsReplaced, Removes, Replaces, Scans, Shapes, TotalsUp};
+ghost use Rattle.row_keeper.specs.Tables.{AreStatesOf, Tables, columns_at, rows_told, shapes_of};
+
+use crate::rows::Put;
+use fx_base::Memory;
+use fx_data::Totals;
+use fx_names::Schema;
+use row_queries::{Cells, Query, RowList};
+use std::alloc::{AllocError, AllocFailed};
+
+/// Why a call of a keeper gave no answer.
+#[derive(Clone, Copy, Debug, PartialEq, Eq)]
+pub enum KeeperEnd {
+    /// Memory ran out.
+    Memory,
+    /// The store failed, and a fault is counted.
+    Failed,
+}
+
+impl From<Memory> for KeeperEnd {
+    ghost from_gives = { λ _ e. e ≡ OutOfMemory };
+
+    fn from(_: Memory) -> Self {
+        KeeperEnd::Memory
+    }
+}
+
+impl From<AllocError> for KeeperEnd {
+    ghost from_gives = { λ _ e. e ≡ OutOfMemory };
+
+    fn from(_: AllocError) -> Self {
+        KeeperEnd::Memory
+    }
+}
+
+impl<T: Drop> From<AllocFailed<T>> for KeeperEnd {
+    ghost from_gives = { λ _ e. e ≡ OutOfMemory };
+
+    fn from(_: AllocFailed<T>) -> Self {
+        KeeperEnd::Memory
+    }
+}
+
+/// A store of the rows of tables, with transactions. Tables and columns go by number, and `ID` is column 0.
+///
+/// A keeper may tell what it has. It falls silent only in a call in which its count of faults rose, or after a doubt has
+/// come up, and stays silent then. What it tells after a call that gave no answer is what it told before, unless
+/// the call says otherwise.
+pub trait Keeper {
+    ghost use Rattle.row_keeper.specs.declared.keeper.KeeperEnd.{KeeperEnd};
+
+    /// The schema that is kept, if any, and the tables, where they are told.
+    ghost told: { Self → Option Tables };
+
+    /// The same as the transaction began.
+    ghost began: { Self → Option Tables };
+
+    /// The name that was attached, if any, where it is told.
+    ghost attached: { Self → Option (Option (List ℕ)) };
+
+    /// The schema that it is shaped by, if any.
+    ghost shaped: { Self → Option KeptSchema };
+
+    /// Whether a transaction is begun.
+    ghost in_transaction: { Self → Bool };
+
+    /// The faults that it counted, and whether a doubt has come up.
+    ghost marks: { Self → Marks };
+
+    /// How many rows have been visited. The count stands still at the greatest `u64`.
+    ghost visited: { Self → ℕ };
+
+    /// What it promises besides of attaching a name.
+    ghost attaches: { Self → List ℕ → Self → Type 0 };
+
+    /// What it promises besides of how calls end, other than `commit` and `back`.
+    ghost ends: { Self → Self → Option KeeperEnd → Type 0 };
+
+    /// What it promises besides of how `commit` ends.
+    ghost commits: { Self → Self → Option KeeperEnd → Type 0 };
+
+    /// What it promises besides of `back`.
+    ghost backs: { Self → Self → Type 0 };
+
+    /// Attaches the store of a name. It comes first.
+    fn attach(&mut self, name: &str) -> Result<(), KeeperEnd>
+        requires idle { in_transaction self.old ≡ false }
+        ensures attached { OnOk result (Goes (IsLost (marks self.old) (marks self.new)) (λ _ n. n ≡ Some name.now) (attached self.old) (attached self.new)) }
+        ensures promised { OnOk result (attaches self.old name.now self.new) }
+        ensures err { OnErr result (Goes (IsLost (marks self.old) (marks self.new)) Stays (told self.old) (told self.new) × Goes (IsLost (marks self.old) (marks self.new)) Stays (attached self.old) (attached self.new)) }
+        ensures shaped { OnErr result (shaped self.new ≡ shaped self.old) }
+        ensures idle { in_transaction self.new ≡ false }
+        ensures cause { HasCause (marks self.old) (marks self.new) result }
+        ensures visited { visited self.old ≤ visited self.new }
+        ensures ends { ends self.old self.new (end_of result) };
+
+    /// Makes the tables those of a schema, with the rows that are there. Where another schema is kept it answers that one
+    /// and changes nothing.
+    fn shape(&mut self, schema: &Schema) -> Result<Option<Schema>, KeeperEnd>
+        requires idle { in_transaction self.old ≡ false }
+        requires lawful { IsLawfulSchema schema.now }
+        ensures tables { IfOk result (λ other. Goes (IsLost (marks self.old) (marks self.new)) (Shapes schema.now other) (told self.old) (told self.new)) }
+        ensures another { IfOk result (λ other. IfSome other (λ s. s ≢ schema.now)) }
+        ensures sound { IfOk result (λ other. IfNone other (IfSome (told self.new) (λ t. AreStatesOf schema.now.tables t.states))) }
+        ensures shaped { IfOk result (λ other. IfNone other (shaped self.new ≡ Some schema.now)) }
+        ensures unshaped { IfOk result (λ other. IsSome other → shaped self.new ≡ shaped self.old) }
+        ensures err { OnErr result (Goes (IsLost (marks self.old) (marks self.new)) Stays (told self.old) (told self.new)) }
+        ensures err_shaped { OnErr result (shaped self.new ≡ shaped self.old) }
+        ensures attached { Goes (IsLost (marks self.old) (marks self.new)) Stays (attached self.old) (attached self.new) }
+        ensures idle { in_transaction self.new ≡ false }
+        ensures cause { HasCause (marks self.old) (marks self.new) result }
+        ensures visited { visited self.old ≤ visited self.new }
+        ensures ends { ends self.old self.new (end_of result) };
+
+    /// Begins a transaction.
+    fn begin(&mut self) -> Result<(), KeeperEnd>
+        requires idle { in_transaction self.old ≡ false }
+        ensures tables { Goes (IsLost (marks self.old) (marks self.new)) Stays (told self.old) (told self.new) }
+        ensures ok { OnOk result ((in_transaction self.new ≡ true) × (began self.new ≡ told self.new)) }
+        ensures err { OnErr result (in_transaction self.new ≡ false) }
+        ensures attached { Goes (IsLost (marks self.old) (marks self.new)) Stays (attached self.old) (attached self.new) }
+        ensures shaped { shaped self.new ≡ shaped self.old }
+        ensures cause { HasCause (marks self.old) (marks self.new) result }
+        ensures visited { visited self.old ≤ visited self.new }
+        ensures ends { ends self.old self.new (end_of result) };
+
+    /// Puts a new row, or says which rule it breaks first.
+    fn insert(&mut self, table: u16, cells: &Cells) -> Result<Put, KeeperEnd>
+        requires begun { in_transaction self.old ≡ true }
+        requires fit { IsSomeAnd (slice_get (shapes_of (shaped self.old)) table) (λ t. AreCellsOf t.columns cells.now) }
+        ensures put { IfOk result (λ put. Goes (IsLost (marks self.old) (marks self.new)) (Inserts (columns_at (shapes_of (shaped self.old)) table) table cells.now put) (told self.old) (told self.new)) }
+        ensures sound { IfOk result (λ put. IsInserted (columns_at (shapes_of (shaped self.old)) table) put) }
+        ensures err { OnErr result (Goes (IsLost (marks self.old) (marks self.new)) Stays (told self.old) (told self.new)) }
+        ensures began { Goes (IsLost (marks self.old) (marks self.new)) Stays (began self.old) (began self.new) }
+        ensures attached { Goes (IsLost (marks self.old) (marks self.new)) Stays (attached self.old) (attached self.new) }
+        ensures shaped { shaped self.new ≡ shaped self.old }
+        ensures mode { in_transaction self.new ≡ in_transaction self.old }
+        ensures cause { HasCause (marks self.old) (marks self.new) result }
+        ensures visited { visited self.old ≤ visited self.new }
+        ensures ends { ends self.old self.new (end_of result) };
+
+    /// Puts other cells into a row, or says that there is none of this number, or which rule it would break first.
+    fn replace(&mut self, table: u16, id: u32, cells: &Cells) -> Result<Put, KeeperEnd>
+        requires begun { in_transaction self.old ≡ true }
+        requires fit { IsSomeAnd (slice_get (shapes_of (shaped self.old)) table) (λ t. AreCellsOf t.columns cells.now) }
+        ensures put { IfOk result (λ put. Goes (IsLost (marks self.old) (marks self.new)) (Replaces (columns_at (shapes_of (shaped self.old)) table) table id cells.now put) (told self.old) (told self.new)) }
+        ensures sound { IfOk result (λ put. IsReplaced (columns_at (shapes_of (shaped self.old)) table) id put) }
+        ensures err { OnErr result (Goes (IsLost (marks self.old) (marks self.new)) Stays (told self.old) (told self.new)) }
+        ensures began { Goes (IsLost (marks self.old) (marks self.new)) Stays (began self.old) (began self.new) }
+        ensures attached { Goes (IsLost (marks self.old) (marks self.new)) Stays (attached self.old) (attached self.new) }
+        ensures shaped { shaped self.new ≡ shaped self.old }
+        ensures mode { in_transaction self.new ≡ in_transaction self.old }
+        ensures cause { HasCause (marks self.old) (marks self.new) result }
+        ensures visited { visited self.old ≤ visited self.new }
+        ensures ends { ends self.old self.new (end_of result) };
+
+    /// Takes a row out, and says whether it was there.
+    fn remove(&mut self, table: u16, id: u32) -> Result<bool, KeeperEnd>
+        requires begun { in_transaction self.old ≡ true }
+        requires table { IsSome (slice_get (shapes_of (shaped self.old)) table) }
+        ensures was { IfOk result (λ was. Goes (IsLost (marks self.old) (marks self.new)) (Removes table id was) (told self.old) (told self.new)) }
+        ensures err { OnErr result (Goes (IsLost (marks self.old) (marks self.new)) Stays (told self.old) (told self.new)) }
+        ensures began { Goes (IsLost (marks self.old) (marks self.new)) Stays (began self.old) (began self.new) }
+        ensures attached { Goes (IsLost (marks self.old) (marks self.new)) Stays (attached self.old) (attached self.new) }
+        ensures shaped { shaped self.new ≡ shaped self.old }
+        ensures mode { in_transaction self.new ≡ in_transaction self.old }
+        ensures cause { HasCause (marks self.old) (marks self.new) result }
+        ensures visited { visited self.old ≤ visited self.new }
+        ensures ends { ends self.old self.new (end_of result) };
+
+    /// Ends the transaction with its changes. Where it gives no answer the transaction is ended too, and the tables are
+    /// those as it began.
+    fn commit(&mut self) -> Result<(), KeeperEnd>
+        requires begun { in_transaction self.old ≡ true }
+        ensures ok { OnOk result (Goes (IsLost (marks self.old) (marks self.new)) Stays (told self.old) (told self.new)) }
+        ensures err { OnErr result (Goes (IsLost (marks self.old) (marks self.new)) Stays (began self.old) (told self.new)) }
+        ensures attached { Goes (IsLost (marks self.old) (marks self.new)) Stays (attached self.old) (attached self.new) }
+        ensures shaped { shaped self.new ≡ shaped self.old }
+        ensures idle { in_transaction self.new ≡ false }
+        ensures cause { HasCause (marks self.old) (marks self.new) result }
+        ensures visited { visited self.old ≤ visited self.new }
+        ensures ends { commits self.old self.new (end_of result) };
+
+    /// Ends the transaction, and the tables are those as it began. Where it fails it counts a fault.
+    fn back(&mut self)
+        requires begun { in_transaction self.old ≡ true }
+        ensures tables { Goes (IsLost (marks self.old) (marks self.new)) Stays (began self.old) (told self.new) }
+        ensures attached { Goes (IsLost (marks self.old) (marks self.new)) Stays (attached self.old) (attached self.new) }
+        ensures shaped { shaped self.new ≡ shaped self.old }
+        ensures idle { in_transaction self.new ≡ false }
+        ensures later { IsLater (marks self.old) (marks self.new) }
+        ensures visited { visited self.old ≤ visited self.new }
+        ensures ends { backs self.old self.new };
+
+    /// The rows that a query gives, or the first error of its test in the query's order.
+    fn scan(&mut self, query: &Query) -> Result<RowList, KeeperEnd>
+        requires query { IsQuery (shapes_of (shaped self.old)) query.now }
+        ensures rows { IfOk result (λ answer. Goes (IsLost (marks self.old) (marks self.new)) (Scans query.now answer) (told self.old) (told self.new)) }
+        ensures fit { IfOk result (λ answer. IsSomeAnd (slice_get (shapes_of (shaped self.old)) query.now.table) (λ t. All (IsRowOf t) answer.rows)) }
+        ensures least { IfOk result (λ answer. VisitsAtLeast (length answer.rows) (visited self.old) (visited self.new)) }
+        ensures most { VisitsTold (rows_told (told self.old)) query.now (visited self.old) (visited self.new) }
+        ensures err { OnErr result (Goes (IsLost (marks self.old) (marks self.new)) Stays (told self.old) (told self.new)) }
+        ensures began { Goes (IsLost (marks self.old) (marks self.new)) Stays (began self.old) (began self.new) }
+        ensures attached { Goes (IsLost (marks self.old) (marks self.new)) Stays (attached self.old) (attached self.new) }
+        ensures shaped { shaped self.new ≡ shaped self.old }
+        ensures mode { in_transaction self.new ≡ in_transaction self.old }
+        ensures cause { HasCause (marks self.old) (marks self.new) result }
+        ensures visited { visited self.old ≤ visited self.new }
+        ensures ends { ends self.old self.new (end_of result) };
+
+    /// How many rows a query gives, whose test has no errors as constants.
+    fn count(&mut self, query: &Query) -> Result<u32, KeeperEnd>
+        requires query { IsQuery (shapes_of (shaped self.old)) query.now }
+        requires sound { HasNoFaults query.now.test }
+        ensures number { IfOk result (λ n. Goes (IsLost (marks self.old) (marks self.new)) (Counts query.now n) (told self.old) (told self.new)) }
+        ensures most { VisitsTold (rows_told (told self.old)) query.now (visited self.old) (visited self.new) }
+        ensures err { OnErr result (Goes (IsLost (marks self.old) (marks self.new)) Stays (told self.old) (told self.new)) }
+        ensures began { Goes (IsLost (marks self.old) (marks self.new)) Stays (began self.old) (began self.new) }
+        ensures attached { Goes (IsLost (marks self.old) (marks self.new)) Stays (attached self.old) (attached self.new) }
+        ensures shaped { shaped self.new ≡ shaped self.old }
+        ensures mode { in_transaction self.new ≡ in_transaction self.old }
+        ensures cause { HasCause (marks self.old) (marks self.new) result }
+        ensures visited { visited self.old ≤ visited self.new }
+        ensures ends { ends self.old self.new (end_of result) };
+
+    /// What the values of a column of numbers that aren't blank come to, in the rows that a query gives, whose test has no
+    /// errors as constants.
+    fn total(&mut self, query: &Query, column: u16) -> Result<Totals, KeeperEnd>
+        requires query { IsQuery (shapes_of (shaped self.old)) query.now }
+        requires sound { HasNoFaults query.now.test }
+        requires column { CanTotal (shapes_of (shaped self.old)) query.now column }
+        ensures totals { IfOk result (λ totals. Goes (IsLost (marks self.old) (marks self.new)) (TotalsUp query.now column totals) (told self.old) (told self.new)) }
+        ensures most { VisitsTold (rows_told (told self.old)) query.now (visited self.old) (visited self.new) }
+        ensures err { OnErr result (Goes (IsLost (marks self.old) (marks self.new)) Stays (told self.old) (told self.new)) }
+        ensures began { Goes (IsLost (marks self.old) (marks self.new)) Stays (began self.old) (began self.new) }
+        ensures attached { Goes (IsLost (marks self.old) (marks self.new)) Stays (attached self.old) (attached self.new) }
+        ensures shaped { shaped self.new ≡ shaped self.old }
+        ensures mode { in_transaction self.new ≡ in_transaction self.old }
+        ensures cause { HasCause (marks self.old) (marks self.new) result }
+        ensures visited { visited self.old ≤ visited self.new }
+        ensures ends { ends self.old self.new (end_of result) };
+
+    /// A law: where it doesn't tell its tables, it doesn't tell those either that it had as the transaction began.
+    ghost quiet: { (k : Self) → told k ≡ None → began k ≡ None };
+}
+
+impl<K: Keeper> Keeper for &mut K {
+    ghost told = { λ k. K.told k.now };
+
+    ghost began = { λ k. K.began k.now };
+
+    ghost attached = { λ k. K.attached k.now };
+
+    ghost shaped = { λ k. K.shaped k.now };
+
+    ghost in_transaction = { λ k. K.in_transaction k.now };
+
+    ghost marks = { λ k. K.marks k.now };
+
+    ghost visited = { λ k. K.visited k.now };
+
+    ghost attaches = { λ k name l. K.attaches k.now name l.now };
+
+    ghost ends = { λ k l end. K.ends k.now l.now end };
+
+    ghost commits = { λ k l end. K.commits k.now l.now end };
+
+    ghost backs = { λ k l. K.backs k.now l.now };
+
+    ghost quiet = { λ k. K.quiet k.now };
+
+    fn attach(&mut self, name: &str) -> Result<(), KeeperEnd> {
+        (**self).attach(name)
+    }
+
+    fn shape(&mut self, schema: &Schema) -> Result<Option<Schema>, KeeperEnd> {
+        (**self).shape(schema)
+    }
+
+    fn begin(&mut self) -> Result<(), KeeperEnd> {
+        (**self).begin()
+    }
+
+    fn insert(&mut self, table: u16, cells: &Cells) -> Result<Put, KeeperEnd> {
+        (**self).insert(table, cells)
+    }
+
+    fn replace(&mut self, table: u16, id: u32, cells: &Cells) -> Result<Put, KeeperEnd> {
+        (**self).replace(table, id, cells)
+    }
+
+    fn remove(&mut self, table: u16, id: u32) -> Result<bool, KeeperEnd> {
+        (**self).remove(table, id)
+    }
+
+    fn commit(&mut self) -> Result<(), KeeperEnd> {
+        (**self).commit()
+    }
+
+    fn back(&mut self) {
+        (**self).back()
+    }
+
+    fn scan(&mut self, query: &Query) -> Result<RowList, KeeperEnd> {
+        (**self).scan(query)
+    }
+
+    fn count(&mut self, query: &Query) -> Result<u32, KeeperEnd> {
+        (**self).count(query)
+    }
+
+    fn total(&mut self, query: &Query, column: u16) -> Result<Totals, KeeperEnd> {
+        (**self).total(query, column)
+    }
+}
