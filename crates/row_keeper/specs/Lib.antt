@@ -1,4 +1,13 @@
 pub mod Causes
 pub mod Changes
+pub mod Covered
+pub mod Entries
+pub mod Found
 pub mod RowRules
+pub mod Rules
+pub mod Sameness
+pub mod Slots
+pub mod Sound
+pub mod TableView
 pub mod Tables
+pub mod Whole

@@ -1,5 +1,5 @@
 -- The rules that rows keep.
-use Rattle.std.specs.Prelude.{ℕ, ◌+◌, ◌==◌, Bool, true, false, not, ◌&&◌, ◌||◌, nat_le, nat_lt, cond, List, ◌∷◌, map, filter, length, sum, Option, Some, None, is_none}
+use Rattle.std.specs.Prelude.{ℕ, ◌+◌, ◌==◌, Bool, true, false, not, ◌&&◌, ◌||◌, nat_le, nat_lt, cond, List, ◌∷◌, filter, length, sum_by, Option, Some, None, is_none}
 use Rattle.std.specs.List.{list_any}
 use Rattle.std.specs.Ordering.{is_eq}
 use Rattle.fx_data.specs.Values.{Data, blank}
@@ -42,12 +42,11 @@ first_broken breaks k cs ds = None
 
 -- what the cells of a row weigh
 abbrev pub cells_weight : List Data → ℕ
-cells_weight cells = sum (map weight_of cells)
+cells_weight cells = sum_by weight_of cells
 
--- a table takes no new row: it has 200,000 rows, all have 500,000, or its last number is the greatest
-abbrev pub is_full : List TableState → ℕ → Bool
-is_full states table =
-    nat_le 200000 (length (state_at states table).rows) || (nat_le 500000 (all_rows states) || (state_at states table).last == 4294967295)
+-- a table takes no new row: it has 200,000 rows, all tables have 500,000, or its last number is the greatest
+abbrev pub is_full : TableState → ℕ → Bool
+is_full state all = nat_le 200000 (length state.rows) || (nat_le 500000 all || state.last == 4294967295)
 
 -- the rows of a table but the one of this number; a new row has none
 abbrev pub others : Option ℕ → List Row → List Row
@@ -69,11 +68,15 @@ abbrev pub first_of_two : Option RowRefusal → Option RowRefusal → Option Row
 first_of_two None b = b
 first_of_two (Some r) b = Some r
 
--- THE first rule that cells break in the row of this number, or in a new one: `required` and `unique` by columns,
--- `size`, and `full` for new rows. `ID` is column 0.
-abbrev pub rule_of : List Column → List TableState → ℕ → Option ℕ → List Data → Option RowRefusal
-rule_of columns states table id cells =
+-- THE first rule that cells break in the row of this number of a table, or in a new one, where all tables have so many
+-- rows: `required` and `unique` by columns, `size`, and `full` for new rows. `ID` is column 0.
+abbrev pub rule_in : List Column → TableState → ℕ → Option ℕ → List Data → Option RowRefusal
+rule_in columns state all id cells =
     first_of_two (in_column Required (first_broken lacks 1 columns cells))
-    (first_of_two (in_column Unique (first_broken (repeats (others id (state_at states table).rows)) 1 columns cells))
+    (first_of_two (in_column Unique (first_broken (repeats (others id state.rows)) 1 columns cells))
     (first_of_two (where_broken Size (nat_lt 2048 (cells_weight cells)))
-    (where_broken Full (is_none id && is_full states table))))
+    (where_broken Full (is_none id && is_full state all))))
+
+-- the same of one of several tables
+abbrev pub rule_of : List Column → List TableState → ℕ → Option ℕ → List Data → Option RowRefusal
+rule_of columns states table id cells = rule_in columns (state_at states table) (all_rows states) id cells

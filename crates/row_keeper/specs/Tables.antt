@@ -1,5 +1,5 @@
 -- The tables that are kept.
-use Rattle.std.specs.Prelude.{ℕ, ◌+◌, ◌≤◌, ◌==◌, cond, List, [], ◌∷◌, ◌++◌, map, filter, set, length, sum, not, Bool, Option, Some, None, option_map, slice_get, unwrap_or}
+use Rattle.std.specs.Prelude.{ℕ, ◌+◌, ◌≤◌, ◌==◌, cond, List, [], ◌∷◌, ◌++◌, map, filter, set, length, sum_by, not, Bool, Option, Some, None, option_map, slice_get, unwrap_or}
 use Rattle.std.specs.List.{All}
 use Rattle.fx_data.specs.Values.{Data}
 use Rattle.fx_names.specs.declared.schema.Column.{Column}
@@ -49,7 +49,7 @@ rows_told told = option_map (λ (t : Tables). rows_of t.states) told
 
 -- how many rows all tables have
 abbrev pub all_rows : List TableState → ℕ
-all_rows states = sum (map (λ (s : TableState). length s.rows) states)
+all_rows states = sum_by (λ (s : TableState). length s.rows) states
 
 -- the row has this number
 abbrev pub has_id : ℕ → Row → Bool

@@ -1,0 +1,10 @@
+pub mod AgreeLemmas
+pub mod FoundLemmas
+pub mod HitLemmas
+pub mod MarkLemmas
+pub mod OrderLemmas
+pub mod RowLists
+pub mod RuleLemmas
+pub mod SlotLemmas
+pub mod SoundLemmas
+pub mod WholeLemmas

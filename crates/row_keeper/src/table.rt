@@ -1,0 +1,276 @@
+// A table: its rows by their numbers, an index of their keys, and what a transaction has made of them.
+ghost use Rattle.std.specs.Prelude.{◌≡◌, ◌⊎◌, filter, ℕ, ◌-◌, ◌+◌, ◌<◌, ◌≤◌, ◌^◌, ◌++◌, ◌∷◌, [], cond, length, map, true, false, IfOk, IfSome, OnErr, OnOk, MatchOption, Some, None, option_map, slice_get};
+ghost use Rattle.std.specs.BTreeMap.{IsOrdered};
+ghost use Rattle.std.specs.Ordering.{nat_cmp};
+ghost use Rattle.std.specs.List.{AllByRecursion, list_any};
+ghost use Rattle.fx_data.specs.ValueView.{view};
+ghost use Rattle.fx_order.specs.Keys.{IsProper};
+ghost use Rattle.fx_order.specs.Order.{IsScalar};
+ghost use Rattle.row_queries.specs.TableRows.{AreCellsOf, value_at};
+ghost use Rattle.row_keeper.specs.Covered.{covered_of, covers, entries_of, key_at};
+ghost use Rattle.row_keeper.specs.Slots.{now_at, rows_now, rows_then};
+ghost use Rattle.row_queries.specs.Ranges.{HoldEveryKey};
+ghost use Rattle.row_keeper.specs.Sound.{IsSound, lies_among};
+ghost use Rattle.row_keeper.specs.Tables.{has_id, no_rows, with_cells, with_row, without_row};
+
+use crate::index::{Entry, Index};
+use crate::picked::{all_rows, rows_at};
+use crate::scans::number_of;
+use crate::slots::{Made, Slot, put_new, put_over, restore, settle};
+use fx_base::Memory;
+use fx_data::Value;
+use fx_names::ColumnList;
+use fx_order::value_is_proper;
+use row_queries::{Cells, Key, KeyRange, Row};
+use std::alloc::Global;
+use std::collections::BTreeMap;
+use std::marker::Model;
+
+#[derive(Drop)]
+pub struct Table {
+    alloc: Global,
+    columns: ColumnList,
+    /// The numbers of the columns that the index covers.
+    covered: Vec<u16>,
+    rows: BTreeMap<u32, Slot>,
+    index: Index,
+    /// The last number that was given, and how many rows there are.
+    last: u32,
+    count: u32,
+    /// The same as the transaction began.
+    first: u32,
+    first_count: u32,
+}
+
+impl Model for Table {
+    ghost use Rattle.row_keeper.specs.Slots.{rows_now, rows_then};
+    ghost use Rattle.row_keeper.specs.TableView.{TableView};
+    ghost use Rattle.row_keeper.specs.Whole.{IsWhole};
+    ghost use Rattle.std.specs.Coded.{codes};
+    ghost use Rattle.fx_names.specs.contracts.schema.Column.{the_row as column_row};
+    ghost use Rattle.row_queries.specs.contracts.rows.Row.{the_row as row_row};
+
+    ghost Value = { TableView };
+
+    ghost coded = { Prim.hlevel (codes, column_row.coded, row_row.coded) };
+
+    ghost view = { λ t. record {
+      columns = t.columns;
+      now = record { rows = rows_now t.rows.entries; last = t.last };
+      then = record { rows = rows_then t.rows.entries; last = t.first };
+    } };
+
+    ghost invariant = { λ t. IsWhole t.columns t.covered.items t.rows.entries t.index.entries.entries t.last t.count t.first t.first_count };
+}
+
+/// The columns that are indexed: `ID`, and each that is indexed or unique.
+fn covered_columns(alloc: Global, columns: &ColumnList) -> Result<Vec<u16>, Memory>
+    requires { length columns.now ≤ 63 }
+    ensures { IfOk result (λ v. v.items ≡ covered_of columns.now) }
+{
+    let mut covered = Vec::new(alloc);
+    covered.push(0)?;
+    for (place, column) in columns.as_slice().iter().enumerate() {
+        if column.indexed || column.unique {
+            covered.push(place as u16 + 1)?;
+        }
+    }
+    Ok(covered)
+}
+
+/// The key of a row's value in a column.
+fn key_in(alloc: Global, id: u32, cells: &Cells, column: u16) -> Result<Key, Memory>
+    requires { (k : ℕ) → IsScalar (value_at cells.now k) }
+    ensures { IfOk result (λ k. k ≡ key_at id cells.now column) }
+{
+    match column.checked_sub(1) {
+        None => Key::of(alloc, &number_of(id)),
+        Some(place) => match cells.get(place as usize) {
+            Some(cell) => Key::of(alloc, cell),
+            None => Key::of(alloc, &Value::Blank),
+        },
+    }
+}
+
+/// The entries of a row.
+fn entries_for(alloc: Global, covered: &[u16], id: u32, cells: &Cells) -> Result<Vec<Entry>, Memory>
+    requires { (k : ℕ) → IsScalar (value_at cells.now k) }
+    ensures { IfOk result (λ v. v.items ≡ entries_of covered.now id cells.now) }
+{
+    let mut entries = Vec::with_capacity(alloc, covered.len())?;
+    for column in covered {
+        let key = key_in(alloc, id, cells, *column)?;
+        entries.push(((*column, key), id))?;
+    }
+    Ok(entries)
+}
+
+/// The entries of the row of a number, if it is one.
+fn entries_at(
+    alloc: Global,
+    covered: &[u16],
+    rows: &BTreeMap<u32, Slot>,
+    id: u32,
+) -> Result<Option<Vec<Entry>>, Memory>
+    requires { (i k : ℕ) → IfSome (now_at rows.now.entries i) (λ cells. IsScalar (value_at cells k)) }
+    ensures entries { IfOk result (λ es. option_map (λ v. v.items) es ≡ option_map (entries_of covered.now id) (now_at rows.now.entries id)) }
+    ensures ordered { IsOrdered nat_cmp rows.now }
+{
+    let _len = rows.len();
+    let Some(slot) = rows.get(&id) else {
+        return Ok(None);
+    };
+    let Some(cells) = slot.cells() else {
+        return Ok(None);
+    };
+    Ok(Some(entries_for(alloc, covered, id, cells)?))
+}
+
+/// A fact about all cells, for the law of keys, and no work.
+fn cells_are_proper(cells: &Cells)
+    ensures { AllByRecursion IsProper cells.now }
+{
+    let items = cells.as_slice();
+    for cell in items {
+        value_is_proper(cell);
+    }
+}
+
+impl Table {
+    /// A table without rows.
+    pub fn new(alloc: Global, columns: ColumnList) -> Result<Table, Memory>
+        requires { length columns ≤ 63 }
+        ensures { IfOk result (λ t. t ≡ record { columns = columns; now = no_rows; then = no_rows }) }
+    {
+        let covered = covered_columns(alloc, &columns)?;
+        Ok(Table {
+            alloc,
+            columns,
+            covered,
+            rows: BTreeMap::new(alloc),
+            index: Index::new(alloc),
+            last: 0,
+            count: 0,
+            first: 0,
+            first_count: 0,
+        })
+    }
+
+    /// Puts a new row, under the next number.
+    pub fn insert(&mut self, cells: &Cells) -> Result<u32, Memory>
+        requires fit { AreCellsOf self.old.columns cells.now }
+        requires room { self.old.now.last < 2 ^ 32 - 1 }
+        requires few { length self.old.now.rows < 200000 }
+        ensures id { IfOk result (λ id. id ≡ self.old.now.last + 1) }
+        ensures ok { OnOk result (self.new ≡ record self.old { now = with_row cells.now self.old.now }) }
+        ensures err { OnErr result (self.new ≡ self.old) }
+    {
+        let id = self.last + 1;
+        let entries = entries_for(self.alloc, &self.covered, id, cells)?;
+        let copy = cells.copy(self.alloc)?;
+        cells_are_proper(cells);
+        self.index.make_rooms(self.alloc, &entries)?;
+        put_new(&mut self.rows, id, copy)?;
+        self.index.mark_all(&entries, true);
+        self.last = id;
+        self.count += 1;
+        Ok(id)
+    }
+
+    /// Puts other cells into a row, if it is one.
+    pub fn replace(&mut self, id: u32, cells: &Cells) -> Result<bool, Memory>
+        requires fit { AreCellsOf self.old.columns cells.now }
+        ensures was { IfOk result (λ was. was ≡ list_any (has_id id) self.old.now.rows) }
+        ensures ok { IfOk result (λ was. self.new ≡ record self.old { now = cond was (with_cells id cells.now self.old.now) self.old.now }) }
+        ensures err { OnErr result (self.new ≡ self.old) }
+    {
+        let Some(out) = entries_at(self.alloc, &self.covered, &self.rows, id)? else {
+            return Ok(false);
+        };
+        let entries = entries_for(self.alloc, &self.covered, id, cells)?;
+        let copy = cells.copy(self.alloc)?;
+        cells_are_proper(cells);
+        self.index.make_rooms(self.alloc, &entries)?;
+        put_over(&mut self.rows, id, Made::New(copy));
+        self.index.mark_all(&out, false);
+        self.index.mark_all(&entries, true);
+        Ok(true)
+    }
+
+    /// Takes a row out, if it is one.
+    pub fn remove(&mut self, id: u32) -> Result<bool, Memory>
+        ensures was { IfOk result (λ was. was ≡ list_any (has_id id) self.old.now.rows) }
+        ensures ok { IfOk result (λ was. self.new ≡ record self.old { now = cond was (without_row id self.old.now) self.old.now }) }
+        ensures err { OnErr result (self.new ≡ self.old) }
+    {
+        let Some(out) = entries_at(self.alloc, &self.covered, &self.rows, id)? else {
+            return Ok(false);
+        };
+        put_over(&mut self.rows, id, Made::Gone);
+        self.index.mark_all(&out, false);
+        self.count -= 1;
+        Ok(true)
+    }
+
+    /// A fact about its rows, and no work.
+    pub fn is_sound(&self)
+        ensures { IsSound self.now }
+    {
+        let _len = self.rows.len();
+    }
+
+    /// The rows whose keys in a column lie in ranges, by rising numbers.
+    pub fn asked(&self, column: u16, ranges: &[KeyRange]) -> Result<Vec<Row>, Memory>
+        requires column { column ≤ length self.now.columns }
+        requires reaches { (covers (covered_of self.now.columns) column ≡ true) ⊎ HoldEveryKey ranges.now }
+        ensures { IfOk result (λ rows. rows.items ≡ filter (lies_among column ranges.now) self.now.now.rows) }
+    {
+        if self.covered.contains(&column) {
+            let ids = self.index.hits(self.alloc, column, ranges)?;
+            rows_at(self.alloc, &self.rows, &ids)
+        } else {
+            all_rows(self.alloc, &self.rows)
+        }
+    }
+
+    /// How many rows there are.
+    pub fn count(&self) -> u32
+        ensures { result ≡ length self.now.now.rows }
+    {
+        self.count
+    }
+
+    /// The last number that was given, 0 at first.
+    pub fn last(&self) -> u32
+        ensures { result ≡ self.now.now.last }
+    {
+        self.last
+    }
+
+    /// The columns, `ID` aside.
+    pub fn columns(&self) -> &ColumnList
+        ensures { result.now ≡ self.now.columns }
+    {
+        &self.columns
+    }
+
+    /// Ends a transaction without its changes, and takes no memory.
+    pub fn restore(&mut self)
+        ensures { self.new ≡ record self.old { now = self.old.then } }
+    {
+        restore(&mut self.rows);
+        self.index.restore();
+        self.last = self.first;
+        self.count = self.first_count;
+    }
+
+    /// Ends a transaction with its changes, and takes no memory.
+    pub fn settle(&mut self)
+        ensures { self.new ≡ record self.old { then = self.old.now } }
+    {
+        settle(&mut self.rows);
+        self.index.settle();
+        self.first = self.last;
+        self.first_count = self.count;
+    }
+}
