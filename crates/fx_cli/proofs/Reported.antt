@@ -65,11 +65,11 @@ pub built_at : IsOneVerdict → IsOneApp → {F : Type 0} (told : F → Option C
     → EndsWith 0 (status_of r) (Rose (faults old) (faults new)) sink_rose
 built_at texts apps told asked faults old new shows ends wanted (Shown text) s bytes a h has is = inl refl
 built_at texts apps told asked faults old new shows ends wanted (Broken text) s bytes a h has is =
-    absurd (differ texts apps View bytes a h.2 is (moved told asked old new wanted View h.0 bytes h.1 (Err h.2) has h.3 h.4))
+    absurd (differ texts apps View bytes a h.breaks is (moved told asked old new wanted View h.form bytes h.bytes (Err h.breaks) has h.takes h.judged))
 built_at texts apps told asked faults old new shows ends wanted Usage s bytes a h has is = let some = has.is_wanted in cc
 built_at texts apps told asked faults old new shows ends wanted OutOfMemory s bytes a h has is = inr (inl refl)
-built_at texts apps told asked faults old new shows ends wanted (Unread text) s bytes a h has is = inr (inr (inl h.3))
-built_at texts apps told asked faults old new shows ends wanted (Replayed end) s bytes a h has is = absurd (not_both wanted has.name h.2.name has.is_wanted h.2.asks.is_wanted)
+built_at texts apps told asked faults old new shows ends wanted (Unread text) s bytes a h has is = inr (inr (inl h.rose))
+built_at texts apps told asked faults old new shows ends wanted (Replayed end) s bytes a h has is = absurd (not_both wanted has.name h.takes.name has.is_wanted h.takes.asks.is_wanted)
 
 -- a file that breaks a rule ends with 1
 pub refused_at : IsOneVerdict → IsOneApp → {F : Type 0} (told : F → Option Contents) (asked : F → List (List ℕ)) (faults : F → ℕ) (old new : F) (shows : App → String Global → Type 0) (ends : App → ReplayEnd → Type 0) (wanted : Wanted) (r : Report)
@@ -77,13 +77,13 @@ pub refused_at : IsOneVerdict → IsOneApp → {F : Type 0} (told : F → Option
     → Reports told asked faults old new shows ends wanted r → HasFile told old wanted form bytes → JudgedAs form bytes (Err bs)
     → EndsWith 1 (status_of r) (Rose (faults old) (faults new)) sink_rose
 refused_at texts apps told asked faults old new shows ends wanted (Shown text) s form bytes bs h has is =
-    absurd (differ texts apps form bytes h.1 bs (moved told asked old new wanted form View bytes h.0 (Ok h.1) has h.2 h.3) is)
+    absurd (differ texts apps form bytes h.app bs (moved told asked old new wanted form View bytes h.bytes (Ok h.app) has h.takes h.judged) is)
 refused_at texts apps told asked faults old new shows ends wanted (Broken text) s form bytes bs h has is = inl refl
 refused_at texts apps told asked faults old new shows ends wanted Usage s form bytes bs h has is = let some = has.is_wanted in cc
 refused_at texts apps told asked faults old new shows ends wanted OutOfMemory s form bytes bs h has is = inr (inl refl)
-refused_at texts apps told asked faults old new shows ends wanted (Unread text) s form bytes bs h has is = inr (inr (inl h.3))
+refused_at texts apps told asked faults old new shows ends wanted (Unread text) s form bytes bs h has is = inr (inr (inl h.rose))
 refused_at texts apps told asked faults old new shows ends wanted (Replayed end) s form bytes bs h has is =
-    absurd (differ texts apps form bytes h.1 bs (moved told asked old new wanted form Replay bytes h.0 (Ok h.1) has h.2 h.3) is)
+    absurd (differ texts apps form bytes h.app bs (moved told asked old new wanted form Replay bytes h.bytes (Ok h.app) has h.takes h.judged) is)
 
 -- an app is replayed up to an end
 ends_at : (end : ReplayEnd) (files_rose sink_rose : Type 0) → (status_of (Replayed end) ≡ 6) ⊎ (status_of (Replayed end) ≡ 9) ⊎ EndsWith 0 (status_of (Replayed end)) files_rose sink_rose
@@ -95,19 +95,19 @@ pub replayed_at : IsOneVerdict → IsOneApp → {F : Type 0} (told : F → Optio
     (sink_rose : Type 0) (bytes : List ℕ) (a : App)
     → Reports told asked faults old new shows ends wanted r → HasFile told old wanted Replay bytes → JudgedApp bytes (Ok a)
     → (status_of r ≡ 6) ⊎ (status_of r ≡ 9) ⊎ EndsWith 0 (status_of r) (Rose (faults old) (faults new)) sink_rose
-replayed_at texts apps told asked faults old new shows ends wanted (Shown text) s bytes a h has is = absurd (not_both wanted h.2.name has.name h.2.asks.is_wanted has.is_wanted)
+replayed_at texts apps told asked faults old new shows ends wanted (Shown text) s bytes a h has is = absurd (not_both wanted h.takes.name has.name h.takes.asks.is_wanted has.is_wanted)
 replayed_at texts apps told asked faults old new shows ends wanted (Broken text) s bytes a h has is =
-    absurd (differ texts apps Replay bytes a h.2 is (moved told asked old new wanted Replay h.0 bytes h.1 (Err h.2) has h.3 h.4))
+    absurd (differ texts apps Replay bytes a h.breaks is (moved told asked old new wanted Replay h.form bytes h.bytes (Err h.breaks) has h.takes h.judged))
 replayed_at texts apps told asked faults old new shows ends wanted Usage s bytes a h has is = let some = has.is_wanted in cc
 replayed_at texts apps told asked faults old new shows ends wanted OutOfMemory s bytes a h has is = inr (inr (inr (inl refl)))
-replayed_at texts apps told asked faults old new shows ends wanted (Unread text) s bytes a h has is = inr (inr (inr (inr (inl h.3))))
+replayed_at texts apps told asked faults old new shows ends wanted (Unread text) s bytes a h has is = inr (inr (inr (inr (inl h.rose))))
 replayed_at texts apps told asked faults old new shows ends wanted (Replayed end) s bytes a h has is = ends_at end (Rose (faults old) (faults new)) s
 
 -- a file was read, and is refused
 pub reports_refused : {F : Type 0} (told : F → Option Contents) (asked : F → List (List ℕ)) (faults : F → ℕ) (old new : F) (shows : App → String Global → Type 0) (ends : App → ReplayEnd → Type 0) (form : Form) (name bytes : List ℕ) (e : AppEnd) (r : Report)
     → Takes told asked old new (Some (form, name)) form bytes → judged.Tells (λ bs. JudgedAs form bytes (Err bs)) e → IsRefusal e r → Reports told asked faults old new shows ends (Some (form, name)) r
 reports_refused told asked faults old new shows ends form name bytes (end.Refused all) (Broken text) takes tells is =
-    (form, bytes, all.items, takes, tells, is)
+    record { form = form; bytes = bytes; breaks = all.items; takes = takes; judged = tells; lines = is }
 reports_refused told asked faults old new shows ends form name bytes e OutOfMemory takes tells is = refl
 reports_refused told asked faults old new shows ends form name bytes e r takes tells is = absurd is
 
@@ -119,7 +119,7 @@ viewed_by told asked faults old new shows ends w (Broken text) h = h
 viewed_by told asked faults old new shows ends w Usage h = h
 viewed_by told asked faults old new shows ends w OutOfMemory h = h
 viewed_by told asked faults old new shows ends w (Unread text) h = h
-viewed_by told asked faults old new shows ends w (Replayed end) h = absurd h.4
+viewed_by told asked faults old new shows ends w (Replayed end) h = absurd h.ended
 
 pub viewed : {F : Type 0} (told : F → Option Contents) (asked : F → List (List ℕ)) (faults : F → ℕ) (old new : F) (shows : App → String Global → Type 0) (ends : App → ReplayEnd → Type 0) (v w : Wanted) (r : Report)
     → v ≡ w → Reports told asked faults old new shows no_replay v r → Reports told asked faults old new shows ends w r
@@ -128,7 +128,7 @@ viewed told asked faults old new shows ends v w r e h = subst (λ (x : Wanted). 
 -- a replay shows nothing
 replayed_by : {F : Type 0} (told : F → Option Contents) (asked : F → List (List ℕ)) (faults : F → ℕ) (old new : F) (shows : App → String Global → Type 0) (ends : App → ReplayEnd → Type 0) (w : Wanted) (r : Report)
     → Reports told asked faults old new no_show ends w r → Reports told asked faults old new shows ends w r
-replayed_by told asked faults old new shows ends w (Shown text) h = absurd h.4
+replayed_by told asked faults old new shows ends w (Shown text) h = absurd h.shown
 replayed_by told asked faults old new shows ends w (Broken text) h = h
 replayed_by told asked faults old new shows ends w Usage h = h
 replayed_by told asked faults old new shows ends w OutOfMemory h = h

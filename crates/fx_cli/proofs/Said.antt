@@ -1,15 +1,14 @@
 -- What a status says of the report.
-use Rattle.std.proofs.Common.{◌≡◌, ℕ, ◌⊎◌, inl, inr, List, Option, Some, Ok, String, refl, sym, ◌∙◌, subst, false, nat_eq}
+use Rattle.std.proofs.Common.{◌≡◌, ℕ, ◌⊎◌, inl, inr, List, Option, Some, String, refl, sym, ◌∙◌, subst, false, nat_eq}
 use Rattle.std.specs.declared.alloc.Global.{Global}
 use Rattle.app_loader.specs.declared.app.App.{App}
 use Rattle.fx_base.specs.Telling.{Tells}
-use Rattle.office.specs.AppFile.{JudgedApp}
 use Rattle.fx_cli.specs.declared.replay.ReplayEnd.{ReplayEnd}
 use Rattle.fx_cli.specs.declared.replay.ReplayEnd.TheVariants as replay
 use Rattle.fx_cli.specs.declared.report.Report.{Report}
 use Rattle.fx_cli.specs.declared.report.Report.TheVariants.{Shown, Broken, Usage, OutOfMemory, Unread, Replayed}
 use Rattle.fx_cli.specs.declared.words.Form.TheVariants.{View, Replay}
-use Rattle.fx_cli.specs.Report.{EndsWith, IsIdle, IsSaid, IsTimeless, Leaves, Reports, Takes, Wanted, status_of, text_of, text_of_end}
+use Rattle.fx_cli.specs.Report.{EndsWith, IsIdle, IsReplay, IsSaid, IsTimeless, Leaves, Reports, Wanted, status_of, text_of, text_of_end}
 use Rattle.fx_cli.specs.Telling.{Contents, Grows}
 use Rattle.fx_cli.proofs.Reported.{not_both}
 
@@ -52,7 +51,7 @@ no_9_6 e = cc
 
 -- a replay that ends with 0 is done
 pub is_done : {F : Type 0} (told : F → Option Contents) (asked : F → List (List ℕ)) (faults : F → ℕ) (old new : F) (shows : App → String Global → Type 0) (ends : App → ReplayEnd → Type 0) (wanted : Wanted) (r : Report) → Reports told asked faults old new shows ends wanted r → status_of r ≡ 0 → (name : List ℕ) → wanted ≡ Some (Replay, name) → r ≡ Replayed replay.Done
-is_done told asked faults old new shows ends wanted (Shown text) h e name is = absurd (not_both wanted h.2.name name h.2.asks.is_wanted is)
+is_done told asked faults old new shows ends wanted (Shown text) h e name is = absurd (not_both wanted h.takes.name name h.takes.asks.is_wanted is)
 is_done told asked faults old new shows ends wanted (Broken text) h e name is = absurd (no_1_0 e)
 is_done told asked faults old new shows ends wanted Usage h e name is = absurd (no_2_0 e)
 is_done told asked faults old new shows ends wanted OutOfMemory h e name is = absurd (no_3_0 e)
@@ -74,10 +73,9 @@ is_fault told asked faults old new shows ends wanted (Replayed replay.Full) h e 
 
 -- what was replayed, up to this end
 pub replay_at : (end : ReplayEnd) → {F : Type 0} (told : F → Option Contents) (asked : F → List (List ℕ)) (faults : F → ℕ) (old new : F) (shows : App → String Global → Type 0) (ends : App → ReplayEnd → Type 0) (wanted : Wanted) (r : Report) → Reports told asked faults old new shows ends wanted r → r ≡ Replayed end → (o o' : Option (List ℕ)) → Tells (Grows (text_of r)) o o'
-    → (bytes : List ℕ) × (app : App) × Takes told asked old new wanted Replay bytes × JudgedApp bytes (Ok app) × ends app end × Tells (Grows (text_of_end end)) o o'
+    → IsReplay told asked old new wanted (λ app. ends app end) × Tells (Grows (text_of_end end)) o o'
 replay_at end told asked faults old new shows ends wanted r h e o o' t =
-    let so = subst (λ x. Reports told asked faults old new shows ends wanted x) e h in
-    (so.0, so.1, so.2, so.3, so.4, subst (λ x. Tells (Grows (text_of x)) o o') e t)
+    (subst (λ x. Reports told asked faults old new shows ends wanted x) e h, subst (λ x. Tells (Grows (text_of x)) o o') e t)
 
 -- a status other than 7 is that of the report, and its text was written
 pub said_with : (r : Report) (status n : ℕ) (sink_rose : Type 0) (o o' : Option (List ℕ)) → IsSaid r status sink_rose o o' → nat_eq n 7 ≡ false → status ≡ n

@@ -71,21 +71,49 @@ abbrev pub JudgedAs : Form → List ℕ → Result App (List Break) → Type 0
 JudgedAs View = Judged
 JudgedAs Replay = JudgedApp
 
--- When a run that wants this makes each report. The values of an app were shown so, as `shows` says, and a replay of an app
--- ended so, as `ends` says.
+-- The file is named formulas that break no rule, and was shown so.
+pub record IsView {F : Type 0} (told : F → Option Contents) (asked : F → List (List ℕ)) (old new : F) (wanted : Wanted) (shows : App → Type 0) : Type 0 where
+  pub bytes : List ℕ
+  pub app : App
+  pub takes : Takes told asked old new wanted View bytes
+  pub judged : Judged bytes (Ok app)
+  pub shown : shows app
+
+-- The file is an app, and a replay of it ended so.
+pub record IsReplay {F : Type 0} (told : F → Option Contents) (asked : F → List (List ℕ)) (old new : F) (wanted : Wanted) (ends : App → Type 0) : Type 0 where
+  pub bytes : List ℕ
+  pub app : App
+  pub takes : Takes told asked old new wanted Replay bytes
+  pub judged : JudgedApp bytes (Ok app)
+  pub ended : ends app
+
+-- The file breaks rules, and this is a line for each break.
+pub record IsBroken {F : Type 0} (told : F → Option Contents) (asked : F → List (List ℕ)) (old new : F) (wanted : Wanted) (text : List ℕ) : Type 0 where
+  pub form : Form
+  pub bytes : List ℕ
+  pub breaks : List Break
+  pub takes : Takes told asked old new wanted form bytes
+  pub judged : JudgedAs form bytes (Err breaks)
+  pub lines : text ≡ flat_map ended_line breaks
+
+-- A fault of the files was counted, which were asked for the file alone, and this says so.
+pub record IsMissed {F : Type 0} (asked : F → List (List ℕ)) (faults : F → ℕ) (old new : F) (wanted : Wanted) (text : List ℕ) : Type 0 where
+  pub form : Form
+  pub name : List ℕ
+  pub asks : AsksFor asked old new wanted form name
+  pub rose : Rose (faults old) (faults new)
+  pub line : text ≡ unread_text name
+
+-- When a run that wants this comes to each report. The values of an app were shown so, as `shows` says, and a replay of
+-- an app ended so, as `ends` says.
 abbrev pub Reports : {F : Type 0} (told : F → Option Contents) (asked : F → List (List ℕ)) (faults : F → ℕ) (old new : F)
     (shows : App → String Global → Type 0) (ends : App → ReplayEnd → Type 0) → Wanted → Report → Type 0
-Reports told asked faults old new shows ends wanted (Shown text) =
-    (bytes : List ℕ) × (app : App) × Takes told asked old new wanted View bytes × Judged bytes (Ok app) × shows app text
-Reports told asked faults old new shows ends wanted (Broken text) =
-    (form : Form) × (bytes : List ℕ) × (bs : List Break) × Takes told asked old new wanted form bytes × JudgedAs form bytes (Err bs)
-    × (string_bytes text ≡ flat_map ended_line bs)
+Reports told asked faults old new shows ends wanted (Shown text) = IsView told asked old new wanted (λ app. shows app text)
+Reports told asked faults old new shows ends wanted (Broken text) = IsBroken told asked old new wanted (string_bytes text)
 Reports told asked faults old new shows ends wanted Usage = wanted ≡ None
 Reports told asked faults old new shows ends wanted OutOfMemory = IsSome wanted
-Reports told asked faults old new shows ends wanted (Unread text) =
-    (form : Form) × (name : List ℕ) × AsksFor asked old new wanted form name × Rose (faults old) (faults new) × (string_bytes text ≡ unread_text name)
-Reports told asked faults old new shows ends wanted (Replayed end) =
-    (bytes : List ℕ) × (app : App) × Takes told asked old new wanted Replay bytes × JudgedApp bytes (Ok app) × ends app end
+Reports told asked faults old new shows ends wanted (Unread text) = IsMissed asked faults old new wanted (string_bytes text)
+Reports told asked faults old new shows ends wanted (Replayed end) = IsReplay told asked old new wanted (λ app. ends app end)
 
 -- nothing was shown, and nothing was replayed
 abbrev pub no_show : App → String Global → Type 0

@@ -8,7 +8,7 @@ ghost use Rattle.fx_base.specs.Faults.{Rose};
 ghost use Rattle.fx_base.specs.Telling.{Tells};
 ghost use Rattle.fx_cli.specs.Held.{Replayed};
 ghost use Rattle.fx_cli.specs.Plain.{IsShownNow};
-ghost use Rattle.fx_cli.specs.Report.{EndsWith, HasFile, IsReadOnceAtMost, IsSaid, JudgedAs, Leaves, Reports, Takes, Wants, status_of, text_of};
+ghost use Rattle.fx_cli.specs.Report.{EndsWith, HasFile, IsReadOnceAtMost, IsReplay, IsSaid, JudgedAs, Leaves, Reports, Wants, status_of, text_of};
 ghost use Rattle.fx_cli.specs.Telling.{Grows};
 ghost use Rattle.fx_cli.specs.Words.{wanted};
 ghost use Rattle.fx_cli.specs.declared.words.Form.{Form};
@@ -57,9 +57,9 @@ pub fn run<D: Doors, F: Files, O: Sink, C: Clock, L: Ledger>(
 ) -> Status
     // `replay` ends with 0: the file was read and is an app, and all conversations of the doors were answered as the office
     // that serves it answers them, from no session. Nothing is said.
-    ensures headline { result.0 ≡ 0 → Wants Replay (wanted words.now) → (bytes : List ℕ) × (app : App)
-        × Takes F.told F.asked files.old files.new (wanted words.now) Replay bytes × JudgedApp bytes (Ok app)
-        × Replayed (D.single doors.old) (started (formulas_of app)) (D.faults doors.old) (D.faults doors.new) (C.told clock.old) (C.told clock.new) (D.told doors.old) (D.told doors.new) ReplayEnd.Done
+    ensures headline { result.0 ≡ 0 → Wants Replay (wanted words.now)
+        → IsReplay F.told F.asked files.old files.new (wanted words.now)
+        (λ app. Replayed (D.single doors.old) (started (formulas_of app)) (D.faults doors.old) (D.faults doors.new) (C.told clock.old) (C.told clock.new) (D.told doors.old) (D.told doors.new) ReplayEnd.Done)
         × Tells (Grows []) (O.told out.old) (O.told out.new) }
     // Each run comes to a report, which was said: with its status and its text, or with 7, by a fault of the sink, and in
     // part. `Reports` says when a run comes to each, and `Leaves` what it left alone then.

@@ -26,4 +26,4 @@ returns-in-Ok-office_of-clause-reports g c =
       first = c.in-Ok.ensures.bytes;
     } in
     let app = c.in-Ok-office_of.ensures.office in
-    (c.in-Ok.file.items, app.0, taken, rw c.deref.ensures.value at app.1, rw app.2 at c.replay.ensures.replayed)
+    record { bytes = c.in-Ok.file.items; app = app.0; takes = taken; judged = rw c.deref.ensures.value at app.1; ended = rw app.2 at c.replay.ensures.replayed }
