@@ -6,7 +6,7 @@ ghost use Rattle.fx_data.specs.ValueView.{view};
 ghost use Rattle.fx_data.specs.Values.{blank as blank_data};
 ghost use Rattle.fx_order.specs.Order.{order};
 ghost use Rattle.row_queries.specs.Queries.{first_fault, first_of, lies, outcome_on, row_order};
-ghost use Rattle.row_queries.specs.RowTests.{CanAsk, is_met};
+ghost use Rattle.row_queries.specs.RowTests.{CanAsk, held_of, is_met};
 ghost use Rattle.row_queries.specs.TableRows.{id_value, value_at, values_of};
 
 use fx_base::{InOrder, Memory};
@@ -82,6 +82,14 @@ pub struct Judged {
     pub fault: Option<Fault>,
 }
 
+// Whether a row meets a query's test, or that the test is an error there.
+fn held_by(alloc: Global, query: &Query, row: &Row) -> Result<Held, Memory>
+    requires { CanAsk (values_of row.now) query.now.test }
+    ensures { IfOk result (λ h. h ≡ held_of (outcome_on query.now row.now)) }
+{
+    meets(alloc, &query.test, row)
+}
+
 /// Judges rows in their order.
 pub fn judge(alloc: Global, asked: Vec<Row>, query: &Query) -> Result<Judged, Memory>
     requires { AllByRecursion (λ (r : Row). CanAsk (values_of r) query.now.test) asked.items }
@@ -91,7 +99,7 @@ pub fn judge(alloc: Global, asked: Vec<Row>, query: &Query) -> Result<Judged, Me
 {
     let mut rows = Vec::new(alloc);
     for row in asked {
-        match meets(alloc, &query.test, &row)? {
+        match held_by(alloc, query, &row)? {
             Held::Yes => rows.push(row)?,
             Held::No => {}
             Held::Error => {
