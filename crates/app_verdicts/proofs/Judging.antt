@@ -123,7 +123,7 @@ module _ (m : Names) (s t : Bor (List Signature)) (same : map entry s.now ≡ ma
 
   cell_alike : (o : Option Cell) → cell_type one o ≡ cell_type other o
   cell_alike None = refl
-  cell_alike (Some c) = ap type_or_blank (whole_alike c.screen c.gallery true c.acts c.wanted c.formula)
+  cell_alike (Some c) = ap type_or_blank (whole_alike c.screen c.gallery true c.acts None c.formula)
 
   items_alike : (cs : List Cell) (k : ℕ) (ws : List ControlName) → items_types one cs k ws ≡ items_types other cs k ws
   items_alike cs k [] = refl
