@@ -8,6 +8,7 @@ less isn't seen. At the end stand the minutes of processor time by kind (proofs,
 work), the dearest crates, and the longest chain of proofs, in which each crate waits for the one before it.
 """
 import collections
+import functools
 import os
 import re
 import subprocess
@@ -47,10 +48,8 @@ def kind_of(number, words):
         if "/rt-edit-" in place_of(number):
             return "edits", crate
         return ("tests" if "--test" in words else "proofs"), crate
-    if program.startswith(("python", "rt", "rattle-", "clang", "ld")) or not words[0]:
-        return "the kit", ""
-    made = re.search(r"/crates/(\w+)/out/", words[0])
-    return "programs", made[1] if made else ""
+    name = re.sub(r"(_tests)?(\.by-rattle)?$", "", program)
+    return ("programs", name) if name in libraries() else ("the kit", "")
 
 
 def sample(root, seen):
@@ -64,10 +63,12 @@ def sample(root, seen):
         below |= more
     for number in below & found.keys():
         _, seconds, words = found[number]
-        kind, crate = seen[number][:2] if number in seen else kind_of(number, words)
+        # (a shell becomes the program that it runs)
+        kind, crate = seen[number][:2] if number in seen and seen[number][1] else kind_of(number, words)
         seen[number] = kind, crate, seconds
 
 
+@functools.cache
 def libraries():
     """Returns the libraries that each crate of crates.txt names, lowest first."""
     lines = {}
