@@ -1,15 +1,11 @@
 -- Lists of breaks, formula by formula.
 use Rattle.std.proofs.Common.{inl, inr, ◌≡◌, ℕ, suc, ◌+◌, ◌<◌, ◌++◌, List, [], ◌∷◌, length, get_or, take, refl, ap, sym, subst, ◌∙◌, arith}
-use Rattle.std.proofs.lemmas.List.{length-take-le, take_more}
+use Rattle.std.proofs.lemmas.List.{length-take-le, take_more, append-nil}
 use Rattle.std.proofs.Common.{MatchOption, Option, Some, None}
 use Rattle.app_loader.specs.Admitted.{AreBreaks}
 use Rattle.app_names.specs.NameRules.{put_break}
 use Rattle.fx_parser.specs.declared.entries.Named.{Named}
-use Rattle.fx_rules.specs.declared.broken.Broken.{Broken}
-
-behind_none : {A : Type 0} (xs : List A) → xs ++ [] ≡ xs
-behind_none [] = refl
-behind_none (x ∷ xs) = ap (λ us. x ∷ us) (behind_none xs)
+use Rattle.fx_trees.specs.declared.broken.Broken.{Broken}
 
 -- one more of a list, and the number that it has
 pub one_more : {A : Type 0} (xs : List A) (i : ℕ) (x : A) → i < length xs → x ≡ get_or xs i x → take i xs ++ x ∷ [] ≡ take (i + 1) xs
@@ -47,4 +43,4 @@ broken_more F B ns i n bs b l e h g =
 pub break_more : (F : ℕ → Named → Type 0) (B : ℕ → Named → Broken → Type 0) (ns : List Named) (i : ℕ) (n : Named) (bs : List Broken) (o : Option Broken) → i < length ns → n ≡ get_or ns i n →
     AreBreaks F B 0 (take i ns) bs → MatchOption o (F i n) (B i n) → AreBreaks F B 0 (take (i + 1) ns) (bs ++ put_break o [])
 break_more F B ns i n bs (Some b) l e h g = broken_more F B ns i n bs b l e h g
-break_more F B ns i n bs None l e h g = subst (AreBreaks F B 0 (take (i + 1) ns)) (sym (behind_none bs)) (fine_more F B ns i n bs l e h g)
+break_more F B ns i n bs None l e h g = subst (AreBreaks F B 0 (take (i + 1) ns)) (sym (append-nil bs)) (fine_more F B ns i n bs l e h g)

@@ -9,19 +9,19 @@ use Rattle.app_loader.specs.Judged.{AreNamedLines, AreTypedLines, AreUnread, Jud
 use Rattle.app_loader.specs.declared.app.App.{App}
 use Rattle.app_loader.specs.Judged as judge
 use Rattle.app_loader.proofs.Tellings.{tells_this, tells_weaker}
-use Rattle.fx_depths.specs.Depths.{EntriesAreNoDeeper}
-use Rattle.fx_functions.specs.declared.signatures.Signature.{Signature}
+use Rattle.fx_infer.specs.Depths.{EntriesAreNoDeeper}
+use Rattle.fx_trees.specs.declared.signatures.Signature.{Signature}
 use Rattle.fx_grammar.specs.Formulas.{Entry}
 use Rattle.fx_infer.specs.Below.{tree_depth}
 use Rattle.fx_infer.specs.declared.elaboration.Written.{Written}
-use Rattle.fx_judge.specs.Rounds.{Cell, StillChanges}
-use Rattle.fx_names.specs.declared.names.Names.{Names}
+use Rattle.fx_typing.specs.Rounds.{Cell, StillChanges}
+use Rattle.fx_trees.specs.declared.names.Names.{Names}
 use Rattle.fx_parser.specs.Texts.{IsNamedText, named_of}
 use Rattle.fx_parser.specs.declared.entries.Named.{Named}
-use Rattle.fx_rounds.specs.CellView.{cell}
-use Rattle.fx_rounds.specs.Limit.{IsRoundsLimit}
-use Rattle.fx_rules.specs.declared.broken.Broken.{Broken}
-use Rattle.fx_rules.specs.declared.end.AppEnd.{AppEnd}
+use Rattle.fx_infer.specs.CellView.{cell}
+use Rattle.fx_infer.specs.Limit.{IsRoundsLimit}
+use Rattle.fx_trees.specs.declared.broken.Broken.{Broken}
+use Rattle.fx_trees.specs.declared.app_end.AppEnd.{AppEnd}
 use Rattle.fx_sig.specs.Entries.{entries, entry}
 
 -- ---- depth

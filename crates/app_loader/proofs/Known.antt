@@ -1,7 +1,7 @@
 -- The names of lines whose types are final: each line's formula is known by its number, with its type.
 use Rattle.std.proofs.Common.{inl, inr, ◌≡◌, ℕ, zero, suc, ◌+◌, ◌<◌, ◌++◌, List, [], ◌∷◌, Bool, not, length, get_or, map, Some, Ok, slice_get, refl, ap, sym, subst, ◌∙◌, arith}
 use Rattle.std.specs.List.{filter}
-use Rattle.app_laws.specs.Laws.{AdmittedDeclaresNothing}
+use Rattle.app_loader.specs.Laws.{AdmittedDeclaresNothing}
 use Rattle.app_loader.specs.Admitted.{AreBreaks, AreRefused, Breaks, IsAdmitted, judged}
 use Rattle.app_loader.specs.Bare.{IsBare}
 use Rattle.app_loader.specs.Cells.{cell_of}
@@ -11,14 +11,14 @@ use Rattle.app_names.specs.Declarations.{declared_in, declared_of, is_formula, n
 use Rattle.app_names.specs.declared.declarations.Declared.{Declared}
 use Rattle.fx_data.specs.TypeView.{shape}
 use Rattle.fx_data.specs.Types.{Shape}
-use Rattle.fx_judge.specs.Rounds.{AfterRounds, AllSame, Cell, SameCollection, SameControl, SameFormula, SameNames, SameVariable, Types, cell_type, formula_type, type_or_blank}
-use Rattle.fx_names.specs.declared.names.FormulaName.{FormulaName}
-use Rattle.fx_names.specs.declared.names.Names.{Names}
+use Rattle.fx_typing.specs.Rounds.{AfterRounds, AllSame, Cell, SameCollection, SameControl, SameFormula, SameNames, SameVariable, Types, cell_type, formula_type, type_or_blank}
+use Rattle.fx_trees.specs.declared.names.FormulaName.{FormulaName}
+use Rattle.fx_trees.specs.declared.names.Names.{Names}
 use Rattle.fx_parser.specs.declared.entries.Named.{Named}
-use Rattle.fx_typed.specs.Term.{Term}
+use Rattle.fx_trees.specs.Term.{Term}
 
 -- what is final has the same names
-same_after : (cs : List Cell) (n : Names) (k : ℕ) (m : Names) → AfterRounds cs n k m → SameNames n m
+pub same_after : (cs : List Cell) (n : Names) (k : ℕ) (m : Names) → AfterRounds cs n k m → SameNames n m
 same_after cs n zero m a = a.0
 same_after cs n (suc k) m a = a.0
 

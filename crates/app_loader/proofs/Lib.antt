@@ -1,3 +1,9 @@
+pub mod Calm
+pub mod KnownNames
+pub mod Silent
+pub mod LawfulTypes
+pub mod LawfulParts
+pub mod LawfulTrees
 pub mod Tellings
 pub mod BreakLists
 pub mod Writes
@@ -5,3 +11,10 @@ pub mod Known
 pub mod ReadySteps
 pub mod Loads
 pub mod Ended
+mod OneText
+mod Functions
+mod Judging
+mod Rounds
+mod OneVerdict
+mod Told
+mod OneRefusal

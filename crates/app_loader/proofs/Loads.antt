@@ -3,9 +3,9 @@ use Rattle.std.proofs.Common.{◌≡◌, ℕ, zero, suc, ◌+◌, ◌<◌, ◌�
 use Rattle.std.proofs.lemmas.Bool.{eqb-true}
 use Rattle.std.specs.Prelude.{MatchResult}
 use Rattle.std.specs.List.{find}
-use Rattle.app_laws.specs.Laws.{alone, AdmittedIsLawful, AreKnownTo, MoreNamesSameTree}
-use Rattle.app_lines.specs.ReadyLines.{AreReady}
-use Rattle.app_lines.specs.declared.formula.Formula.{Formula}
+use Rattle.app_loader.specs.Laws.{alone, AdmittedIsLawful, AreKnownTo, MoreNamesSameTree}
+use Rattle.app_names.specs.ReadyLines.{AreReady}
+use Rattle.app_names.specs.declared.formula.Formula.{Formula}
 use Rattle.app_loader.specs.Admitted.{AreBreaks, AreLoaded, AreLoadedFrom, AreRefused, AreUnordered, IsAdmitted, IsLoaded, UsesLater, judged, names_before}
 use Rattle.app_loader.specs.Bare.{IsBare, IsFormulaOf, UsesMissing}
 use Rattle.app_loader.specs.Judged.{AreTypedLines, JudgedLines}
@@ -14,14 +14,14 @@ use Rattle.app_loader.proofs.BreakLists.{broken_more, fine_more, its_number, one
 use Rattle.app_loader.proofs.Known.{numbered, settled}
 use Rattle.app_loader.proofs.ReadySteps.{AreAlike, alike_more, lawful_before, ready_line}
 use Rattle.fx_data.specs.TypeView.{shape}
-use Rattle.fx_fresh.specs.Sound.{TypingsLawful}
-use Rattle.fx_judge.specs.Laws.{AdmittedIsTyped, PureIsQuiet}
-use Rattle.fx_names.specs.Lawful.{IsLawful}
-use Rattle.fx_names.specs.declared.names.FormulaName.{FormulaName}
-use Rattle.fx_names.specs.declared.names.Names.{Names}
+use Rattle.fx_semantics.specs.Sound.{TypingsLawful}
+use Rattle.fx_typing.specs.Laws.{AdmittedIsTyped, PureIsQuiet}
+use Rattle.fx_trees.specs.Lawful.{IsLawful}
+use Rattle.fx_trees.specs.declared.names.FormulaName.{FormulaName}
+use Rattle.fx_trees.specs.declared.names.Names.{Names}
 use Rattle.fx_parser.specs.declared.entries.Named.{Named}
-use Rattle.fx_rules.specs.declared.broken.Broken.{Broken}
-use Rattle.fx_typing_relation.proofs.Elaborates.{whole_elaborates}
+use Rattle.fx_trees.specs.declared.broken.Broken.{Broken}
+use Rattle.fx_typing.proofs.Elaborates.{whole_elaborates}
 
 -- ---- the names of the first formulas
 -- what is found among the first is found among all
@@ -133,9 +133,6 @@ all_taken (x ∷ xs) (suc i) l = ap (λ us. x ∷ us) (all_taken xs i (omega (ar
 no_breaks : (bs : List Broken) → nat_eq (length bs) 0 ≡ true → bs ≡ []
 no_breaks [] e = refl
 no_breaks (b ∷ bs) e = let past : length (b ∷ bs) ≡ 0 = eqb-true (length (b ∷ bs)) 0 e in absurd (omega (arith, past))
-
-pub are_ready : (m : Names) (lines : List Named) (i : ℕ) (now : Names) (fs : List Formula) (bs : List Broken) → AreLoadedSo m lines i now fs bs → nat_eq (length bs) 0 ≡ true → AreReady fs
-are_ready m lines i now fs bs so e = (so.fine (no_breaks bs e)).ready
 
 pub are_loaded : (m : Names) (lines : List Named) (i : ℕ) (now : Names) (fs : List Formula) (bs : List Broken) → AreLoadedSo m lines i now fs bs → length lines ≤ i → nat_eq (length bs) 0 ≡ true → AreLoaded m lines fs
 are_loaded m lines i now fs bs so l e = subst (λ (ns : List Named). AreLoadedFrom m 0 ns fs) (all_taken lines i l) (so.fine (no_breaks bs e)).loaded

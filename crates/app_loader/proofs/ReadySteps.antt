@@ -1,26 +1,28 @@
 -- A line's formula is ready behind those before it.
-use Rattle.std.proofs.Common.{◌≡◌, ℕ, zero, suc, ◌≤◌, ◌++◌, List, [], ◌∷◌, Bool, true, false, length, map, take, Option, Some, None, option_map, option_and_then, Ok, slice_get, refl, ap, sym, subst, ◌∙◌, arith, All, if◌then◌else◌}
+use Rattle.std.proofs.Common.{◌≡◌, ℕ, zero, suc, ◌≤◌, ◌++◌, List, [], ◌∷◌, Bool, true, false, length, map, take, Option, Some, None, option_map, option_and_then, Ok, slice_get, refl, ap, sym, subst, ◌∙◌, arith, if◌then◌else◌}
 use Rattle.std.specs.Prelude.{nat_eq}
 use Rattle.std.proofs.Math.Path.{fun_ext}
-use Rattle.app_laws.specs.Laws.{AdmittedIsLawful, alone}
-use Rattle.app_lines.specs.ReadyLines.{AreReady, AreReadyBehind, IsReadyBehind, behind, sources_behind, type_of}
-use Rattle.app_lines.specs.declared.formula.Formula.{Formula}
+use Rattle.std.proofs.lemmas.List.{append_assoc, append-nil}
+use Rattle.app_loader.specs.Laws.{AdmittedIsLawful, alone}
+use Rattle.app_names.specs.ReadyLines.{AreReady, AreReadyBehind, IsReadyBehind, behind, sources_behind, type_of}
+use Rattle.app_names.specs.declared.formula.Formula.{Formula}
+use Rattle.app_names.proofs.Lawful.{no_all}
 use Rattle.app_loader.specs.Admitted.{judged, names_before}
 use Rattle.app_loader.specs.Bare.{IsBare}
 use Rattle.fx_data.specs.TypeView.{shape}
 use Rattle.fx_data.specs.Types.{Shape, dates}
-use Rattle.fx_fresh.proofs.Whole.{lawful_here}
-use Rattle.fx_fresh.specs.Sound.{IsLawfulContext, IsLawfulType, TypingsLawful}
-use Rattle.fx_functions.specs.declared.sources.Source.{Source}
-use Rattle.fx_functions.specs.declared.sources.Source.TheVariants as source
-use Rattle.fx_judge.specs.Laws.{AdmittedIsTyped, PureIsQuiet}
-use Rattle.fx_judge.specs.Typing.{context_of, outermost}
-use Rattle.fx_names.specs.Lawful.{AreDistinct, DiffersFromAll, IsLawful, IsLawfulControl, IsLawfulProperty, IsLawfulScreen}
-use Rattle.fx_names.specs.SourceTypes.{formula_cell, property_cell, sources}
-use Rattle.fx_names.specs.declared.names.FormulaName.{FormulaName}
-use Rattle.fx_names.specs.declared.names.Names.{Names}
-use Rattle.fx_names.specs.declared.names.Property.{Property}
-use Rattle.fx_names.specs.declared.names.Variable.{Variable}
+use Rattle.fx_semantics.proofs.Whole.{lawful_here}
+use Rattle.fx_semantics.specs.Sound.{IsLawfulContext, IsLawfulType, TypingsLawful}
+use Rattle.fx_trees.specs.declared.sources.Source.{Source}
+use Rattle.fx_trees.specs.declared.sources.Source.TheVariants as source
+use Rattle.fx_typing.specs.Laws.{AdmittedIsTyped, PureIsQuiet}
+use Rattle.fx_typing.specs.Typing.{context_of, outermost}
+use Rattle.fx_trees.specs.Lawful.{AreDistinct, DiffersFromAll, IsLawful, IsLawfulControl, IsLawfulProperty, IsLawfulScreen}
+use Rattle.fx_trees.specs.SourceTypes.{formula_cell, property_cell, sources}
+use Rattle.fx_trees.specs.declared.names.FormulaName.{FormulaName}
+use Rattle.fx_trees.specs.declared.names.Names.{Names}
+use Rattle.fx_trees.specs.declared.names.Property.{Property}
+use Rattle.fx_trees.specs.declared.names.Variable.{Variable}
 use Rattle.fx_parser.specs.declared.entries.Named.{Named}
 use Rattle.fx_typing.specs.WellTyped.{Context, IsTyped}
 
@@ -37,9 +39,6 @@ alike_more [] (j ∷ ks) f k a n t = absurd a
 alike_more (g ∷ fs) [] f k a n t = absurd a
 
 -- ---- lawful names
-no_all : {A : Type 0} (P : A → Type 0) (xs : List A) → xs ≡ [] → All P xs
-no_all P xs e = subst (All P) (sym e) (λ k d l. absurd (omega (arith, l)))
-
 abbrev cells : List FormulaName → List ℕ
 cells fs = map (λ (f : FormulaName). f.cell) fs
 
@@ -58,14 +57,10 @@ short_first fs zero = omega arith
 short_first [] (suc i) = omega arith
 short_first (f ∷ fs) (suc i) = let s = short_first fs i in omega (arith, s)
 
-behind_none : {A : Type 0} (xs : List A) → xs ++ [] ≡ xs
-behind_none [] = refl
-behind_none (x ∷ xs) = ap (λ us. x ∷ us) (behind_none xs)
-
 pub lawful_before : (m : Names) (i : ℕ) → IsLawful m → IsBare m → IsLawful (names_before i m)
 lawful_before m i l b =
     let own : AreDistinct (cells m.formulas) =
-    subst AreDistinct (ap (λ (ps : List Property). cells m.formulas ++ map (λ (p : Property). p.cell) ps) b.properties ∙ behind_none (cells m.formulas)) l.cells in
+    subst AreDistinct (ap (λ (ps : List Property). cells m.formulas ++ map (λ (p : Property). p.cell) ps) b.properties ∙ append-nil (cells m.formulas)) l.cells in
     record {
       schema = l.schema;
       screens = l.screens;
@@ -74,7 +69,7 @@ lawful_before m i l b =
       formulas = let k = short_first m.formulas i in let few = l.formulas in omega (arith, k, few);
       variables = (l.variables.0, no_all (λ (v : Variable). IsLawfulScreen (names_before i m) v.screen) m.variables b.variables);
       collections = l.collections;
-      cells = subst AreDistinct (sym (ap (λ (ps : List Property). cells (take i m.formulas) ++ map (λ (p : Property). p.cell) ps) b.properties ∙ behind_none (cells (take i m.formulas))))
+      cells = subst AreDistinct (sym (ap (λ (ps : List Property). cells (take i m.formulas) ++ map (λ (p : Property). p.cell) ps) b.properties ∙ append-nil (cells (take i m.formulas))))
           (distinct_first m.formulas i own);
     }
 
@@ -144,14 +139,10 @@ source_lawful fs r (source.Table k) t e = absurd cc
 context_lawful : (fs : List Formula) → AreReady fs → IsLawfulContext (behind fs)
 context_lawful fs r = record { of_sources = source_lawful fs r; of_scopes = tt; of_item = λ t e. absurd cc }
 
-assoc : {A : Type 0} (xs ys zs : List A) → (xs ++ ys) ++ zs ≡ xs ++ (ys ++ zs)
-assoc [] ys zs = refl
-assoc (x ∷ xs) ys zs = ap (λ us. x ∷ us) (assoc xs ys zs)
-
 -- one formula more
 ready_behind : (before fs : List Formula) (f : Formula) → AreReadyBehind before fs → IsReadyBehind (before ++ fs) f → AreReadyBehind before (fs ++ f ∷ [])
-ready_behind before [] f r h = (subst (λ gs. IsReadyBehind gs f) (behind_none before) h, tt)
-ready_behind before (g ∷ fs) f r h = (r.0, ready_behind (before ++ g ∷ []) fs f r.1 (subst (λ gs. IsReadyBehind gs f) (sym (assoc before (g ∷ []) fs)) h))
+ready_behind before [] f r h = (subst (λ gs. IsReadyBehind gs f) (append-nil before) h, tt)
+ready_behind before (g ∷ fs) f r h = (r.0, ready_behind (before ++ g ∷ []) fs f r.1 (subst (λ gs. IsReadyBehind gs f) (sym (append_assoc before (g ∷ []) fs)) h))
 
 -- THE step: a line's formula that is admitted under the names that it may use is ready behind those before it
 pub ready_line : AdmittedIsTyped → AdmittedIsLawful → TypingsLawful → PureIsQuiet → (m : Names) (i : ℕ) (fs : List Formula) (n : Named) (f : Formula) →

@@ -9,10 +9,10 @@ use Rattle.fx_lexer.specs.Lexed.{Lexed, token_of}
 use Rattle.fx_parser.specs.declared.end.ParseEnd.TheVariants.{Lex, Syntax, TooDeep}
 use Rattle.fx_parser.specs.Details.{bad_token_words, unexpected_words}
 use Rattle.fx_parser.specs.Texts.{AreNamedEnd}
-use Rattle.fx_rules.specs.declared.broken.Broken.{Broken}
-use Rattle.fx_rules.specs.declared.end.AppEnd.{AppEnd}
-use Rattle.fx_rules.specs.declared.end.AppEnd.TheVariants.{Refused, Memory}
-use Rattle.fx_rules.specs.declared.rule.Rule.TheVariants as rule
+use Rattle.fx_trees.specs.declared.broken.Broken.{Broken}
+use Rattle.fx_trees.specs.declared.app_end.AppEnd.{AppEnd}
+use Rattle.fx_trees.specs.declared.app_end.AppEnd.TheVariants.{Refused, Memory}
+use Rattle.fx_trees.specs.declared.rule.Rule.TheVariants as rule
 use Rattle.app_loader.specs.Judged.{AreUnread, Tells, bad_token, in_formulas, no_formulas, too_deep}
 use Rattle.app_names.specs.NameRules.{in_app}
 

@@ -4,19 +4,19 @@ use Rattle.std.proofs.lemmas.List.{take_more}
 use Rattle.app_loader.specs.Admitted.{Breaks, judged}
 use Rattle.app_loader.specs.Cells.{cell_of}
 use Rattle.app_loader.specs.Writing.{IsWritten}
-use Rattle.app_laws.specs.Laws.{alone}
+use Rattle.app_loader.specs.Laws.{alone}
 use Rattle.app_names.specs.NameRules.{in_formula}
 use Rattle.fx_data.specs.TypeView.{shape}
 use Rattle.fx_infer.specs.Below.{tree_depth}
 use Rattle.fx_infer.specs.Written.{may_act, place_of}
 use Rattle.fx_infer.specs.declared.elaboration.Written.{Written}
-use Rattle.fx_judge.specs.Details.{IsToldBrokenWhole}
-use Rattle.fx_judge.specs.Typing.{judge_whole}
-use Rattle.fx_names.specs.declared.names.Names.{Names}
+use Rattle.fx_typing.specs.Details.{IsToldBrokenWhole}
+use Rattle.fx_typing.specs.Typing.{judge_whole}
+use Rattle.fx_trees.specs.declared.names.Names.{Names}
 use Rattle.fx_parser.specs.declared.entries.Named.{Named}
-use Rattle.fx_rounds.specs.CellView.{cell}
-use Rattle.fx_rules.specs.Rules.{number_of}
-use Rattle.fx_rules.specs.declared.broken.Broken.{Broken}
+use Rattle.fx_infer.specs.CellView.{cell}
+use Rattle.fx_trees.specs.Rules.{number_of}
+use Rattle.fx_trees.specs.declared.broken.Broken.{Broken}
 
 as_written : (n : Named) (w : Written) → IsWritten n w → cell w ≡ cell_of n
 as_written n w h = λ i. record { screen = h.screen i; gallery = h.item i; acts = may_act (h.place i); wanted = option_map shape (h.wanted i); formula = h.expr i }

@@ -2,18 +2,18 @@
 use Rattle.std.specs.Prelude.{◌≡◌, ◌⊎◌, ℕ, suc, List, [], ◌∷◌, false, None, Result, Ok, Err, codes, take}
 use Rattle.fx_data.specs.TypeView.{shape}
 use Rattle.fx_data.specs.Types.{Shape}
-use Rattle.fx_judge.specs.Details.{IsToldBrokenWhole}
-use Rattle.fx_judge.specs.Typing.{judge_whole}
-use Rattle.fx_names.specs.declared.names.Names.{Names}
+use Rattle.fx_typing.specs.Details.{IsToldBrokenWhole}
+use Rattle.fx_typing.specs.Typing.{judge_whole}
+use Rattle.fx_trees.specs.declared.names.Names.{Names}
 use Rattle.fx_parser.specs.declared.entries.Named.{Named}
-use Rattle.fx_rules.specs.Rules.{number_of}
-use Rattle.fx_rules.specs.declared.broken.Broken.{Broken}
-use Rattle.fx_rules.specs.declared.rule.Rule.{Rule}
-use Rattle.fx_rules.specs.declared.rule.Rule.TheVariants as rule
-use Rattle.fx_typed.specs.Term.{Term}
-use Rattle.fx_typing_relation.specs.Elaborates.{FormulaElaborates}
-use Rattle.app_laws.specs.Laws.{alone}
-use Rattle.app_lines.specs.declared.formula.Formula.{Formula}
+use Rattle.fx_trees.specs.Rules.{number_of}
+use Rattle.fx_trees.specs.declared.broken.Broken.{Broken}
+use Rattle.fx_trees.specs.declared.rule.Rule.{Rule}
+use Rattle.fx_trees.specs.declared.rule.Rule.TheVariants as rule
+use Rattle.fx_trees.specs.Term.{Term}
+use Rattle.fx_typing.specs.Elaborates.{FormulaElaborates}
+use Rattle.app_loader.specs.Laws.{alone}
+use Rattle.app_names.specs.declared.formula.Formula.{Formula}
 use Rattle.app_names.specs.NameRules.{in_formula}
 
 -- what a named formula is under names: a tree with its type, or the place and the number of a broken rule

@@ -1,14 +1,14 @@
 -- Names of formulas alone, and a formula under those of the formulas before it.
 use Rattle.std.specs.Prelude.{◌≡◌, ℕ, [], Ok, Err, codes}
 use Rattle.app_loader.specs.Admitted.{judged}
-use Rattle.app_lines.specs.declared.formula.Formula.{Formula}
+use Rattle.app_names.specs.declared.formula.Formula.{Formula}
 use Rattle.fx_data.specs.TypeView.{shape}
 use Rattle.fx_data.specs.Types.{Shape}
-use Rattle.fx_names.specs.declared.names.FormulaName.{FormulaName}
-use Rattle.fx_names.specs.declared.names.Names.{Names}
-use Rattle.fx_rules.specs.declared.broken.Broken.{Broken}
-use Rattle.fx_rules.specs.declared.rule.Rule.TheVariants.{NotBuilt}
-use Rattle.fx_typed.specs.Term.{Term}
+use Rattle.fx_trees.specs.declared.names.FormulaName.{FormulaName}
+use Rattle.fx_trees.specs.declared.names.Names.{Names}
+use Rattle.fx_trees.specs.declared.broken.Broken.{Broken}
+use Rattle.fx_trees.specs.declared.rule.Rule.TheVariants.{NotBuilt}
+use Rattle.fx_trees.specs.Term.{Term}
 use Rattle.fx_parser.specs.declared.entries.Named.{Named}
 use Rattle.app_names.specs.NameRules.{in_formula}
 

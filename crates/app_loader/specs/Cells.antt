@@ -1,6 +1,6 @@
 -- Named formulas as the formulas of an app.
 use Rattle.std.specs.Prelude.{false, None}
-use Rattle.fx_judge.specs.Rounds.{Cell}
+use Rattle.fx_typing.specs.Rounds.{Cell}
 use Rattle.fx_parser.specs.declared.entries.Named.{Named}
 
 -- a named formula stands on no screen and sees no gallery's item, doesn't act, and may have any type

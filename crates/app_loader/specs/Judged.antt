@@ -1,22 +1,22 @@
 -- Texts of named formulas, judged: they are these formulas, or these are the breaks of the first stage that has any.
 use Rattle.std.specs.Prelude.{◌≡◌, ◌<◌, ◌≤◌, ℕ, List, [], ◌∷◌, map, Result, Ok, Err, length, codes}
 use Rattle.std.specs.Str.{chars, IsUtf8}
-use Rattle.fx_judge.specs.Rounds.{IsFinal, StillChanges}
+use Rattle.fx_typing.specs.Rounds.{IsFinal, StillChanges}
 use Rattle.fx_lexer.specs.declared.token.LexErr.{LexErr}
 use Rattle.fx_lexer.specs.declared.token.Token.{Token}
 use Rattle.fx_lexer.specs.Lexed.{Lexed}
-use Rattle.fx_names.specs.declared.names.Names.{Names}
+use Rattle.fx_trees.specs.declared.names.Names.{Names}
 use Rattle.fx_parser.specs.Details.{bad_token_words, unexpected_words}
 use Rattle.fx_parser.specs.Texts.{AreNamedEnd, IsNamedText}
 use Rattle.fx_parser.specs.declared.end.ParseEnd.TheVariants.{Lex, Syntax, TooDeep}
 use Rattle.fx_parser.specs.declared.entries.Named.{Named}
-use Rattle.fx_rules.specs.declared.broken.Broken.{Broken}
-use Rattle.fx_rules.specs.declared.end.AppEnd.{AppEnd}
-use Rattle.fx_rules.specs.declared.end.AppEnd.TheVariants as end
-use Rattle.fx_rules.specs.declared.rule.Rule.{Rule}
-use Rattle.fx_rules.specs.declared.rule.Rule.TheVariants as rule
+use Rattle.fx_trees.specs.declared.broken.Broken.{Broken}
+use Rattle.fx_trees.specs.declared.app_end.AppEnd.{AppEnd}
+use Rattle.fx_trees.specs.declared.app_end.AppEnd.TheVariants as end
+use Rattle.fx_trees.specs.declared.rule.Rule.{Rule}
+use Rattle.fx_trees.specs.declared.rule.Rule.TheVariants as rule
 use Rattle.fx_sig.specs.Entries.{entries, entry}
-use Rattle.fx_functions.specs.declared.signatures.Signature.{Signature}
+use Rattle.fx_trees.specs.declared.signatures.Signature.{Signature}
 use Rattle.app_loader.specs.declared.app.App.{App}
 use Rattle.app_loader.specs.Admitted.{AreLoaded, AreRefused, AreUnordered}
 use Rattle.app_names.specs.AppNames.{AreNames}

@@ -3,7 +3,7 @@ use Rattle.std.specs.Prelude.{◌≡◌, None}
 use Rattle.fx_infer.specs.declared.elaboration.PlaceKind.TheVariants.{Pure}
 use Rattle.fx_infer.specs.declared.elaboration.Written.{Written}
 use Rattle.fx_parser.specs.declared.entries.Named.{Named}
-use Rattle.fx_rules.specs.BrokenText.{address_of}
+use Rattle.fx_trees.specs.BrokenText.{address_of}
 
 -- a named formula stands on no screen and sees no gallery's item, doesn't act, and may have any type
 pub record IsWritten (n : Named) (w : Written) : Type 0 where

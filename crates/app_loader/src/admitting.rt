@@ -2,17 +2,16 @@
 ghost use Rattle.std.specs.Prelude.{◌≡◌, ◌≤◌, All, IfOk, MatchOption, MatchResult, Ok};
 ghost use Rattle.app_loader.specs.Admitted.{AreRefused, Breaks, IsAdmitted, judged};
 ghost use Rattle.fx_infer.specs.Below.{tree_depth};
-ghost use Rattle.fx_local.specs.TypedView.{typed};
-ghost use Rattle.fx_names.specs.Lawful.{IsLawful};
+ghost use Rattle.fx_typing.specs.TypedView.{typed};
+ghost use Rattle.fx_trees.specs.Lawful.{IsLawful};
 
 use crate::writing::written;
 use app_names::broken::put_break;
 use fx_base::Memory;
 use fx_infer::{InferEnd, elaborate};
-use fx_local::Typed;
-use fx_names::Names;
 use fx_parser::Named;
-use fx_rules::Broken;
+use fx_trees::{Broken, Names};
+use fx_typing::Typed;
 use std::alloc::Global;
 
 /// A formula under names: its tree and its type, or what is broken of it.

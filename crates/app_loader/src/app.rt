@@ -1,7 +1,7 @@
 //! An app.
 
-use app_lines::Lines;
-use fx_names::Names;
+use app_names::Lines;
+use fx_trees::Names;
 
 /// An app of named formulas: these in the order of their lines, and the names that they may use.
 #[derive(Drop)]

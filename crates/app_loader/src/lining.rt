@@ -4,20 +4,18 @@ ghost use Rattle.app_loader.specs.Admitted.{AreLoaded, AreRefused, names_before}
 ghost use Rattle.app_loader.specs.Bare.{IsBare, IsFormulaOf, IsNamedSo, UsesMissing, later_of};
 ghost use Rattle.app_loader.specs.Judged.{AreTypedLines, JudgedLines, Tells};
 ghost use Rattle.fx_infer.specs.Below.{tree_depth};
-ghost use Rattle.fx_local.specs.TypedView.{typed};
-ghost use Rattle.fx_names.specs.Lawful.{IsLawful};
+ghost use Rattle.fx_typing.specs.TypedView.{typed};
+ghost use Rattle.fx_trees.specs.Lawful.{IsLawful};
 
 use crate::admitting::judged;
-use app_laws::{admitted_declares_nothing, admitted_is_lawful, more_names_same_tree};
-use app_lines::{Formula, Lines};
+use crate::{admitted_declares_nothing, admitted_is_lawful, more_names_same_tree};
 use app_names::broken::word;
+use app_names::{Formula, Lines};
 use fx_base::{InOrder, Memory};
-use fx_fresh::typings_are_lawful;
-use fx_judge::{admitted_is_typed, pure_is_quiet};
-use fx_local::Typed;
-use fx_names::{FormulaList, FormulaName, Names, Schema};
 use fx_parser::Named;
-use fx_rules::{AppEnd, Broken, Rule};
+use fx_semantics::typings_are_lawful;
+use fx_trees::{AppEnd, Broken, FormulaList, FormulaName, Names, Rule, Schema};
+use fx_typing::{Typed, admitted_is_typed, pure_is_quiet};
 use std::alloc::Global;
 
 fn copy_of(alloc: Global, formula: &FormulaName) -> Result<FormulaName, Memory>

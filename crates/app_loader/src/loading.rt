@@ -2,7 +2,7 @@
 ghost use Rattle.std.specs.Prelude.{◌≤◌, All, Err, IfErr, IfOk, Ok, length};
 ghost use Rattle.app_loader.specs.Judged.{AreNamedLines, AreTypedLines, Judged, JudgedLines, JudgedText, Tells, longest};
 ghost use Rattle.fx_infer.specs.Below.{tree_depth};
-ghost use Rattle.fx_names.specs.Lawful.{IsLawful};
+ghost use Rattle.fx_trees.specs.Lawful.{IsLawful};
 
 use crate::admitting::rule_breaks;
 use crate::app::App;
@@ -11,12 +11,9 @@ use crate::refusing::{in_app, only, unread};
 use crate::writing::all_written;
 use app_names::{name_breaks, names_of};
 use fx_base::Memory;
-use fx_depths::no_deeper;
-use fx_infer::InferEnd;
-use fx_names::Names;
+use fx_infer::{InferEnd, no_deeper, type_rounds};
 use fx_parser::{Named, parse_named};
-use fx_rounds::type_rounds;
-use fx_rules::{AppEnd, Rule};
+use fx_trees::{AppEnd, Names, Rule};
 use std::alloc::Global;
 
 /// The most bytes of a text of named formulas.

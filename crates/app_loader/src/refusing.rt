@@ -9,7 +9,7 @@ use app_names::broken;
 use fx_base::Memory;
 use fx_data::Words;
 use fx_parser::{ParseEnd, bad_token, unexpected};
-use fx_rules::{AppEnd, Broken, Rule};
+use fx_trees::{AppEnd, Broken, Rule};
 use std::alloc::Global;
 
 /// One break alone.

@@ -3,12 +3,12 @@ ghost use Rattle.std.specs.Prelude.{◌≡◌, ◌≤◌, All, IfOk, map};
 ghost use Rattle.app_loader.specs.Cells.{cell_of};
 ghost use Rattle.app_loader.specs.Writing.{IsWritten};
 ghost use Rattle.fx_infer.specs.Below.{tree_depth};
-ghost use Rattle.fx_rounds.specs.CellView.{cell};
+ghost use Rattle.fx_infer.specs.CellView.{cell};
 
 use fx_base::Memory;
 use fx_infer::{PlaceKind, Written};
 use fx_parser::Named;
-use fx_rules::address;
+use fx_trees::address;
 use std::alloc::Global;
 
 /// A named formula as it is written.

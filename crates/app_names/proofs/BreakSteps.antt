@@ -1,14 +1,13 @@
 -- Breaks, one after another.
 use Rattle.std.proofs.Common.{arith, suc, ◌≡◌, ℕ, ◌+◌, ◌<◌, Bool, true, false, List, [], ◌∷◌, ◌++◌, Option, Some, None, get_or, take, drop, length, refl, ap, sym, ◌∙◌, add-one, if◌then◌else◌}
 use Rattle.std.proofs.Math.Seq.{drop-cons}
-use Rattle.std.proofs.lemmas.List.{take_more}
-use Rattle.fx_functions.specs.declared.signatures.Signature.{Signature}
+use Rattle.std.proofs.lemmas.List.{take_more, append_assoc}
+use Rattle.fx_trees.specs.declared.signatures.Signature.{Signature}
 use Rattle.fx_parser.specs.declared.entries.Named.{Named}
-use Rattle.fx_rules.specs.declared.broken.Broken.{Broken}
+use Rattle.fx_trees.specs.declared.broken.Broken.{Broken}
 use Rattle.app_names.specs.Declarations.{declared_of, is_formula, new_behind}
 use Rattle.app_names.specs.NameRules.{breaks_behind, first_taken, is_taken, name_break, put_break}
 use Rattle.app_names.specs.declared.declarations.Declared.{Declared}
-use Rattle.app_names.proofs.Walks.{assoc}
 
 pub put_apart : (o : Option Broken) (bs : List Broken) → put_break o [] ++ bs ≡ put_break o bs
 put_apart (Some b) bs = refl
@@ -27,7 +26,7 @@ breaks_step fs f ns things new i n o given below is names fresh broken =
 
 -- a list that grows by what a step adds
 pub grown : (now next added more old all whole : List Broken) → next ≡ now ++ added → added ++ more ≡ whole → now ++ whole ≡ old ++ all → next ++ more ≡ old ++ all
-grown now next added more old all whole is parts kept = ap (λ xs. xs ++ more) is ∙ assoc now added more ∙ ap (λ xs. now ++ xs) parts ∙ kept
+grown now next added more old all whole is parts kept = ap (λ xs. xs ++ more) is ∙ append_assoc now added more ∙ ap (λ xs. now ++ xs) parts ∙ kept
 
 abbrev pub taken_or : Bool → Declared → Option Declared → Option Declared
 taken_or b d more = if b then Some d else more
@@ -38,7 +37,7 @@ taken_here before new i d below is =
     let next : suc i ≡ i + 1 = omega arith in
     let rest : drop i new ≡ d ∷ drop (i + 1) new = drop-cons new i d below ∙ ap (λ x. x ∷ drop (suc i) new) (sym is) ∙ ap (λ k. d ∷ drop k new) next in
     let front : (before ++ take i new) ++ d ∷ [] ≡ before ++ take (i + 1) new =
-    assoc before (take i new) (d ∷ []) ∙ ap (λ ds. before ++ ds) (sym (take_more new i d below ∙ ap (λ m. take i new ++ m ∷ []) (sym is))) in
+    append_assoc before (take i new) (d ∷ []) ∙ ap (λ ds. before ++ ds) (sym (take_more new i d below ∙ ap (λ m. take i new ++ m ∷ []) (sym is))) in
     ap (first_taken (before ++ take i new)) rest
     ∙ ap (λ ds. taken_or (is_taken (before ++ take i new) d.name) d (first_taken ds (drop (i + 1) new))) front
 

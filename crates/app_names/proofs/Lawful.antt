@@ -3,19 +3,21 @@ use Rattle.std.proofs.lemmas.Bool.{cases_lt, lt-ltb}
 use Rattle.std.proofs.lemmas.List.Elements.{All-cons}
 use Rattle.std.proofs.Common.{IfOk, Result, Ok, Err, inl, inr, ◌≡◌, ℕ, suc, ◌<◌, ◌≤◌, ◌^◌, Bool, true, false, List, [], ◌∷◌, ◌++◌, Option, Some, None, option_map, map, length, codes, refl, ap, sym, subst, ◌∙◌, arith, cond, All, if◌then◌else◌}
 use Rattle.std.specs.List.{filter}
-use Rattle.fx_functions.specs.declared.signatures.Signature.{Signature}
-use Rattle.fx_names.specs.Lawful.{AreDistinct, DiffersFromAll, IsLawful, IsLawfulControl, IsLawfulProperty, IsLawfulScreen, IsLawfulTable}
-use Rattle.fx_names.specs.declared.names.FormulaName.{FormulaName}
-use Rattle.fx_names.specs.declared.names.Names.{Names}
-use Rattle.fx_names.specs.declared.names.Property.{Property}
-use Rattle.fx_names.specs.declared.names.Variable.{Variable}
-use Rattle.fx_names.specs.declared.schema.TableShape.{TableShape}
+use Rattle.std.proofs.lemmas.List.{append-nil}
+use Rattle.fx_trees.specs.declared.signatures.Signature.{Signature}
+use Rattle.fx_trees.specs.Lawful.{AreDistinct, DiffersFromAll, IsLawful, IsLawfulControl, IsLawfulProperty, IsLawfulScreen, IsLawfulTable}
+use Rattle.fx_trees.specs.declared.names.FormulaName.{FormulaName}
+use Rattle.fx_trees.specs.declared.names.Names.{Names}
+use Rattle.fx_trees.specs.declared.names.Property.{Property}
+use Rattle.fx_trees.specs.declared.names.Variable.{Variable}
+use Rattle.fx_trees.specs.declared.schema.TableShape.{TableShape}
 use Rattle.fx_parser.specs.declared.entries.Named.{Named}
-use Rattle.fx_rules.specs.declared.broken.Broken.{Broken}
+use Rattle.fx_trees.specs.declared.broken.Broken.{Broken}
 use Rattle.app_names.specs.AppNames.{AreNames, as_collection, as_variable, formulas_from, is_collection, is_variable}
 use Rattle.app_names.specs.Declarations.{is_formula, things_of}
-use Rattle.app_names.specs.NameRules.{app_break, app_limit, breaks_behind, counted, most_cells, most_variables, name_breaks, or_else, passed, put_break}
+use Rattle.app_names.specs.NameRules.{app_break, app_limit, breaks_behind, counted, most_cells, most_variables, name_breaks, passed, put_break}
 use Rattle.app_names.specs.declared.declarations.Declared.{Declared}
+use Rattle.fx_typing.specs.Meaning.{or_else}
 
 -- nothing is broken: no limit is passed
 none_put : (o : Option Broken) (bs : List Broken) → put_break o bs ≡ [] → o ≡ None
@@ -50,10 +52,6 @@ above k m (n ∷ ns) l = ((λ e. absurd (omega (arith, e, l))), above (suc k) m 
 distinct_from : (k : ℕ) (ns : List Named) → AreDistinct (map (λ (f : FormulaName). f.cell) (formulas_from k ns))
 distinct_from k [] = tt
 distinct_from k (n ∷ ns) = (above (suc k) k ns (omega arith), distinct_from (suc k) ns)
-
-behind_none : {A : Type 0} (xs : List A) → xs ++ [] ≡ xs
-behind_none [] = refl
-behind_none (x ∷ xs) = ap (λ us. x ∷ us) (behind_none xs)
 
 length_from : (k : ℕ) (ns : List Named) → length (formulas_from k ns) ≡ length ns
 length_from k [] = refl
@@ -97,7 +95,7 @@ lawful_names cells n h few_cells few_things = record {
       omega (arith, e, l, few_things);
   cells = let e : map (λ (f : FormulaName). f.cell) n.formulas ++ map (λ (p : Property). p.cell) n.properties ≡ map (λ (f : FormulaName). f.cell) (formulas_from 0 cells) =
       ap (λ ps. map (λ (f : FormulaName). f.cell) n.formulas ++ map (λ (p : Property). p.cell) ps) h.properties
-      ∙ behind_none (map (λ (f : FormulaName). f.cell) n.formulas) ∙ ap (map (λ (f : FormulaName). f.cell)) h.formulas in
+      ∙ append-nil (map (λ (f : FormulaName). f.cell) n.formulas) ∙ ap (map (λ (f : FormulaName). f.cell)) h.formulas in
       subst AreDistinct (sym e) (distinct_from 0 cells);
 }
 

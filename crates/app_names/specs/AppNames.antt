@@ -2,10 +2,10 @@
 use Rattle.std.specs.Prelude.{◌≡◌, ℕ, suc, List, [], ◌∷◌, Bool, None, map}
 use Rattle.std.specs.List.{filter}
 use Rattle.fx_data.specs.declared.types.Ty.TheVariants as ty
-use Rattle.fx_names.specs.declared.names.Collection.{Collection}
-use Rattle.fx_names.specs.declared.names.FormulaName.{FormulaName}
-use Rattle.fx_names.specs.declared.names.Names.{Names}
-use Rattle.fx_names.specs.declared.names.Variable.{Variable}
+use Rattle.fx_trees.specs.declared.names.Collection.{Collection}
+use Rattle.fx_trees.specs.declared.names.FormulaName.{FormulaName}
+use Rattle.fx_trees.specs.declared.names.Names.{Names}
+use Rattle.fx_trees.specs.declared.names.Variable.{Variable}
 use Rattle.fx_parser.specs.declared.entries.Named.{Named}
 use Rattle.fx_sig.specs.Entries.{entries, entry}
 use Rattle.app_names.specs.declared.declarations.Declared.{Declared}

@@ -1,20 +1,17 @@
 -- What is broken among the names of cells, before any formula is judged.
 use Rattle.std.specs.Prelude.{ℕ, ◌-◌, ◌++◌, List, [], ◌∷◌, Bool, ◌||◌, nat_lt, length, codes, Option, Some, None, option_map, is_some, bytes_eq, encode_utf8_all, if◌then◌else◌}
 use Rattle.std.specs.List.{find, list_any}
-use Rattle.fx_functions.specs.Literals.{enumeration_of}
-use Rattle.fx_functions.specs.declared.signatures.Signature.{Signature}
+use Rattle.fx_trees.specs.Literals.{enumeration_of}
+use Rattle.fx_trees.specs.declared.signatures.Signature.{Signature}
 use Rattle.fx_parser.specs.declared.entries.Named.{Named}
-use Rattle.fx_rules.specs.BrokenText.{address_of}
-use Rattle.fx_rules.specs.declared.broken.Broken.{Broken}
-use Rattle.fx_rules.specs.declared.rule.Rule.{Rule}
-use Rattle.fx_rules.specs.declared.rule.Rule.TheVariants as rule
+use Rattle.fx_trees.specs.BrokenText.{address_of}
+use Rattle.fx_trees.specs.declared.broken.Broken.{Broken}
+use Rattle.fx_trees.specs.declared.rule.Rule.{Rule}
+use Rattle.fx_trees.specs.declared.rule.Rule.TheVariants as rule
 use Rattle.std.specs.Fmt.{decimal}
 use Rattle.app_names.specs.declared.declarations.Declared.{Declared}
 use Rattle.app_names.specs.Declarations.{declared_of, is_formula, new_behind, things_of}
-
-abbrev pub or_else : {A : Type 0} → Option A → Option A → Option A
-or_else (Some a) b = Some a
-or_else None b = b
+use Rattle.fx_typing.specs.Meaning.{or_else}
 
 -- a rule that the whole app breaks, and one that a formula breaks at a byte of the text, which is counted
 -- from the formula's first token

@@ -10,9 +10,9 @@ use crate::taken::taken_break;
 use crate::things::{declared_of, names_in, new_behind, put_behind, things_of};
 use fx_base::Memory;
 use fx_data::words::Words;
-use fx_functions::signatures::Signature;
 use fx_parser::Named;
-use fx_rules::Broken;
+use fx_trees::Broken;
+use fx_trees::signatures::Signature;
 use std::alloc::Global;
 use std::collections::BTreeSet;
 

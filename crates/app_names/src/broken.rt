@@ -6,7 +6,7 @@ ghost use Rattle.app_names.specs.NameRules as rules;
 use fx_base::Memory;
 use fx_data::words::Words;
 use fx_parser::Named;
-use fx_rules::{Broken, Rule, address};
+use fx_trees::{Broken, Rule, address};
 use std::alloc::Global;
 
 /// A rule that the whole app breaks.

@@ -9,7 +9,7 @@ use crate::declarations::Declared;
 use fx_base::Memory;
 use fx_data::words::Words;
 use fx_parser::Named;
-use fx_rules::{Broken, Rule};
+use fx_trees::{Broken, Rule};
 use std::alloc::Global;
 
 /// The most bytes of a formula.

@@ -1,7 +1,7 @@
 //! The names that named formulas may use.
 ghost use Rattle.std.specs.Prelude.{◌≡◌, ◌≤◌, [], IfOk, length, map};
 ghost use Rattle.std.specs.List.{filter};
-ghost use Rattle.fx_names.specs.Lawful.{IsLawful};
+ghost use Rattle.fx_trees.specs.Lawful.{IsLawful};
 ghost use Rattle.fx_sig.specs.Entries.{entries, entry};
 ghost use Rattle.app_names.specs.AppNames.{AreNames, as_collection, as_variable, formulas_from, is_collection, is_variable};
 ghost use Rattle.app_names.specs.NameRules as rules;
@@ -10,11 +10,11 @@ use crate::declarations::{Declared, Thing};
 use crate::things::{names_in, things_of};
 use fx_base::{InOrder, Memory};
 use fx_data::types::Ty;
-use fx_functions::signatures::Signature;
-use fx_names::formulas::FormulaList;
-use fx_names::names::{Collection, CollectionList, FormulaName, Names, Variable, VariableList};
-use fx_names::schema::Schema;
 use fx_parser::Named;
+use fx_trees::formulas::FormulaList;
+use fx_trees::names::{Collection, CollectionList, FormulaName, Names, Variable, VariableList};
+use fx_trees::schema::Schema;
+use fx_trees::signatures::Signature;
 use std::alloc::Global;
 
 // The formulas by their names, with the numbers of their cells.

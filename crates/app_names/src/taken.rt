@@ -8,9 +8,9 @@ use crate::broken::in_formula;
 use crate::declarations::Declared;
 use fx_base::Memory;
 use fx_data::words::Words;
-use fx_functions::literals::enumeration_of;
 use fx_parser::Named;
-use fx_rules::{Broken, Rule};
+use fx_trees::literals::enumeration_of;
+use fx_trees::{Broken, Rule};
 use std::alloc::Global;
 use std::collections::BTreeSet;
 

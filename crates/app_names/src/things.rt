@@ -8,8 +8,8 @@ ghost use Rattle.app_names.specs.Tops.{has};
 use crate::declarations::{Declared, Thing, declare};
 use fx_base::Memory;
 use fx_data::words::Words;
-use fx_functions::signatures::Signature;
 use fx_parser::Named;
+use fx_trees::signatures::Signature;
 use std::alloc::Global;
 use std::collections::BTreeSet;
 

@@ -11,12 +11,6 @@ set_last f (x ∷ []) t d (suc i) e h = absurd (omega (arith, e))
 set_last f (x ∷ y ∷ ts) t d zero e h = absurd (omega (arith, e))
 set_last f (x ∷ y ∷ ts) t d (suc i) e h = ap (λ z. x ∷ z) (set_last f (y ∷ ts) t d i (omega (arith, e)) h)
 
--- the same talk in its place
-pub set_same : (ts : List Talk) (t d : Talk) (i : ℕ) → i < length ts → t ≡ get_or ts i d → slice_set ts i t ≡ ts
-set_same [] t d i e h = absurd (omega (arith, e))
-set_same (x ∷ ts) t d zero e h = ap (λ z. z ∷ ts) h
-set_same (x ∷ ts) t d (suc i) e h = ap (λ z. x ∷ z) (set_same ts t d i (omega (arith, e)) h)
-
 -- the first list, and the others
 pub first_taken : {V : Type 0} (f : V → List ℕ) (xs rest : List V) (first : V) → 0 < length xs → first ≡ get_or xs 0 first → rest ≡ remove xs 0 → map f xs ≡ f first ∷ map f rest
 first_taken f [] rest first e h k = absurd (omega (arith, e))

@@ -125,14 +125,6 @@ segment_cut : (name rest : List ℕ) → has_slash name ≡ false → segment (n
 segment_cut [] rest h = refl
 segment_cut (x ∷ p) rest h = let t = tail_plain x p h in rw t.0 (ap (λ z. x ∷ z) (segment_cut p rest t.1))
 
-slash_in : (name rest : List ℕ) → has_slash (name ++ 47 ∷ rest) ≡ true
-slash_in [] rest = refl
-slash_in (x ∷ p) rest = by (x == 47) (slash_in p rest)
-  where
-    by : (v : Bool) → has_slash (p ++ 47 ∷ rest) ≡ true → cond v true (has_slash (p ++ 47 ∷ rest)) ≡ true
-    by true ih = refl
-    by false ih = ih
-
 last_plain : (x : ℕ) (xs : List ℕ) → has_slash (x ∷ xs) ≡ false → pointwise nat_eq (47 ∷ []) (drop (length xs) (x ∷ xs)) ≡ false
 last_plain x [] h =
     let t = (tail_plain x [] h).0 in

@@ -1,7 +1,7 @@
 -- The bytes of a reply.
 use Rattle.std.specs.Prelude.{ℕ, ◌==◌, ◌||◌, Bool, List, ◌++◌, length, codes, decimal}
-use Rattle.refusals.specs.Refusals.{name_of, status_of}
-use Rattle.refusals.specs.Statuses.{reason_of}
+use Rattle.view_text.specs.Refusals.{name_of, status_of}
+use Rattle.view_text.specs.Statuses.{reason_of}
 
 -- the status line and the fields, for a body of so many bytes
 abbrev pub reply_head : ℕ → List ℕ → ℕ → List ℕ

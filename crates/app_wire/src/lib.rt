@@ -16,3 +16,13 @@ pub mod stream;
 mod talk;
 #[cfg(test)]
 mod tests;
+
+pub use clock::{Clock, ListClock, SystemClock};
+pub use doors::Doors;
+pub use framer::{Fed, Framer, Request};
+pub use head::Method;
+pub use memory::MemoryDoors;
+pub use reply::{fixed_reply, reply_bytes};
+pub use route::{Route, RouteEnd};
+pub use routes::Routes;
+pub use stream::StreamDoors;

@@ -1,11 +1,11 @@
 //! The bytes of a reply.
 ghost use Rattle.std.specs.Prelude.{◌≡◌, ◌++◌, IfOk, IsTrue, length, string_bytes};
-ghost use Rattle.refusals.specs.Statuses.{is_status};
+ghost use Rattle.view_text.specs.Statuses.{is_status};
 ghost use Rattle.app_wire.specs.ReplyBytes.{is_fixed, refusal, reply, reply_head};
 
 use fx_base::Memory;
-use refusals::reason;
 use std::alloc::{AllocError, Global};
+use view_text::reason;
 
 fn head_text(alloc: Global, status: u16, reason: &str, len: usize) -> Result<String, AllocError>
     ensures { IfOk result (λ s. string_bytes s ≡ reply_head status reason.now len) }

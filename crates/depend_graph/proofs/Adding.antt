@@ -52,10 +52,6 @@ got ls place item k n lt = elim (cases_eq k place) [
   | inr ne ↦ got_elsewhere (at ls k) _ k place item n ne (get_or-set_other ls place k _ [] ne)
 ]
 
--- each of no places
-pub adds_none : (item : ℕ) (ls : List (List ℕ)) → AddsEach [] item ls ls
-adds_none item ls place n = (λ h. inl h, λ h. elim h [ inl a ↦ a | inr p ↦ let lt = p.0.1 in absurd (omega arith) ])
-
 -- one place more
 pub adds_more : (places : List ℕ) (i item : ℕ) (old mid new : List (List ℕ)) → i < length places → get_or places i 0 < length mid → AddsEach (take i places) item old mid → new ≡ with_item mid (get_or places i 0) item → AddsEach (take (i + 1) places) item old new
 adds_more places i item old mid new lt within h e place n =

@@ -4,10 +4,9 @@
 ghost use Rattle.std.specs.Prelude.{◌<◌, ◌^◌, length};
 
 use fx_base::Memory;
-use fx_parser::{ParseEnd, bad_token, parse_formula, unexpected};
+use fx_parser::{ParseEnd, ReadBackEnd, bad_token, parse_formula, read_back, unexpected};
 use fx_printer::print;
-use fx_round_trip::{ReadBackEnd, read_back};
-use fx_syntax::expr::Expr;
+use fx_trees::expr::Expr;
 use std::alloc::Global;
 use std::io::{self, ErrorKind};
 

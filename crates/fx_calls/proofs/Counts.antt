@@ -5,7 +5,7 @@ use Rattle.fx_data.specs.Types.{Shape, column_list}
 use Rattle.fx_data.specs.TypeView.{shape}
 use Rattle.fx_data.specs.declared.types.Ty.{Ty}
 use Rattle.fx_data.specs.declared.types.Ty.TheVariants.{Rec, Tab}
-use Rattle.fx_judge.specs.Builds.{columns_count, is_narrow, are_narrow}
+use Rattle.fx_typing.specs.Builds.{columns_count, is_narrow, are_narrow}
 
 pub count_length : (cs : List (List ℕ × Shape)) → columns_count (column_list cs) ≡ length cs
 count_length [] = refl

@@ -11,23 +11,19 @@ use Rattle.fx_data.specs.Rising.{IsBelow, IsBelowAll, AreRising}
 use Rattle.fx_data.specs.Types.{Shape, records, column_list}
 use Rattle.fx_data.specs.TypeView.{columns_view}
 use Rattle.fx_data.specs.declared.types.Ty.{Ty}
-use Rattle.fx_typed.specs.Term.{Term, of, rec, all, names_of, parts_of}
+use Rattle.fx_trees.specs.Term.{Term, of, rec, all, names_of, parts_of}
 use Rattle.fx_typing.specs.Local.{firsts}
 use Rattle.fx_typing.specs.WellTyped.{columns_by}
 use Rattle.fx_value.proofs.Unions.{below}
-use Rattle.fx_judge.specs.Builds.{put_field, put_fields, field_names, field_parts, types_of, record_by}
-use Rattle.fx_local.specs.declared.typed.Typed.{Typed}
-use Rattle.fx_local.specs.TypedView.{typed}
+use Rattle.fx_typing.specs.Builds.{put_field, put_fields, field_names, field_parts, types_of, record_by}
+use Rattle.fx_typing.specs.declared.typed.Typed.{Typed}
+use Rattle.fx_typing.specs.TypedView.{typed}
 use Rattle.fx_calls.specs.Fields.{field_view, later, place_in, put_onto}
 
 -- a place behind others
 abbrev pub behind : ℕ → Result ℕ ℕ → Result ℕ ℕ
 behind k (Ok i) = Ok (k + i)
 behind k (Err i) = Err (k + i)
-
-pub behind_later : (k : ℕ) (r : Result ℕ ℕ) → behind k (later r) ≡ behind (k + 1) r
-behind_later k (Ok i) = let e : k + suc i ≡ (k + 1) + i = omega arith in ap Ok e
-behind_later k (Err i) = let e : k + suc i ≡ (k + 1) + i = omega arith in ap Err e
 
 -- a field in place of one of its name
 pub found : (n : List ℕ) (v : Typed) (xs : List (List ℕ × Typed)) (i : ℕ) → place_in n xs ≡ Ok i → (i < length xs) × (map field_view (set xs i (n, v)) ≡ put_field n (typed v) (map field_view xs))
@@ -71,12 +67,6 @@ missing n v (x ∷ xs) i e = by (slice_cmp nat_cmp n x.0) (missing n v xs) e
     by Less k e = let q : 0 ≡ i = cc in subst (Put Less) q (omega arith, refl)
     by Equal k e = cc
     by Greater k e = after k (place_in n xs) refl e
-
--- fields one after another, from the last
-pub onto_none : (ns : List (List ℕ)) (xs : List (Term × Shape)) → put_onto ns xs [] ≡ put_fields ns xs
-onto_none [] xs = refl
-onto_none (n ∷ ns) [] = refl
-onto_none (n ∷ ns) (x ∷ xs) = ap (put_field n x) (onto_none ns xs)
 
 pub onto_last : (ns : List (List ℕ)) (xs : List Typed) (n : List ℕ) (x : Typed) (fs : List (List ℕ × (Term × Shape))) → length ns ≡ length xs → put_onto (ns ++ n ∷ []) (map typed (xs ++ x ∷ [])) fs ≡ put_onto ns (map typed xs) (put_field n (typed x) fs)
 onto_last [] [] n x fs h = refl

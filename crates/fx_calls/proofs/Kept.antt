@@ -1,13 +1,13 @@
 -- Two answers as one, and a walk over parts that keeps the lowest rule.
 use Rattle.std.proofs.Common.{◌≡◌, ℕ, List, [], ◌∷◌, ◌++◌, Bool, true, false, Result, Ok, Err, refl, sym, ap, subst, ◌∙◌, arith, ltb-true, ltb-false, if◌then◌else◌}
 use Rattle.std.specs.Prelude.{min, nat_lt}
-use Rattle.fx_judge.specs.Parts.{lowest, all_or_lowest}
-use Rattle.fx_local.proofs.Stops.{stops}
-use Rattle.fx_local.specs.Answers.{Answers}
-use Rattle.fx_local.specs.declared.wrong.Wrong.{Wrong}
-use Rattle.fx_local.specs.declared.wrong.Wrong.TheVariants.{Breaks, Memory}
-use Rattle.fx_rules.specs.Rules.{number_of}
-use Rattle.fx_rules.specs.declared.rule.Rule.{Rule}
+use Rattle.fx_typing.specs.Parts.{lowest, all_or_lowest}
+use Rattle.fx_operators.proofs.Stops.{stops}
+use Rattle.fx_typing.specs.Answers.{Answers}
+use Rattle.fx_typing.specs.declared.wrong.Wrong.{Wrong}
+use Rattle.fx_typing.specs.declared.wrong.Wrong.TheVariants.{Breaks, Memory}
+use Rattle.fx_trees.specs.Rules.{number_of}
+use Rattle.fx_trees.specs.declared.rule.Rule.{Rule}
 use Rattle.fx_calls.specs.Lowest.{lower, both}
 
 lesser : (a b : ℕ) → (if nat_lt b a then b else a) ≡ min a b
@@ -55,7 +55,7 @@ onto p q = lowest (λ xs ys. xs ++ ys) p q
 abbrev pub with_last : {Y : Type 0} → Result (List Y) ℕ → Result Y ℕ → Result (List Y) ℕ
 with_last p q = lowest (λ xs x. xs ++ x ∷ []) p q
 
-last_then : {Y : Type 0} (done : List Y) (y : Y) (ys : List Y) → (done ++ y ∷ []) ++ ys ≡ done ++ y ∷ ys
+pub last_then : {Y : Type 0} (done : List Y) (y : Y) (ys : List Y) → (done ++ y ∷ []) ++ ys ≡ done ++ y ∷ ys
 last_then [] y ys = refl
 last_then (d ∷ done) y ys = ap (λ zs. d ∷ zs) (last_then done y ys)
 

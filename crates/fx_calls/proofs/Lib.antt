@@ -2,5 +2,11 @@ pub mod Counts
 pub mod Exits
 pub mod Fields
 pub mod Kept
-pub mod Rows
+pub mod RowSteps
 pub mod Walks
+pub mod Gives
+pub mod Steps
+pub mod Blanks
+pub mod InTurn
+pub mod Literals
+pub mod Named

@@ -1,18 +1,15 @@
 -- How a walk over parts goes on, and where it stops.
 use Rattle.std.proofs.Common.{◌≡◌, ℕ, List, [], ◌∷◌, ◌++◌, map, Result, Ok, Err, refl, sym, ap, ◌∙◌}
 use Rattle.fx_data.specs.Types.{Shape}
-use Rattle.fx_typed.specs.Term.{Term}
+use Rattle.fx_trees.specs.Term.{Term}
 use Rattle.fx_typing.specs.Columns.{and_then}
 use Rattle.fx_typing.specs.Local.{value, label, put_first}
-use Rattle.fx_judge.specs.Parts.{Part, piece, meant, target, assigned, values, put_value}
-use Rattle.fx_local.proofs.Stops.{stops}
-use Rattle.fx_local.specs.Answers.{Answers}
-use Rattle.fx_local.specs.declared.wrong.Wrong.{Wrong}
+use Rattle.fx_typing.specs.Parts.{Part, piece, meant, target, assigned, values, put_value}
+use Rattle.fx_operators.proofs.Stops.{stops}
+use Rattle.fx_typing.specs.Answers.{Answers}
+use Rattle.fx_typing.specs.declared.wrong.Wrong.{Wrong}
 use Rattle.fx_calls.specs.Lists.{behind, value_of}
-
-last_then : {Y : Type 0} (done : List Y) (y : Y) (ys : List Y) → (done ++ y ∷ []) ++ ys ≡ done ++ y ∷ ys
-last_then [] y ys = refl
-last_then (d ∷ done) y ys = ap (λ zs. d ∷ zs) (last_then done y ys)
+use Rattle.fx_calls.proofs.Kept.{last_then}
 
 -- one part more before the ones behind
 pub further : {Y : Type 0} (done : List Y) (y : Y) (r : Result (List Y) ℕ) → behind (done ++ y ∷ []) r ≡ behind done (behind (y ∷ []) r)

@@ -1,17 +1,18 @@
 -- Rows that change.
 use Rattle.std.specs.Prelude.{ℕ, List, [], ◌∷◌, Option, Some, None, Result, Ok, Err}
 use Rattle.fx_data.specs.Types.{Shape, tables, ColumnList, column_list}
-use Rattle.fx_functions.specs.declared.deeds.Target.{Target}
-use Rattle.fx_names.specs.declared.names.Names.{Names}
-use Rattle.fx_rules.specs.Rules.{number_of}
-use Rattle.fx_rules.specs.declared.rule.Rule.{Rule}
-use Rattle.fx_typed.specs.Term.{Term}
-use Rattle.fx_functions.specs.declared.deeds.Deed.TheVariants as deed
+use Rattle.fx_trees.specs.declared.deeds.Target.{Target}
+use Rattle.fx_trees.specs.declared.names.Names.{Names}
+use Rattle.fx_trees.specs.Rules.{number_of}
+use Rattle.fx_trees.specs.declared.rule.Rule.{Rule}
+use Rattle.fx_trees.specs.Term.{Term}
+use Rattle.fx_trees.specs.declared.deeds.Deed.TheVariants as deed
+use Rattle.fx_trees.specs.Rules as rules
 use Rattle.fx_typing.specs.Columns.{and_then}
 use Rattle.fx_typing.specs.Local.{firsts}
-use Rattle.fx_judge.specs.Deeds.{filter_of, done_by, row_named, rows_named_by, changes_of}
-use Rattle.fx_judge.specs.Parts.{Part, lowest}
-use Rattle.fx_judge.specs.Targets.{rows_named}
+use Rattle.fx_typing.specs.Deeds.{filter_of, done_by, row_named, rows_named_by, changes_of}
+use Rattle.fx_typing.specs.Parts.{Part, lowest}
+use Rattle.fx_typing.specs.Targets.{rows_named}
 use Rattle.fx_calls.specs.declared.changing.Changing.{Changing}
 
 abbrev pub changing_view : Changing → Target × ColumnList
@@ -20,8 +21,8 @@ changing_view r = (r.target, column_list r.columns)
 -- rows with their columns, where they are a table
 abbrev pub with_columns : Option (Target × Shape) → Result (Target × ColumnList) ℕ
 with_columns (Some (t, tables cs)) = Ok (t, cs)
-with_columns (Some r) = Err 6
-with_columns None = Err 15
+with_columns (Some r) = Err rules.wrong_type
+with_columns None = Err rules.not_a_variable
 
 abbrev pub rows_to_change : Names → List ℕ → Result (Target × ColumnList) ℕ
 rows_to_change n x = with_columns (rows_named n x)

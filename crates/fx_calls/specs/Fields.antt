@@ -3,10 +3,10 @@ use Rattle.std.specs.Prelude.{ℕ, suc, List, [], ◌∷◌, Result, Ok, Err}
 use Rattle.std.specs.Ordering.{nat_cmp, match_ordering}
 use Rattle.std.specs.Cmp.Lexicographic.{slice_cmp}
 use Rattle.fx_data.specs.Types.{Shape}
-use Rattle.fx_typed.specs.Term.{Term}
-use Rattle.fx_judge.specs.Builds.{put_field}
-use Rattle.fx_local.specs.declared.typed.Typed.{Typed}
-use Rattle.fx_local.specs.TypedView.{typed}
+use Rattle.fx_trees.specs.Term.{Term}
+use Rattle.fx_typing.specs.Builds.{put_field}
+use Rattle.fx_typing.specs.declared.typed.Typed.{Typed}
+use Rattle.fx_typing.specs.TypedView.{typed}
 
 -- what a field is seen as
 abbrev pub field_view : List ℕ × Typed → List ℕ × (Term × Shape)

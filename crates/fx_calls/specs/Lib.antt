@@ -2,3 +2,4 @@ pub mod Changes
 pub mod Fields
 pub mod Lists
 pub mod Lowest
+pub mod Acts

@@ -1,8 +1,8 @@
 -- Two answers as one.
 use Rattle.std.specs.Prelude.{nat_lt, Result, Ok, Err, if◌then◌else◌}
-use Rattle.fx_rules.specs.Rules.{number_of}
-use Rattle.fx_local.specs.declared.wrong.Wrong.{Wrong}
-use Rattle.fx_local.specs.declared.wrong.Wrong.TheVariants.{Breaks, Memory}
+use Rattle.fx_trees.specs.Rules.{number_of}
+use Rattle.fx_typing.specs.declared.wrong.Wrong.{Wrong}
+use Rattle.fx_typing.specs.declared.wrong.Wrong.TheVariants.{Breaks, Memory}
 
 -- the lower of two rules that are broken; want of memory is told before any
 abbrev pub lower : Wrong → Wrong → Wrong

@@ -2,14 +2,14 @@
 ghost use Rattle.std.specs.Prelude.{◌≡◌, ◌&&◌, IfOk, Ok, Result, codes, map, ℕ};
 ghost use Rattle.fx_data.specs.TypeView.{shape};
 ghost use Rattle.fx_data.specs.Types.{Shape, column, column_list, no_columns, numbers, records};
-ghost use Rattle.fx_judge.specs.Deeds as deeds;
-ghost use Rattle.fx_rules.specs.Rules.{number_of};
-ghost use Rattle.fx_typed.specs.Term.{Term};
+ghost use Rattle.fx_typing.specs.Deeds as deeds;
+ghost use Rattle.fx_trees.specs.Rules.{number_of};
+ghost use Rattle.fx_trees.specs.Term.{Term};
 ghost use Rattle.fx_typing.specs.Columns.{field_in};
 ghost use Rattle.fx_typing.specs.Local as local;
 ghost use Rattle.fx_typing.specs.Ways.{way};
-ghost use Rattle.fx_local.specs.Answers.{Answers};
-ghost use Rattle.fx_local.specs.TypedView.{typed};
+ghost use Rattle.fx_typing.specs.Answers.{Answers};
+ghost use Rattle.fx_typing.specs.TypedView.{typed};
 ghost use Rattle.fx_calls.specs.Changes.{unless_broken};
 
 use crate::given::{alone, joins_to};
@@ -18,13 +18,12 @@ use crate::lowest::keep;
 use fx_base::Memory;
 use fx_data::types::{Columns, Ty};
 use fx_data::words::Words;
-use fx_functions::deeds::Target;
-use fx_local::columns::{field_in, without};
-use fx_local::typed::Typed;
-use fx_local::ways::coerced;
-use fx_local::wrong::Wrong;
-use fx_rules::Rule;
-use fx_typed::{Core, make};
+use fx_trees::deeds::Target;
+use fx_trees::{Core, Rule, make_core};
+use fx_typing::columns::{field_in, without};
+use fx_typing::typed::Typed;
+use fx_typing::ways::coerced;
+use fx_typing::wrong::Wrong;
 use std::alloc::Global;
 
 /// Rows that change, with their columns.
@@ -212,7 +211,7 @@ fn row_of_one(alloc: Global, core: Core, fields: Columns) -> Result<Typed, Memor
 {
     let row = Ty::Rec(fields.copy(alloc)?);
     Ok(Typed {
-        core: make::listed(row, alone(alloc, core)?),
+        core: make_core::listed(row, alone(alloc, core)?),
         ty: Ty::Tab(fields),
     })
 }

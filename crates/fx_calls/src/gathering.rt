@@ -1,19 +1,19 @@
 //! Rows that are put in collections.
 ghost use Rattle.std.specs.Prelude.{◌≡◌, IfOk, map, if◌then◌else◌};
 ghost use Rattle.fx_data.specs.TypeView.{shape};
-ghost use Rattle.fx_functions.specs.declared.deeds.Deed.TheVariants as deed;
-ghost use Rattle.fx_judge.specs.Deeds as deeds;
-ghost use Rattle.fx_local.specs.Answers.{Answers};
-ghost use Rattle.fx_local.specs.TypedView.{typed};
+ghost use Rattle.fx_trees.specs.declared.deeds.Deed.TheVariants as deed;
+ghost use Rattle.fx_typing.specs.Deeds as deeds;
+ghost use Rattle.fx_typing.specs.Answers.{Answers};
+ghost use Rattle.fx_typing.specs.TypedView.{typed};
 
 use crate::given::{alone, given};
 use fx_base::Memory;
 use fx_data::types::Ty;
-use fx_functions::deeds::Deed;
-use fx_local::columns::row_columns;
-use fx_local::typed::Typed;
-use fx_local::wrong::Wrong;
-use fx_typed::make;
+use fx_trees::deeds::Deed;
+use fx_trees::make_core;
+use fx_typing::columns::row_columns;
+use fx_typing::typed::Typed;
+use fx_typing::wrong::Wrong;
 use std::alloc::Global;
 
 // A collected value as rows: a table's own, and else one row.
@@ -29,7 +29,7 @@ fn rows_of(alloc: Global, value: Typed) -> Result<Typed, Memory>
         row => {
             let columns = row_columns(alloc, row.copy(alloc)?)?;
             Ok(Typed {
-                core: make::listed(row, alone(alloc, core)?),
+                core: make_core::listed(row, alone(alloc, core)?),
                 ty: Ty::Tab(columns),
             })
         }

@@ -1,20 +1,19 @@
 //! Values that are given to variables.
 ghost use Rattle.std.specs.Prelude.{◌≡◌, ◌∷◌, [], IfOk};
 ghost use Rattle.fx_data.specs.TypeView.{shape};
-ghost use Rattle.fx_judge.specs.Deeds as deeds;
-ghost use Rattle.fx_local.specs.Answers.{Answers};
-ghost use Rattle.fx_local.specs.TypedView.{typed};
+ghost use Rattle.fx_typing.specs.Deeds as deeds;
+ghost use Rattle.fx_typing.specs.Answers.{Answers};
+ghost use Rattle.fx_typing.specs.TypedView.{typed};
 
 use crate::lists::come_to;
 use fx_base::Memory;
 use fx_data::types::Ty;
-use fx_functions::deeds::{Deed, Sources};
-use fx_functions::sources::Source;
-use fx_local::typed::Typed;
-use fx_local::ways::same_shape;
-use fx_local::wrong::Wrong;
-use fx_rules::Rule;
-use fx_typed::{Core, CoreArgs, make};
+use fx_trees::deeds::{Deed, Sources};
+use fx_trees::sources::Source;
+use fx_trees::{Core, CoreArgs, Rule, make_core};
+use fx_typing::typed::Typed;
+use fx_typing::ways::same_shape;
+use fx_typing::wrong::Wrong;
 use fx_value::joining::join;
 use std::alloc::Global;
 
@@ -23,7 +22,7 @@ pub fn done_by(deed: Deed, parts: CoreArgs) -> Typed
     ensures { typed result ≡ deeds.done_by deed parts }
 {
     Typed {
-        core: make::acting(deed, parts),
+        core: make_core::acting(deed, parts),
         ty: Ty::Boolean,
     }
 }

@@ -2,14 +2,14 @@
 ghost use Rattle.std.specs.Prelude.{◌≡◌, nat_le};
 ghost use Rattle.fx_data.specs.TypeView.{shape};
 ghost use Rattle.fx_data.specs.Types.{column_list};
-ghost use Rattle.fx_judge.specs.Builds as limits;
-ghost use Rattle.fx_local.specs.Answers.{Answers};
-ghost use Rattle.fx_local.specs.TypedView.{typed};
+ghost use Rattle.fx_typing.specs.Builds as limits;
+ghost use Rattle.fx_typing.specs.Answers.{Answers};
+ghost use Rattle.fx_typing.specs.TypedView.{typed};
 
 use fx_data::types::{Columns, Ty};
-use fx_local::typed::Typed;
-use fx_local::wrong::Wrong;
-use fx_rules::Rule;
+use fx_trees::Rule;
+use fx_typing::typed::Typed;
+use fx_typing::wrong::Wrong;
 
 /// Whether records and tables nest at most so deep in a type.
 #[cycle(is_shallow)]

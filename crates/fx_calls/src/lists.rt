@@ -1,22 +1,21 @@
 //! Tables made of their rows, and formulas in the scope of a record.
 ghost use Rattle.std.specs.Prelude.{◌≡◌, ◌<◌, [], IfOk, Some, length, map, option_map};
 ghost use Rattle.fx_data.specs.TypeView.{shape};
-ghost use Rattle.fx_judge.specs.Builds as builds;
+ghost use Rattle.fx_typing.specs.Builds as builds;
 ghost use Rattle.fx_typing.specs.Local as local;
 ghost use Rattle.fx_typing.specs.Ways.{way};
-ghost use Rattle.fx_local.specs.Answers.{Answers};
-ghost use Rattle.fx_local.specs.TypedView.{typed};
+ghost use Rattle.fx_typing.specs.Answers.{Answers};
+ghost use Rattle.fx_typing.specs.TypedView.{typed};
 
 use crate::few::two;
 use crate::limits::bounded;
 use fx_base::Memory;
 use fx_data::types::{Columns, Ty};
-use fx_local::columns::row_columns;
-use fx_local::typed::Typed;
-use fx_local::ways::{by_way, coerced, way_to};
-use fx_local::wrong::Wrong;
-use fx_rules::Rule;
-use fx_typed::{Core, CoreArgs, make};
+use fx_trees::{Core, CoreArgs, Rule, make_core};
+use fx_typing::columns::row_columns;
+use fx_typing::typed::Typed;
+use fx_typing::ways::{by_way, coerced, way_to};
+use fx_typing::wrong::Wrong;
 use fx_value::joining::join;
 use std::alloc::Global;
 
@@ -79,7 +78,7 @@ fn list_by(alloc: Global, row: Ty, parts: Vec<Typed>) -> Result<Typed, Memory>
     let columns = row_columns(alloc, row.copy(alloc)?)?;
     let parts = cores_of(alloc, parts)?;
     Ok(Typed {
-        core: make::listed(row, parts),
+        core: make_core::listed(row, parts),
         ty: Ty::Tab(columns),
     })
 }
@@ -158,7 +157,7 @@ pub fn with_of(alloc: Global, parts: Vec<Typed>) -> Result<Typed, Wrong>
     };
     let scope = as_record(alloc, record)?;
     Ok(Typed {
-        core: make::within(alloc, scope, formula.core)?,
+        core: make_core::within(alloc, scope, formula.core)?,
         ty: formula.ty,
     })
 }

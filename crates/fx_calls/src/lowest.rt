@@ -1,14 +1,14 @@
 //! Several things as one, or the lowest rule that one of them breaks.
 ghost use Rattle.std.specs.Prelude.{◌≡◌, ◌∷◌, ◌++◌, [], List, Result, map, ℕ};
 ghost use Rattle.fx_data.specs.Types.{Shape};
-ghost use Rattle.fx_judge.specs.Parts as parts;
-ghost use Rattle.fx_typed.specs.Term.{Term};
-ghost use Rattle.fx_local.specs.Answers.{Answers};
-ghost use Rattle.fx_local.specs.TypedView.{typed};
+ghost use Rattle.fx_typing.specs.Parts as parts;
+ghost use Rattle.fx_trees.specs.Term.{Term};
+ghost use Rattle.fx_typing.specs.Answers.{Answers};
+ghost use Rattle.fx_typing.specs.TypedView.{typed};
 ghost use Rattle.fx_calls.specs.Lowest as lowest;
 
-use fx_local::typed::Typed;
-use fx_local::wrong::Wrong;
+use fx_typing::typed::Typed;
+use fx_typing::wrong::Wrong;
 
 // The lower of two rules that are broken.
 fn lower(one: Wrong, other: Wrong) -> Wrong

@@ -1,9 +1,9 @@
 //! Rows that are patched or removed.
 ghost use Rattle.std.specs.Prelude.{◌≡◌, ◌∷◌, IfOk, map};
-ghost use Rattle.fx_judge.specs.Deeds as deeds;
+ghost use Rattle.fx_typing.specs.Deeds as deeds;
 ghost use Rattle.fx_typing.specs.Local as local;
-ghost use Rattle.fx_local.specs.Answers.{Answers};
-ghost use Rattle.fx_local.specs.TypedView.{typed};
+ghost use Rattle.fx_typing.specs.Answers.{Answers};
+ghost use Rattle.fx_typing.specs.TypedView.{typed};
 ghost use Rattle.fx_calls.specs.Changes.{changing_view, patched, removed};
 
 use crate::changing::{Changing, all_named, changes_of, row_named};
@@ -13,11 +13,10 @@ use crate::lists::cores_of;
 use crate::lowest::both;
 use fx_base::Memory;
 use fx_data::types::Ty;
-use fx_functions::deeds::Deed;
-use fx_local::typed::Typed;
-use fx_local::wrong::Wrong;
-use fx_rules::Rule;
-use fx_typed::{Core, CoreArgs, make};
+use fx_trees::deeds::Deed;
+use fx_trees::{Core, CoreArgs, Rule, make_core};
+use fx_typing::typed::Typed;
+use fx_typing::wrong::Wrong;
 use std::alloc::Global;
 
 // The trees of parts, behind a first one.
@@ -54,7 +53,7 @@ fn patch_by(alloc: Global, rows: Changing, base: Typed, changes: Vec<Typed>) -> 
 {
     let cores = patched(alloc, &rows, base, changes)?;
     Ok(Typed {
-        core: make::acting(Deed::Patch(rows.target), cores),
+        core: make_core::acting(Deed::Patch(rows.target), cores),
         ty: Ty::Rec(rows.columns),
     })
 }

@@ -1,20 +1,19 @@
 //! Records made of their fields.
 ghost use Rattle.std.specs.Prelude.{◌≡◌, IfOk, OnOk, length, map};
 ghost use Rattle.fx_data.specs.Rising.{AreRising};
-ghost use Rattle.fx_judge.specs.Builds as builds;
+ghost use Rattle.fx_typing.specs.Builds as builds;
 ghost use Rattle.fx_typing.specs.Columns as columns;
-ghost use Rattle.fx_local.specs.Answers.{Answers};
-ghost use Rattle.fx_local.specs.TypedView.{typed};
+ghost use Rattle.fx_typing.specs.Answers.{Answers};
+ghost use Rattle.fx_typing.specs.TypedView.{typed};
 ghost use Rattle.fx_calls.specs.Fields.{field_view, place_in};
 
 use crate::limits::bounded;
 use fx_base::Memory;
 use fx_data::types::{Columns, Ty};
 use fx_data::words::Words;
-use fx_local::typed::Typed;
-use fx_local::wrong::Wrong;
-use fx_rules::Rule;
-use fx_typed::{CoreFields, make};
+use fx_trees::{CoreFields, Rule, make_core};
+use fx_typing::typed::Typed;
+use fx_typing::wrong::Wrong;
 use std::alloc::Global;
 use std::cmp::Ordering;
 
@@ -102,7 +101,7 @@ fn record_by(alloc: Global, fields: Vec<(Words, Typed)>) -> Result<Typed, Memory
         parts.push(name, part.core)?;
     }
     Ok(Typed {
-        core: make::recorded(parts),
+        core: make_core::recorded(parts),
         ty: Ty::Rec(Columns::from_rising(columns)),
     })
 }

@@ -4,11 +4,11 @@ use Rattle.std.specs.declared.alloc.Global.{Global}
 use Rattle.app_loader.specs.declared.app.App.{App}
 use Rattle.app_loader.specs.Judged.{Judged}
 use Rattle.app_loader.specs.Judged as judged
-use Rattle.app_verdicts.specs.Verdicts.{IsOneVerdict}
+use Rattle.app_loader.specs.Verdicts.{IsOneVerdict}
 use Rattle.fx_base.specs.Faults.{Rose}
-use Rattle.fx_rules.specs.declared.broken.Broken.{Broken as Break}
-use Rattle.fx_rules.specs.declared.end.AppEnd.{AppEnd}
-use Rattle.fx_rules.specs.declared.end.AppEnd.TheVariants as end
+use Rattle.fx_trees.specs.declared.broken.Broken.{Broken as Break}
+use Rattle.fx_trees.specs.declared.app_end.AppEnd.{AppEnd}
+use Rattle.fx_trees.specs.declared.app_end.AppEnd.TheVariants as end
 use Rattle.office.specs.AppFile.{IsOneApp, JudgedApp}
 use Rattle.fx_cli.specs.declared.replay.ReplayEnd.{ReplayEnd}
 use Rattle.fx_cli.specs.declared.replay.ReplayEnd.TheVariants as replay

@@ -1,9 +1,9 @@
 -- Values as `view` prints them.
 use Rattle.std.specs.Prelude.{◌≡◌, ℕ, List, ◌∷◌, [], ◌++◌, Option, codes, encode_utf8_all, flat_map}
-use Rattle.app_lines.specs.declared.formula.Formula.{Formula}
+use Rattle.app_names.specs.declared.formula.Formula.{Formula}
 use Rattle.app_wire.specs.Moments.{Ticks}
 use Rattle.fx_data.specs.Values.{Data}
-use Rattle.named_values.specs.Valued.{AreValues}
+use Rattle.recalc.specs.Valued.{AreValues}
 use Rattle.view_text.specs.PlainText.{plain_text}
 
 -- the line of a name with its value

@@ -6,10 +6,10 @@ use Rattle.fx_base.specs.Telling.{Tells}
 use Rattle.app_loader.specs.declared.app.App.{App}
 use Rattle.app_loader.specs.Judged.{Judged, longest}
 use Rattle.app_wire.specs.Moments.{Tick}
-use Rattle.fx_rules.specs.BrokenText.{ended_line}
-use Rattle.fx_rules.specs.declared.broken.Broken.{Broken as Break}
-use Rattle.fx_rules.specs.declared.end.AppEnd.{AppEnd}
-use Rattle.fx_rules.specs.declared.end.AppEnd.TheVariants as end
+use Rattle.fx_trees.specs.BrokenText.{ended_line}
+use Rattle.fx_trees.specs.declared.broken.Broken.{Broken as Break}
+use Rattle.fx_trees.specs.declared.app_end.AppEnd.{AppEnd}
+use Rattle.fx_trees.specs.declared.app_end.AppEnd.TheVariants as end
 use Rattle.office.specs.AppFile.{JudgedApp, most_bytes}
 use Rattle.fx_cli.specs.declared.replay.ReplayEnd.{ReplayEnd}
 use Rattle.fx_cli.specs.declared.replay.ReplayEnd.TheVariants as replay

@@ -13,7 +13,7 @@ ghost use Rattle.fx_cli.specs.Telling.{Grows};
 ghost use Rattle.fx_cli.specs.Words.{wanted};
 ghost use Rattle.fx_cli.specs.declared.words.Form.{Form};
 ghost use Rattle.fx_cli.specs.declared.words.Form.TheVariants.{Replay, View};
-ghost use Rattle.fx_rules.specs.declared.broken.Broken.{Broken};
+ghost use Rattle.fx_trees.specs.declared.broken.Broken.{Broken};
 ghost use Rattle.office.specs.AppFile.{JudgedApp};
 ghost use Rattle.office.specs.State.{formulas_of, started};
 
@@ -26,18 +26,21 @@ pub mod system;
 pub mod view;
 pub mod words;
 
-use crate::files::Files;
 use crate::replay::ReplayEnd;
 use crate::report::{Report, carry_out};
-use crate::sink::{Sink, write_all};
-use app_verdicts::one_verdict;
+use crate::sink::write_all;
+use app_loader::one_verdict;
 use app_wire::clock::Clock;
 use app_wire::doors::Doors;
+pub use files::{FileEnd, Files};
 use fx_base::Failed;
-use fx_steps::Steps;
+use fx_eval::Steps;
+pub use memory::{MemoryFiles, MemorySink};
 use office::laws::one_app;
+pub use sink::Sink;
 use std::alloc::Global;
 use std::sync::ledger::Ledger;
+pub use system::{RealFiles, StdSink};
 
 /// How a run ends: 0 done, 1 the file breaks a rule, 2 the words are no form, 3 want of memory, 4 a file that could not
 /// be read, 6 a fault of the doors, 7 output that could not be written, 9 the most requests or conversations.

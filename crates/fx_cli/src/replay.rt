@@ -9,7 +9,7 @@ ghost use Rattle.fx_cli.specs.Held.{HoldsNext, Replayed, StopsAt};
 use app_wire::clock::Clock;
 use app_wire::doors::Doors;
 use fx_base::Failed;
-use fx_steps::Steps;
+use fx_eval::Steps;
 use office::{ConvEnd, Office};
 use std::sync::ledger::Ledger;
 

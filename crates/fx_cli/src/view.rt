@@ -1,12 +1,12 @@
 //! What `view` prints: each formula of a text with its value.
 ghost use Rattle.std.specs.Prelude.{◌≡◌, ◌++◌, IfOk, OnOk, flat_map, map, string_bytes};
 ghost use Rattle.fx_cli.specs.Plain.{IsShown, line_of};
-ghost use Rattle.named_values.specs.Valued.{seen};
+ghost use Rattle.recalc.specs.Valued.{seen};
 
-use app_lines::Lines;
+use app_names::Lines;
 use fx_base::Memory;
-use fx_steps::Steps;
-use named_values::{NamedValue, values_of};
+use fx_eval::Steps;
+use recalc::{NamedValue, values_of};
 use std::alloc::Global;
 use std::sync::ledger::Ledger;
 use view_text::plain;

@@ -1,11 +1,5 @@
 -- How names stay rising, for callers that push.
 use Rattle.std.proofs.Common.{◌≡◌, ℕ, zero, suc, ◌<◌, List, [], ◌∷◌, ◌++◌, length, get_or, take, map, filter, Bool, true, false, refl, ap, subst, arith, if◌then◌else◌}
-use Rattle.fx_data.specs.Types.{Shape}
-use Rattle.fx_data.specs.TypeView.{shape, columns_view}
-use Rattle.fx_data.specs.Values.{Data}
-use Rattle.fx_data.specs.ValueView.{view, fields_view}
-use Rattle.fx_data.specs.declared.types.Ty.{Ty}
-use Rattle.fx_data.specs.declared.values.Value.{Value}
 use Rattle.fx_data.specs.Rising.{IsBelow, IsBelowAll, IsAboveAll, AreRising}
 
 -- the names of items
@@ -113,10 +107,3 @@ module _ {A B : Type 0} (seen : A → B) where
 
   kept : (p : List ℕ × B → Bool) (fs : List (List ℕ × A)) (i : ℕ) (x : List ℕ × A) → i < length fs → x ≡ get_or fs i x → AreRising (seen_items fs) → AreRising (filter p (seen_items (take i fs)) ++ (x.0, seen x.1) ∷ [])
   kept p fs i x h e r = rw (seen_take i fs) (rising_kept_of p (seen_items fs) i (x.0, seen x.1) (omega (arith, seen_length fs)) (seen_at fs i x h e) r)
-
--- a field may be pushed on some of those before it, and a column likewise
-pub rising_kept : (p : List ℕ × Data → Bool) (fs : List (List ℕ × Value)) (i : ℕ) (x : List ℕ × Value) → i < length fs → x ≡ get_or fs i x → AreRising (fields_view fs) → AreRising (filter p (fields_view (take i fs)) ++ (x.0, view x.1) ∷ [])
-rising_kept = kept view
-
-pub rising_kept_columns : (p : List ℕ × Shape → Bool) (cs : List (List ℕ × Ty)) (i : ℕ) (x : List ℕ × Ty) → i < length cs → x ≡ get_or cs i x → AreRising (columns_view cs) → AreRising (filter p (columns_view (take i cs)) ++ (x.0, shape x.1) ∷ [])
-rising_kept_columns = kept shape

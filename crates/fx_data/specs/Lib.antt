@@ -1,4 +1,5 @@
 pub mod Days
+pub mod Faults
 pub mod Lookup
 pub mod Rising
 pub mod TypeCode

@@ -62,7 +62,7 @@ to_int (gnum n) = pos n
 to_int (gcons (gnum n) _) = negsuc n
 to_int _ = pos 0
 
-int_back : (z : ℤ) → to_int (of_int z) ≡ z
+pub int_back : (z : ℤ) → to_int (of_int z) ≡ z
 int_back (pos n) = refl
 int_back (negsuc n) = refl
 

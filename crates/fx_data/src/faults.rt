@@ -1,5 +1,6 @@
 // Errors as values.
 ghost use Rattle.std.specs.Prelude.{◌≡◌, IfOk};
+ghost use Rattle.fx_data.specs.Faults.{kind_name};
 
 use crate::words::Words;
 use fx_base::Memory;
@@ -26,6 +27,25 @@ pub enum Kind {
     Validation,
     /// An error that a formula made.
     Custom,
+}
+
+impl Kind {
+    /// The name of the kind, as the constants of `ErrorKind` have it.
+    pub fn name(self) -> &'static str
+        ensures { result.now ≡ kind_name self }
+    {
+        match self {
+            Kind::Div0 => "Div0",
+            Kind::Numeric => "Numeric",
+            Kind::InvalidArgument => "InvalidArgument",
+            Kind::NotFound => "NotFound",
+            Kind::MissingRequired => "MissingRequired",
+            Kind::ConstraintViolated => "ConstraintViolated",
+            Kind::QuotaExceeded => "QuotaExceeded",
+            Kind::Validation => "Validation",
+            Kind::Custom => "Custom",
+        }
+    }
 }
 
 /// An error, as the value of a formula.

@@ -1,7 +1,7 @@
 -- The reading of a whole formula.
 use Rattle.std.proofs.Common.{◌≡◌, ℕ, suc, ◌+◌, ◌<◌, ◌≤◌, Bool, true, false, List, [], ◌∷◌, length, refl, ap, sym, ◌∙◌, subst, Option, Some, None, arith, leb}
 use Rattle.std.proofs.lemmas.Bool.Decides.{nat_tests}
-use Rattle.fx_syntax.specs.Tree.{Tree}
+use Rattle.fx_trees.specs.Tree.{Tree}
 use Rattle.fx_grammar.specs.declared.item.Item.{Item}
 use Rattle.fx_grammar.specs.declared.line.Line.TheVariants.{Chain}
 use Rattle.fx_grammar.specs.declared.line.Mark.TheVariants as mark
@@ -34,7 +34,7 @@ pub has_tree : (n : ℕ) (ts : List Item) (s : Seen Tree) → line_at n Chain (b
 has_tree n ts (t, d, []) e h = let p : Is Chain n (body ts) (t, d, []) = subst (Kept (Is Chain n (body ts))) e (reads n Chain (body ts)) in (d, p.1, from_chain ts d t (after mark.Equal ts) (after_is mark.Equal ts) p.0)
 has_tree n ts (t, d, x ∷ us) e h = absurd (omega arith)
 
-above : (n d : ℕ) → (d ≤ n → ⊥) → n < d
+pub above : (n d : ℕ) → (d ≤ n → ⊥) → n < d
 above n d f = by (leb d n) refl
   where
     by : (b : Bool) → leb d n ≡ b → n < d

@@ -4,3 +4,7 @@ pub mod Turns
 pub mod Complete
 pub mod Sound
 pub mod Formula
+pub mod Doubling
+pub mod Meanings
+pub mod Spoken
+pub mod MeantSound

@@ -2,7 +2,7 @@
 use Rattle.std.proofs.Common.{◌≡◌, ℕ, ◌<◌, ◌≤◌, Bool, true, false, List, [], ◌∷◌, cond, refl, ap, sym, ◌∙◌, Option, Some, None, arith, true≢false}
 use Rattle.fx_lexer.specs.declared.token.Symbol.TheVariants as symbol
 use Rattle.fx_lexer.specs.declared.token.Word.TheVariants as word
-use Rattle.fx_syntax.specs.declared.expr.Op.{Op}
+use Rattle.fx_trees.specs.declared.expr.Op.{Op}
 use Rattle.fx_grammar.specs.declared.item.Item.{Item}
 use Rattle.fx_grammar.specs.declared.item.Meaning.{Meaning}
 use Rattle.fx_grammar.specs.declared.item.Meaning.TheVariants as m
@@ -189,10 +189,6 @@ not_mark k x h = by (is_mark k x) refl
 pub none_after : (k : Mark) (r : ℕ) (rest : List Item) → rank (meaning_of k) ≤ r → Below r rest → after k rest ≡ None
 none_after k r [] h b = refl
 none_after k r (x ∷ us) h b = let e = not_mark k x.meaning (λ f. omega arith) in rw e refl
-
--- separators
-separator_level : Join → ℕ
-separator_level j = join_level j
 
 separates_rank : (j : Join) (x : Meaning) → separates (Between j) x ≡ true → rank x ≡ join_level j
 separates_rank join.Chain (m.Symbol symbol.Semicolon) e = refl

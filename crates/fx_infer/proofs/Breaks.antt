@@ -1,11 +1,11 @@
 -- A node of which it is told is the one that is broken.
 use Rattle.std.proofs.Common.{◌≡◌, ℕ, ◌++◌, List, [], ◌∷◌, Err, ap, sym, ◌∙◌, inl, inr}
-use Rattle.fx_syntax.specs.Tree.{Tree, node, Forest, none, more, Head}
+use Rattle.fx_trees.specs.Tree.{Tree, node, Forest, none, more, Head}
 use Rattle.fx_typing.specs.Meaning.{Place}
-use Rattle.fx_judge.specs.Parts.{Part, Setting, parts_in}
-use Rattle.fx_judge.specs.Plans.{setting_at}
-use Rattle.fx_judge.specs.Typing.{admit, onward, at_node, judge, judge_parts}
-use Rattle.fx_judge.specs.Details.{IsToldBroken, HasToldBroken}
+use Rattle.fx_typing.specs.Parts.{Part, Setting, parts_in}
+use Rattle.fx_typing.specs.Plans.{setting_at}
+use Rattle.fx_typing.specs.Typing.{admit, onward, at_node, judge, judge_parts}
+use Rattle.fx_typing.specs.Details.{IsToldBroken, HasToldBroken}
 
 mutual
   pub told_broken : (p : Place) (s : Setting) (e : Tree) (w rule : ℕ) (said : List ℕ) → IsToldBroken p s e w rule said → judge p s e ≡ Err (w, rule)

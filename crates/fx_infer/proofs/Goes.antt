@@ -1,16 +1,16 @@
 -- Nodes are judged by their parts, from the left.
-use Rattle.std.proofs.Common.{◌≡◌, ℕ, suc, List, [], ◌∷◌, ◌++◌, length, Ok, Err, refl, ap, sym, subst, ◌∙◌, arith, length-append, inl, inr}
-use Rattle.fx_syntax.specs.Tree.{Tree, node, Forest, none, more, Head}
-use Rattle.fx_syntax.specs.TreeView.{branch}
-use Rattle.fx_syntax.specs.declared.expr.Node.{Node}
-use Rattle.fx_syntax.specs.declared.expr.Node.TheVariants as kind
+use Rattle.std.proofs.Common.{◌≡◌, ℕ, suc, List, [], ◌∷◌, ◌++◌, length, Ok, refl, ap, sym, subst, ◌∙◌, arith, length-append, inr}
+use Rattle.fx_trees.specs.Tree.{Tree, node, Forest, none, more, Head}
+use Rattle.fx_trees.specs.TreeView.{branch}
+use Rattle.fx_trees.specs.declared.expr.Node.{Node}
+use Rattle.fx_trees.specs.declared.expr.Node.TheVariants as kind
 use Rattle.fx_typing.specs.Meaning.{Place}
-use Rattle.fx_judge.specs.Details.{HasToldBroken, IsToldBroken, detail_of}
-use Rattle.fx_judge.specs.Parts.{Part, Setting, parts_in}
-use Rattle.fx_judge.specs.Plans.{setting_at}
-use Rattle.fx_judge.specs.Typing.{admit, at_node, judge, judge_parts, onward, position}
+use Rattle.fx_typing.specs.Details.{HasToldBroken}
+use Rattle.fx_typing.specs.Parts.{Part, Setting}
+use Rattle.fx_typing.specs.Plans.{setting_at}
+use Rattle.fx_typing.specs.Typing.{judge, judge_parts, onward, position}
 use Rattle.fx_scopes.specs.PlanView.{head_of}
-use Rattle.fx_infer.specs.Below.{forest_of, forest_from}
+use Rattle.fx_infer.specs.Below.{forest_from}
 
 -- parts are judged from the left: what is left, behind what is done, is the whole
 pub record GoesOn (p : Place) (s : Setting) (h : Head) (n : ℕ) (ts : Forest) (done : List Part) : Type 0 where
@@ -61,20 +61,6 @@ begins_at at (kind.Alias e x) = refl
 begins_at at (kind.Rec fs) = refl
 begins_at at (kind.List es) = refl
 begins_at at (kind.Woven es) = refl
-
--- a node, from its parts
-pub judged_as : (p : Place) (s : Setting) (e : Tree) (qs : List Part) (q : Part) →
-    judge_parts p s (head_of e) (parts_in (forest_of e)) [] (forest_of e) ≡ Ok qs → admit p s (head_of e) qs ≡ Ok q → judge p s e ≡ Ok q
-judged_as p s (node at h ts) qs q j a = ap (λ r. onward r (λ xs. at_node at (admit p s h xs))) j ∙ ap (at_node at) a
-
-pub told_here : (p : Place) (s : Setting) (e : Tree) (qs : List Part) (w rule : ℕ) (said : List ℕ) → w ≡ position e →
-    judge_parts p s (head_of e) (parts_in (forest_of e)) [] (forest_of e) ≡ Ok qs → admit p s (head_of e) qs ≡ Err rule →
-    said ≡ detail_of p s (head_of e) qs rule → IsToldBroken p s e w rule said
-told_here p s (node at h ts) qs w rule said k j a d = inl (k, qs, j, a, d)
-
-pub told_below : (p : Place) (s : Setting) (e : Tree) (w rule : ℕ) (said : List ℕ) →
-    HasToldBroken p s (head_of e) (parts_in (forest_of e)) [] (forest_of e) w rule said → IsToldBroken p s e w rule said
-told_below p s (node at h ts) w rule said x = inr x
 
 -- the head of a node that is seen whole
 pub headed : (w : Tree) (at : ℕ) (n m : Node) → branch at n ≡ w → n ≡ m → head_of w ≡ head_of (branch at m)

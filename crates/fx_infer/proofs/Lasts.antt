@@ -1,9 +1,9 @@
 -- The last of several values.
 use Rattle.std.proofs.Common.{◌≡◌, ◌-◌, ◌∙◌, suc, List, [], ◌∷◌, Some, length, map, slice_get, ap, arith, sym}
 use Rattle.fx_data.specs.TypeView.{shape}
-use Rattle.fx_judge.specs.Builds.{types_of}
-use Rattle.fx_local.specs.declared.typed.Typed.{Typed}
-use Rattle.fx_local.specs.TypedView.{typed}
+use Rattle.fx_typing.specs.Builds.{types_of}
+use Rattle.fx_typing.specs.declared.typed.Typed.{Typed}
+use Rattle.fx_typing.specs.TypedView.{typed}
 use Rattle.fx_typing.specs.WellTyped.{last_type}
 
 pub last_shape : (xs : List Typed) (x : Typed) → Some x ≡ slice_get xs (length xs - 1) → last_type (types_of (map typed xs)) ≡ Some (shape x.ty)

@@ -1,6 +1,17 @@
+pub mod Lists
+pub mod Pairs
+pub mod RecordTypes
+pub mod Sought
+pub mod Twice
 pub mod Admits
 pub mod Breaks
 pub mod Goes
 pub mod Lasts
 pub mod Places
 pub mod Wholes
+pub mod Levels
+mod After
+mod Known
+pub mod Only
+mod Same
+mod Walked

@@ -1,5 +1,12 @@
+pub mod Gaps
 pub mod Below
 pub mod Ends
 pub mod Judged
 pub mod Operands
 pub mod Written
+pub mod Depths
+pub mod CellView
+pub mod GivenView
+pub mod Limit
+pub mod SameTypes
+pub mod TypesView

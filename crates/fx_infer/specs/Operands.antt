@@ -1,9 +1,10 @@
 -- Two operands, and heads without parts.
 use Rattle.std.specs.Prelude.{ℕ, List, [], ◌∷◌, Option, Some, None, Result, Err}
 use Rattle.fx_data.specs.Types.{Shape}
-use Rattle.fx_functions.specs.declared.functions.Fun.{Fun}
-use Rattle.fx_judge.specs.Parts.{Part, piece}
-use Rattle.fx_syntax.specs.declared.expr.Op.{Op}
+use Rattle.fx_trees.specs.declared.functions.Fun.{Fun}
+use Rattle.fx_typing.specs.Parts.{Part, piece}
+use Rattle.fx_trees.specs.declared.expr.Op.{Op}
+use Rattle.fx_trees.specs.Rules as rules
 use Rattle.fx_typing.specs.Local.{value}
 use Rattle.fx_typing.specs.Operators.{function_of}
 
@@ -24,4 +25,4 @@ operator_of o qs = None
 -- what stands without parts
 abbrev pub leaf_of : List Part → Result Part ℕ → Result Part ℕ
 leaf_of [] r = r
-leaf_of qs r = Err 6
+leaf_of qs r = Err rules.wrong_type

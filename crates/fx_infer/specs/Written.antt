@@ -1,7 +1,7 @@
 -- Where a formula is written.
 use Rattle.std.specs.Prelude.{Bool, true, false}
 use Rattle.fx_data.specs.Types.{Shape, tables, no_columns}
-use Rattle.fx_names.specs.declared.names.Names.{Names}
+use Rattle.fx_trees.specs.declared.names.Names.{Names}
 use Rattle.fx_typing.specs.Meaning.{Place}
 use Rattle.fx_infer.specs.declared.elaboration.PlaceKind.{PlaceKind}
 use Rattle.fx_infer.specs.declared.elaboration.PlaceKind.TheVariants.{Pure, Acting}

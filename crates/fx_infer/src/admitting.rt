@@ -3,45 +3,44 @@ ghost use Rattle.std.specs.Prelude.{◌≡◌, ◌<◌, ◌∷◌, ℕ, [], IfOk
 ghost use Rattle.fx_data.specs.TypeView.{shape};
 ghost use Rattle.fx_data.specs.Types.{Shape};
 ghost use Rattle.fx_data.specs.ValueView.{view};
-ghost use Rattle.fx_judge.specs.Builds as builds;
-ghost use Rattle.fx_judge.specs.Calls.{called};
-ghost use Rattle.fx_judge.specs.Parts as parts;
-ghost use Rattle.fx_judge.specs.Typing as typing;
-ghost use Rattle.fx_names.specs.Lawful.{IsLawful};
-ghost use Rattle.fx_rules.specs.Rules.{number_of};
-ghost use Rattle.fx_syntax.specs.Tree as tree;
-ghost use Rattle.fx_typed.specs.Term.{Term};
+ghost use Rattle.fx_typing.specs.Builds as builds;
+ghost use Rattle.fx_typing.specs.Calls.{called};
+ghost use Rattle.fx_typing.specs.Parts as parts;
+ghost use Rattle.fx_typing.specs.Typing as typing;
+ghost use Rattle.fx_trees.specs.Lawful.{IsLawful};
+ghost use Rattle.fx_trees.specs.Rules.{number_of};
+ghost use Rattle.fx_trees.specs.Tree as tree;
+ghost use Rattle.fx_trees.specs.Term.{Term};
 ghost use Rattle.fx_typing.specs.Columns.{and_then};
 ghost use Rattle.fx_typing.specs.Local as local;
 ghost use Rattle.fx_typing.specs.Meaning as meaning;
-ghost use Rattle.fx_local.specs.Answers.{Answers};
-ghost use Rattle.fx_local.specs.TypedView.{typed};
+ghost use Rattle.fx_typing.specs.Answers.{Answers};
+ghost use Rattle.fx_typing.specs.TypedView.{typed};
 ghost use Rattle.fx_scopes.specs.MeaningView.{meaning_view, place};
 ghost use Rattle.fx_scopes.specs.PartView.{part};
 ghost use Rattle.fx_scopes.specs.PlanView.{grant, head_of};
 ghost use Rattle.fx_scopes.specs.SettingView.{setting};
 ghost use Rattle.fx_infer.specs.Operands.{leaf_of, operator_of, type_of};
 
+use crate::is_too_deep;
 use fx_base::Memory;
-use fx_called::{called, unless};
 use fx_calls::few::one;
 use fx_calls::lists::{cores_of, list_of};
 use fx_calls::records::{are_distinct, record_of};
+use fx_calls::values::{pieces, values};
+use fx_calls::{called, unless};
 use fx_data::types::Ty;
 use fx_data::values::Value;
 use fx_data::words::Words;
-use fx_deeds::values::{pieces, values};
-use fx_details::is_too_deep;
-use fx_functions::functions::{Form, Fun};
-use fx_local::local::{formed, made};
-use fx_local::operators::function_of;
-use fx_local::{Piece, Typed, Wrong};
-use fx_names::names::Names;
-use fx_rules::Rule;
+use fx_operators::local::{formed, made};
+use fx_operators::operators::function_of;
 use fx_scopes::dots::dotted;
 use fx_scopes::{Grant, Meaning, Part, Place, Scopes, Stand, as_value, in_globals, meaning_of};
-use fx_syntax::expr::{Expr, Node, Op};
-use fx_typed::make;
+use fx_trees::expr::{Expr, Node, Op};
+use fx_trees::functions::{Form, Fun};
+use fx_trees::names::Names;
+use fx_trees::{Rule, make_core};
+use fx_typing::{Piece, Typed, Wrong};
 use std::alloc::Global;
 
 // A value without a name of its rows.
@@ -66,7 +65,7 @@ fn constant<'a>(value: Value, ty: Ty) -> Part<'a>
     ensures { typing.constant (view value) (shape ty) ≡ Ok (part result) }
 {
     plainly(Typed {
-        core: make::constant(value),
+        core: make_core::constant(value),
         ty,
     })
 }
@@ -318,7 +317,7 @@ fn no_pieces(alloc: Global) -> Result<Typed, Memory>
     ensures { IfOk result (λ t. typing.woven_by [] ≡ Ok (typed t)) }
 {
     Ok(Typed {
-        core: make::constant(Value::Text(Words::of(alloc, "")?)),
+        core: make_core::constant(Value::Text(Words::of(alloc, "")?)),
         ty: Ty::Text,
     })
 }
@@ -342,7 +341,7 @@ fn chain_by(alloc: Global, values: Vec<Typed>) -> Result<Typed, Wrong>
     };
     let ty = last.ty.copy(alloc)?;
     Ok(Typed {
-        core: make::chained(cores_of(alloc, values)?),
+        core: make_core::chained(cores_of(alloc, values)?),
         ty,
     })
 }

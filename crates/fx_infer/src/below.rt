@@ -1,11 +1,11 @@
 //! The parts of a node.
 ghost use Rattle.std.specs.Prelude.{◌≡◌, MatchOption, suc};
-ghost use Rattle.fx_syntax.specs.Tree as tree;
-ghost use Rattle.fx_judge.specs.Parts.{parts_in};
-ghost use Rattle.fx_judge.specs.Typing.{position};
+ghost use Rattle.fx_trees.specs.Tree as tree;
+ghost use Rattle.fx_typing.specs.Parts.{parts_in};
+ghost use Rattle.fx_typing.specs.Typing.{position};
 ghost use Rattle.fx_infer.specs.Below.{forest_from, forest_of};
 
-use fx_syntax::expr::{Args, Expr, Node, Parts};
+use fx_trees::expr::{Args, Expr, Node, Parts};
 
 /// The byte at which a node begins.
 pub fn begins(whole: &Expr) -> u32

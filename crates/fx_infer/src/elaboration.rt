@@ -2,19 +2,19 @@
 ghost use Rattle.std.specs.Prelude.{◌≡◌, ◌≤◌, [], Bool, Err, IfOk, None, Ok, Option, option_map};
 ghost use Rattle.fx_data.specs.TypeView.{shape};
 ghost use Rattle.fx_data.specs.Types.{Shape};
-ghost use Rattle.fx_judge.specs.Details.{IsToldBrokenWhole};
-ghost use Rattle.fx_judge.specs.Typing as typing;
-ghost use Rattle.fx_judge.specs.Typing.{context_of, judge_whole};
-ghost use Rattle.fx_names.specs.Lawful.{IsLawful};
-ghost use Rattle.fx_rules.specs.Rules.{number_of};
-ghost use Rattle.fx_rules.specs.declared.broken.Broken.{Broken};
-ghost use Rattle.fx_syntax.specs.Tree.{Tree};
-ghost use Rattle.fx_typed.specs.Term.{Term};
+ghost use Rattle.fx_typing.specs.Details.{IsToldBrokenWhole};
+ghost use Rattle.fx_typing.specs.Typing as typing;
+ghost use Rattle.fx_typing.specs.Typing.{context_of, judge_whole};
+ghost use Rattle.fx_trees.specs.Lawful.{IsLawful};
+ghost use Rattle.fx_trees.specs.Rules.{number_of};
+ghost use Rattle.fx_trees.specs.declared.broken.Broken.{Broken};
+ghost use Rattle.fx_trees.specs.Tree.{Tree};
+ghost use Rattle.fx_trees.specs.Term.{Term};
 ghost use Rattle.fx_typing.specs.Meaning.{Place};
 ghost use Rattle.fx_typing.specs.WellTyped.{IsTyped};
-ghost use Rattle.fx_typing_relation.specs.Elaborates.{FormulaElaborates, FormulaIsNothing};
-ghost use Rattle.fx_local.specs.Answers.{Answers};
-ghost use Rattle.fx_local.specs.TypedView.{typed};
+ghost use Rattle.fx_typing.specs.Elaborates.{FormulaElaborates, FormulaIsNothing};
+ghost use Rattle.fx_typing.specs.Answers.{Answers};
+ghost use Rattle.fx_typing.specs.TypedView.{typed};
 ghost use Rattle.fx_scopes.specs.PartView.{part};
 ghost use Rattle.fx_scopes.specs.SettingView.{setting};
 ghost use Rattle.fx_infer.specs.declared.ends.InferEnd.TheVariants as end;
@@ -25,17 +25,17 @@ ghost use Rattle.fx_infer.specs.Written.{is_any_table, is_tables, may_act, place
 use crate::below::begins;
 use crate::ends::InferEnd;
 use crate::judging::judge;
+use crate::{Flaw, Halt, wanted_detail};
 use fx_data::types::Ty;
 use fx_data::words::Words;
-use fx_details::{Flaw, Halt, wanted_detail};
-use fx_judge::admitted_is_typed;
-use fx_local::ways::{by_way, way_to};
-use fx_local::{Piece, Typed, Wrong};
-use fx_names::names::Names;
-use fx_rules::{Broken, Rule};
 use fx_scopes::{Grant, Part, Place as Standpoint, Scopes, Stand};
-use fx_syntax::expr::Expr;
-use fx_typing_relation::{admitted_elaborates, broken_elaborates_nothing};
+use fx_trees::expr::Expr;
+use fx_trees::names::Names;
+use fx_trees::{Broken, Rule};
+use fx_typing::ways::{by_way, way_to};
+use fx_typing::{
+    Piece, Typed, Wrong, admitted_elaborates, admitted_is_typed, broken_elaborates_nothing,
+};
 use std::alloc::Global;
 
 /// What the place of a formula allows.

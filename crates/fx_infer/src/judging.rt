@@ -1,10 +1,10 @@
 //! Which nodes are admitted, as which parts.
 ghost use Rattle.std.specs.Prelude.{◌≡◌, ◌≤◌, ◌+◌, [], length, map};
-ghost use Rattle.fx_names.specs.Lawful.{IsLawful};
-ghost use Rattle.fx_judge.specs.Details.{HasToldBroken, IsToldBroken};
-ghost use Rattle.fx_judge.specs.Parts.{parts_in};
-ghost use Rattle.fx_judge.specs.Plans.{setting_at};
-ghost use Rattle.fx_judge.specs.Typing as typing;
+ghost use Rattle.fx_trees.specs.Lawful.{IsLawful};
+ghost use Rattle.fx_typing.specs.Details.{HasToldBroken, IsToldBroken};
+ghost use Rattle.fx_typing.specs.Parts.{parts_in};
+ghost use Rattle.fx_typing.specs.Plans.{setting_at};
+ghost use Rattle.fx_typing.specs.Typing as typing;
 ghost use Rattle.fx_scopes.specs.MeaningView.{place};
 ghost use Rattle.fx_scopes.specs.PartView.{part};
 ghost use Rattle.fx_scopes.specs.PlanView.{head_of};
@@ -14,10 +14,10 @@ ghost use Rattle.fx_infer.specs.Judged.{Judged};
 
 use crate::admitting::admit;
 use crate::below::{begins, part_at, part_count};
-use fx_details::{Flaw, Halt, detail_of};
-use fx_local::Wrong;
+use crate::{Flaw, Halt, detail_of};
 use fx_scopes::{Part, Place, Scopes, Stand, enter};
-use fx_syntax::expr::Expr;
+use fx_trees::expr::Expr;
+use fx_typing::Wrong;
 use std::alloc::Global;
 
 /// A node as a part of the whole, or the first node from the left that is broken while all its parts are

@@ -17,7 +17,7 @@ use Rattle.fx_lexer.specs.declared.element.Mode.{Mode}
 use Rattle.fx_lexer.specs.Spelling.{class_at, goes_on_number, in_name, in_number, in_line, is_quote, is_mark, Every, doubled, HasNoEnd, word_spelling, symbol_spelling, Spelt, white, line_comment, block_comment, number, text, name, quoted_name, word, symbol, opening, closing, piece, island, begins, IsClosed}
 use Rattle.fx_lexer.specs.Scan.{Seen, seen, run, number_run, more, open_run, closed_run, comment_run, weave_run, mark_run, word_at, one_or_two, less_at, symbol_seen, text_seen, quoted_seen, comment_seen, slash_at, name_kind, by_class, formula_at, weave_by, weave_at, element_at}
 use Rattle.fx_lexer.proofs.Digits.{every_digit}
-use Rattle.fx_lexer.proofs.Found.{IsKindOf, kind_of}
+use Rattle.fx_lexer.proofs.Found.{IsKindOf, kind_of, eqb_same}
 
 -- what was found is no shorter than q, and is q where it is as long; where nothing was found q may not stand before zs
 abbrev pub Covers : Seen → Element → List ℕ → List ℕ → Type 0
@@ -59,9 +59,6 @@ decimal_covers cs (d ∷ ds) es zs h =
 abbrev OpenCovers : Option ℕ → ℕ → ℕ → List ℕ → Type 0
 OpenCovers None q m zs = begins q zs ≡ true
 OpenCovers (Some n) q m zs = m ≤ n
-
-pub eqb_same : (c : ℕ) → eqb c c ≡ true
-eqb_same c = grind (arith, nat_tests)
 
 more_covers : (o : Option ℕ) (q m : ℕ) (zs : List ℕ) → OpenCovers o q m zs → OpenCovers (more o) q (suc m) zs
 more_covers None q m zs h = h
@@ -257,7 +254,7 @@ piece_by : (n : ℕ) (us xs zs : List ℕ) → 0 < length xs → length xs ≤ n
 piece_by zero us xs zs l h = absurd (omega arith)
 piece_by (suc n) us xs zs l h = (h, λ _. refl)
 
-piece_long : (c : ℕ) (w : List ℕ) (b : Bool) → 0 < length (cond b (c ∷ c ∷ w) (c ∷ w))
+pub piece_long : (c : ℕ) (w : List ℕ) (b : Bool) → 0 < length (cond b (c ∷ c ∷ w) (c ∷ w))
 piece_long c w true = omega arith
 piece_long c w false = omega arith
 

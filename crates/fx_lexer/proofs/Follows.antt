@@ -18,8 +18,9 @@ use Rattle.fx_lexer.specs.declared.element.Mode.TheVariants.{Formula, Weave}
 use Rattle.fx_lexer.specs.Spelling.{class_at, in_name, in_number, is_quote, is_mark, Every, doubled, word_spelling, symbol_spelling, begins, HasValue, IsElement}
 use Rattle.fx_lexer.specs.Scan.{Seen, seen, run, decimals, number_run, more, open_run, closed_run, weave_run, mark_run, word_at, text_seen, quoted_seen, name_kind, by_class, formula_at, weave_by, element_at}
 use Rattle.fx_lexer.proofs.Digits.{every_digit}
-use Rattle.fx_lexer.proofs.Covers.{eqb_same, is_digit, no_word, quoted_long}
+use Rattle.fx_lexer.proofs.Covers.{is_digit, no_word, quoted_long, piece_long}
 use Rattle.fx_lexer.proofs.Judge.{element_found}
+use Rattle.fx_lexer.proofs.Found.{eqb_same}
 
 -- what is found before rest is an element there
 pub exact : (mode : Mode) (e : Element) (xs rest : List ℕ) → element_at mode (xs ++ rest) ≡ Some (e, length xs) → HasValue e xs → IsElement mode e xs rest
@@ -190,10 +191,6 @@ piece_run (c ∷ w) rest h = piece_by_mark c w rest (is_mark c) refl (piece_run 
 piece_by : (n : ℕ) (us : List ℕ) → 0 < n → weave_by n us ≡ seen kind.Piece n
 piece_by zero us h = absurd (omega arith)
 piece_by (suc n) us h = refl
-
-piece_long : (c : ℕ) (w : List ℕ) (b : Bool) → 0 < length (cond b (c ∷ c ∷ w) (c ∷ w))
-piece_long c w true = omega arith
-piece_long c w false = omega arith
 
 pub piece_before : (c : ℕ) (w rest : List ℕ) → weave_run rest ≡ 0 → IsElement Weave (Token kind.Piece) (doubled is_mark (c ∷ w)) rest
 piece_before c w rest h =

@@ -68,7 +68,7 @@ number_spelt d xs e h = number (d ∷ xs) (d ∷ h.0) h.1 (record {
 })
 
 -- texts and quoted names
-eqb_same : (c : ℕ) → eqb c c ≡ true
+pub eqb_same : (c : ℕ) → eqb c c ≡ true
 eqb_same c = grind (arith, nat_tests)
 
 abbrev Closes : ℕ → List ℕ → Type 0

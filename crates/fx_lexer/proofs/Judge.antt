@@ -1,5 +1,5 @@
 -- The element at the front of a text is the one that is found there.
-use Rattle.std.proofs.Common.{◌≡◌, ℕ, ◌<◌, ◌≤◌, Bool, true, false, List, [], ◌∷◌, ◌++◌, length, take, drop, cond, refl, ap, sym, ◌∙◌, subst, Some, None, arith, take-append-drop, length-append}
+use Rattle.std.proofs.Common.{◌≡◌, ℕ, ◌<◌, ◌≤◌, List, [], ◌++◌, length, take, drop, refl, ap, sym, ◌∙◌, subst, Some, None, arith, take-append-drop, length-append}
 use Rattle.std.proofs.lemmas.List.{length-take-le, take_at, drop_at}
 use Rattle.fx_number.specs.Spelling.{IsDecimal, point_and}
 use Rattle.fx_lexer.specs.declared.token.Symbol.{Symbol}
@@ -15,7 +15,7 @@ use Rattle.fx_lexer.specs.Scan.{Seen, element_at}
 use Rattle.fx_lexer.specs.Lexed.{width}
 use Rattle.fx_lexer.specs.Next.{IsFront}
 use Rattle.fx_lexer.proofs.Found.{Found, found}
-use Rattle.fx_lexer.proofs.Covers.{Covers, covers}
+use Rattle.fx_lexer.proofs.Covers.{Covers, covers, piece_long}
 
 -- no spelling is empty
 decimal_long : (cs ds es : List ℕ) → IsDecimal cs ds es → 0 < length cs
@@ -59,10 +59,6 @@ symbol_long Less = omega arith
 symbol_long LessEqual = omega arith
 symbol_long Greater = omega arith
 symbol_long GreaterEqual = omega arith
-
-piece_long : (c : ℕ) (w : List ℕ) (b : Bool) → 0 < length (cond b (c ∷ c ∷ w) (c ∷ w))
-piece_long c w true = omega arith
-piece_long c w false = omega arith
 
 pub spelt_long : (mode : Mode) (q : Element) (ys : List ℕ) → Spelt mode q ys → 0 < length ys
 spelt_long mode q ys (white c e) = omega arith

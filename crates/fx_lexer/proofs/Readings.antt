@@ -1,5 +1,5 @@
 -- There is one reading of a text.
-use Rattle.std.proofs.Common.{◌≡◌, ◌≢◌, ℕ, ◌+◌, List, [], ◌∷◌, ◌++◌, take, drop, map, refl, ap, sym, ◌∙◌, subst, take-append-drop, append-nil}
+use Rattle.std.proofs.Common.{◌≡◌, ℕ, ◌+◌, List, [], ◌∷◌, ◌++◌, take, drop, map, refl, ap, sym, ◌∙◌, subst, take-append-drop, append-nil}
 use Rattle.std.proofs.lemmas.List.{map-append}
 use Rattle.fx_lexer.specs.declared.token.TokenKind.{TokenKind}
 use Rattle.fx_lexer.specs.declared.token.Token.{Token as Tok}
@@ -11,7 +11,6 @@ use Rattle.fx_lexer.specs.declared.element.Mode.{Mode}
 use Rattle.fx_lexer.specs.Spelling.{IsElement, NoElement}
 use Rattle.fx_lexer.specs.Lexed.{width, Lexeme, token_of, mode_in, after, Reads, stop, skip, token, HasLexemes, Lexed, wrong_with, IsBadAt}
 use Rattle.fx_lexer.specs.Next.{IsPut}
-use Rattle.fx_lexer.specs.declared.token.LexWhat.{LexWhat}
 use Rattle.fx_lexer.proofs.Judge.{one_element, no_element_nil}
 
 -- the same tokens, and the same place where they end
@@ -112,7 +111,3 @@ turn cs out new es fs at n w Skip rest others r p g e h =
     let P : List Tok → List Enclosing → Type 0 = λ x y. SoFar cs x y (at + w) others in
     subst (λ y. P new y) (sym h.1) (subst (λ x. P x es) (sym h.0) (turn_skip cs out es at n w rest others r p g e))
 turn cs out new es fs at n w (Token k) rest others r p g e h = turn_token cs out new es fs at n w k rest others r p g e h.0 h.1
-
-pub bad_here : (cs : List ℕ) (out : List Tok) (es : List Enclosing) (at : ℕ) (rest : List ℕ) (what : LexWhat)
-    → SoFar cs out es at rest → rest ≢ [] → NoElement (mode_in es) rest → what ≡ wrong_with (mode_in es) rest → IsBadAt cs (record { at = at; what = what })
-bad_here cs out es at rest what r n h w = (r.0, es, rest, r.1, n, h, w)

@@ -1,5 +1,5 @@
 -- Turns of the loops.
-use Rattle.std.proofs.Common.{length-append, ◌-◌, ◌≡◌, ℕ, suc, ◌+◌, ◌<◌, ◌≤◌, Bool, true, false, List, [], ◌∷◌, length, get_or, take-append-drop, drop, take, ◌++◌, arith, cond, refl, ap, sym, ◌∙◌, eqb, Some, None}
+use Rattle.std.proofs.Common.{length-append, ◌-◌, ◌≡◌, ℕ, suc, ◌+◌, ◌<◌, ◌≤◌, Bool, true, false, List, [], ◌∷◌, length, get_or, drop, take, arith, cond, refl, ap, sym, ◌∙◌, eqb, Some, None}
 use Rattle.std.proofs.lemmas.List.{at_drop_more, at_drop_all, take_all}
 use Rattle.fx_lexer.specs.Scan.{Seen, run, open_run, closed_run, more, number_run, decimals, name_at, by_class, formula_at}
 use Rattle.fx_lexer.specs.Spelling.{in_number, in_name, class_at}
@@ -33,13 +33,6 @@ width_more cs i d h = at_drop_more width cs i d h
 
 pub width_end : (cs : List ℕ) (i : ℕ) → length cs ≤ i → width (drop i cs) ≡ 0
 width_end cs i h = at_drop_all width cs i h
-
-width-append : (xs ys : List ℕ) → width (xs ++ ys) ≡ width xs + width ys
-width-append [] ys = omega arith
-width-append (x ∷ xs) ys = omega (arith, width-append xs ys)
-
-pub width_split : (cs : List ℕ) (n : ℕ) → width (take n cs) + width (drop n cs) ≡ width cs
-width_split cs n = sym (width-append (take n cs) (drop n cs)) ∙ ap width (take-append-drop n cs)
 
 number_by : (c : ℕ) (cs : List ℕ) (b : Bool) → number_run cs ≡ run in_number cs + decimals (drop (run in_number cs) cs)
     → cond b (suc (number_run cs)) (decimals (c ∷ cs)) ≡ cond b (suc (run in_number cs)) 0 + decimals (drop (cond b (suc (run in_number cs)) 0) (c ∷ cs))

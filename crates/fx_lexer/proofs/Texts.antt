@@ -16,7 +16,7 @@ use Rattle.fx_lexer.proofs.Steps.{width-is}
 use Rattle.fx_lexer.proofs.Digits.{digit_range}
 use Rattle.fx_lexer.proofs.Judge.{IsDecimalIfNumber}
 
-both : (a b : Bool) → (a && b) ≡ true → (a ≡ true) × (b ≡ true)
+pub both : (a b : Bool) → (a && b) ≡ true → (a ≡ true) × (b ≡ true)
 both true true e = (refl, refl)
 both true false e = cc
 both false b e = cc
@@ -48,27 +48,27 @@ cut bs cs n u e =
     }
 
 -- digits and points are their own bytes
-abbrev Low : List ℕ → Type 0
+abbrev pub Low : List ℕ → Type 0
 Low [] = Unit {0}
 Low (c ∷ cs) = (c < 128) × Low cs
 
-low_bytes : (cs : List ℕ) → Low cs → encode_utf8_all cs ≡ cs
+pub low_bytes : (cs : List ℕ) → Low cs → encode_utf8_all cs ≡ cs
 low_bytes [] h = refl
 low_bytes (c ∷ cs) h = (λ i. encode_ascii c h.0 i ++ low_bytes cs h.1 i)
 
-low_digits : (ds : List ℕ) → AllDigits 10 ds → Low ds
+pub low_digits : (ds : List ℕ) → AllDigits 10 ds → Low ds
 low_digits [] h = tt
 low_digits (d ∷ ds) h = (let r = digit_range d h.0 in omega arith, low_digits ds h.1)
 
-low_fraction : (es : List ℕ) → AllDigits 10 es → Low (point_and es)
+pub low_fraction : (es : List ℕ) → AllDigits 10 es → Low (point_and es)
 low_fraction [] h = tt
 low_fraction (e ∷ es) h = (omega arith, low_digits (e ∷ es) h)
 
-low_append : (xs ys : List ℕ) → Low xs → Low ys → Low (xs ++ ys)
+pub low_append : (xs ys : List ℕ) → Low xs → Low ys → Low (xs ++ ys)
 low_append [] ys h k = k
 low_append (x ∷ xs) ys h k = (h.0, low_append xs ys h.1 k)
 
-decimal_bytes : (xs ds es : List ℕ) → IsDecimal xs ds es → encode_utf8_all xs ≡ xs
+pub decimal_bytes : (xs ds es : List ℕ) → IsDecimal xs ds es → encode_utf8_all xs ≡ xs
 decimal_bytes xs ds es h = low_bytes xs (subst Low (sym h.is_text) (low_append ds (point_and es) (low_digits ds h.has_whole.1) (low_fraction es h.has_fraction)))
 
 pub record BytesFit (e : Element) (xs bs : List ℕ) : Type 0 where

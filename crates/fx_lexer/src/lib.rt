@@ -5,8 +5,6 @@ mod element;
 mod laws;
 mod lexer;
 mod scan;
-#[cfg(test)]
-mod tests;
 mod token;
 
 pub use laws::{one_bad_token, one_list_of_tokens};

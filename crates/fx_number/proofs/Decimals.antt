@@ -1,6 +1,6 @@
 -- What rounding, dividing and raising to a power give of magnitudes.
-use Rattle.std.proofs.Common.{◌≡◌, ◌≢◌, ◌⊎◌, ℕ, zero, suc, ℤ, pos, negsuc, ◌-ℤ◌, ◌*ℤ◌, ◌+◌, ◌*◌, ◌/◌, ◌%◌, ◌-◌, ◌^◌, ◌<◌, ◌≤◌, min, Bool, true, false, not, refl, sym, ◌∙◌, ap, inl, inr, arith, Ok, Err, Result, unsigned_abs, ◌≤ℤ◌, ◌<ℤ◌, lit<, subst}
-use Rattle.std.proofs.Math.Nat.{div-eq_of_lt, div-mul-le_self, div-add-mod, mod-lt, zero-div, zero-mod, mod-eq_of_lt, min-eq_left, min-eq_right, pow-le-pow_right, one-le-pow}
+use Rattle.std.proofs.Common.{◌≡◌, ◌≢◌, ◌⊎◌, ℕ, zero, suc, ℤ, pos, negsuc, ◌-ℤ◌, ◌*ℤ◌, ◌+◌, ◌*◌, ◌/◌, ◌%◌, ◌-◌, ◌^◌, ◌<◌, ◌≤◌, min, Bool, true, false, not, refl, sym, ◌∙◌, ap, inl, inr, arith, Ok, Err, Result, unsigned_abs, ◌<ℤ◌, lit<, subst}
+use Rattle.std.proofs.Math.Nat.{div-eq_of_lt, div-add-mod, mod-lt, zero-div, zero-mod, mod-eq_of_lt, min-eq_right, pow-le-pow_right, one-le-pow}
 use Rattle.std.proofs.lemmas.Int.{ints}
 use Rattle.std.proofs.lemmas.Bool.{cases_lt}
 use Rattle.std.specs.Int.{div_ceil}
@@ -12,10 +12,6 @@ use Rattle.fx_number.specs.Decimal.{nearest, signed, by_magnitude, quotient_of, 
 
 pub nearest-zero : (d : ℕ) → 0 < d → nearest 0 d ≡ 0
 nearest-zero d h = div-eq_of_lt (omega arith)
-
--- rounding moves a number by less than a step
-pub nearest-times : (n d : ℕ) → 0 < d → nearest n d * d ≤ n + d
-nearest-times n d h = grind (arith, div-mul-le_self (2 * n + d) (2 * d))
 
 -- a magnitude is changed before or after its sign is given
 pub signed-by_magnitude : (f : ℕ → ℕ) (negative : Bool) (n : ℕ) → f 0 ≡ 0 → signed negative (f n) ≡ by_magnitude f (signed negative n)
@@ -79,9 +75,6 @@ pub unsigned_abs-signed : (p : Bool) (n : ℕ) → unsigned_abs (signed p n) ≡
 unsigned_abs-signed false n = refl
 unsigned_abs-signed true zero = refl
 unsigned_abs-signed true (suc n) = refl
-
-pub signed-nonzero : (p : Bool) (n : ℕ) (z : ℤ) → signed p n ≡ z → n ≢ 0 → z ≢ pos 0
-signed-nonzero p n z e h is_zero = h (sym (unsigned_abs-signed p n) ∙ ap unsigned_abs (e ∙ is_zero))
 
 pub signed-zero : (p : Bool) (n : ℕ) (z : ℤ) → signed p n ≡ z → z ≡ pos 0 → n ≡ 0
 signed-zero p n z e is_zero = sym (unsigned_abs-signed p n) ∙ ap unsigned_abs (e ∙ is_zero)
@@ -212,28 +205,6 @@ Checked-steps way p n k d s r h positive e steps checked = elim (cases_lt (10 ^ 
       rw (same, ← steps, signed-*ℤ p false k s) (rw (differ-false p) checked)
 ]
 
-power-fits : (e : ℕ) → e ≤ 20 → 10 ^ e ≤ 10 ^ 20
-power-fits e h = pow-le-pow_right {n = 10} (lit< tt) h
-
-step_of-exact : (d : ℤ) (e : ℕ) → step_of d ≡ 10 ^ e → e ≤ 20 → 10 ^ e ≡ min (step_of d) (10 ^ 20)
-step_of-exact d e h small = rw h (sym (min-eq_left (power-fits e small)))
-
--- one unit of the last decimal, by cases of how many are kept
-pub step_of-near : (d : ℤ) → negsuc 15 ≤ℤ d → d <ℤ pos 4 → 10 ^ unsigned_abs (pos 4 -ℤ d) ≡ min (step_of d) (10 ^ 20)
-step_of-near (pos d) low high =
-    let less : unsigned_abs (pos 4 -ℤ pos d) ≡ 4 - d = grind (arith, ints) in
-    rw less (step_of-exact (pos d) (4 - d) refl (omega arith))
-step_of-near (negsuc n) low high =
-    let more : unsigned_abs (pos 4 -ℤ negsuc n) ≡ 5 + n = grind (arith, ints) in
-    let small : n ≤ 15 = grind (arith, ints) in
-    rw more (step_of-exact (negsuc n) (5 + n) refl (omega arith))
-
-pub step_of-none : (d : ℤ) → pos 4 ≤ℤ d → 1 ≡ min (step_of d) (10 ^ 20)
-step_of-none (pos d) high =
-    let none : 4 - d ≡ 0 = grind (arith, ints) in
-    step_of-exact (pos d) 0 (ap (λ e. 10 ^ e) none) (omega arith)
-step_of-none (negsuc n) high = grind (arith, ints)
-
 pub step_of-wide : (d : ℤ) → d <ℤ negsuc 15 → 10 ^ 20 ≡ min (step_of d) (10 ^ 20)
 step_of-wide (pos d) low = grind (arith, ints)
 step_of-wide (negsuc n) low =
@@ -243,12 +214,6 @@ step_of-wide (negsuc n) low =
 pub step_of-positive : (d : ℤ) → 0 < step_of d
 step_of-positive (pos d) = one-le-pow (4 - d) 10 (lit< tt)
 step_of-positive (negsuc n) = one-le-pow (5 + n) 10 (lit< tt)
-
--- powers that stay in range
-pub powers-none : (a : ℤ) → ArePowersInRange a 0
-powers-none a k h =
-    let none : k ≡ 0 = omega arith in
-    rw none (grind (arith, ints))
 
 pub powers-more : (a z : ℤ) (n : ℕ) → ArePowersInRange a n → z ≡ power_of a (suc n) → IsInRange z → ArePowersInRange a (suc n)
 powers-more a z n before e inside k h = elim (cases_lt k (suc n)) [

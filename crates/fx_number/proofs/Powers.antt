@@ -1,5 +1,5 @@
 -- Powers that are rounded at each product: how great they are, and what they answer.
-use Rattle.std.proofs.Common.{◌≡◌, ◌≢◌, ℕ, zero, suc, ℤ, pos, negsuc, ◌*ℤ◌, ◌*◌, ◌≤◌, ◌≤ℤ◌, ◌<ℤ◌, true, refl, ◌∙◌, ap, inl, inr, arith, Ok, Err, Result, unsigned_abs, subst}
+use Rattle.std.proofs.Common.{◌≡◌, ◌≢◌, ℕ, zero, suc, ℤ, pos, negsuc, ◌*ℤ◌, ◌*◌, ◌≤◌, ◌<ℤ◌, true, refl, ◌∙◌, ap, inl, inr, arith, Ok, Err, Result, unsigned_abs, subst}
 use Rattle.std.proofs.Math.Nat.{mul-le-mul}
 use Rattle.std.proofs.lemmas.Int.{ints, unsigned_abs-mul}
 use Rattle.std.proofs.lemmas.Bool.{cases_lt}
@@ -54,10 +54,6 @@ CheckedOnWay-stopped z e (Err x) overflow out stopped = (stopped ∙ overflow, �
 CheckedOnWay-checked : {P : Type 0} (z : ℤ) (r : Result ℤ NumErr) → P → Checked z r → CheckedOnWay P z r
 CheckedOnWay-checked z (Ok n) p h = (h.0, h.1, p)
 CheckedOnWay-checked z (Err e) p h = (h.0, λ both. h.1 both.0)
-
-pub IsPowerTo-whole : (a e : ℤ) (r : Result ℤ NumErr) → pos 0 ≤ℤ e → CheckedOnWay (ArePowersInRange a (unsigned_abs e)) (power_of a (unsigned_abs e)) r → IsPowerTo a e r
-IsPowerTo-whole a (pos n) r h checked = checked
-IsPowerTo-whole a (negsuc n) r h checked = absurd (grind (arith, ints))
 
 pub IsPowerTo-reciprocal : (a e power : ℤ) (n : ℕ) (r : Result ℤ NumErr) → e <ℤ pos 0 → n ≡ unsigned_abs e → power ≡ power_of a n → ArePowersInRange a n → UnlessZero power (Checked (quotient_of (pos 10000) power)) r → IsPowerTo a e r
 IsPowerTo-reciprocal a (pos m) power n r h count same way divided = absurd (grind (arith, ints))

@@ -9,8 +9,6 @@ use std::marker::Model;
 
 mod arithmetic;
 mod spelling;
-#[cfg(test)]
-mod tests;
 
 pub use arithmetic::{add, div, modulo, mul, power, round, sub};
 pub use spelling::{read, spelling_laws, text};

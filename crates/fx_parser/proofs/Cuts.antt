@@ -10,9 +10,9 @@ use Rattle.fx_grammar.specs.declared.item.Item.{Item}
 use Rattle.fx_grammar.specs.Grammar.{place}
 use Rattle.fx_grammar.specs.Formulas.{end}
 use Rattle.fx_grammar.specs.Means.{Means, number, text, plain_name, quoted_name, word, symbol, opening, closing, piece, AllMean, no_more, one_more}
-use Rattle.fx_meaning.proofs.Sound.{texts}
+use Rattle.fx_grammar.proofs.MeantSound.{texts}
 use Rattle.fx_parser.specs.Entries.{AreCutsFrom, AreCuts, head_of, next_of}
-use Rattle.fx_syntax.specs.Tree.{Tree}
+use Rattle.fx_trees.specs.Tree.{Tree}
 use Rattle.fx_grammar.specs.declared.line.Join.TheVariants as join
 use Rattle.fx_grammar.specs.declared.line.Line.TheVariants.{Several}
 use Rattle.fx_grammar.specs.Reading.{Seen, line_at}

@@ -1,9 +1,8 @@
 -- The first named formula of the tokens, and the others.
-use Rattle.std.proofs.Common.{◌≡◌, ℕ, suc, ◌+◌, ◌-◌, ◌<◌, ◌≤◌, max, Bool, true, false, List, [], ◌∷◌, ◌++◌, length, take, drop, map, refl, ap, sym, ◌∙◌, subst, arith, leb, length-append, append-nil, append_assoc, Option, Some, None, get_or, Err}
-use Rattle.std.proofs.lemmas.Bool.Decides.{nat_tests}
+use Rattle.std.proofs.Common.{◌≡◌, ℕ, suc, ◌+◌, ◌-◌, ◌<◌, ◌≤◌, max, List, [], ◌∷◌, ◌++◌, length, take, map, refl, ap, sym, ◌∙◌, subst, arith, length-append, append-nil, append_assoc, Option, Some, None, get_or, Err}
 use Rattle.std.proofs.lemmas.List.{take_at, map-append}
 use Rattle.fx_lexer.specs.declared.token.Symbol.TheVariants as symbol
-use Rattle.fx_syntax.specs.Tree.{Tree}
+use Rattle.fx_trees.specs.Tree.{Tree}
 use Rattle.fx_grammar.specs.declared.item.Item.{Item}
 use Rattle.fx_grammar.specs.declared.item.Meaning.{Meaning}
 use Rattle.fx_grammar.specs.declared.item.Meaning.TheVariants as m
@@ -17,13 +16,14 @@ use Rattle.fx_grammar.specs.Reading.{Seen, line_at}
 use Rattle.fx_grammar.proofs.Tokens.{Below, rank}
 use Rattle.fx_grammar.proofs.Complete.{complete}
 use Rattle.fx_grammar.proofs.Sound.{Kept, Is, reads}
-use Rattle.fx_recognizer.proofs.Suffix.{Suffix, suffix}
+use Rattle.fx_grammar.proofs.Formula.{above}
+use Rattle.fx_parser.proofs.Suffix.{Suffix, suffix}
 use Rattle.fx_parser.specs.declared.entries.Named.{Named}
 use Rattle.fx_parser.specs.Texts.{named_of}
 use Rattle.std.specs.Borrow.{Bor}
-use Rattle.fx_descent.specs.declared.end.End.{End}
-use Rattle.fx_descent.specs.declared.end.End.TheVariants.{Refused, Memory}
-use Rattle.fx_descent.specs.Answer.{Gives}
+use Rattle.fx_parser.specs.declared.descent_end.End.{End}
+use Rattle.fx_parser.specs.declared.descent_end.End.TheVariants.{Refused, Memory}
+use Rattle.fx_parser.specs.Answer.{Gives}
 use Rattle.fx_parser.specs.Entries.{head_by, head_of, next_by, next_of, IsFirst, AreThese, AreRefused}
 
 -- What tokens that are named formulas begin with.
@@ -40,7 +40,7 @@ pub record Begins (ts : List Item) : Type 0 where
   pub rest : AreNamed others depth entries
   pub shallow : depth ≤ 64
 
-semicolon_below : (z : Item) (us : List Item) → z.meaning ≡ m.Symbol symbol.Semicolon → Below 11 (z ∷ us)
+pub semicolon_below : (z : Item) (us : List Item) → z.meaning ≡ m.Symbol symbol.Semicolon → Below 11 (z ∷ us)
 semicolon_below z us e = subst (λ (n : ℕ). 11 < n) (sym (ap rank e)) (omega arith)
 
 pub begins : {ts : List Item} {d : ℕ} {es : List Entry} → AreNamed ts d es → d ≤ 64 → 0 < length ts → Begins ts
@@ -72,19 +72,9 @@ begins (further_entry x y cs ts d t z rest e es f g p k q) h n = record {
   shallow = omega arith;
 }
 
-above : (n d : ℕ) → (d ≤ n → ⊥) → n < d
-above n d f = by (leb d n) refl
-  where
-    by : (b : Bool) → leb d n ≡ b → n < d
-    by true e = absurd (f (grind (arith, nat_tests)))
-    by false e = grind (arith, nat_tests)
-
 -- tokens that begin otherwise are refused
 pub unless : (ts : List Item) → 0 < length ts → (Begins ts → ⊥) → AreDeeper 64 ts
 unless ts n f d es p = above 64 d (λ h. f (begins p h n))
-
-pub no_head : (ts : List Item) → 0 < length ts → head_of ts ≡ None → AreDeeper 64 ts
-no_head ts n e = unless ts n (λ b. let f = b.is_head in cc)
 
 same_head : (ts : List Item) (cs : List ℕ) (body : List Item) → head_of ts ≡ Some (cs, body) → (b : Begins ts) → b.body ≡ body
 same_head ts cs body e b =
@@ -199,7 +189,7 @@ first_is source ts cs body s us n l e f g i = record { entry = entry cs (front b
 pub named_is : (source ds cs text : List ℕ) (at : ℕ) (t : Tree) (ts : List Item) → ds ≡ cs → at ≡ place ts → text ≡ chars (slice_range source (place ts) (end ts)) → ◌≡◌ {A = Named} (record { name = ds; at = at; text = text; expr = t }) (named_of source (entry cs ts t))
 named_is source ds cs text at t ts e f g = λ i. record { name = e i; at = f i; text = g i; expr = t }
 
-abbrev itself : Tree × ℕ × Bor (List Item) → Seen Tree
+abbrev pub itself : Tree × ℕ × Bor (List Item) → Seen Tree
 itself x = (x.0, x.1, x.2.now)
 
 pub refused_line : (ts : List Item) (cs : List ℕ) (body : List Item) (e : End) → 0 < length ts → head_of ts ≡ Some (cs, body) → Gives itself (Err e) (line_at 64 (Several join.Or) body) → AreRefused ts e

@@ -1,4 +1,15 @@
+pub mod Found
+pub mod Lines
+pub mod Whole
+pub mod RecognizedLines
+pub mod Runs
+pub mod Complete
+pub mod Suffix
+pub mod Wants
+pub mod Sound
+pub mod Finish
 pub mod Firsts
 pub mod Cuts
 pub mod Ends
 pub mod Tokens
+pub mod Back

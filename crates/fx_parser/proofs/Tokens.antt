@@ -7,8 +7,8 @@ use Rattle.fx_lexer.specs.declared.token.Token.{Token as Tok}
 use Rattle.fx_lexer.specs.Lexed.{Lexed}
 use Rattle.fx_lexer.specs.Slices.{IsSlice}
 use Rattle.fx_lexer.proofs.Readings.{lexed_one}
-use Rattle.fx_meaning.specs.Meant.{IsSound}
-use Rattle.fx_meaning.proofs.Sound.{sound_at}
+use Rattle.fx_grammar.specs.Meant.{IsSound}
+use Rattle.fx_grammar.proofs.MeantSound.{sound_at}
 use Rattle.fx_parser.specs.Details.{token_at, unexpected_by, unexpected_words}
 
 pub token_more : (at : ℕ) (ts : List Tok) (i : ℕ) (d : Tok) → i < length ts → token_at at (drop i ts) ≡ cond (eqb (get_or ts i d).at at) (Some (get_or ts i d)) (token_at at (drop (i + 1) ts))

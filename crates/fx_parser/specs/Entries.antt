@@ -3,8 +3,8 @@ use Rattle.std.specs.Prelude.{◌≡◌, ℕ, ◌≤◌, List, [], ◌∷◌, ma
 use Rattle.std.specs.Borrow.{Bor}
 use Rattle.std.specs.Str.{IsCharBoundary}
 use Rattle.fx_lexer.specs.declared.token.Symbol.TheVariants as symbol
-use Rattle.fx_descent.specs.declared.end.End.{End}
-use Rattle.fx_descent.specs.declared.end.End.TheVariants.{Refused, Memory}
+use Rattle.fx_parser.specs.declared.descent_end.End.{End}
+use Rattle.fx_parser.specs.declared.descent_end.End.TheVariants.{Refused, Memory}
 use Rattle.fx_grammar.specs.declared.item.Item.{Item}
 use Rattle.fx_grammar.specs.declared.item.Meaning.{Meaning}
 use Rattle.fx_grammar.specs.declared.item.Meaning.TheVariants as m

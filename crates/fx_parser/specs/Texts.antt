@@ -5,8 +5,8 @@ use Rattle.fx_lexer.specs.declared.token.Token.{Token}
 use Rattle.fx_lexer.specs.Lexed.{Lexed, IsBadAt}
 use Rattle.fx_grammar.specs.declared.item.Item.{Item}
 use Rattle.fx_grammar.specs.Formulas.{Entry, HasItems, IsDeeper, AreEntriesOf, AreDeeper}
-use Rattle.fx_recognizer.specs.Trees.{HasFormula, Stops}
-use Rattle.fx_recognizer.specs.Trees as trees
+use Rattle.fx_parser.specs.Trees.{HasFormula, Stops}
+use Rattle.fx_parser.specs.Trees as trees
 use Rattle.fx_parser.specs.declared.end.ParseEnd.{ParseEnd}
 use Rattle.fx_parser.specs.declared.end.ParseEnd.TheVariants.{Lex, Syntax, TooDeep, Memory}
 use Rattle.fx_parser.specs.declared.entries.Named.{Named}

@@ -2,8 +2,8 @@
 //! stack of the brackets that are open and of the operators that wait for an operand.
 ghost use Rattle.std.specs.Prelude.{◌≡◌, ◌<◌, IfOk, IfSome, length, vec_len};
 
+use crate::formula::DEEPEST;
 use fx_base::Memory;
-use fx_descent::DEEPEST;
 use fx_grammar::{Item, Meaning};
 use fx_lexer::{Symbol, Word};
 use std::alloc::Global;

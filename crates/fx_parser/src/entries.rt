@@ -4,11 +4,13 @@ ghost use Rattle.fx_grammar.specs.Grammar as grammar;
 ghost use Rattle.fx_grammar.specs.Formulas as formulas;
 ghost use Rattle.fx_parser.specs.Entries.{AreCuts, head_of, head_seen, next_of, next_seen, IsFirst, AreThese, AreRefused};
 
+use crate::descent::line;
+use crate::descent_end::End;
+use crate::formula::DEEPEST;
 use fx_data::words::Words;
-use fx_descent::{DEEPEST, End, line};
 use fx_grammar::{Item, Join, Line, Meaning};
 use fx_lexer::Symbol;
-use fx_syntax::expr::Expr;
+use fx_trees::expr::Expr;
 use std::alloc::Global;
 
 /// A named formula.

@@ -1,14 +1,25 @@
-//! Parsing formulas, alone and named: from a text to its trees.
+//! From texts to trees, by descent, and which texts have none; and from trees to texts that are read back.
 #![tactic(auto)]
 
 mod deep;
+mod descent;
+mod descent_end;
 mod details;
 mod end;
 mod entries;
+mod formula;
+mod front;
+mod machine;
 mod parse;
+pub mod reading_back;
+mod recognize;
 mod refusal;
+mod state;
+mod tails;
 
 pub use details::{bad_token, unexpected};
 pub use end::ParseEnd;
 pub use entries::Named;
+pub use fx_printer::print;
 pub use parse::{parse_formula, parse_named};
+pub use reading_back::{ReadBackEnd, read_back};

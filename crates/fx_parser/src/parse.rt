@@ -4,11 +4,12 @@ ghost use Rattle.std.specs.Str.{chars};
 ghost use Rattle.fx_grammar.specs.Formulas.{HasTree};
 ghost use Rattle.fx_parser.specs.Texts.{IsFormulaEnd, IsNamedText, AreNamedEnd};
 
+use crate::descent_end::End;
 use crate::end::ParseEnd;
 use crate::entries::{Named, entries};
+use crate::formula::parse;
 use crate::refusal::{formula_end, items_of, named_end};
-use fx_descent::{End, parse};
-use fx_syntax::expr::Expr;
+use fx_trees::expr::Expr;
 use std::alloc::Global;
 
 /// The tree of a formula of less than 2^32 bytes, by the grammar of the Power Fx formula

@@ -2,16 +2,15 @@
 ghost use Rattle.std.specs.Prelude.{◌≡◌, ◌≤◌, ◌<◌, ◌^◌, length, drop, IfOk, IfErr};
 ghost use Rattle.std.specs.Str.{chars};
 ghost use Rattle.fx_grammar.specs.Formulas.{HasItems, IsDeeper, AreDeeper};
-ghost use Rattle.fx_recognizer.specs.Trees as trees;
+ghost use Rattle.fx_parser.specs.Trees as trees;
 ghost use Rattle.fx_parser.specs.Entries.{AreCuts};
 ghost use Rattle.fx_parser.specs.Texts.{place_or, IsItemsEnd, IsLexEnd};
 
 use crate::deep::deepest;
 use crate::end::ParseEnd;
-use fx_grammar::Item;
+use crate::recognize::{Verdict, formula, named};
+use fx_grammar::{Item, items};
 use fx_lexer::{LexEnd, tokens};
-use fx_meaning::items;
-use fx_recognizer::{Verdict, formula, named};
 use std::alloc::Global;
 
 /// The tokens of a text, with what they mean.

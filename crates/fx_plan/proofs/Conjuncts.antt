@@ -1,6 +1,6 @@
 -- The comparisons among conjuncts, one conjunct after another.
-use Rattle.std.proofs.Common.{◌≡◌, ℕ, zero, suc, ◌+◌, ◌<◌, List, [], ◌∷◌, ◌++◌, length, get_or, take, refl, sym, ap, ◌∙◌, subst, arith, Bool, Option}
-use Rattle.std.proofs.lemmas.List.{take_more}
+use Rattle.std.proofs.Common.{◌≡◌, ℕ, zero, suc, ◌+◌, ◌<◌, List, [], ◌∷◌, ◌++◌, length, get_or, take, sym, ap, ◌∙◌, subst, arith, Bool, Option}
+use Rattle.std.proofs.lemmas.List.{take_more, append_assoc, append-nil}
 use Rattle.fx_data.specs.Types.{Shape}
 use Rattle.fx_plan.specs.declared.ranges.Span.{Span}
 use Rattle.fx_plan.proofs.SpanLaws.{join_spans, take_first, take_second}
@@ -14,17 +14,9 @@ taken_part t k [] i c l e h = absurd (omega (arith, l))
 taken_part t k (d ∷ cs) zero c l e h = subst (λ (x : Condition). AllTaken t (comparisons k x)) (sym e) (take_first t (comparisons k d) (all_comparisons k (condition_list cs)) h)
 taken_part t k (d ∷ cs) (suc i) c l e h = taken_part t k cs i c (omega (arith, l)) e (take_second t (comparisons k d) (all_comparisons k (condition_list cs)) h)
 
-assoc : {A : Type 0} (xs ys zs : List A) → (xs ++ ys) ++ zs ≡ xs ++ (ys ++ zs)
-assoc [] ys zs = refl
-assoc (x ∷ xs) ys zs = ap (λ us. x ∷ us) (assoc xs ys zs)
-
-behind_none : {A : Type 0} (xs : List A) → xs ++ [] ≡ xs
-behind_none [] = refl
-behind_none (x ∷ xs) = ap (λ us. x ∷ us) (behind_none xs)
-
 more : (k : ℕ) (cs : List Condition) (c : Condition) → all_comparisons k (condition_list (cs ++ c ∷ [])) ≡ all_comparisons k (condition_list cs) ++ comparisons k c
-more k [] c = behind_none (comparisons k c)
-more k (d ∷ cs) c = ap (λ us. comparisons k d ++ us) (more k cs c) ∙ sym (assoc (comparisons k d) (all_comparisons k (condition_list cs)) (comparisons k c))
+more k [] c = append-nil (comparisons k c)
+more k (d ∷ cs) c = ap (λ us. comparisons k d ++ us) (more k cs c) ∙ sym (append_assoc (comparisons k d) (all_comparisons k (condition_list cs)) (comparisons k c))
 
 -- the span with one conjunct more
 pub span_more : (n : Bool) (k : ℕ) (cs : List Condition) (i : ℕ) (c : Condition) (found next now : Option Span) → i < length cs → c ≡ get_or cs i c →

@@ -1,9 +1,8 @@
 -- The order of keys, and of what lies between two of them.
 use Rattle.std.proofs.Common.{◌≡◌, ℕ, zero, suc, List, [], ◌∷◌, ◌++◌, refl, sym, ap, ◌∙◌, arith, ◌<◌, Bool, true, false, not, cond, ◌&&◌}
 use Rattle.std.specs.Cmp.{IsTotalOrder}
-use Rattle.std.specs.Cmp.Lexicographic.{slice_cmp, nat_list_cmp_total, texts_ties}
+use Rattle.std.specs.Cmp.Lexicographic.{slice_cmp, nat_list_cmp_total}
 use Rattle.std.specs.Ordering.{nat_cmp, ordering_then, ordering_reverse, is_le, is_lt, is_gt, is_eq}
-use Rattle.std.specs.Prelude.{bytes_eq}
 use Rattle.std.specs.declared.cmp.Ordering.{Ordering}
 use Rattle.std.specs.declared.cmp.Ordering.TheVariants.{Less, Equal, Greater}
 use Rattle.std.proofs.lemmas.Cmp.{upto}
@@ -125,14 +124,3 @@ least_below (b ∷ bs) = refl
 pub none_below : (bs : List ℕ) → is_lt (R (1 ∷ bs) (1 ∷ [])) ≡ false
 none_below [] = refl
 none_below (b ∷ bs) = refl
-
-pub texts_same : (cs ds : List ℕ) → (is_le (R cs ds) && is_le (R ds cs)) ≡ bytes_eq ds cs
-texts_same cs ds = le_le R nat_list_cmp_total cs ds ∙ sym (texts_ties ds cs)
-
-pub le_lt : (a b c : List ℕ) → is_le (R a b) ≡ true → is_lt (R b c) ≡ true → is_lt (R a c) ≡ true
-le_lt a b c h e = lt_is R nat_list_cmp_total a c ∙ go (is_le (R c a)) refl
-  where
-    go : (t : Bool) → is_le (R c a) ≡ t → not t ≡ true
-    go false f = refl
-    go true f = absurd (let g : is_le (R c b) ≡ true = le_trans R nat_list_cmp_total c a b f h in
-        let i : is_le (R c b) ≡ false = not_false _ (sym (lt_is R nat_list_cmp_total b c) ∙ e) in cc)

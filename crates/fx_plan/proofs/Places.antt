@@ -1,11 +1,11 @@
 -- The column of ranges, one column after another.
-use Rattle.std.proofs.Common.{◌≡◌, ℕ, zero, suc, ◌+◌, ◌<◌, List, [], ◌∷◌, length, drop, drop-cons, get_or, refl, sym, ap, ◌∙◌, arith, add-one, Bool, true, false, not, ◌&&◌, ◌||◌, Option, Some, subst}
+use Rattle.std.proofs.Common.{◌≡◌, ℕ, zero, suc, ◌+◌, ◌<◌, List, [], ◌∷◌, length, drop, drop-cons, get_or, refl, sym, ap, ◌∙◌, arith, Bool, true, false, not, ◌&&◌, ◌||◌, Option, Some, subst}
 use Rattle.std.proofs.Common.{◌⊎◌, inl, inr}
 use Rattle.std.specs.Prelude.{IsSomeAnd, slice_get, option_map}
 use Rattle.fx_data.specs.TypeView.{shape}
 use Rattle.fx_data.specs.Types.{Shape, numbers}
-use Rattle.fx_names.specs.declared.schema.Column.{Column}
-use Rattle.fx_names.specs.declared.schema.TableShape.{TableShape}
+use Rattle.fx_trees.specs.declared.schema.Column.{Column}
+use Rattle.fx_trees.specs.declared.schema.TableShape.{TableShape}
 use Rattle.fx_plan.proofs.SpanLaws.{span_sought}
 use Rattle.fx_plan.specs.declared.ranges.Reach.{Reach}
 use Rattle.fx_plan.specs.declared.ranges.Span.{Span}
@@ -19,13 +19,6 @@ use Rattle.row_queries.specs.declared.ranges.KeyRange.{KeyRange}
 pub reached_here : (cs : List Column) (test : Condition) (i : ℕ) (c : Column) → i < length cs → c ≡ get_or cs i c → is_reached c (i + 1) test ≡ true → first_reached (i + 1) (drop i cs) test ≡ Some (i + 1)
 reached_here [] test i c l e h = absurd (omega (arith, l))
 reached_here cs test i c l e h = rw (drop-cons cs i c l, ← e, h) refl
-
-pub passed_here : (cs : List Column) (test : Condition) (i : ℕ) (c : Column) → i < length cs → c ≡ get_or cs i c → is_reached c (i + 1) test ≡ false →
-    first_reached (i + 1) (drop i cs) test ≡ first_reached (i + 1 + 1) (drop (i + 1) cs) test
-passed_here [] test i c l e h = absurd (omega (arith, l))
-passed_here cs test i c l e h =
-    let next : i + 1 + 1 ≡ suc (i + 1) = omega arith in
-    subst (λ (n : ℕ). first_reached (i + 1) (drop i cs) test ≡ first_reached n (drop (i + 1) cs) test) (sym next) (rw (drop-cons cs i c l, ← e, h, add-one) refl)
 
 -- its type
 type_at : (cs : List Column) (i : ℕ) (c : Column) → i < length cs → c ≡ get_or cs i c → option_map (λ (d : Column). shape d.ty) (slice_get cs i) ≡ Some (shape c.ty)

@@ -3,8 +3,8 @@ use Rattle.std.proofs.Common.{◌≡◌, ◌⊎◌, ℕ, zero, suc, ◌≤◌, L
 use Rattle.std.specs.Prelude.{IfSome, slice_get}
 use Rattle.std.specs.List.{list_any}
 use Rattle.fx_data.specs.Values.{Data}
-use Rattle.fx_names.specs.declared.schema.TableShape.{TableShape}
-use Rattle.fx_names.specs.Lawful.{IsLawfulTable}
+use Rattle.fx_trees.specs.declared.schema.TableShape.{TableShape}
+use Rattle.fx_trees.specs.Lawful.{IsLawfulTable}
 use Rattle.fx_plan.proofs.Suiting.{can_ask, takes_them}
 use Rattle.fx_plan.specs.declared.plans.Sketch.{Sketch}
 use Rattle.fx_plan.specs.Outlines.{filled}

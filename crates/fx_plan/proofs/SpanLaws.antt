@@ -8,21 +8,22 @@ use Rattle.std.specs.Cmp.Lexicographic.{nat_list_cmp_total}
 use Rattle.std.specs.declared.cmp.Ordering.{Ordering}
 use Rattle.std.specs.declared.cmp.Ordering.TheVariants.{Less, Equal, Greater}
 use Rattle.std.proofs.lemmas.List.Folds.{list_all-append}
+use Rattle.std.proofs.lemmas.List.{append-nil}
 use Rattle.fx_data.specs.declared.comparisons.Cmp.{Cmp}
 use Rattle.fx_data.specs.declared.comparisons.Cmp.TheVariants.{Eq, Ne, Lt, Le, Gt, Ge}
 use Rattle.fx_data.specs.Types.{Shape, blanks, numbers, texts, booleans, dates}
 use Rattle.fx_data.specs.Values.{Data, blank, number, text, boolean, date, rec, tab, fault}
 use Rattle.fx_number.specs.Decimal.{IsInRange}
-use Rattle.fx_order.specs.Keys.{IsProper, KeysOrder, key_bytes}
-use Rattle.fx_order.specs.Operators.{holds_of, takes}
-use Rattle.fx_order.specs.Order.{AreOfOneType, IsScalar, order}
+use Rattle.fx_value.specs.Keys.{IsProper, KeysOrder, key_bytes}
+use Rattle.fx_value.specs.Operators.{holds_of, takes}
+use Rattle.fx_value.specs.Order.{AreOfOneType, IsScalar, order}
 use Rattle.fx_plan.proofs.KeyOrder.{R, after_from, before_after, from_max, le_le, le_trans, least_below, none_below, upto_min}
 use Rattle.fx_plan.specs.declared.ranges.Span.{Span}
 use Rattle.fx_plan.specs.Ranges.{AllTaken, AreSought, Comparison, Compares, IsTaken, is_blank, is_empty, is_numbers, meets_all}
 use Rattle.fx_plan.specs.Spans.{IsSpan, IsSpanOf, after, blank_range, both_ranges, both_spans, both_upto, joined_spans, least, no_keys, range_by, range_by_blank, range_of, span_ranges}
 use Rattle.fx_value.specs.Fits.{fits_in}
 use Rattle.row_queries.specs.declared.ranges.KeyRange.{KeyRange}
-use Rattle.row_queries.specs.Ranges.{AreRising, in_range, in_ranges, is_before_end}
+use Rattle.row_queries.specs.Ranges.{in_range, in_ranges, is_before_end}
 
 and_true : (a b : Bool) → a ≡ true → (a && b) ≡ b
 and_true a b h = rw h refl
@@ -350,13 +351,9 @@ two_spans n a b ps qs h k = record {
     max_above true = k.above
     max_above false = h.above
 
-behind_none : {A : Type 0} (xs : List A) → xs ++ [] ≡ xs
-behind_none [] = refl
-behind_none (x ∷ xs) = ap (λ us. x ∷ us) (behind_none xs)
-
 pub join_spans : (n : Bool) (a b : Option Span) (ps qs : List Comparison) → IsSpanOf n a ps → IsSpanOf n b qs → IsSpanOf n (joined_spans a b) (ps ++ qs)
 join_spans n None b ps qs h k = subst (λ us. IsSpanOf n b (us ++ qs)) (sym h) k
-join_spans n (Some a) None ps qs h k = subst (λ us. IsSpan n a us) (sym (ap (λ us. ps ++ us) k ∙ behind_none ps)) h
+join_spans n (Some a) None ps qs h k = subst (λ us. IsSpan n a us) (sym (ap (λ us. ps ++ us) k ∙ append-nil ps)) h
 join_spans n (Some a) (Some b) ps qs h k = two_spans n a b ps qs h k
 
 -- ---- the ranges of a span
@@ -400,10 +397,3 @@ span_sought t s ps h k (text cs) u p f = value_sought (is_numbers t) t refl s ps
 span_sought t s ps h k (boolean x) u p f = value_sought (is_numbers t) t refl s ps h k (boolean x) u p f refl
 span_sought t s ps h k (date z) u p f = value_sought (is_numbers t) t refl s ps h k (date z) u p f refl
 span_sought t s ps h k d u p f = absurd u
-
-pub span_rises : (n : Bool) (s : Span) (ps : List Comparison) → IsSpan n s ps → AreRising (span_ranges n s)
-span_rises n s ps h = go (s.blank || (n && s.zero))
-  where
-    go : (t : Bool) → AreRising (cond t (blank_range ∷ []) [] ++ s.range ∷ [])
-    go true = ((h.above, tt), (tt, tt))
-    go false = (tt, tt)

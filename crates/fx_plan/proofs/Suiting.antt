@@ -12,11 +12,11 @@ use Rattle.fx_data.specs.declared.types.Ty.TheVariants as ty
 use Rattle.fx_data.specs.TypeView.{shape}
 use Rattle.fx_data.specs.Types.{Shape, numbers, texts, booleans, dates}
 use Rattle.fx_data.specs.Values.{Data, blank, number, text, boolean, date, rec, tab, fault}
-use Rattle.fx_names.specs.declared.schema.Column.{Column}
-use Rattle.fx_names.specs.declared.schema.TableShape.{TableShape}
-use Rattle.fx_names.specs.Lawful.{IsColumnType, IsLawfulTable}
-use Rattle.fx_order.specs.Operators.{AreOrdered, CanCompare}
-use Rattle.fx_order.specs.Order.{AreOfOneType, IsScalar}
+use Rattle.fx_trees.specs.declared.schema.Column.{Column}
+use Rattle.fx_trees.specs.declared.schema.TableShape.{TableShape}
+use Rattle.fx_trees.specs.Lawful.{IsColumnType, IsLawfulTable}
+use Rattle.fx_value.specs.Operators.{AreOrdered, CanCompare}
+use Rattle.fx_value.specs.Order.{AreOfOneType, IsScalar}
 use Rattle.fx_plan.specs.Outlines.{AreWithin, IsWithin, Outline, OutlineList, value_at, always, flag, constant, compares, is_blank, starts, contains, all_of, any_of, opposite, no_outlines, with, all_filled, filled}
 use Rattle.fx_plan.specs.Plans.{AllSuit, Suits, is_fault}
 use Rattle.fx_plan.specs.Ranges.{AllTaken, Comparison, Compares, TakesComparisons, all_comparisons, column_type, comparisons, serves}

@@ -1,22 +1,12 @@
 -- A code of outlines, by which proofs tell them apart.
-use Rattle.std.specs.Prelude.{◌≡◌, refl, ℕ, List}
+use Rattle.std.specs.Prelude.{◌≡◌, refl, List}
 use Rattle.std.proofs.Common.{ap}
 use Rattle.std.specs.Coded.{Coded, coded_list}
 use base.Stored.{Gv, gnil, gnum, gcons}
 use Rattle.fx_data.specs.contracts.comparisons.Cmp.{the_row as cmp_row}
 use Rattle.fx_plan.specs.Outlines.{Outline, OutlineList, always, flag, constant, compares, is_blank, starts, contains, all_of, any_of, opposite, no_outlines, with}
-
-abbrev front : Gv → Gv
-front (gcons a b) = a
-front g = gnil
-
-abbrev back : Gv → Gv
-back (gcons a b) = b
-back g = gnil
-
-abbrev count : Gv → ℕ
-count (gnum n) = n
-count g = 0
+use Rattle.fx_trees.specs.TermCode.{front, back}
+use Rattle.row_queries.specs.ConditionCode.{count}
 
 abbrev mutual
   of_outline : Outline → Gv

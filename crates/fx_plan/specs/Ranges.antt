@@ -6,11 +6,11 @@ use Rattle.fx_data.specs.declared.comparisons.Cmp.TheVariants.{Eq, Ne}
 use Rattle.fx_data.specs.TypeView.{shape}
 use Rattle.fx_data.specs.Types.{Shape, numbers, dates}
 use Rattle.fx_data.specs.Values.{Data, blank, number}
-use Rattle.fx_names.specs.declared.schema.Column.{Column}
-use Rattle.fx_names.specs.declared.schema.TableShape.{TableShape}
-use Rattle.fx_order.specs.Keys.{IsProper, key_bytes}
-use Rattle.fx_order.specs.Operators.{holds_of}
-use Rattle.fx_order.specs.Order.{IsScalar}
+use Rattle.fx_trees.specs.declared.schema.Column.{Column}
+use Rattle.fx_trees.specs.declared.schema.TableShape.{TableShape}
+use Rattle.fx_value.specs.Keys.{IsProper, key_bytes}
+use Rattle.fx_value.specs.Operators.{holds_of}
+use Rattle.fx_value.specs.Order.{IsScalar}
 use Rattle.fx_plan.specs.declared.ranges.Reach.{Reach}
 use Rattle.fx_value.specs.Fits.{fits_in}
 use Rattle.row_queries.specs.Conditions.{Condition, ConditionList, compares, all_of, no_conditions, also}

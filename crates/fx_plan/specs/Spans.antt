@@ -6,8 +6,8 @@ use Rattle.fx_data.specs.declared.comparisons.Cmp.{Cmp}
 use Rattle.fx_data.specs.declared.comparisons.Cmp.TheVariants.{Eq, Ne, Lt, Le, Gt, Ge}
 use Rattle.fx_data.specs.Types.{Shape}
 use Rattle.fx_data.specs.Values.{Data, blank, number}
-use Rattle.fx_order.specs.Keys.{IsProper, key_bytes}
-use Rattle.fx_order.specs.Order.{IsScalar}
+use Rattle.fx_value.specs.Keys.{IsProper, key_bytes}
+use Rattle.fx_value.specs.Order.{IsScalar}
 use Rattle.fx_plan.specs.declared.ranges.Span.{Span}
 use Rattle.fx_plan.specs.Ranges.{AllTaken, Comparison, is_blank, is_empty, is_numbers, meets_all}
 use Rattle.fx_value.specs.Fits.{fits_in}

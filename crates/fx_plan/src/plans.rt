@@ -12,8 +12,7 @@ use crate::patterns::Pattern;
 use crate::ranges::{Reach, everything, ranges_of};
 use fx_base::Memory;
 use fx_data::Value;
-use fx_names::{Schema, TableShape};
-use fx_typed::CoreArgs;
+use fx_trees::{CoreArgs, Schema, TableShape};
 use row_queries::{Query, Test};
 use std::alloc::Global;
 

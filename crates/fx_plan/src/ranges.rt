@@ -4,9 +4,9 @@ ghost use Rattle.fx_data.specs.declared.comparisons.Cmp.TheVariants.{Ne};
 ghost use Rattle.fx_data.specs.TypeView.{shape};
 ghost use Rattle.fx_data.specs.ValueView.{view};
 ghost use Rattle.fx_data.specs.Values.{number};
-ghost use Rattle.fx_order.specs.Keys.{key_bytes};
-ghost use Rattle.fx_order.specs.Operators.{holds_of};
-ghost use Rattle.fx_order.specs.Order.{IsScalar};
+ghost use Rattle.fx_value.specs.Keys.{key_bytes};
+ghost use Rattle.fx_value.specs.Operators.{holds_of};
+ghost use Rattle.fx_value.specs.Order.{IsScalar};
 ghost use Rattle.fx_plan.specs.Ranges.{AllTaken, IsReach, NoRowIsMissed, TakesComparisons, everything as everything_of, all_comparisons, comparisons, is_numbers, is_reached, serves};
 ghost use Rattle.fx_plan.specs.Spans.{AreTakenBy, IsSpan, IsSpanOf, after as after_key, both_from, both_ranges, both_spans, both_upto, joined_spans, least as least_key, no_keys as nothing, range_by as by_constant, range_by_blank as by_blank, range_of as of_constant, span_ranges};
 ghost use Rattle.row_queries.specs.Conditions.{condition_list};
@@ -15,9 +15,9 @@ ghost use Rattle.row_queries.specs.Ranges.{AreRising, HoldEveryKey};
 
 use fx_base::{InOrder, Memory};
 use fx_data::{Cmp, Ty, Value};
-use fx_names::{Column, TableShape};
 use fx_number::Num;
-use fx_order::{compare_is_total, holds, key_of, keys_order, value_is_proper};
+use fx_trees::{Column, TableShape};
+use fx_value::{compare_is_total, holds, key_of, keys_order, value_is_proper};
 use row_queries::{Key, KeyRange, RangeList, Test, TestNode};
 use std::alloc::Global;
 

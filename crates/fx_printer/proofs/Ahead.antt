@@ -21,7 +21,9 @@ use Rattle.fx_grammar.specs.declared.item.Meaning.{Meaning}
 use Rattle.fx_grammar.specs.declared.item.Meaning.TheVariants as m
 use Rattle.fx_grammar.specs.Means.{between_quotes, item, Means, AllMean, no_more, one_more}
 use Rattle.fx_grammar.specs.Means as means
+use Rattle.fx_grammar.proofs.Spoken.{quote_class}
 use Rattle.fx_lexer.proofs.Follows.{SymbolEnds, symbol_before, word_before, name_before, quoted_name_before, text_before, space_before, opening_before, closing_before, island_before, piece_before}
+use Rattle.fx_lexer.proofs.Texts.{both}
 use Rattle.fx_printer.specs.Printing.{begins_name, all_in_name, is_some_word, is_plain, name_text}
 
 -- From this byte, in es, the characters are read to their end as these tokens.
@@ -128,12 +130,6 @@ pub safe_dot : (k : List ℕ) → run in_number k ≡ 0 → Safe (46 ∷ k)
 unfolding class_at
 safe_dot k h = record { name = refl; number = rw h refl; text = refl; quote = refl }
 
--- plain names
-both : (a b : Bool) → (a && b) ≡ true → (a ≡ true) × (b ≡ true)
-both true true e = (refl, refl)
-both true false e = cc
-both false b e = cc
-
 letter_is : (k : Class) → begins_name k ≡ true → k ≡ Letter
 letter_is White e = cc
 letter_is Digit e = cc
@@ -160,10 +156,6 @@ word_is word.False = refl
 
 not_word : (cs : List ℕ) → word_at cs ≡ None → (w : Word) → cs ≢ word_spelling w
 not_word cs h w e = let g : ◌≡◌ {A = Option Word} None (Some w) = sym h ∙ ap word_at e ∙ word_is w in absurd cc
-
-pub quote_class : class_at 39 ≡ Other
-unfolding class_at
-quote_class = refl
 
 no_quote : (c : ℕ) → class_at c ≡ Letter → eqb c 39 ≡ false
 no_quote c h = by (eqb c 39) refl

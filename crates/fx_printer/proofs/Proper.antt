@@ -10,10 +10,10 @@ use Rattle.fx_lexer.specs.declared.element.Enclosing.{Enclosing}
 use Rattle.fx_lexer.specs.declared.element.Mode.{Mode}
 use Rattle.fx_lexer.specs.Spelling.{class_at, is_quote, doubled}
 use Rattle.fx_lexer.specs.Lexed.{Lexeme, mode_in, Reads, stop, skip, token}
-use Rattle.fx_syntax.specs.declared.expr.Op.{Op}
-use Rattle.fx_syntax.specs.declared.expr.Op.TheVariants as op
-use Rattle.fx_syntax.specs.Tree.{Tree, node, Head, Forest, none, more, forest, names_of, parts_of}
-use Rattle.fx_syntax.specs.Tree as tree
+use Rattle.fx_trees.specs.declared.expr.Op.{Op}
+use Rattle.fx_trees.specs.declared.expr.Op.TheVariants as op
+use Rattle.fx_trees.specs.Tree.{Tree, node, Head, Forest, none, more, forest, names_of, parts_of}
+use Rattle.fx_trees.specs.Tree as tree
 use Rattle.fx_grammar.specs.declared.item.Item.{Item}
 use Rattle.fx_grammar.specs.declared.item.Meaning.{Meaning}
 use Rattle.fx_grammar.specs.declared.item.Meaning.TheVariants as m
@@ -21,7 +21,7 @@ use Rattle.fx_grammar.specs.declared.line.Join.{Join}
 use Rattle.fx_grammar.specs.declared.line.Join.TheVariants as join
 use Rattle.fx_grammar.specs.declared.line.Separator.{Separator}
 use Rattle.fx_grammar.specs.declared.line.Line.{Line}
-use Rattle.fx_grammar.specs.Means.{between_quotes, item, Means, AllMean, no_more, one_more}
+use Rattle.fx_grammar.specs.Means.{between_quotes, Means, AllMean, no_more, one_more}
 use Rattle.fx_grammar.specs.Means as means
 use Rattle.fx_grammar.specs.Grammar.{place, head_of, sign, leaf_of, callee, Parses, plain, ended, one, many, first, next, no_alias, aliased, no_sign, signed, base, raised, no_percent, percent, no_dot, dotted, leaf, a_global, a_call, brackets, a_record, a_list, a_weave, Parts, alone, further, Args, no_args, some_args, Field, field, SomeFields, one_field, further_field, Fields, no_fields, some_fields, Strands, no_strands, piece, island}
 use Rattle.fx_number.specs.Decimal.{greatest}
@@ -30,7 +30,7 @@ use Rattle.fx_lexer.specs.Spelling.{Spelt, white, line_comment, block_comment, n
 use Rattle.fx_lexer.proofs.Judge.{spelt_long}
 use Rattle.fx_lexer.proofs.Covers.{quoted_long}
 use Rattle.fx_grammar.specs.Grammar.{IsFormula, bare, marked}
-use Rattle.fx_printer.proofs.Ahead.{quote_class}
+use Rattle.fx_grammar.proofs.Spoken.{quote_class}
 
 abbrev pub HasSome : List ℕ → Type 0
 HasSome [] = ⊥

@@ -1,6 +1,6 @@
 -- Trees that differ in positions alone.
 use Rattle.std.specs.Prelude.{◌≡◌, ℕ, List}
-use Rattle.fx_syntax.specs.Tree.{Tree, node, Forest, none, more}
+use Rattle.fx_trees.specs.Tree.{Tree, node, Forest, none, more}
 use Rattle.fx_grammar.specs.Formulas.{HasTree}
 
 -- the tree with 0 for each position

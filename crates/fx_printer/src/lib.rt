@@ -3,8 +3,6 @@
 
 mod names;
 mod precedence;
-#[cfg(test)]
-mod tests;
 mod write;
 mod writer;
 

@@ -6,11 +6,11 @@ use Rattle.fx_data.specs.Types.{Shape, blanks, numbers, texts, booleans, dates}
 use Rattle.fx_data.specs.Values.{Data, blank, number, boolean, rec, fault}
 use Rattle.fx_value.specs.Coercion.{IsReadAs}
 use Rattle.fx_value.specs.Fits.{fits_in}
-use Rattle.fx_functions.specs.declared.functions.Fun.{Fun}
-use Rattle.fx_functions.specs.declared.functions.Fun.TheVariants as fun
-use Rattle.fx_functions.specs.declared.rows.Answer.{Answer}
-use Rattle.fx_functions.specs.declared.rows.Answer.TheVariants as answer
-use Rattle.fx_functions.specs.Rows.{row_of}
+use Rattle.fx_trees.specs.declared.functions.Fun.{Fun}
+use Rattle.fx_trees.specs.declared.functions.Fun.TheVariants as fun
+use Rattle.fx_trees.specs.declared.rows.Answer.{Answer}
+use Rattle.fx_trees.specs.declared.rows.Answer.TheVariants as answer
+use Rattle.fx_trees.specs.Rows.{row_of}
 use Rattle.fx_scalar.specs.Answers.{IsPosition, OfDate, UnlessFault, date_answer, maybe_answer, number_answer, text_answer}
 use Rattle.fx_scalar.specs.Arguments.{at, date_at, first_fault, text_at}
 use Rattle.fx_scalar.specs.Errors.{IsErrorOf, error_of}

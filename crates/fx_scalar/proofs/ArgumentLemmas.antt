@@ -8,8 +8,8 @@ use Rattle.std.specs.Slice.{IsItemAt}
 use Rattle.fx_data.specs.Values.{Data, blank}
 use Rattle.fx_data.specs.ValueView.{view}
 use Rattle.fx_data.specs.declared.values.Value.{Value}
-use Rattle.fx_functions.specs.declared.functions.Fun.{Fun}
-use Rattle.fx_functions.specs.Rows.{row_of}
+use Rattle.fx_trees.specs.declared.functions.Fun.{Fun}
+use Rattle.fx_trees.specs.Rows.{row_of}
 use Rattle.fx_scalar.specs.Arguments.{at, views}
 use Rattle.fx_scalar.specs.ScalarFunctions.{CanApply, comparison_of, is_value}
 

@@ -11,7 +11,8 @@ use Rattle.fx_data.specs.declared.faults.Kind.{Kind}
 use Rattle.fx_data.specs.declared.values.Value.{Value}
 use Rattle.fx_data.specs.declared.values.Value.TheVariants.{Blank, Number, Text, Boolean, Date, Rec, Tab, Fault}
 use Rattle.fx_value.specs.Coercion.{CanCoerce, same, value_in}
-use Rattle.fx_scalar.specs.Errors.{RecordsTell, kind_name}
+use Rattle.fx_data.specs.Faults.{kind_name}
+use Rattle.fx_scalar.specs.Errors.{RecordsTell}
 
 -- a value without parts can be coerced to a text
 pub text_coercion : (v : Value) → ((fs : List (List ℕ × Data)) → v ≡ Rec fs → ⊥) → ((rs : List (List (List ℕ × Data))) → v ≡ Tab rs → ⊥) → CanCoerce (view v) texts

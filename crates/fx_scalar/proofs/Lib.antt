@@ -3,5 +3,5 @@ pub mod ArgumentLemmas
 pub mod Comparing
 pub mod ErrorLemmas
 pub mod OneAnswer
-mod Single
+pub mod Single
 mod TextLemmas

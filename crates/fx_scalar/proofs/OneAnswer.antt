@@ -4,11 +4,11 @@ use Rattle.std.specs.Prelude.{◌+ℤ◌, ◌-ℤ◌, neg_ℤ, encode_utf8_all}
 use Rattle.fx_number.specs.Decimal.{product_of, quotient_of, rounded_to}
 use Rattle.fx_number.specs.declared.Way.TheVariants.{Near, Up, Down, Floor}
 use Rattle.fx_data.specs.Values.{Data, boolean}
-use Rattle.fx_numeric.specs.Folds.{present}
-use Rattle.fx_functions.specs.declared.functions.Fun.{Fun}
-use Rattle.fx_functions.specs.declared.functions.Fun.TheVariants as fun
-use Rattle.fx_calendar.specs.Civil.{civil_of}
-use Rattle.fx_dates.specs.Dates.{difference, number_of_parts, weekday_of}
+use Rattle.fx_builtins.specs.Folds.{present}
+use Rattle.fx_trees.specs.declared.functions.Fun.{Fun}
+use Rattle.fx_trees.specs.declared.functions.Fun.TheVariants as fun
+use Rattle.fx_value.specs.Civil.{civil_of}
+use Rattle.fx_builtins.specs.Dates.{difference, number_of_parts, weekday_of}
 use Rattle.fx_scalar.specs.Answers.{IsPosition, UnlessFault, date_answer, maybe_answer, number_answer, text_answer}
 use Rattle.fx_scalar.specs.Arguments.{at, date_at, maybe_number, maybe_whole_at, number_at, text_at, whole_at}
 use Rattle.fx_scalar.specs.ScalarFunctions.{IsResult, answered_fault, start_of}

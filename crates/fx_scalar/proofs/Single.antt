@@ -17,17 +17,17 @@ use Rattle.fx_data.specs.Days.{IsDay}
 use Rattle.fx_data.specs.Types.{texts}
 use Rattle.fx_data.specs.Values.{Data, blank, number, text, boolean, date, rec, tab, fault}
 use Rattle.fx_value.specs.Coercion.{IsCoerced, IsReadAs, are_spaces, value_in}
-use Rattle.fx_calendar.specs.Civil.{civil_of}
-use Rattle.fx_calendar.proofs.CivilDays.{civil_is_date}
-use Rattle.fx_functions.specs.declared.literals.TimeUnit.{TimeUnit}
-use Rattle.fx_functions.specs.declared.literals.TimeUnit.TheVariants.{Days, Months, Quarters, Years}
-use Rattle.fx_dates.specs.Dates.{IsDayOrInvalid, IsInMonth, IsInMonthOrInvalid, IsLater, IsShifted}
-use Rattle.fx_dates.specs.Months.{year_of, month_of, month_number}
-use Rattle.fx_numeric.specs.Numbers.{AsKind, with_kind}
-use Rattle.fx_numeric.specs.Folds.{IsGreatest, IsLeast, IsSum}
-use Rattle.fx_text.specs.Search.{IsFirst, IsFound, IsFoundFrom, position_of}
-use Rattle.fx_text.specs.Substitution.{IsSubstituted, substitute_of}
-use Rattle.fx_text.proofs.Replacing.{one_list}
+use Rattle.fx_value.specs.Civil.{civil_of}
+use Rattle.fx_value.proofs.CivilDays.{civil_is_date}
+use Rattle.fx_trees.specs.declared.literals.TimeUnit.{TimeUnit}
+use Rattle.fx_trees.specs.declared.literals.TimeUnit.TheVariants.{Days, Months, Quarters, Years}
+use Rattle.fx_builtins.specs.Dates.{IsDayOrInvalid, IsInMonth, IsInMonthOrInvalid, IsLater, IsShifted}
+use Rattle.fx_builtins.specs.Months.{year_of, month_of, month_number}
+use Rattle.fx_builtins.specs.Numbers.{AsKind, with_kind}
+use Rattle.fx_builtins.specs.Folds.{IsGreatest, IsLeast, IsSum}
+use Rattle.fx_builtins.specs.Search.{IsFirst, IsFound, IsFoundFrom, position_of}
+use Rattle.fx_builtins.specs.Substitution.{IsSubstituted, substitute_of}
+use Rattle.fx_builtins.proofs.Replacing.{one_list, trichotomy}
 use Rattle.fx_scalar.specs.Errors.{IsErrorOf, error_of}
 use Rattle.fx_scalar.specs.Answers.{IsPosition, IsWhole, OfDate, number_answer}
 use Rattle.fx_scalar.specs.ScalarFunctions.{IsDateRead}
@@ -224,9 +224,6 @@ date_read_one bs (Err d) (Ok z) h k = (h.0 z).1 ((k.0 z).0 refl)
 date_read_one bs (Err d) (Err e) h k = ap Err (h.1 ∙ sym k.1)
 
 -- ---- texts
-trichotomy : (p q : ℕ) → (p < q) ⊎ ((p ≡ q) ⊎ (q < p))
-trichotomy p q = grind arith
-
 first_one : (part all : List ℕ) (from p q : ℕ) → IsFirst part all from p → IsFirst part all from q → p ≡ q
 first_one part all from p q h k = elim (trichotomy p q) [
   | inl l ↦ absurd (k.first p h.behind l h.stands)

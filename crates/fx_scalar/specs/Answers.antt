@@ -3,7 +3,7 @@ use Rattle.std.specs.Prelude.{◌≡◌, ℕ, ℤ, pos, ◌*ℤ◌, Bool, List, 
 use Rattle.fx_number.specs.Decimal.{Checked}
 use Rattle.fx_data.specs.declared.faults.Kind.{Kind}
 use Rattle.fx_data.specs.Values.{Data, blank, number, text, boolean, date, fault}
-use Rattle.fx_numeric.specs.Numbers.{AsKind}
+use Rattle.fx_builtins.specs.Numbers.{AsKind}
 
 abbrev pub number_answer : Result ℤ Kind → Data
 number_answer (Ok z) = number z

@@ -4,7 +4,7 @@ use Rattle.std.specs.Prelude.{ℕ, ℤ, pos, Bool, false, List, [], ◌∷◌, m
 use Rattle.fx_data.specs.Values.{Data, blank, number, text, boolean, date, fault}
 use Rattle.fx_data.specs.ValueView.{view}
 use Rattle.fx_data.specs.declared.values.Value.{Value}
-use Rattle.fx_numeric.specs.Numbers.{whole_part_of}
+use Rattle.fx_builtins.specs.Numbers.{whole_part_of}
 
 abbrev pub views : List Value → List Data
 views = map view

@@ -1,24 +1,13 @@
 -- Errors as records, and the errors that records tell.
 use Rattle.std.specs.Prelude.{◌≡◌, ℕ, List, codes, unwrap_or, encode_utf8_all}
 use Rattle.fx_data.specs.declared.faults.Kind.{Kind}
-use Rattle.fx_data.specs.declared.faults.Kind.TheVariants.{Div0, Numeric, InvalidArgument, NotFound, MissingRequired, ConstraintViolated, QuotaExceeded, Validation, Custom}
+use Rattle.fx_data.specs.declared.faults.Kind.TheVariants.{Custom}
+use Rattle.fx_data.specs.Faults.{kind_name}
 use Rattle.fx_data.specs.Types.{texts}
 use Rattle.fx_data.specs.Values.{Data, blank, text, rec, fault, no_fields, field}
 use Rattle.fx_value.specs.Coercion.{IsCoerced, value_in}
-use Rattle.fx_functions.specs.Literals.{error_kind}
+use Rattle.fx_trees.specs.Literals.{error_kind}
 use Rattle.fx_scalar.specs.Arguments.{text_in}
-
--- the name of a kind
-abbrev pub kind_name : Kind → List ℕ
-kind_name Div0 = codes "Div0"
-kind_name Numeric = codes "Numeric"
-kind_name InvalidArgument = codes "InvalidArgument"
-kind_name NotFound = codes "NotFound"
-kind_name MissingRequired = codes "MissingRequired"
-kind_name ConstraintViolated = codes "ConstraintViolated"
-kind_name QuotaExceeded = codes "QuotaExceeded"
-kind_name Validation = codes "Validation"
-kind_name Custom = codes "Custom"
 
 -- an error as a record of its kind's name and its message
 abbrev pub as_record : Kind → List ℕ → Data

@@ -3,12 +3,12 @@ use Rattle.std.specs.Prelude.{◌≡◌, ℕ, ◌<◌, Bool, true, List, length,
 use Rattle.fx_data.specs.Types.{Shape}
 use Rattle.fx_data.specs.Values.{Data}
 use Rattle.fx_value.specs.Fits.{fits_in}
-use Rattle.fx_functions.specs.declared.functions.Fun.{Fun}
-use Rattle.fx_functions.specs.declared.rows.Answer.{Answer}
-use Rattle.fx_functions.specs.declared.rows.Answer.TheVariants as answer
-use Rattle.fx_functions.specs.declared.rows.Takes.{Takes}
-use Rattle.fx_functions.specs.declared.rows.Takes.TheVariants as takes
-use Rattle.fx_functions.specs.Rows.{row_of, shape_of, takes_at}
+use Rattle.fx_trees.specs.declared.functions.Fun.{Fun}
+use Rattle.fx_trees.specs.declared.rows.Answer.{Answer}
+use Rattle.fx_trees.specs.declared.rows.Answer.TheVariants as answer
+use Rattle.fx_trees.specs.declared.rows.Takes.{Takes}
+use Rattle.fx_trees.specs.declared.rows.Takes.TheVariants as takes
+use Rattle.fx_trees.specs.Rows.{row_of, shape_of, takes_at}
 use Rattle.fx_scalar.specs.Arguments.{at}
 use Rattle.fx_scalar.specs.ScalarFunctions.{CanApply, IsAnswer, is_value}
 

@@ -7,9 +7,9 @@ use Rattle.fx_data.specs.declared.faults.Kind.{Kind}
 use Rattle.fx_data.specs.declared.values.Value.{Value}
 use Rattle.fx_data.specs.ValueView.{view}
 use Rattle.fx_data.specs.Values.{Data, blank, boolean, fault}
-use Rattle.fx_order.specs.Operators.{holds_of, CanCompare}
-use Rattle.fx_functions.specs.declared.functions.Form.{Form}
-use Rattle.fx_functions.specs.declared.functions.Form.TheVariants as form
+use Rattle.fx_value.specs.Operators.{holds_of, CanCompare}
+use Rattle.fx_trees.specs.declared.functions.Form.{Form}
+use Rattle.fx_trees.specs.declared.functions.Form.TheVariants as form
 use Rattle.fx_scalar.specs.declared.lazy_forms.Decision.{Decision}
 use Rattle.fx_scalar.specs.declared.lazy_forms.Decision.TheVariants.{Met, Unmet, Error}
 use Rattle.fx_scalar.specs.ScalarFunctions.{is_blank}

@@ -11,24 +11,24 @@ use Rattle.fx_data.specs.declared.faults.Kind.{Kind}
 use Rattle.fx_data.specs.declared.faults.Kind.TheVariants.{InvalidArgument}
 use Rattle.fx_data.specs.declared.comparisons.Cmp.{Cmp}
 use Rattle.fx_data.specs.declared.comparisons.Cmp.TheVariants.{Eq, Ne, Lt, Le, Gt, Ge}
-use Rattle.fx_order.specs.Operators.{holds_of, CanCompare}
+use Rattle.fx_value.specs.Operators.{holds_of, CanCompare}
 use Rattle.fx_value.specs.Coercion.{IsCoerced}
-use Rattle.fx_functions.specs.declared.functions.Fun.{Fun}
-use Rattle.fx_functions.specs.declared.functions.Fun.TheVariants as fun
-use Rattle.fx_functions.specs.declared.rows.Takes.{Takes}
-use Rattle.fx_functions.specs.declared.rows.Takes.TheVariants as takes
-use Rattle.fx_functions.specs.Rows.{row_of}
-use Rattle.fx_text.specs.Texts.{made, left_of, right_of, mid_of, replace_of, joined, lower_of, upper_of, trimmed}
-use Rattle.fx_text.specs.Search.{IsFound}
-use Rattle.fx_text.specs.Substitution.{IsSubstituted}
-use Rattle.fx_text.specs.Folding.{BeginsWithoutCase, EndsWithoutCase, HasPart, HasPartWithoutCase}
-use Rattle.fx_numeric.specs.Numbers.{AsKind}
-use Rattle.fx_numeric.specs.Folds.{present, IsSum, IsLeast, IsGreatest, average_of}
-use Rattle.fx_numeric.specs.Formats.{format_of}
-use Rattle.fx_calendar.specs.Civil.{civil_of}
-use Rattle.fx_calendar.specs.DateText.{date_text}
-use Rattle.fx_dates.specs.Dates.{IsDayOrInvalid, IsLater, IsShifted, difference, number_of_parts, weekday_of}
-use Rattle.fx_dates.specs.Texts.{text_in as date_text_in}
+use Rattle.fx_trees.specs.declared.functions.Fun.{Fun}
+use Rattle.fx_trees.specs.declared.functions.Fun.TheVariants as fun
+use Rattle.fx_trees.specs.declared.rows.Takes.{Takes}
+use Rattle.fx_trees.specs.declared.rows.Takes.TheVariants as takes
+use Rattle.fx_trees.specs.Rows.{row_of}
+use Rattle.fx_builtins.specs.Texts.{made, left_of, right_of, mid_of, replace_of, joined, lower_of, upper_of, trimmed}
+use Rattle.fx_builtins.specs.Search.{IsFound}
+use Rattle.fx_builtins.specs.Substitution.{IsSubstituted}
+use Rattle.fx_builtins.specs.Folding.{BeginsWithoutCase, EndsWithoutCase, HasPart, HasPartWithoutCase}
+use Rattle.fx_builtins.specs.Numbers.{AsKind}
+use Rattle.fx_builtins.specs.Folds.{present, IsSum, IsLeast, IsGreatest, average_of}
+use Rattle.fx_builtins.specs.Formats.{format_of}
+use Rattle.fx_value.specs.Civil.{civil_of}
+use Rattle.fx_value.specs.DateText.{date_text}
+use Rattle.fx_builtins.specs.Dates.{IsDayOrInvalid, IsLater, IsShifted, difference, number_of_parts, weekday_of}
+use Rattle.fx_builtins.specs.DateTexts.{text_in as date_text_in}
 use Rattle.fx_scalar.specs.Arguments.{at, text_in, number_at, text_at, truth_at, date_at, whole_at, maybe_whole_at, maybe_number, first_fault}
 use Rattle.fx_scalar.specs.Errors.{IsErrorOf}
 use Rattle.fx_scalar.specs.Answers.{IsNumber, IsMaybeNumber, IsText, IsDate, IsPosition, IsTruth, IsWhole, OfDate, UnlessFault}

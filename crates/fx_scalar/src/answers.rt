@@ -7,9 +7,9 @@ ghost use Rattle.fx_scalar.specs.Answers.{IsPosition, IsWhole, date_answer, mayb
 
 use crate::arguments::no_text;
 use fx_base::Memory;
+use fx_builtins::kinded;
 use fx_data::{Day, Fault, Kind, Value, Words};
 use fx_number::{Num, NumErr};
-use fx_numeric::kinded;
 use std::alloc::Global;
 
 /// The value of an error without a message.

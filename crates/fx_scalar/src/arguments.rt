@@ -62,7 +62,7 @@ pub(crate) fn maybe_number_at(args: &[Value], place: usize) -> Option<Num>
 pub(crate) fn whole_at(args: &[Value], place: usize) -> i64
     ensures { result ≡ whole_of (views args.now) place }
 {
-    fx_numeric::whole_part(number_at(args, place))
+    fx_builtins::whole_part(number_at(args, place))
 }
 
 /// The same where there is an argument at that place.

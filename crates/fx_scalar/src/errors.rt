@@ -3,10 +3,10 @@ ghost use Rattle.std.specs.Prelude.{◌≡◌, IfOk};
 ghost use Rattle.fx_data.specs.Types.{texts};
 ghost use Rattle.fx_data.specs.ValueView.{view};
 ghost use Rattle.fx_data.specs.Values.{field_list, rec};
-ghost use Rattle.fx_functions.specs.declared.functions.Fun.TheVariants as fun;
+ghost use Rattle.fx_trees.specs.declared.functions.Fun.TheVariants as fun;
 ghost use Rattle.fx_value.specs.Coercion.{IsCoerced, value_in};
 ghost use Rattle.fx_scalar.specs.Arguments.{text_in, views};
-ghost use Rattle.fx_scalar.specs.Errors.{IsErrorOf, as_record, error_of as error_value, kind_in, kind_name as name_of};
+ghost use Rattle.fx_scalar.specs.Errors.{IsErrorOf, as_record, error_of as error_value, kind_in};
 ghost use Rattle.fx_scalar.specs.ScalarFunctions.{IsResult};
 
 use crate::arguments::{at, text};
@@ -72,7 +72,7 @@ fn error_of(alloc: Global, kind: &Value, message: &Value) -> Result<Value, Memor
 fn kind_of(name: &Words) -> Kind
     ensures { result ≡ kind_in name.now }
 {
-    fx_functions::literals::error_kind(name.as_str()).unwrap_or(Kind::Custom)
+    fx_trees::literals::error_kind(name.as_str()).unwrap_or(Kind::Custom)
 }
 
 /// An error as a record of its kind's name and its message, which is what `FirstError` is worth.
@@ -80,25 +80,9 @@ pub fn error_record(alloc: Global, fault: &Fault) -> Result<Value, Memory>
     ensures { IfOk result (λ v. view v ≡ as_record fault.now.kind fault.now.message) }
 {
     let mut fields = Fields::new(alloc);
-    let kind = Words::of(alloc, kind_name(fault.kind))?;
+    let kind = Words::of(alloc, fault.kind.name())?;
     fields.push((Words::of(alloc, "Kind")?, Value::Text(kind)))?;
     let message = fault.message.copy(alloc)?;
     fields.push((Words::of(alloc, "Message")?, Value::Text(message)))?;
     Ok(Value::Rec(fields))
-}
-
-fn kind_name(kind: Kind) -> &'static str
-    ensures { result.now ≡ name_of kind }
-{
-    match kind {
-        Kind::Div0 => "Div0",
-        Kind::Numeric => "Numeric",
-        Kind::InvalidArgument => "InvalidArgument",
-        Kind::NotFound => "NotFound",
-        Kind::MissingRequired => "MissingRequired",
-        Kind::ConstraintViolated => "ConstraintViolated",
-        Kind::QuotaExceeded => "QuotaExceeded",
-        Kind::Validation => "Validation",
-        Kind::Custom => "Custom",
-    }
 }

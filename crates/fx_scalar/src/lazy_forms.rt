@@ -5,7 +5,7 @@ ghost use Rattle.fx_scalar.specs.LazyForms.{CanMatch, IsSplit, decision_of, equa
 ghost use Rattle.fx_scalar.specs.ScalarFunctions.{is_blank as is_blank_value};
 
 use fx_data::{Cmp, Fault, Value};
-use fx_functions::Form;
+use fx_trees::Form;
 
 /// What the value of a condition decides.
 #[derive(Drop)]
@@ -36,7 +36,7 @@ pub fn decide_match(wanted: &Value, value: Value) -> Decision
 {
     match value {
         Value::Fault(fault) => Decision::Error(fault),
-        value => decide(Value::Boolean(fx_order::holds(Cmp::Eq, wanted, &value))),
+        value => decide(Value::Boolean(fx_value::holds(Cmp::Eq, wanted, &value))),
     }
 }
 

@@ -9,8 +9,6 @@ mod laws;
 mod lazy_forms;
 mod numbers;
 mod table;
-#[cfg(test)]
-mod tests;
 mod texts;
 mod truths;
 

@@ -2,7 +2,7 @@
 ghost use Rattle.std.specs.Prelude.{◌≡◌, IfOk, IsTrue, option_map};
 ghost use Rattle.fx_data.specs.ValueView.{view};
 ghost use Rattle.fx_data.specs.Values.{fault};
-ghost use Rattle.fx_functions.specs.Rows.{row_of};
+ghost use Rattle.fx_trees.specs.Rows.{row_of};
 ghost use Rattle.fx_scalar.specs.Arguments.{views};
 ghost use Rattle.fx_scalar.specs.Fitting.{FitPlaces, FitsAnswer};
 ghost use Rattle.fx_scalar.specs.ScalarFunctions.{CanApply, CanCompareIf, IsAnswer, IsResult, answered_fault as answered_fault_of, comparison_of, is_strict as is_strict_function, is_value};
@@ -11,7 +11,7 @@ use crate::arguments::first_fault;
 use crate::{dates, errors, numbers, texts, truths};
 use fx_base::Memory;
 use fx_data::{Cmp, Fault, Value};
-use fx_functions::Fun;
+use fx_trees::Fun;
 use std::alloc::Global;
 
 /// What a function of values, or an operator, answers to its arguments. Blank arguments count as 0, as

@@ -1,8 +1,8 @@
 //! Functions of texts.
 ghost use Rattle.std.specs.Prelude.{◌≡◌, IfOk};
 ghost use Rattle.fx_data.specs.ValueView.{view};
-ghost use Rattle.fx_functions.specs.declared.functions.Fun.TheVariants as fun;
-ghost use Rattle.fx_text.specs.Search.{IsFound};
+ghost use Rattle.fx_trees.specs.declared.functions.Fun.TheVariants as fun;
+ghost use Rattle.fx_builtins.specs.Search.{IsFound};
 ghost use Rattle.fx_scalar.specs.Arguments.{text_at as text_of, views};
 ghost use Rattle.fx_scalar.specs.ScalarFunctions.{IsResult, start_of};
 
@@ -10,35 +10,35 @@ use crate::answers::{count, position, text};
 use crate::arguments::{at, maybe_number_at, maybe_whole_at, no_text, text_at, texts, whole_at};
 use fx_base::Memory;
 use fx_data::{Kind, Value};
-use fx_functions::NumberFormat;
+use fx_trees::NumberFormat;
 use std::alloc::Global;
 
 pub(crate) fn concatenate(alloc: Global, args: &[Value]) -> Result<Value, Memory>
     ensures { IfOk result (λ v. IsResult fun.Concatenate (views args.now) (view v)) }
 {
     let texts = texts(alloc, args)?;
-    text(alloc, fx_text::concatenate(alloc, &texts)?)
+    text(alloc, fx_builtins::concatenate(alloc, &texts)?)
 }
 
 pub(crate) fn length(alloc: Global, args: &[Value]) -> Result<Value, Memory>
     ensures { IfOk result (λ v. IsResult fun.Len (views args.now) (view v)) }
 {
     let text = text_at(alloc, args, 0)?;
-    count(alloc, fx_text::length(&text))
+    count(alloc, fx_builtins::length(&text))
 }
 
 pub(crate) fn left(alloc: Global, args: &[Value]) -> Result<Value, Memory>
     ensures { IfOk result (λ v. IsResult fun.Left (views args.now) (view v)) }
 {
     let all = text_at(alloc, args, 0)?;
-    text(alloc, fx_text::left(alloc, &all, whole_at(args, 1))?)
+    text(alloc, fx_builtins::left(alloc, &all, whole_at(args, 1))?)
 }
 
 pub(crate) fn right(alloc: Global, args: &[Value]) -> Result<Value, Memory>
     ensures { IfOk result (λ v. IsResult fun.Right (views args.now) (view v)) }
 {
     let all = text_at(alloc, args, 0)?;
-    text(alloc, fx_text::right(alloc, &all, whole_at(args, 1))?)
+    text(alloc, fx_builtins::right(alloc, &all, whole_at(args, 1))?)
 }
 
 pub(crate) fn mid(alloc: Global, args: &[Value]) -> Result<Value, Memory>
@@ -46,28 +46,31 @@ pub(crate) fn mid(alloc: Global, args: &[Value]) -> Result<Value, Memory>
 {
     let all = text_at(alloc, args, 0)?;
     let count = maybe_whole_at(args, 2);
-    text(alloc, fx_text::mid(alloc, &all, whole_at(args, 1), count)?)
+    text(
+        alloc,
+        fx_builtins::mid(alloc, &all, whole_at(args, 1), count)?,
+    )
 }
 
 pub(crate) fn lower(alloc: Global, args: &[Value]) -> Result<Value, Memory>
     ensures { IfOk result (λ v. IsResult fun.Lower (views args.now) (view v)) }
 {
     let all = text_at(alloc, args, 0)?;
-    text(alloc, fx_text::lower(alloc, &all)?)
+    text(alloc, fx_builtins::lower(alloc, &all)?)
 }
 
 pub(crate) fn upper(alloc: Global, args: &[Value]) -> Result<Value, Memory>
     ensures { IfOk result (λ v. IsResult fun.Upper (views args.now) (view v)) }
 {
     let all = text_at(alloc, args, 0)?;
-    text(alloc, fx_text::upper(alloc, &all)?)
+    text(alloc, fx_builtins::upper(alloc, &all)?)
 }
 
 pub(crate) fn trim(alloc: Global, args: &[Value]) -> Result<Value, Memory>
     ensures { IfOk result (λ v. IsResult fun.Trim (views args.now) (view v)) }
 {
     let all = text_at(alloc, args, 0)?;
-    text(alloc, fx_text::trim(alloc, &all)?)
+    text(alloc, fx_builtins::trim(alloc, &all)?)
 }
 
 pub(crate) fn find(alloc: Global, args: &[Value]) -> Result<Value, Memory>
@@ -83,7 +86,7 @@ fn found(alloc: Global, args: &[Value]) -> Result<Result<Option<usize>, Kind>, M
 {
     let part = text_at(alloc, args, 0)?;
     let all = text_at(alloc, args, 1)?;
-    fx_text::find(alloc, &part, &all, start(args))
+    fx_builtins::find(alloc, &part, &all, start(args))
 }
 
 // The position from which a text is sought.
@@ -103,7 +106,10 @@ pub(crate) fn substitute(alloc: Global, args: &[Value]) -> Result<Value, Memory>
     let old = text_at(alloc, args, 1)?;
     let new = text_at(alloc, args, 2)?;
     let number = maybe_whole_at(args, 3);
-    text(alloc, fx_text::substitute(alloc, &all, &old, &new, number)?)
+    text(
+        alloc,
+        fx_builtins::substitute(alloc, &all, &old, &new, number)?,
+    )
 }
 
 pub(crate) fn replace(alloc: Global, args: &[Value]) -> Result<Value, Memory>
@@ -114,7 +120,7 @@ pub(crate) fn replace(alloc: Global, args: &[Value]) -> Result<Value, Memory>
     let count = whole_at(args, 2);
     text(
         alloc,
-        fx_text::replace(alloc, &all, whole_at(args, 1), count, &new)?,
+        fx_builtins::replace(alloc, &all, whole_at(args, 1), count, &new)?,
     )
 }
 
@@ -127,7 +133,7 @@ pub(crate) fn format_number(
     ensures { IfOk result (λ v. IsResult (fun.FormatNumber format) (views args.now) (view v)) }
 {
     match maybe_number_at(args, 0) {
-        Some(number) => Ok(Value::Text(fx_numeric::format(alloc, number, format)?)),
+        Some(number) => Ok(Value::Text(fx_builtins::format(alloc, number, format)?)),
         None => Ok(Value::Text(no_text(alloc)?)),
     }
 }

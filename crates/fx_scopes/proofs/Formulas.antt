@@ -1,8 +1,8 @@
 -- A named formula is what its name means among formulas.
 use Rattle.std.proofs.Common.{◌≡◌, ℕ, List, Option, Some, None, option_map, bytes_eq, refl, ap, ◌∙◌}
-use Rattle.fx_names.specs.Formulas.{formula_named}
-use Rattle.fx_names.specs.declared.names.FormulaName.{FormulaName}
-use Rattle.fx_typing.proofs.Places.{thing_found}
+use Rattle.fx_trees.specs.Formulas.{formula_named}
+use Rattle.fx_trees.specs.declared.names.FormulaName.{FormulaName}
+use Rattle.fx_typing.proofs.PlaceLemmas.{thing_found}
 use Rattle.fx_typing.specs.Meaning as meaning
 use Rattle.fx_scopes.specs.MeaningView.{formula_meant, in_formulas}
 

@@ -1,12 +1,12 @@
 -- Plans for the parts of a node, one after another.
 use Rattle.std.proofs.Common.{◌≡◌, ℕ, zero, suc, ◌<◌, ◌+◌, List, [], ◌∷◌, ◌++◌, Bool, ◌||◌, length, map, take, drop, refl, ap, sym, ◌∙◌, add-one, arith}
 use Rattle.std.proofs.lemmas.List.{length-map, map-append}
-use Rattle.fx_functions.specs.declared.functions.Fun.{Fun}
-use Rattle.fx_functions.specs.Rows.{row_of}
-use Rattle.fx_judge.specs.Parts.{Grant}
-use Rattle.fx_judge.specs.Plans.{is_inside, opens_rows, pick, plan_at, plan_by_row, plan_either}
-use Rattle.fx_names.specs.declared.names.Names.{Names}
-use Rattle.fx_syntax.specs.Tree.{Head}
+use Rattle.fx_trees.specs.declared.functions.Fun.{Fun}
+use Rattle.fx_trees.specs.Rows.{row_of}
+use Rattle.fx_typing.specs.Parts.{Grant}
+use Rattle.fx_typing.specs.Plans.{is_inside, opens_rows, pick, plan_at, plan_by_row, plan_either}
+use Rattle.fx_trees.specs.declared.names.Names.{Names}
+use Rattle.fx_trees.specs.Tree.{Head}
 use Rattle.fx_scopes.specs.declared.parts.Part.{Part}
 use Rattle.fx_scopes.specs.PartView.{part}
 

@@ -1,13 +1,9 @@
 -- Words of ASCII characters.
-use Rattle.std.proofs.Common.{◌≡◌, ℕ, List, Bool, true, false, bytes_eq, refl, ap, sym, ◌∙◌, encode_utf8_all}
+use Rattle.std.proofs.Common.{◌≡◌, ℕ, List, bytes_eq, ap, sym, ◌∙◌, encode_utf8_all}
 use Rattle.std.specs.Str.{IsAscii, chars}
 use Rattle.std.proofs.lemmas.Str.{chars-IsAscii, encodes-IsAscii}
 use Rattle.fx_value.proofs.Widenings.{own_name, same_name}
-
-same_truth : (a b : Bool) → (a ≡ true → b ≡ true) → (b ≡ true → a ≡ true) → a ≡ b
-same_truth true b f g = sym (f refl)
-same_truth false true f g = g refl
-same_truth false false f g = refl
+use Rattle.fx_trees.proofs.Spelled.{same_truth}
 
 -- a text is an ASCII word where its bytes are
 pub spells_word : (bs cs word : List ℕ) → bs ≡ encode_utf8_all cs → chars bs ≡ cs → IsAscii word → bytes_eq bs word ≡ bytes_eq cs word

@@ -1,11 +1,11 @@
 -- What a place, and what a name means, are seen as.
 use Rattle.std.specs.Prelude.{ℕ, List, Option, bytes_eq, option_map}
 use Rattle.fx_data.specs.TypeView.{shape}
-use Rattle.fx_functions.specs.declared.sources.Source.TheVariants as source
-use Rattle.fx_names.specs.declared.names.FormulaName.{FormulaName}
-use Rattle.fx_typed.specs.Term.{nil, of, read}
+use Rattle.fx_trees.specs.declared.sources.Source.TheVariants as source
+use Rattle.fx_trees.specs.declared.names.FormulaName.{FormulaName}
+use Rattle.fx_trees.specs.Term.{nil, of, read}
 use Rattle.fx_typing.specs.Meaning as meaning
-use Rattle.fx_local.specs.declared.typed.Typed.{Typed}
+use Rattle.fx_typing.specs.declared.typed.Typed.{Typed}
 use Rattle.fx_scopes.specs.declared.meanings.Meaning.{Meaning}
 use Rattle.fx_scopes.specs.declared.meanings.Meaning.TheVariants.{Valued, Controlled, Screened, Enumerated}
 use Rattle.fx_scopes.specs.declared.meanings.Place.{Place}

@@ -1,8 +1,8 @@
 -- What a part of a node is seen as.
 use Rattle.std.specs.Prelude.{map}
-use Rattle.fx_judge.specs.Parts as parts
-use Rattle.fx_local.specs.TypedView.{typed}
-use Rattle.fx_local.specs.TypedView as local
+use Rattle.fx_typing.specs.Parts as parts
+use Rattle.fx_typing.specs.TypedView.{typed}
+use Rattle.fx_typing.specs.TypedView as local
 use Rattle.fx_scopes.specs.declared.parts.Part.{Part}
 use Rattle.fx_scopes.specs.declared.parts.Part.TheVariants.{Piece, Meant, Target, Assigned}
 use Rattle.fx_scopes.specs.MeaningView.{meaning_view}

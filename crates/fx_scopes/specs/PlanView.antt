@@ -1,7 +1,7 @@
 -- What a plan for a part, and where a node stands, are seen as.
-use Rattle.fx_judge.specs.Parts as parts
-use Rattle.fx_judge.specs.Plans as plans
-use Rattle.fx_syntax.specs.Tree.{Tree, node, Head}
+use Rattle.fx_typing.specs.Parts as parts
+use Rattle.fx_typing.specs.Plans as plans
+use Rattle.fx_trees.specs.Tree.{Tree, node, Head}
 use Rattle.fx_typing.specs.WellTyped as typing
 use Rattle.fx_scopes.specs.declared.plans.Grant.{Grant}
 use Rattle.fx_scopes.specs.declared.plans.Grant.TheVariants as g

@@ -1,6 +1,6 @@
 -- What is seen as where a node stands.
 use Rattle.std.specs.Prelude.{List}
-use Rattle.fx_judge.specs.Parts.{Setting}
+use Rattle.fx_typing.specs.Parts.{Setting}
 use Rattle.fx_typing.specs.Meaning as meaning
 use Rattle.fx_scopes.specs.declared.settings.Stand.{Stand}
 use Rattle.fx_scopes.specs.PlanView.{grant}

@@ -4,16 +4,16 @@ ghost use Rattle.fx_data.specs.TypeView.{shape};
 ghost use Rattle.fx_data.specs.Types.{column_list};
 ghost use Rattle.fx_data.specs.ValueView.{view};
 ghost use Rattle.fx_data.specs.Values.{text};
-ghost use Rattle.fx_functions.specs.Literals.{has_member};
-ghost use Rattle.fx_names.specs.Controls.{input_type};
-ghost use Rattle.fx_names.specs.Lawful.{IsLawful};
-ghost use Rattle.fx_names.specs.SourceTypes.{property_of};
-ghost use Rattle.fx_names.specs.declared.names.Property.{Property};
+ghost use Rattle.fx_trees.specs.Literals.{has_member};
+ghost use Rattle.fx_trees.specs.Controls.{input_type};
+ghost use Rattle.fx_trees.specs.Lawful.{IsLawful};
+ghost use Rattle.fx_trees.specs.SourceTypes.{property_of};
+ghost use Rattle.fx_trees.specs.declared.names.Property.{Property};
 ghost use Rattle.fx_typing.specs.Columns.{field_in};
 ghost use Rattle.fx_typing.specs.Meaning as sought;
 ghost use Rattle.fx_typing.specs.Meaning.{place_of};
-ghost use Rattle.fx_local.specs.Answers.{Answers};
-ghost use Rattle.fx_local.specs.TypedView.{typed};
+ghost use Rattle.fx_typing.specs.Answers.{Answers};
+ghost use Rattle.fx_typing.specs.TypedView.{typed};
 ghost use Rattle.fx_scopes.specs.MeaningView.{meaning_view};
 
 use crate::meanings::Meaning;
@@ -24,15 +24,14 @@ use fx_data::controls::Control;
 use fx_data::types::{Columns, Ty};
 use fx_data::values::{Rows, Value};
 use fx_data::words::Words;
-use fx_functions::literals::Enumeration;
-use fx_functions::sources::Source;
-use fx_local::columns::field_in;
-use fx_local::{Typed, Wrong};
-use fx_names::controls::input_ty;
-use fx_names::names::{ControlName, Names};
 use fx_number::Num;
-use fx_rules::Rule;
-use fx_typed::{Core, make};
+use fx_trees::controls::input_ty;
+use fx_trees::literals::Enumeration;
+use fx_trees::names::{ControlName, Names};
+use fx_trees::sources::Source;
+use fx_trees::{Core, Rule, make_core};
+use fx_typing::columns::field_in;
+use fx_typing::{Typed, Wrong};
 use std::alloc::Global;
 
 // A bound of a slider that says nothing of it: 100 at the top, 0 at the bottom.
@@ -120,10 +119,10 @@ fn written_or(
         (place_of (λ (p : Property). nat_eq p.control number && bytes_eq p.name name.now) 0 names.now.properties)) }
 {
     if let Some((_, property)) = property_in(names.properties.as_slice(), number, name) {
-        let core = make::read(Source::Cell(property.cell));
+        let core = make_core::read(Source::Cell(property.cell));
         return Ok(Typed { core, ty });
     }
-    let core = make::constant(default_of(alloc, kind, name.as_str())?);
+    let core = make_core::constant(default_of(alloc, kind, name.as_str())?);
     let ty = default_type(alloc, kind, name.as_str(), ty);
     Ok(Typed { core, ty })
 }
@@ -155,7 +154,7 @@ fn input_read(number: u32, kind: Control) -> Result<Typed, Wrong>
 {
     match input_ty(kind) {
         Some(ty) => Ok(Typed {
-            core: make::read(Source::Input(number)),
+            core: make_core::read(Source::Input(number)),
             ty,
         }),
         None => Err(Wrong::Breaks(Rule::UnknownColumn)),
@@ -178,7 +177,7 @@ fn control_read(
     }
     if is_chosen(control.kind, name.as_str()) {
         return Ok(Typed {
-            core: make::read(Source::Chosen(number)),
+            core: make_core::read(Source::Chosen(number)),
             ty: item_type(alloc, control)?,
         });
     }
@@ -196,7 +195,7 @@ fn member_of(alloc: Global, enumeration: Enumeration, name: &Words) -> Result<Ty
         return Err(Wrong::Breaks(Rule::UnknownColumn));
     }
     Ok(Typed {
-        core: make::constant(Value::Text(name.copy(alloc)?)),
+        core: make_core::constant(Value::Text(name.copy(alloc)?)),
         ty: Ty::Text,
     })
 }
@@ -220,7 +219,7 @@ fn known_field(alloc: Global, core: Core, name: &Words, columns: &Columns) -> Re
         Some(ty) => {
             let ty = ty.copy(alloc)?;
             Ok(Typed {
-                core: make::dotted(alloc, core, name.copy(alloc)?)?,
+                core: make_core::dotted(alloc, core, name.copy(alloc)?)?,
                 ty,
             })
         }

@@ -2,12 +2,12 @@
 ghost use Rattle.std.specs.Prelude.{◌≡◌, ◌<◌, Bool, IfOk, List, bytes_eq, length, option_map};
 ghost use Rattle.std.specs.Str.{IsAscii};
 ghost use Rattle.fx_data.specs.TypeView.{shape};
-ghost use Rattle.fx_names.specs.Lawful.{IsLawful};
-ghost use Rattle.fx_typed.specs.Term.{nil, of};
-ghost use Rattle.fx_typed.specs.Term as top;
+ghost use Rattle.fx_trees.specs.Lawful.{IsLawful};
+ghost use Rattle.fx_trees.specs.Term.{nil, of};
+ghost use Rattle.fx_trees.specs.Term as top;
 ghost use Rattle.fx_typing.specs.Meaning as sought;
-ghost use Rattle.fx_local.specs.Answers.{Answers};
-ghost use Rattle.fx_local.specs.TypedView.{typed};
+ghost use Rattle.fx_typing.specs.Answers.{Answers};
+ghost use Rattle.fx_typing.specs.TypedView.{typed};
 ghost use Rattle.fx_scopes.specs.MeaningView.{as_valued, in_formulas, meaning_view, place};
 ghost use Rattle.fx_scopes.specs.ReservedView.{reserved_meaning};
 
@@ -20,13 +20,12 @@ use crate::targets::{
 use fx_base::Memory;
 use fx_data::types::Ty;
 use fx_data::words::Words;
-use fx_functions::literals::{Enumeration, enumeration_of};
-use fx_functions::sources::Source;
-use fx_local::columns::fault_type;
-use fx_local::{Typed, Wrong};
-use fx_names::names::{ControlName, Names};
-use fx_rules::Rule;
-use fx_typed::make;
+use fx_trees::literals::{Enumeration, enumeration_of};
+use fx_trees::names::{ControlName, Names};
+use fx_trees::sources::Source;
+use fx_trees::{Rule, make_core};
+use fx_typing::columns::fault_type;
+use fx_typing::{Typed, Wrong};
 use std::alloc::Global;
 
 /// Where a formula stands.
@@ -70,7 +69,7 @@ fn read_as(alloc: Global, source: Source, ty: &Ty) -> Result<Typed, Memory>
     ensures { IfOk result (λ t. typed t ≡ (of (top.read source) nil, shape ty.now)) }
 {
     Ok(Typed {
-        core: make::read(source),
+        core: make_core::read(source),
         ty: ty.copy(alloc)?,
     })
 }
@@ -84,7 +83,7 @@ fn this_item(alloc: Global, names: &Names, gallery: Option<u32>) -> Result<Optio
     };
     match names.controls.get(number as usize) {
         Some(control) => Ok(Some(Typed {
-            core: make::item(),
+            core: make_core::item(),
             ty: item_type(alloc, control)?,
         })),
         None => Ok(None),
@@ -99,7 +98,7 @@ fn first_error(alloc: Global, catches: bool) -> Result<Option<Typed>, Memory>
         return Ok(None);
     }
     Ok(Some(Typed {
-        core: make::caught(),
+        core: make_core::caught(),
         ty: fault_type(alloc)?,
     }))
 }
@@ -203,7 +202,7 @@ pub fn in_globals<'a>(
     }
     if let Some((number, table)) = table_named(names, name) {
         let found = Typed {
-            core: make::read(Source::Table(number as u16)),
+            core: make_core::read(Source::Table(number as u16)),
             ty: Ty::Tab(columns_of(alloc, table)?),
         };
         return Ok(Some(Meaning::Valued(found)));

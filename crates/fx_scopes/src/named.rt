@@ -1,12 +1,12 @@
 //! Things of an app by their names and numbers.
 ghost use Rattle.std.specs.Prelude.{◌≡◌, ◌<◌, ◌^◌, ◌&&◌, ℕ, List, IfSome, bytes_eq, length, nat_eq, option_map};
-ghost use Rattle.fx_names.specs.declared.names.Property.{Property};
-ghost use Rattle.fx_names.specs.declared.names.Variable.{Variable};
+ghost use Rattle.fx_trees.specs.declared.names.Property.{Property};
+ghost use Rattle.fx_trees.specs.declared.names.Variable.{Variable};
 ghost use Rattle.fx_typing.specs.Meaning.{is_global, is_on, place_of};
 
 use fx_data::words::Words;
-use fx_names::names::{Collection, ControlName, Property, Variable};
-use fx_names::schema::TableShape;
+use fx_trees::names::{Collection, ControlName, Property, Variable};
+use fx_trees::schema::TableShape;
 
 /// A thing that formulas name.
 pub trait Named {

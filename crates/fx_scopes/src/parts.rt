@@ -2,7 +2,7 @@
 
 use crate::meanings::Meaning;
 use fx_data::words::Words;
-use fx_local::{Piece, Typed};
+use fx_typing::{Piece, Typed};
 
 /// A part of a node as it was judged.
 #[derive(Drop)]

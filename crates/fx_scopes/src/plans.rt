@@ -1,23 +1,23 @@
 //! How each part of a node is judged, from the parts before it.
 ghost use Rattle.std.specs.Prelude.{◌≡◌, ◌∷◌, [], List, if◌then◌else◌, length, map};
-ghost use Rattle.fx_functions.specs.declared.functions.Fun.{Fun};
-ghost use Rattle.fx_judge.specs.Parts as parts;
-ghost use Rattle.fx_judge.specs.Parts.{may_act};
-ghost use Rattle.fx_judge.specs.Plans as plans;
+ghost use Rattle.fx_trees.specs.declared.functions.Fun.{Fun};
+ghost use Rattle.fx_typing.specs.Parts as parts;
+ghost use Rattle.fx_typing.specs.Parts.{may_act};
+ghost use Rattle.fx_typing.specs.Plans as plans;
 ghost use Rattle.fx_typing.specs.WellTyped.{standing_of};
-ghost use Rattle.fx_local.specs.TypedView.{piece};
+ghost use Rattle.fx_typing.specs.TypedView.{piece};
 ghost use Rattle.fx_scopes.specs.PartView.{part};
 ghost use Rattle.fx_scopes.specs.PlanView.{grant, head_of, plan, standing};
 
 use crate::parts::Part;
 use fx_data::types::Ty;
 use fx_data::words::Words;
-use fx_functions::functions::{Acting, Fun};
-use fx_functions::rows::{Row, Takes, form_row, row_of};
-use fx_functions::signatures::{SigShape, signature_in};
-use fx_local::Piece;
-use fx_names::names::Names;
-use fx_syntax::expr::{Expr, Node};
+use fx_trees::expr::{Expr, Node};
+use fx_trees::functions::{Acting, Fun};
+use fx_trees::names::Names;
+use fx_trees::rows::{Row, Takes, form_row, row_of};
+use fx_trees::signatures::{SigShape, signature_in};
+use fx_typing::Piece;
 
 /// What the place of a node allows.
 #[derive(Clone, Copy, Debug, PartialEq, Eq)]

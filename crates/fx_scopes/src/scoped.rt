@@ -1,20 +1,20 @@
 //! Names that are sought in the scopes around a formula.
 ghost use Rattle.std.specs.Prelude.{◌≡◌, ◌<◌, IfOk, length, option_map};
 ghost use Rattle.fx_data.specs.TypeView.{shape};
-ghost use Rattle.fx_typed.specs.Term.{nil, of};
-ghost use Rattle.fx_typed.specs.Term as top;
+ghost use Rattle.fx_trees.specs.Term.{nil, of};
+ghost use Rattle.fx_trees.specs.Term as top;
 ghost use Rattle.fx_typing.specs.Columns.{field_of};
 ghost use Rattle.fx_typing.specs.Meaning as sought;
-ghost use Rattle.fx_local.specs.TypedView.{typed};
+ghost use Rattle.fx_typing.specs.TypedView.{typed};
 ghost use Rattle.fx_scopes.specs.MeaningView.{as_valued};
 
 use crate::scopes::{Scope, Scopes};
 use fx_base::Memory;
 use fx_data::types::Ty;
 use fx_data::words::Words;
-use fx_local::Typed;
-use fx_local::columns::field_in;
-use fx_typed::make;
+use fx_trees::make_core;
+use fx_typing::Typed;
+use fx_typing::columns::field_in;
 use std::alloc::Global;
 
 // The type of a field of a record; other types have none.
@@ -32,7 +32,7 @@ fn row_as(alloc: Global, number: u8, row_type: &Ty) -> Result<Typed, Memory>
     ensures { IfOk result (λ t. typed t ≡ (of (top.row number) nil, shape row_type.now)) }
 {
     Ok(Typed {
-        core: make::row(number),
+        core: make_core::row(number),
         ty: row_type.copy(alloc)?,
     })
 }
@@ -44,7 +44,7 @@ fn field_at(alloc: Global, number: u8, name: &Words, row_type: &Ty) -> Result<Op
 {
     match field_type(name, row_type) {
         Some(ty) => Ok(Some(Typed {
-            core: make::dotted(alloc, make::row(number), name.copy(alloc)?)?,
+            core: make_core::dotted(alloc, make_core::row(number), name.copy(alloc)?)?,
             ty: ty.copy(alloc)?,
         })),
         None => Ok(None),

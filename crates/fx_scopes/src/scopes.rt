@@ -1,6 +1,6 @@
 //! The scopes around a formula.
 ghost use Rattle.std.specs.Prelude.{◌≡◌, ◌++◌, ◌∷◌, [], OnErr, OnOk, length, map, take};
-ghost use Rattle.fx_judge.specs.Plans.{depth_of};
+ghost use Rattle.fx_typing.specs.Plans.{depth_of};
 ghost use Rattle.fx_scopes.specs.ScopeView.{scope};
 
 use fx_base::Memory;

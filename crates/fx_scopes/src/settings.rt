@@ -1,10 +1,10 @@
 //! Where each part of a node stands.
 ghost use Rattle.std.specs.Prelude.{◌≡◌, ◌≤◌, ◌+◌, IfOk, None, OnErr, OnOk, false, length, map, take};
 ghost use Rattle.fx_data.specs.TypeView.{shape};
-ghost use Rattle.fx_judge.specs.Parts as parts;
-ghost use Rattle.fx_judge.specs.Plans as plans;
-ghost use Rattle.fx_local.specs.TypedView.{piece};
-ghost use Rattle.fx_names.specs.Lawful.{IsLawful};
+ghost use Rattle.fx_typing.specs.Parts as parts;
+ghost use Rattle.fx_typing.specs.Plans as plans;
+ghost use Rattle.fx_typing.specs.TypedView.{piece};
+ghost use Rattle.fx_trees.specs.Lawful.{IsLawful};
 ghost use Rattle.fx_typing.specs.WellTyped.{row_type};
 ghost use Rattle.fx_scopes.specs.PartView.{part};
 ghost use Rattle.fx_scopes.specs.PlanView.{head_of, standing};
@@ -18,9 +18,9 @@ use crate::targets::target_columns;
 use fx_base::Memory;
 use fx_data::types::{Columns, Ty};
 use fx_data::words::Words;
-use fx_local::Piece;
-use fx_names::names::Names;
-use fx_syntax::expr::Expr;
+use fx_trees::expr::Expr;
+use fx_trees::names::Names;
+use fx_typing::Piece;
 use std::alloc::Global;
 
 /// Where a node stands, beside the scopes around it.

@@ -2,16 +2,16 @@
 ghost use Rattle.std.specs.Prelude.{◌≡◌, IfOk, option_map};
 ghost use Rattle.fx_data.specs.TypeView.{shape};
 ghost use Rattle.fx_data.specs.Types.{column_list};
-ghost use Rattle.fx_names.specs.SourceTypes as types;
+ghost use Rattle.fx_trees.specs.SourceTypes as types;
 
 use fx_base::Memory;
 use fx_data::controls::Control;
 use fx_data::types::{Columns, Ty};
 use fx_data::words::Words;
-use fx_local::columns::put_column;
-use fx_names::controls::property_ty;
-use fx_names::names::ControlName;
-use fx_names::schema::TableShape;
+use fx_trees::controls::property_ty;
+use fx_trees::names::ControlName;
+use fx_trees::schema::TableShape;
+use fx_typing::columns::put_column;
 use std::alloc::Global;
 
 /// The columns of a table, `ID` among them.

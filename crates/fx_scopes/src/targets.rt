@@ -2,9 +2,9 @@
 ghost use Rattle.std.specs.Prelude.{◌≡◌, ◌<◌, IfOk, IfSome, option_map};
 ghost use Rattle.fx_data.specs.TypeView.{shape};
 ghost use Rattle.fx_data.specs.Types.{column_list};
-ghost use Rattle.fx_judge.specs.Targets as targets;
-ghost use Rattle.fx_names.specs.Lawful.{IsLawful};
-ghost use Rattle.fx_names.specs.SourceTypes.{item_columns};
+ghost use Rattle.fx_typing.specs.Targets as targets;
+ghost use Rattle.fx_trees.specs.Lawful.{IsLawful};
+ghost use Rattle.fx_trees.specs.SourceTypes.{item_columns};
 ghost use Rattle.fx_scopes.specs.RowsView.{rows_view};
 
 use crate::named::{context_in, global_in, thing_in};
@@ -12,9 +12,9 @@ use crate::tables::columns_of;
 use fx_base::Memory;
 use fx_data::types::{Columns, Ty};
 use fx_data::words::Words;
-use fx_functions::deeds::Target;
-use fx_names::names::{Collection, ControlName, Names, Variable};
-use fx_names::schema::TableShape;
+use fx_trees::deeds::Target;
+use fx_trees::names::{Collection, ControlName, Names, Variable};
+use fx_trees::schema::TableShape;
 use std::alloc::Global;
 
 /// Rows that change, with the type of the table that they are in.

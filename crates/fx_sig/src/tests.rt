@@ -1,7 +1,7 @@
 use crate::table::{all, signature};
-use fx_functions::functions::{Acting, Fun};
-use fx_functions::literals::TimeUnit;
-use fx_functions::signatures::SigShape;
+use fx_trees::functions::{Acting, Fun};
+use fx_trees::literals::TimeUnit;
+use fx_trees::signatures::SigShape;
 use std::test::Fail;
 
 #[test]

@@ -1,5 +1,5 @@
 -- How records keep rising names while their fields change.
-use Rattle.std.proofs.Common.{◌≡◌, ℕ, zero, suc, ◌+◌, ◌<◌, ◌≤◌, List, [], ◌∷◌, ◌++◌, length, get_or, take, drop, map, Bool, true, false, not, bytes_eq, Option, Some, None, option_map, unwrap_or, refl, sym, ap, subst, ◌∙◌, arith, cond, if◌then◌else◌, append_assoc}
+use Rattle.std.proofs.Common.{◌≡◌, ℕ, zero, suc, ◌+◌, List, [], ◌∷◌, ◌++◌, get_or, map, Bool, true, false, not, bytes_eq, Some, None, option_map, unwrap_or, refl, sym, ap, subst, ◌∙◌, arith, cond, if◌then◌else◌, append_assoc}
 use Rattle.std.specs.List.{filter, insert, remove, slice_get, position_or_len}
 use Rattle.std.specs.Cmp.Lexicographic.{slice_cmp}
 use Rattle.std.specs.Ordering.{nat_cmp, is_lt}
@@ -19,7 +19,7 @@ use Rattle.fx_value.proofs.Unions.{below}
 use Rattle.fx_tables.specs.Columns.{Row, with_field, without, with_column}
 
 -- a name is not below itself
-not_below_itself : (n : List ℕ) → IsBelow n n → ⊥
+pub not_below_itself : (n : List ℕ) → IsBelow n n → ⊥
 not_below_itself n h = let tied = tied_itself nat_list_cmp_total n in cc
 
 -- a name is another than those above it
@@ -50,14 +50,14 @@ below_with m n d (f ∷ fs) h k = by (is_lt (slice_cmp nat_cmp n f.0)) (below_wi
     by true r = (h, k)
     by false r = (k.0, r)
 
-lacks_first : (n : List ℕ) (f : List ℕ × Data) (fs : Row) → item_of n (f ∷ fs) ≡ None → bytes_eq f.0 n ≡ false
+pub lacks_first : (n : List ℕ) (f : List ℕ × Data) (fs : Row) → item_of n (f ∷ fs) ≡ None → bytes_eq f.0 n ≡ false
 lacks_first n f fs e = by (bytes_eq f.0 n) e
   where
     by : (b : Bool) → (if b then Some f.1 else item_of n fs) ≡ None → b ≡ false
     by true e = cc
     by false e = refl
 
-lacks_rest : (n : List ℕ) (f : List ℕ × Data) (fs : Row) → item_of n (f ∷ fs) ≡ None → item_of n fs ≡ None
+pub lacks_rest : (n : List ℕ) (f : List ℕ × Data) (fs : Row) → item_of n (f ∷ fs) ≡ None → item_of n fs ≡ None
 lacks_rest n f fs e = by (bytes_eq f.0 n) e
   where
     by : (b : Bool) → (if b then Some f.1 else item_of n fs) ≡ None → item_of n fs ≡ None
@@ -116,11 +116,6 @@ below_named : (m n : List ℕ) (xs : List (List ℕ × Value)) (i : ℕ) → IsB
 below_named m n [] i b e = cc
 below_named m n (f ∷ xs) zero b e = let q : f.0 ≡ n = cc in subst (IsBelow m) q b.0
 below_named m n (f ∷ xs) (suc i) b e = below_named m n xs i b.1 e
-
-pub named_within : (n : List ℕ) (xs : List (List ℕ × Value)) (i : ℕ) → IsNamed n xs i → i < length xs
-named_within n [] i e = cc
-named_within n (f ∷ xs) zero e = omega arith
-named_within n (f ∷ xs) (suc i) e = omega (arith, named_within n xs i e)
 
 pub taken_value : (n : List ℕ) (xs : List (List ℕ × Value)) (i : ℕ) (x : List ℕ × Value) → AreRising (fields_view xs) → IsNamed n xs i → x ≡ get_or xs i x → view x.1 ≡ unwrap_or (item_of n (fields_view xs)) blank
 taken_value n [] i x r e q = cc

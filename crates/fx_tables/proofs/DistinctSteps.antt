@@ -13,8 +13,8 @@ use Rattle.std.proofs.lemmas.List.Folds.{list_any-append}
 use Rattle.fx_data.specs.Values.{Data, blank, number, text, boolean, date, rec, tab, fault}
 use Rattle.fx_data.specs.ValueView.{view}
 use Rattle.fx_data.specs.declared.values.Value.{Value}
-use Rattle.fx_order.specs.Order.{order, AreOfOneType, IsScalar}
-use Rattle.fx_order.specs.Keys.{key_bytes, IsProper, KeysOrder}
+use Rattle.fx_value.specs.Order.{order, AreOfOneType, IsScalar}
+use Rattle.fx_value.specs.Keys.{key_bytes, IsProper, KeysOrder}
 use Rattle.fx_tables.specs.Columns.{Row}
 use Rattle.fx_tables.specs.Distinct.{distinct_of, value_row}
 use Rattle.fx_tables.specs.Ordered.{AreKeys}

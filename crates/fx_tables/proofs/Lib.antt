@@ -3,3 +3,13 @@ pub mod DistinctSteps
 pub mod OrderSteps
 pub mod SumSteps
 pub mod UnionSteps
+pub mod ColumnTurns
+pub mod FirstErrors
+pub mod FitColumns
+pub mod FitDistinct
+pub mod FitRows
+pub mod KeptRows
+pub mod Numbers
+pub mod OneAnswers
+pub mod Separators
+pub mod ValueRows

@@ -12,7 +12,7 @@ use Rattle.std.proofs.lemmas.List.Elements.{filter_agree}
 use Rattle.std.proofs.lemmas.List.Sorted.{ranks_by, sorted_far, IsPermutation-map}
 use Rattle.fx_data.specs.Values.{Data}
 use Rattle.fx_data.specs.ValueView.{view}
-use Rattle.fx_order.specs.Order.{order}
+use Rattle.fx_value.specs.Order.{order}
 use Rattle.fx_tables.specs.Columns.{Row}
 use Rattle.fx_tables.specs.Keyed.{pair_of}
 use Rattle.fx_tables.specs.Ordered.{directed, IsOrderedBy}

@@ -1,5 +1,5 @@
 -- What the calls on columns make of each row.
-use Rattle.std.specs.Prelude.{◌≡◌, ℕ, List, [], ◌∷◌, map, not, bytes_eq, unwrap_or, None, IsSome, if◌then◌else◌}
+use Rattle.std.specs.Prelude.{◌≡◌, ℕ, List, [], ◌∷◌, map, not, bytes_eq, unwrap_or, None, if◌then◌else◌}
 use Rattle.std.specs.List.{All, filter, list_any, zip}
 use Rattle.std.specs.Cmp.Lexicographic.{slice_cmp}
 use Rattle.std.specs.Ordering.{nat_cmp, is_lt}
@@ -9,10 +9,6 @@ use Rattle.fx_data.specs.Values.{Data, blank}
 -- a row of a table, a record as its fields by rising names
 abbrev pub Row : Type 0
 Row = List (List ℕ × Data)
-
--- every row has a field of this name
-abbrev pub HasColumn : List ℕ → List Row → Type 0
-HasColumn n = All (λ r. IsSome (item_of n r))
 
 -- no row has a field of this name
 abbrev pub LacksColumn : List ℕ → List Row → Type 0

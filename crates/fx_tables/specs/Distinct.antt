@@ -4,7 +4,7 @@ use Rattle.std.specs.List.{filter}
 use Rattle.std.specs.Ordering.{is_eq}
 use Rattle.fx_data.specs.Words.{scalars_of}
 use Rattle.fx_data.specs.Values.{Data}
-use Rattle.fx_order.specs.Order.{order}
+use Rattle.fx_value.specs.Order.{order}
 use Rattle.fx_tables.specs.Columns.{Row}
 
 -- the name of the column that scalars stand in

@@ -5,3 +5,9 @@ pub mod Keyed
 pub mod Ordered
 pub mod Seen
 pub mod Unions
+pub mod AggregateCalls
+pub mod ColumnCalls
+pub mod Ends
+pub mod Laws
+pub mod NewColumn
+pub mod RowCalls

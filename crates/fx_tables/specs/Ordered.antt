@@ -4,7 +4,7 @@ use Rattle.std.specs.List.{All, zip}
 use Rattle.std.specs.List.Sorted.{IsPermutation, IsSortedByKey, IsStableByKey}
 use Rattle.std.specs.declared.cmp.Ordering.{Ordering}
 use Rattle.fx_data.specs.Values.{Data}
-use Rattle.fx_order.specs.Order.{AreOfOneType, order}
+use Rattle.fx_value.specs.Order.{AreOfOneType, order}
 use Rattle.fx_tables.specs.Columns.{Row}
 
 -- scalars of one type, or blank: each goes with each

@@ -3,8 +3,8 @@ ghost use Rattle.std.specs.Prelude.{◌≡◌, ◌++◌, ◌∷◌, [], IfOk, On
 ghost use Rattle.std.specs.List.{All};
 ghost use Rattle.fx_data.specs.Values.{Data};
 ghost use Rattle.fx_data.specs.ValueView.{view};
-ghost use Rattle.fx_order.specs.Keys.{IsProper};
-ghost use Rattle.fx_order.specs.Order.{AreOfOneType, IsScalar};
+ghost use Rattle.fx_value.specs.Keys.{IsProper};
+ghost use Rattle.fx_value.specs.Order.{AreOfOneType, IsScalar};
 ghost use Rattle.fx_tables.specs.Distinct.{distinct_of, value_row as value_row_of};
 ghost use Rattle.fx_tables.specs.Ordered.{AreKeys};
 ghost use Rattle.fx_tables.specs.Seen.{HoldsFirsts};
@@ -12,7 +12,7 @@ ghost use Rattle.fx_tables.specs.Seen.{HoldsFirsts};
 use crate::unions::value_row;
 use fx_base::Memory;
 use fx_data::values::{Fields, Rows, Value};
-use fx_order::{key_of, keys_order, value_is_proper};
+use fx_value::{key_of, keys_order, value_is_proper};
 use std::alloc::Global;
 use std::collections::BTreeSet;
 

@@ -1,12 +1,21 @@
-//! The calls on tables that need no formula: unions, order, columns, distinct values, the first and
-//! last rows, and totals.
+//! What functions do with tables, and with the rows that their formulas are evaluated on.
 #![tactic(auto)]
 
+pub mod aggregates;
+pub mod column_calls;
 pub mod columns;
+pub mod conditions;
+pub mod counts;
+pub mod ends;
+mod errors;
 pub mod first_values;
+pub mod formulas;
+pub mod laws;
 pub mod ordering;
+pub mod row_calls;
 pub mod rows;
 pub mod sums;
+pub mod texts;
 pub mod unions;
 
 pub use columns::{add_column, drop_column, rename_column, show_columns};

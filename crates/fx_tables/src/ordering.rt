@@ -7,7 +7,7 @@ ghost use Rattle.fx_tables.specs.Ordered.{IsOrderedBy, OrderedOnce, directed as 
 
 use fx_base::Memory;
 use fx_data::values::{Fields, Rows, Value};
-use fx_order::{compare, compare_is_total};
+use fx_value::{compare, compare_is_total};
 use std::alloc::Global;
 use std::cmp::Ordering;
 

@@ -1,18 +1,18 @@
 -- The law of the one rule: what it makes of well typed parts is well typed.
-use Rattle.std.proofs.Common.{◌≡◌, ℕ, zero, suc, ◌++◌, List, [], ◌∷◌, Bool, true, false, length, Result, Ok, Err, refl, ap, sym, subst, ◌∙◌, if◌then◌else◌}
+use Rattle.std.proofs.Common.{◌≡◌, ℕ, suc, ◌++◌, List, [], ◌∷◌, Bool, true, false, length, Result, Ok, Err, refl, ap, sym, subst, ◌∙◌, if◌then◌else◌}
 use Rattle.std.specs.Prelude.{Option, Some, None}
-use Rattle.fx_data.specs.Types.{Shape, blanks, numbers, texts, booleans, dates, records, tables, ColumnList, no_columns}
+use Rattle.fx_data.specs.Types.{Shape, blanks, numbers, texts, booleans, dates, records, tables, no_columns}
 use Rattle.fx_data.specs.Values.{text}
-use Rattle.fx_functions.specs.declared.functions.Form.{Form}
-use Rattle.fx_functions.specs.declared.functions.Fun.{Fun}
-use Rattle.fx_functions.specs.declared.rows.Row.{Row}
-use Rattle.fx_functions.specs.declared.rows.Scalar.{Scalar}
-use Rattle.fx_functions.specs.declared.rows.Takes.{Takes}
-use Rattle.fx_functions.specs.declared.rows.Takes.TheVariants as takes
-use Rattle.fx_functions.specs.Rows.{shape_of, row_of, form_row, takes_at, takes_count}
-use Rattle.fx_typed.specs.Term.{Term, Terms, of, nil, cons, all, Top, const, coerce, form}
-use Rattle.fx_typing.specs.Columns.{tells_error, and_then, field_in}
-use Rattle.fx_typing.specs.Local.{Piece, value, label, coerced, by_way, exact_way, branch_way, when, without_kind, stand, put_first, stand_rest, stand_all, branches, common_of, firsts, answer_by, made_as, made_by, made, formed}
+use Rattle.fx_trees.specs.declared.functions.Form.{Form}
+use Rattle.fx_trees.specs.declared.functions.Fun.{Fun}
+use Rattle.fx_trees.specs.declared.rows.Row.{Row}
+use Rattle.fx_trees.specs.declared.rows.Scalar.{Scalar}
+use Rattle.fx_trees.specs.declared.rows.Takes.{Takes}
+use Rattle.fx_trees.specs.declared.rows.Takes.TheVariants as takes
+use Rattle.fx_trees.specs.Rows.{shape_of, row_of, form_row, takes_at, takes_count}
+use Rattle.fx_trees.specs.Term.{Term, Terms, of, nil, cons, all, Top, const, coerce, form}
+use Rattle.fx_typing.specs.Columns.{tells_error, and_then}
+use Rattle.fx_typing.specs.Local.{Piece, value, label, coerced, by_way, exact_way, branch_way, when, stand, put_first, stand_rest, stand_all, branches, common_of, firsts, answer_by, made_as, made_by, made, formed}
 use Rattle.fx_typing.specs.WellTyped.{Context, head_by, head_of, standing_of, standing_at, context_for, first_type, Stands, AllStand, paired, answered, IsByRow, IsRuled, parts_count, IsTyped, AreTyped}
 use Rattle.fx_typing.specs.Ways.{Way, same, changed, refused, way, is_scalar, is_comparable}
 use Rattle.fx_typing.proofs.Same.{way_same, exact_same, exact_changed, branch_same, comparable_itself}
@@ -26,7 +26,7 @@ PieceTyped c (label x) = Unit {0}
 abbrev pub Typed : Context → Term × Shape → Type 0
 Typed c x = IsTyped c x.0 x.1
 
-coercion_ruled : (c : Context) (k : Term) (u to : Shape) → way u to ≡ changed → IsRuled c (coerce to) (cons k nil) (u ∷ []) to
+pub coercion_ruled : (c : Context) (k : Term) (u to : Shape) → way u to ≡ changed → IsRuled c (coerce to) (cons k nil) (u ∷ []) to
 coercion_ruled c k u blanks e = refl
 coercion_ruled c k u numbers e = (e, refl)
 coercion_ruled c k u texts e = (e, refl)
@@ -142,7 +142,7 @@ and_then_ok : {A B : Type 0} (r : Result A ℕ) (go : A → Result B ℕ) (b : B
 and_then_ok (Ok a) go b e = (a, refl, e)
 and_then_ok (Err n) go b e = absurd cc
 
-put_ok : (x : Term × Shape) (r : Result (List (Term × Shape)) ℕ) (xs : List (Term × Shape)) → put_first x r ≡ Ok xs → (ys : List (Term × Shape)) × (r ≡ Ok ys) × (xs ≡ x ∷ ys)
+pub put_ok : (x : Term × Shape) (r : Result (List (Term × Shape)) ℕ) (xs : List (Term × Shape)) → put_first x r ≡ Ok xs → (ys : List (Term × Shape)) × (r ≡ Ok ys) × (xs ≡ x ∷ ys)
 put_ok x (Ok ys) xs e = (ys, refl, sym cc)
 put_ok x (Err n) xs e = absurd cc
 

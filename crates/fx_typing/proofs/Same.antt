@@ -1,13 +1,13 @@
 -- Types that are one.
-use Rattle.std.proofs.Common.{◌≡◌, ℕ, List, Bool, true, false, ◌&&◌, refl, ap, sym, subst, ◌∙◌, bytes_eq, if◌then◌else◌}
+use Rattle.std.proofs.Common.{◌≡◌, ℕ, List, Bool, true, false, ◌&&◌, refl, ap, bytes_eq, if◌then◌else◌}
 use Rattle.std.specs.Prelude.{Option, Some, None}
 use Rattle.std.proofs.lemmas.Slice.Eq.{bytes_eq-Decides}
 use Rattle.fx_data.specs.Types.{Shape, blanks, numbers, texts, booleans, dates, records, tables, ColumnList, no_columns, column}
 use Rattle.fx_value.specs.Join.{join_of}
-use Rattle.fx_typing.specs.Ways.{same_shape, same_columns, Way, same, changed, refused, joined_way, widening, way, is_scalar, is_comparable}
+use Rattle.fx_typing.specs.Ways.{same_shape, same_columns, same, changed, refused, joined_way, widening, way, is_scalar, is_comparable}
 use Rattle.fx_typing.specs.Local.{exact_way, branch_way}
 
-both : (a b : Bool) → (a && b) ≡ true → (a ≡ true) × (b ≡ true)
+pub both : (a b : Bool) → (a && b) ≡ true → (a ≡ true) × (b ≡ true)
 both true b e = (refl, e)
 both false b e = absurd cc
 
@@ -122,7 +122,3 @@ comparable_itself booleans e = refl
 comparable_itself dates e = refl
 comparable_itself (records cs) e = absurd cc
 comparable_itself (tables cs) e = absurd cc
-
--- a part that compares with Blank has no parts
-pub comparable_blank : (t : Shape) → is_comparable blanks t ≡ is_scalar t
-comparable_blank t = refl

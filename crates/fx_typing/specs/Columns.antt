@@ -2,8 +2,9 @@
 use Rattle.std.specs.Prelude.{ℕ, List, [], ◌∷◌, Bool, true, false, ◌||◌, ◌&&◌, Option, Some, None, is_some, Result, Ok, Err, bytes_eq, codes, if◌then◌else◌}
 use Rattle.fx_data.specs.Types.{Shape, numbers, texts, records, tables, ColumnList, no_columns, column}
 use Rattle.fx_data.specs.Values.{text}
-use Rattle.fx_names.specs.SourceTypes.{put_column}
-use Rattle.fx_typed.specs.Term.{Term, of, nil, const}
+use Rattle.fx_trees.specs.SourceTypes.{put_column}
+use Rattle.fx_trees.specs.Term.{Term, of, nil, const}
+use Rattle.fx_trees.specs.Rules as rules
 use Rattle.fx_typing.specs.Ways.{way, is_open}
 
 -- the type of a column
@@ -46,10 +47,10 @@ row_columns t = value_column t
 -- a column that is there, and one that isn't: else the rule that is broken
 abbrev pub if_there : Option Shape → Result Shape ℕ
 if_there (Some t) = Ok t
-if_there None = Err 12
+if_there None = Err rules.unknown_column
 
 abbrev pub if_free : Option Shape → ColumnList → Result ColumnList ℕ
-if_free (Some t) cs = Err 5
+if_free (Some t) cs = Err rules.name_twice
 if_free None cs = Ok cs
 
 abbrev pub and_then : {A B : Type 0} → Result A ℕ → (A → Result B ℕ) → Result B ℕ
@@ -71,7 +72,7 @@ label_of t = None
 -- goes on with a name; another tree is of the wrong type
 abbrev pub by_label : {A : Type 0} → Option (List ℕ) → (List ℕ → Result A ℕ) → Result A ℕ
 by_label (Some x) go = go x
-by_label None go = Err 6
+by_label None go = Err rules.wrong_type
 
 -- new columns in turn, each of the name that stands before its formula
 abbrev pub added : List (Term × Shape) → ColumnList → Result ColumnList ℕ

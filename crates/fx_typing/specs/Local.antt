@@ -3,13 +3,14 @@ use Rattle.std.specs.Prelude.{ℕ, suc, codes, List, [], ◌∷◌, ◌++◌, Bo
 use Rattle.fx_data.specs.Types.{Shape, blanks, texts, records, tables, ColumnList, no_columns}
 use Rattle.fx_data.specs.Values.{text}
 use Rattle.fx_value.specs.Join.{join_of}
-use Rattle.fx_functions.specs.declared.functions.Form.{Form}
-use Rattle.fx_functions.specs.declared.functions.Fun.{Fun}
-use Rattle.fx_functions.specs.declared.rows.Row.{Row}
-use Rattle.fx_functions.specs.declared.rows.Takes.{Takes}
-use Rattle.fx_functions.specs.declared.rows.Takes.TheVariants as takes
-use Rattle.fx_functions.specs.Rows.{shape_of, row_of, form_row, takes_at, takes_count}
-use Rattle.fx_typed.specs.Term.{Term, of, nil, cons, all, Top, const, coerce, form}
+use Rattle.fx_trees.specs.declared.functions.Form.{Form}
+use Rattle.fx_trees.specs.declared.functions.Fun.{Fun}
+use Rattle.fx_trees.specs.declared.rows.Row.{Row}
+use Rattle.fx_trees.specs.declared.rows.Takes.{Takes}
+use Rattle.fx_trees.specs.declared.rows.Takes.TheVariants as takes
+use Rattle.fx_trees.specs.Rows.{shape_of, row_of, form_row, takes_at, takes_count}
+use Rattle.fx_trees.specs.Term.{Term, of, nil, cons, all, Top, const, coerce, form}
+use Rattle.fx_trees.specs.Rules as rules
 use Rattle.fx_typing.specs.Acts.{acts}
 use Rattle.fx_typing.specs.Columns.{tells_error, and_then, field_in}
 use Rattle.fx_typing.specs.Ways.{Way, same, changed, refused, way, same_shape, is_scalar, is_comparable}
@@ -29,7 +30,7 @@ coerced c t = of (coerce t) (cons c nil)
 abbrev pub by_way : Way → Term → Shape → Result (Term × Shape) ℕ
 by_way same c t = Ok (c, t)
 by_way changed c t = Ok (coerced c t, t)
-by_way refused c t = Err 6
+by_way refused c t = Err rules.wrong_type
 
 -- to just this type: from itself and from Blank
 abbrev pub exact_way : Shape → Shape → Way
@@ -56,8 +57,8 @@ when false e c t = Err e
 
 -- the rule that a record breaks which tells no error: no Kind, or one of a wrong type
 abbrev pub without_kind : Option Shape → ℕ
-without_kind None = 12
-without_kind (Some t) = 6
+without_kind None = rules.unknown_column
+without_kind (Some t) = rules.wrong_type
 
 -- a part as it stands at its place, where the first part and the branches have these types
 abbrev pub stand : Takes → Shape → Shape → Piece → Result (Term × Shape) ℕ
@@ -69,17 +70,17 @@ stand takes.AnyFormula first common (value a c t) = Ok (c, t)
 stand takes.ErrorRecord first common (value a c (records cs)) = when (tells_error cs) (without_kind (field_in (codes "Kind") cs)) c (records cs)
 stand takes.Table first common (value a c (tables cs)) = Ok (c, tables cs)
 stand takes.Table first common (value a c blanks) = Ok (coerced c (tables no_columns), tables no_columns)
-stand takes.ScalarFormula first common (value a c t) = when (is_scalar t) 6 c t
-stand takes.RowFormula first common (value a c (tables cs)) = Err 6
+stand takes.ScalarFormula first common (value a c t) = when (is_scalar t) rules.wrong_type c t
+stand takes.RowFormula first common (value a c (tables cs)) = Err rules.wrong_type
 stand takes.RowFormula first common (value a c t) = Ok (c, t)
 stand takes.Choice first common (value a c t) = by_way (branch_way t common) c common
 stand takes.Branch first common (value a c t) = by_way (branch_way t common) c common
 stand takes.Fallback first common (value a c t) = by_way (branch_way t common) c common
-stand takes.Compared first common (value a c t) = when (is_scalar t) 6 c t
-stand takes.Match first common (value a c t) = when (is_comparable first t) 6 c t
+stand takes.Compared first common (value a c t) = when (is_scalar t) rules.wrong_type c t
+stand takes.Match first common (value a c t) = when (is_comparable first t) rules.wrong_type c t
 stand takes.Column first common (label x) = Ok (of (const (text x)) nil, texts)
 stand takes.NewColumn first common (label x) = Ok (of (const (text x)) nil, texts)
-stand k first common p = Err 6
+stand k first common p = Err rules.wrong_type
 
 -- the first rule that breaks, else all
 abbrev pub put_first : Term × Shape → Result (List (Term × Shape)) ℕ → Result (List (Term × Shape)) ℕ
@@ -158,11 +159,11 @@ answer_by r h common xs = and_then (answered r.answer common xs) (λ t. Ok (of h
 
 abbrev pub made_as : Row → Top → List Piece → Option Shape → Result (Term × Shape) ℕ
 made_as r h ps (Some common) = and_then (stand_all r common ps) (answer_by r h common)
-made_as r h ps None = Err 6
+made_as r h ps None = Err rules.wrong_type
 
 -- THE rule: a head with this row, of these parts, or the rule that is broken
 abbrev pub made_by : Row → Top → List Piece → Result (Term × Shape) ℕ
-made_by r h ps = if takes_count r (length ps) then made_as r h ps (common_of (branches r (length ps) 0 ps)) else Err 7
+made_by r h ps = if takes_count r (length ps) then made_as r h ps (common_of (branches r (length ps) 0 ps)) else Err rules.wrong_count
 
 -- a function or operator
 abbrev pub made : Fun → List Piece → Result (Term × Shape) ℕ

@@ -3,22 +3,23 @@ use Rattle.std.specs.Prelude.{ℕ, zero, suc, pos, List, [], ◌∷◌, length, 
 use Rattle.fx_data.specs.TypeView.{shape}
 use Rattle.fx_data.specs.Types.{Shape, texts, records, tables, ColumnList, no_columns}
 use Rattle.fx_data.specs.Values.{Data, blank, number, text, boolean, tab, no_rows}
-use Rattle.fx_functions.specs.declared.literals.Enumeration.{Enumeration}
-use Rattle.fx_functions.specs.declared.sources.Source.{Source}
-use Rattle.fx_functions.specs.declared.sources.Source.TheVariants as source
-use Rattle.fx_functions.specs.Literals.{enumeration_of, has_member}
+use Rattle.fx_trees.specs.declared.literals.Enumeration.{Enumeration}
+use Rattle.fx_trees.specs.declared.sources.Source.{Source}
+use Rattle.fx_trees.specs.declared.sources.Source.TheVariants as source
+use Rattle.fx_trees.specs.Literals.{enumeration_of, has_member}
 use Rattle.fx_data.specs.declared.controls.Control.{Control}
 use Rattle.fx_data.specs.declared.controls.Control.TheVariants as control
-use Rattle.fx_names.specs.declared.names.ControlName.{ControlName}
-use Rattle.fx_names.specs.declared.names.Property.{Property}
-use Rattle.fx_names.specs.declared.names.FormulaName.{FormulaName}
-use Rattle.fx_names.specs.declared.names.Variable.{Variable}
-use Rattle.fx_names.specs.declared.names.Collection.{Collection}
-use Rattle.fx_names.specs.declared.names.Names.{Names}
-use Rattle.fx_names.specs.declared.schema.TableShape.{TableShape}
-use Rattle.fx_names.specs.Controls.{is_items, input_type}
-use Rattle.fx_names.specs.SourceTypes.{columns_of, item_type, property_of}
-use Rattle.fx_typed.specs.Term.{Term, of, nil, cons, const, read, row, item, caught, dot}
+use Rattle.fx_trees.specs.declared.names.ControlName.{ControlName}
+use Rattle.fx_trees.specs.declared.names.Property.{Property}
+use Rattle.fx_trees.specs.declared.names.FormulaName.{FormulaName}
+use Rattle.fx_trees.specs.declared.names.Variable.{Variable}
+use Rattle.fx_trees.specs.declared.names.Collection.{Collection}
+use Rattle.fx_trees.specs.declared.names.Names.{Names}
+use Rattle.fx_trees.specs.declared.schema.TableShape.{TableShape}
+use Rattle.fx_trees.specs.Controls.{is_items, input_type}
+use Rattle.fx_trees.specs.SourceTypes.{columns_of, item_type, property_of}
+use Rattle.fx_trees.specs.Term.{Term, of, nil, cons, const, read, row, item, caught, dot}
+use Rattle.fx_trees.specs.Rules as rules
 use Rattle.fx_typing.specs.Columns.{field_in, field_of, fault_type}
 
 -- a scope of rows or of a record: its type, its alias if it has one, and whether it is a table call's,
@@ -136,9 +137,9 @@ meaning_of p scopes catches x = or_else (in_scopes 0 x scopes) (behind_scopes p 
 -- is a control or a screen
 abbrev pub named : Option Meaning → Result (Term × Shape) ℕ
 named (Some (valued c t)) = Ok (c, t)
-named (Some (controlled k c)) = Err 6
-named (Some screened) = Err 6
-named m = Err 4
+named (Some (controlled k c)) = Err rules.wrong_type
+named (Some screened) = Err rules.wrong_type
+named m = Err rules.unknown_name
 
 -- what a property is where it isn't written
 abbrev pub own_default : Control → List ℕ → Data
@@ -177,15 +178,15 @@ written_or c x t None = (of (const (default_of c (encode_utf8_all x))) nil, defa
 abbrev pub property_read : Names → ℕ → ControlName → List ℕ → Option Shape → Result (Term × Shape) ℕ
 property_read n k c x (Some t) =
     Ok (written_or c.kind x t (place_of (λ (p : Property). nat_eq p.control k && bytes_eq p.name x) 0 n.properties))
-property_read n k c x None = Err 12
+property_read n k c x None = Err rules.unknown_column
 
 abbrev pub input_read : ℕ → Option Shape → Result (Term × Shape) ℕ
 input_read k (Some t) = Ok (of (read (source.Input k)) nil, t)
-input_read k None = Err 12
+input_read k None = Err rules.unknown_column
 
 -- a property of a control of a gallery's template isn't named: its value differs from item to item
 abbrev pub control_read : Names → ℕ → ControlName → Option ℕ → List ℕ → Result (Term × Shape) ℕ
-control_read n k c (Some g) x = Err 6
+control_read n k c (Some g) x = Err rules.wrong_type
 control_read n k c None x =
     if is_chosen c.kind (encode_utf8_all x) then Ok (of (read (source.Chosen k)) nil, item_type c)
     else (if is_input c.kind (encode_utf8_all x) then input_read k (input_type c.kind)
@@ -194,21 +195,21 @@ control_read n k c None x =
 -- a member of an enumeration is the text of its name
 abbrev pub member_of : Bool → List ℕ → Result (Term × Shape) ℕ
 member_of true x = Ok (of (const (text x)) nil, texts)
-member_of false x = Err 12
+member_of false x = Err rules.unknown_column
 
 -- a field of a record; other types have none
 abbrev pub known_field : Term → List ℕ → Option Shape → Result (Term × Shape) ℕ
 known_field c x (Some t) = Ok (of (dot x) (cons c nil), t)
-known_field c x None = Err 12
+known_field c x None = Err rules.unknown_column
 
 abbrev pub field_read : Term → List ℕ → Shape → Result (Term × Shape) ℕ
 field_read c x (records cs) = known_field c x (field_in x cs)
-field_read c x t = Err 6
+field_read c x t = Err rules.wrong_type
 
 -- what stands behind a dot, by what stands before it
 abbrev pub dotted : Names → List ℕ → Option Meaning → Result (Term × Shape) ℕ
 dotted n x (Some (valued c t)) = field_read c x t
 dotted n x (Some (controlled k c)) = control_read n k c c.gallery x
 dotted n x (Some (enumerated e)) = member_of (has_member e (encode_utf8_all x)) x
-dotted n x (Some screened) = Err 6
-dotted n x None = Err 4
+dotted n x (Some screened) = Err rules.wrong_type
+dotted n x None = Err rules.unknown_name

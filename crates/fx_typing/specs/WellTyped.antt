@@ -4,21 +4,22 @@ use Rattle.fx_data.specs.Rising.{IsBelow}
 use Rattle.fx_data.specs.Types.{Shape, blanks, numbers, texts, booleans, records, tables, ColumnList, no_columns, column}
 use Rattle.fx_value.specs.Fits.{fits_in}
 use Rattle.fx_value.specs.Join.{join_of}
-use Rattle.fx_functions.specs.declared.deeds.Deed.{Deed}
-use Rattle.fx_functions.specs.declared.deeds.Deed.TheVariants as deed
-use Rattle.fx_functions.specs.declared.deeds.Target.{Target}
-use Rattle.fx_functions.specs.declared.deeds.Target.TheVariants as target
-use Rattle.fx_functions.specs.declared.functions.Fun.{Fun}
-use Rattle.fx_functions.specs.declared.functions.Fun.TheVariants as fun
-use Rattle.fx_functions.specs.declared.rows.Answer.{Answer}
-use Rattle.fx_functions.specs.declared.rows.Answer.TheVariants as answer
-use Rattle.fx_functions.specs.declared.rows.Row.{Row}
-use Rattle.fx_functions.specs.declared.rows.Takes.{Takes}
-use Rattle.fx_functions.specs.declared.rows.Takes.TheVariants as takes
-use Rattle.fx_functions.specs.declared.sources.Source.{Source}
-use Rattle.fx_functions.specs.declared.sources.Source.TheVariants as source
-use Rattle.fx_functions.specs.Rows.{shape_of, row_of, form_row, takes_at, takes_count}
-use Rattle.fx_typed.specs.Term.{Term, Terms, of, nil, cons, Top, const, read, row, item, caught, dot, call, over, form, within, rec, list, coerce, chain, act}
+use Rattle.fx_trees.specs.declared.deeds.Deed.{Deed}
+use Rattle.fx_trees.specs.declared.deeds.Deed.TheVariants as deed
+use Rattle.fx_trees.specs.declared.deeds.Target.{Target}
+use Rattle.fx_trees.specs.declared.deeds.Target.TheVariants as target
+use Rattle.fx_trees.specs.declared.functions.Fun.{Fun}
+use Rattle.fx_trees.specs.declared.functions.Fun.TheVariants as fun
+use Rattle.fx_trees.specs.declared.rows.Answer.{Answer}
+use Rattle.fx_trees.specs.declared.rows.Answer.TheVariants as answer
+use Rattle.fx_trees.specs.declared.rows.Row.{Row}
+use Rattle.fx_trees.specs.declared.rows.Takes.{Takes}
+use Rattle.fx_trees.specs.declared.rows.Takes.TheVariants as takes
+use Rattle.fx_trees.specs.declared.sources.Source.{Source}
+use Rattle.fx_trees.specs.declared.sources.Source.TheVariants as source
+use Rattle.fx_trees.specs.Rows.{shape_of, row_of, form_row, takes_at, takes_count}
+use Rattle.fx_trees.specs.Term.{Term, Terms, of, nil, cons, Top, const, read, row, item, caught, dot, call, over, form, within, rec, list, coerce, chain, act}
+use Rattle.fx_trees.specs.Rules as rules
 use Rattle.fx_typing.specs.Ways.{way, changed, is_scalar, is_comparable}
 use Rattle.fx_typing.specs.Columns.{field_in, field_of, value_column, row_columns, and_then, added, dropped, shown, renamed, fault_type, tells_error}
 
@@ -133,7 +134,7 @@ answered answer.Shown common ((c, tables cs) ∷ xs) = as_table (shown xs cs)
 answered answer.Renamed common ((c, tables cs) ∷ xs) = as_table (renamed xs cs)
 answered answer.Values common (x ∷ y ∷ xs) = Ok (tables (value_column y.1))
 answered answer.Each common (x ∷ y ∷ xs) = Ok (tables (row_columns y.1))
-answered a common xs = Err 6
+answered a common xs = Err rules.wrong_type
 
 -- a call with this row, of parts of these types, has the type, whatever common type its branches have
 abbrev pub IsByRow : Row → Terms → List Shape → Shape → Type 0

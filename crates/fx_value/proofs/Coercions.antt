@@ -9,7 +9,7 @@ use Rattle.fx_data.specs.declared.types.Ty.{Ty}
 use Rattle.fx_data.specs.declared.types.Ty.TheVariants.{Blank as BlankTy, Number as NumberTy, Text as TextTy, Boolean as BooleanTy, Date as DateTy, Rec as RecTy, Tab as TabTy}
 use Rattle.fx_data.specs.declared.values.Value.{Value}
 use Rattle.fx_data.specs.declared.values.Value.TheVariants.{Blank, Number, Text, Boolean, Date, Rec, Tab, Fault}
-use Rattle.fx_value.specs.Coercion.{Widens, same, joined, CanWiden, CanCoerce, HasCoercion, IsCoerced, widened}
+use Rattle.fx_value.specs.Coercion.{Widens, same, joined, CanWiden, CanCoerce, HasCoercion, IsCoerced}
 use Rattle.fx_value.specs.Fits.{fits_in}
 use Rattle.fx_value.specs.Join.{join_of}
 use Rattle.fx_value.proofs.Unions.{blanks_join}
@@ -163,14 +163,6 @@ widens_by s _ i h = absurd i
 
 pub can_widen : (d : Data) (t : Shape) → IsWide t → CanCoerce d t → CanWiden d t
 can_widen d t i can = record { from = can.from; fitting = can.fitting; widens = widens_by can.from t i can.coercion }
-
-pub comes_wide : (d : Data) (t : Shape) (w : Data) → IsWide t → w ≡ widened d t → IsCoerced d t w
-comes_wide blank t w i e = e
-comes_wide (fault k cs) t w i e = e
-comes_wide d (records cs) w i e = e
-comes_wide d (tables cs) w i e = e
-comes_wide d dates w i e = e
-comes_wide d _ w i e = absurd i
 
 -- what a type widens to, it has a coercion to
 has : (s t : Shape) → Widens s t → HasCoercion s t

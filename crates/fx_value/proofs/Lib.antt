@@ -1,3 +1,6 @@
+mod KeyLemmas
+mod Orders
+pub mod CivilDays
 pub mod Coercions
 pub mod FitsLemmas
 pub mod JoinSteps

@@ -1,9 +1,6 @@
 -- What is equal part for part is equal.
-use Rattle.std.proofs.Common.{◌≡◌, ℕ, suc, List, [], ◌∷◌, length, refl, ap}
-use Rattle.std.specs.Prelude.{◌≢◌}
+use Rattle.std.proofs.Common.{◌≡◌, ℕ, List, [], ◌∷◌, refl}
 use Rattle.fx_data.specs.Values.{Data, rec, tab, field_list, row_list}
-use Rattle.fx_data.specs.ValueView.{fields_view}
-use Rattle.fx_data.specs.declared.values.Value.{Value}
 
 -- fields and rows are those of their lists
 pub field_list_tells : (fs gs : List (List ℕ × Data)) → field_list fs ≡ field_list gs → fs ≡ gs
@@ -30,15 +27,3 @@ rec_tells fs gs e = let q : field_list fs ≡ field_list gs = cc in field_list_t
 
 pub tab_tells : (rs ss : List (List (List ℕ × Data))) → tab (row_list rs) ≡ tab (row_list ss) → rs ≡ ss
 tab_tells rs ss e = let q : row_list rs ≡ row_list ss = cc in row_list_tells rs ss q
-
--- equal lists are as long as each other
-pub unequal_fields : (fs gs : List (List ℕ × Value)) → length fs ≢ length gs → ¬ (fields_view fs ≡ fields_view gs)
-unequal_fields [] [] h e = h refl
-unequal_fields [] (g ∷ gs) h e = cc
-unequal_fields (f ∷ fs) [] h e = cc
-unequal_fields (f ∷ fs) (g ∷ gs) h e =
-    let r : fields_view fs ≡ fields_view gs = cc in
-    unequal_fields fs gs (λ k. h (ap suc k)) r
-
-pub unequal_rows : (rs ss : List (List (List ℕ × Data))) → length rs ≢ length ss → ¬ (rs ≡ ss)
-unequal_rows rs ss h e = h (ap length e)

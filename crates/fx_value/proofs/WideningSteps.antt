@@ -14,10 +14,11 @@ use Rattle.fx_data.specs.Values.{Data, FieldList, no_fields, field, field_list, 
 use Rattle.fx_data.specs.ValueView.{view, fields_view}
 use Rattle.fx_data.specs.declared.types.Ty.{Ty}
 use Rattle.fx_data.specs.declared.values.Value.{Value}
+use Rattle.fx_data.proofs.Utf8Order.{and_second, and_first}
 use Rattle.fx_value.specs.Coercion.{value_in, widened, widened_fields, rows_by}
 use Rattle.fx_value.specs.Fits.{fits_in, fields_fit, rows_fit}
 use Rattle.fx_value.proofs.JoinSteps.{left}
-use Rattle.fx_value.proofs.Widenings.{and_first, and_second, both, own_name, same_name}
+use Rattle.fx_value.proofs.Widenings.{both, own_name, same_name}
 
 apart : (n m : List ℕ) → n ≢ m → bytes_eq n m ≡ false
 apart n m d = by (bytes_eq n m) refl

@@ -16,18 +16,11 @@ use Rattle.fx_data.specs.declared.types.Ty.{Ty}
 use Rattle.fx_data.specs.declared.types.Ty.TheVariants.{Rec as RecTy, Tab as TabTy}
 use Rattle.fx_data.specs.declared.values.Value.{Value}
 use Rattle.fx_data.specs.declared.values.Value.TheVariants.{Blank, Number, Text, Boolean, Date, Rec, Tab, Fault}
+use Rattle.fx_data.proofs.Utf8Order.{and_second, and_first}
 use Rattle.fx_value.specs.Coercion.{Widens, same, joined, CanWiden, value_in}
 use Rattle.fx_value.specs.Fits.{fits_in, fields_fit, rows_fit}
 use Rattle.fx_value.specs.Join.{join_of, union, with_column}
 use Rattle.fx_value.proofs.Unions.{Under, Rises, under_list, rises_union, under_further, by_then, blanks_join}
-
-pub and_first : (a b : Bool) → (a && b) ≡ true → a ≡ true
-and_first true b h = refl
-and_first false b h = h
-
-pub and_second : (a b : Bool) → (a && b) ≡ true → b ≡ true
-and_second true b h = h
-and_second false b h = cc
 
 pub both : (a b : Bool) → a ≡ true → b ≡ true → (a && b) ≡ true
 both true b h k = k
@@ -39,7 +32,7 @@ same_name n m h = (bytes_eq-Decides n m).0 h
 pub own_name : (n : List ℕ) → bytes_eq n n ≡ true
 own_name n = (bytes_eq-Decides n n).1 refl
 
-below_apart : (n m : List ℕ) → IsBelow n m → bytes_eq n m ≡ false
+pub below_apart : (n m : List ℕ) → IsBelow n m → bytes_eq n m ≡ false
 below_apart n m h = sym (is_eq-slice_cmp n m) ∙ ap is_eq h
 
 -- the type of the column of this name

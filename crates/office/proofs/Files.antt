@@ -10,9 +10,9 @@ use Rattle.serde_json.specs.declared.value.Value.{Value}
 use Rattle.app_loader.proofs.Tellings.{tells_weaker}
 use Rattle.app_loader.specs.Judged.{Judged, Tells}
 use Rattle.app_loader.specs.declared.app.App.{App}
-use Rattle.app_verdicts.specs.Verdicts.{IsOneAppOfAText, IsOneRefusalOfAText, IsOneVerdict}
-use Rattle.fx_rules.specs.declared.broken.Broken.{Broken}
-use Rattle.fx_rules.specs.declared.end.AppEnd.{AppEnd}
+use Rattle.app_loader.specs.Verdicts.{IsOneAppOfAText, IsOneRefusalOfAText, IsOneVerdict}
+use Rattle.fx_trees.specs.declared.broken.Broken.{Broken}
+use Rattle.fx_trees.specs.declared.app_end.AppEnd.{AppEnd}
 use Rattle.office.specs.AppFile.{HasJson, IsOneApp, IsOneAppOfAFile, IsOneRefusalOfAFile, JudgedApp, JudgedData, app_form, formulas_text, is_empty_list, is_json, is_one_screen, member_count, no_app, no_json, other_form}
 
 nonzero : (n : ℕ) → (suc n == 0) ≡ false

@@ -15,7 +15,7 @@ use Rattle.app_wire.specs.declared.route.Route.TheVariants.{Begin, Named as Show
 use Rattle.app_wire.specs.declared.route.RouteEnd.{RouteEnd}
 use Rattle.app_wire.specs.declared.route.RouteEnd.TheVariants.{NoRoute, WrongMethod, Memory}
 use Rattle.app_wire.proofs.Callers.{one_place}
-use Rattle.fx_fresh.specs.Unique.{OneNaming}
+use Rattle.fx_semantics.specs.Unique.{OneNaming}
 use Rattle.view_text.specs.ReplyText.{ok_text}
 use Rattle.office.proofs.Replies.{one_body}
 use Rattle.office.specs.NamedReply.{IsNamedBody}

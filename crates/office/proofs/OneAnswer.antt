@@ -6,7 +6,7 @@ use Rattle.app_wire.specs.declared.head.Method.{Method}
 use Rattle.app_wire.specs.declared.route.Route.{Route}
 use Rattle.app_wire.specs.declared.route.RouteEnd.{RouteEnd}
 use Rattle.app_wire.specs.declared.route.RouteEnd.TheVariants.{Memory}
-use Rattle.fx_fresh.specs.Unique.{OneNaming}
+use Rattle.fx_semantics.specs.Unique.{OneNaming}
 use Rattle.office.specs.State.{State}
 use Rattle.office.specs.Step.{IsReplyTo, Step, state_after}
 use Rattle.office.proofs.Isolation.{one_reply, route_is}

@@ -6,11 +6,11 @@ use Rattle.serde_json.specs.View.{items_of}
 use Rattle.serde_json.specs.Written.{compact_text}
 use Rattle.serde_json.proofs.OnLiterals.{serde_json_on_literals}
 use Rattle.app_wire.specs.ReplyBytes.{refusal_body}
-use Rattle.app_lines.specs.ReadyLines.{trees_of}
-use Rattle.app_lines.specs.declared.formula.Formula.{Formula}
+use Rattle.app_names.specs.ReadyLines.{trees_of}
+use Rattle.app_names.specs.declared.formula.Formula.{Formula}
 use Rattle.fx_data.specs.Values.{Data}
-use Rattle.fx_fresh.specs.Unique.{OneNaming}
-use Rattle.named_values.specs.Valued.{AreValues, by_name}
+use Rattle.fx_semantics.specs.Unique.{OneNaming}
+use Rattle.recalc.specs.Valued.{AreValues, by_name}
 use Rattle.view_text.specs.JsonText.{tagged}
 use Rattle.view_text.specs.RefusalText.{refusal_text}
 use Rattle.view_text.specs.ReplyText.{named_data, named_text}

@@ -8,9 +8,9 @@ use Rattle.serde_json.specs.Read.{read}
 use Rattle.app_loader.specs.Judged.{Judged}
 use Rattle.app_loader.specs.declared.app.App.{App}
 use Rattle.app_names.specs.NameRules.{in_app}
-use Rattle.app_verdicts.specs.Verdicts.{AreSameBreaks, IsSameApp}
-use Rattle.fx_rules.specs.declared.broken.Broken.{Broken}
-use Rattle.fx_rules.specs.declared.rule.Rule.TheVariants.{NotBuilt}
+use Rattle.app_loader.specs.Verdicts.{AreSameBreaks, IsSameApp}
+use Rattle.fx_trees.specs.declared.broken.Broken.{Broken}
+use Rattle.fx_trees.specs.declared.rule.Rule.TheVariants.{NotBuilt}
 
 -- how many members an object has
 abbrev pub member_count : Data → ℕ

@@ -4,10 +4,10 @@ use Rattle.serde_json.specs.Data as json
 use Rattle.serde_json.specs.Data.{string, array, object, member, no_members}
 use Rattle.serde_json.specs.View.{items_of}
 use Rattle.serde_json.specs.Written.{compact_text}
-use Rattle.app_lines.specs.declared.formula.Formula.{Formula}
+use Rattle.app_names.specs.declared.formula.Formula.{Formula}
 use Rattle.fx_data.specs.Values.{Data}
 use Rattle.fx_data.specs.ValueView.{view}
-use Rattle.named_values.specs.Valued.{AreValues}
+use Rattle.recalc.specs.Valued.{AreValues}
 use Rattle.view_text.specs.JsonText.{tagged, value_data}
 use Rattle.view_text.specs.declared.replies.Named.{Named}
 

@@ -1,7 +1,7 @@
 -- The office between two requests.
 use Rattle.std.specs.Prelude.{ℕ, Bool, List, [], ◌∷◌, ◌++◌, bytes_eq}
 use Rattle.std.specs.List.{list_any}
-use Rattle.app_lines.specs.declared.formula.Formula.{Formula}
+use Rattle.app_names.specs.declared.formula.Formula.{Formula}
 use Rattle.app_loader.specs.declared.app.App.{App}
 use Rattle.office.specs.declared.machine.Office.{Office}
 

@@ -4,8 +4,8 @@ ghost use Rattle.office.specs.Answers.{IsSilent};
 ghost use Rattle.office.specs.Isolation.{IsAlone, LeavesOthers};
 ghost use Rattle.office.specs.Step.{IsOneAnswer};
 
-use app_verdicts::{one_app_of_a_text, one_refusal_of_a_text, one_verdict};
-use fx_fresh::one_naming;
+use app_loader::{one_app_of_a_text, one_refusal_of_a_text, one_verdict};
+use fx_semantics::one_naming;
 
 /// No file is both an app and refused.
 pub fn one_app()

@@ -10,7 +10,7 @@ pub mod reply;
 
 pub use app_loader::App;
 pub use converse::{ConvEnd, MOST_REQUESTS};
-pub use fx_rules::AppEnd;
+pub use fx_trees::AppEnd;
 pub use loader::load;
 pub use machine::{MOST_SESSIONS, Office};
 pub use reply::Reply;

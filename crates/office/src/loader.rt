@@ -7,7 +7,7 @@ ghost use Rattle.office.specs.AppFile.{JudgedApp, JudgedData, formulas_text, is_
 
 use app_loader::refusing::in_app;
 use app_loader::{App, load_named};
-use fx_rules::{AppEnd, Rule};
+use fx_trees::{AppEnd, Rule};
 use serde_json::Value as Json;
 use std::alloc::Global;
 

@@ -13,7 +13,7 @@ use app_wire::route::{Route, RouteEnd};
 use app_wire::routes::Routes;
 use fx_base::Memory;
 use fx_data::words::Words;
-use fx_steps::Steps;
+use fx_eval::Steps;
 use std::alloc::Global;
 use std::sync::ledger::Ledger;
 use view_text::ok_json;

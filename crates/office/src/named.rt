@@ -1,13 +1,13 @@
 //! The named formulas of an app, shown.
 ghost use Rattle.std.specs.Prelude.{◌≡◌, IfOk, map, string_bytes};
-ghost use Rattle.named_values.specs.Valued.{seen};
+ghost use Rattle.recalc.specs.Valued.{seen};
 ghost use Rattle.office.specs.NamedReply.{IsNamedBody, shown};
 ghost use Rattle.office.specs.State.{formulas_of};
 
 use app_loader::App;
 use fx_base::Memory;
-use fx_steps::Steps;
-use named_values::{NamedValue, values_of};
+use fx_eval::Steps;
+use recalc::{NamedValue, values_of};
 use std::alloc::Global;
 use std::sync::ledger::Ledger;
 use view_text::{Named, named_json};

@@ -1,6 +1,6 @@
 //! Replies.
 ghost use Rattle.std.specs.Prelude.{◌≡◌, ◌⊎◌, IfOk, IsTrue};
-ghost use Rattle.refusals.specs.Refusals.{status_of};
+ghost use Rattle.view_text.specs.Refusals.{status_of};
 ghost use Rattle.app_wire.specs.ReplyBytes.{is_fixed, refusal, reply};
 ghost use Rattle.office.specs.Step.{IsReply, said};
 

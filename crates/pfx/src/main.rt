@@ -9,7 +9,7 @@ use fx_cli::report::Report;
 use fx_cli::system::{RealFiles, StdSink};
 use fx_cli::words::{Form, form_of};
 use fx_cli::{Status, run, say};
-use fx_steps::Steps;
+use fx_eval::Steps;
 use std::env;
 use std::io::{self, ErrorKind};
 use std::marker::Brand;

@@ -7,7 +7,7 @@ use app_wire::clock::ListClock;
 use app_wire::memory::MemoryDoors;
 use fx_cli::memory::{MemoryFiles, MemorySink};
 use fx_cli::run;
-use fx_steps::Steps;
+use fx_eval::Steps;
 use std::alloc::{AllocError, Global};
 use std::marker::Brand;
 use std::sync::ledger::{Blank, Ledger};

@@ -30,6 +30,7 @@ use Rattle.std.specs.Prelude.{option_to_list}
 use Rattle.row_keeper.specs.Found.{row_under, rows_of_ids}
 use Rattle.row_keeper.specs.Slots.{cells_now, now_at, now_in_slot, row_before, rows_now}
 use Rattle.row_keeper.proofs.MarkLemmas.{entry_total, same_entry}
+use Rattle.fx_trees.proofs.Spelled.{same_truth}
 
 -- an entry of a row now, in the range, is a hit
 hit_from : (column : ℕ) (r : KeyRange) (es : Entries) (q : Entry) → q.0.0 ≡ column → now_in es q ≡ true → in_range q.0.1 r ≡ true → hits column r es q.1 ≡ true
@@ -108,11 +109,6 @@ from_hit column r (e ∷ es) i sorted h = go (from_hit column r es i (sorted_tai
 abbrev lies_in : ℕ → KeyRange → ℕ → Option (List Data) → Bool
 lies_in column r i None = false
 lies_in column r i (Some cells) = in_range (key_at i cells column) r
-
-same_truth : (a b : Bool) → (a ≡ true → b ≡ true) → (b ≡ true → a ≡ true) → a ≡ b
-same_truth true b f g = sym (f refl)
-same_truth false true f g = g refl
-same_truth false false f g = refl
 
 both_true : (a b : Bool) → (a && b) ≡ true → (a ≡ true) × (b ≡ true)
 both_true true b h = (refl, h)

@@ -132,13 +132,6 @@ pub none_there : {X : Type 0} (o : Option X) → false ≡ is_some o → o ≡ N
 none_there None h = refl
 none_there (Some x) h = absurd cc
 
--- several marks: those that are still to be written, over those that are
-pub marks_step : (a b t is n : Bool) → cond b is (cond a is n) ≡ cond (a || b) is n
-marks_step true true t is n = refl
-marks_step true false t is n = refl
-marks_step false true t is n = refl
-marks_step false false t is n = refl
-
 -- an entry is the same as itself
 pub entry_itself : (e : Entry) → is_entry e e ≡ true
 entry_itself e = sym (is_entry_is e e) ∙ ap is_eq (equal_itself e)

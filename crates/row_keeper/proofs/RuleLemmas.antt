@@ -13,9 +13,9 @@ use Rattle.std.proofs.lemmas.Bool.Decides.{nat_tests}
 use Rattle.fx_data.specs.TypeView.{shape}
 use Rattle.fx_data.specs.Types.{Shape, blanks, numbers, texts, booleans, dates, records, tables}
 use Rattle.fx_data.specs.Values.{Data, blank, number, text, boolean, date, rec, tab, fault}
-use Rattle.fx_names.specs.declared.schema.Column.{Column}
-use Rattle.fx_order.specs.Keys.{IsProper, KeysOrder, key_bytes}
-use Rattle.fx_order.specs.Order.{AreOfOneType, IsScalar}
+use Rattle.fx_trees.specs.declared.schema.Column.{Column}
+use Rattle.fx_value.specs.Keys.{IsProper, KeysOrder, key_bytes}
+use Rattle.fx_value.specs.Order.{AreOfOneType, IsScalar}
 use Rattle.fx_value.specs.Fits.{fits_in}
 use Rattle.row_queries.specs.Ranges.{in_range}
 use Rattle.row_queries.specs.TableRows.{AreCellsOf, value_at}
@@ -248,16 +248,6 @@ none_left (x ∷ xs) (suc i) h = none_left xs i (omega (arith, h))
 pub broken_step : (b : Column → ℕ → Data → Bool) (columns : List Column) (cells : List Data) (place : ℕ) (c : Column) (d : Data) → slice_get columns place ≡ Some c → slice_get cells place ≡ Some d
     → first_broken b (place + 1) (drop place columns) (drop place cells) ≡ cond (b c (place + 1) d) (Some (place + 1)) (first_broken b (place + 1 + 1) (drop (place + 1) columns) (drop (place + 1) cells))
 broken_step b columns cells place c d e f = ap₂ (λ x y. first_broken b (place + 1) x y) (next_of columns place c e) (next_of cells place d f)
-
-pub broken_end : (b : Column → ℕ → Data → Bool) (columns : List Column) (cells : List Data) (place k : ℕ) → length cells ≤ place → first_broken b k (drop place columns) (drop place cells) ≡ None
-broken_end b columns cells place k h = ap (first_broken b k (drop place columns)) (none_left cells place h) ∙ by (drop place columns)
-  where
-    by : (cs : List Column) → first_broken b k cs [] ≡ None
-    by [] = refl
-    by (c ∷ cs) = refl
-
-pub broken_done : (b : Column → ℕ → Data → Bool) (columns : List Column) (cells : List Data) (place k : ℕ) → length columns ≤ place → first_broken b k (drop place columns) (drop place cells) ≡ None
-broken_done b columns cells place k h = ap (λ x. first_broken b k x (drop place cells)) (none_left columns place h)
 
 -- the cell at a place fits its column
 pub fits_at : (columns : List Column) (cells : List Data) (place : ℕ) (d : Data) → AreCellsOf columns cells → slice_get cells place ≡ Some d → FitsColumn columns place d

@@ -3,8 +3,8 @@ use Rattle.std.specs.Prelude.{◌≡◌, ℕ, ◌+◌, ◌<◌, ◌==◌, ◌&&�
 use Rattle.std.specs.List.{list_any}
 use Rattle.std.specs.Option.{is_some}
 use Rattle.fx_data.specs.Values.{Data}
-use Rattle.fx_names.specs.declared.schema.Column.{Column}
-use Rattle.fx_order.specs.Keys.{key_bytes}
+use Rattle.fx_trees.specs.declared.schema.Column.{Column}
+use Rattle.fx_value.specs.Keys.{key_bytes}
 use Rattle.row_queries.specs.TableRows.{id_value, value_at}
 use Rattle.row_queries.specs.Ranges.{in_ranges}
 use Rattle.row_queries.specs.declared.ranges.KeyRange.{KeyRange}

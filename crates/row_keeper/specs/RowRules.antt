@@ -3,8 +3,8 @@ use Rattle.std.specs.Prelude.{ℕ, ◌+◌, ◌==◌, Bool, true, false, not, �
 use Rattle.std.specs.List.{list_any}
 use Rattle.std.specs.Ordering.{is_eq}
 use Rattle.fx_data.specs.Values.{Data, blank}
-use Rattle.fx_names.specs.declared.schema.Column.{Column}
-use Rattle.fx_order.specs.Order.{order}
+use Rattle.fx_trees.specs.declared.schema.Column.{Column}
+use Rattle.fx_value.specs.Order.{order}
 use Rattle.fx_value.specs.Weight.{weight_of}
 use Rattle.row_queries.specs.RowTests.{is_empty}
 use Rattle.row_queries.specs.TableRows.{value_at, values_of}

@@ -1,6 +1,6 @@
 -- What a table is seen as.
 use Rattle.std.specs.Prelude.{List, map}
-use Rattle.fx_names.specs.declared.schema.Column.{Column}
+use Rattle.fx_trees.specs.declared.schema.Column.{Column}
 use Rattle.row_keeper.specs.Tables.{TableState}
 
 -- a table with its columns, now and as the transaction began
@@ -12,6 +12,3 @@ pub record TableView : Type 0 where
 -- the states of tables, now and as the transaction began
 abbrev pub states_now : List TableView → List TableState
 states_now tables = map (λ (t : TableView). t.now) tables
-
-abbrev pub states_then : List TableView → List TableState
-states_then tables = map (λ (t : TableView). t.then) tables

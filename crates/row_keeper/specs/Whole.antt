@@ -2,8 +2,8 @@
 use Rattle.std.specs.Prelude.{◌≡◌, ℕ, ◌≤◌, List, length, Option, Some, None}
 use Rattle.std.specs.List.{AllByRecursion}
 use Rattle.fx_data.specs.Values.{Data}
-use Rattle.fx_names.specs.declared.schema.Column.{Column}
-use Rattle.fx_order.specs.Keys.{IsProper}
+use Rattle.fx_trees.specs.declared.schema.Column.{Column}
+use Rattle.fx_value.specs.Keys.{IsProper}
 use Rattle.row_queries.specs.TableRows.{AreCellsOf}
 use Rattle.row_keeper.specs.Covered.{Agrees, NoneAbove, covered_of}
 use Rattle.row_keeper.specs.Slots.{now_at, rows_now, rows_then, then_at}

@@ -4,8 +4,8 @@ ghost use Rattle.std.specs.Prelude.{◌≡◌, ◌≢◌, ℕ, ◌≤◌, Bool, 
 ghost use Rattle.std.specs.List.{All};
 ghost use Rattle.fx_base.specs.Silence.{Goes, IsLater, IsLost, Marks};
 ghost use Rattle.fx_base.specs.Telling.{Stays};
-ghost use Rattle.fx_names.specs.Lawful.{IsLawfulSchema};
-ghost use Rattle.fx_names.specs.declared.schema.Schema.{Schema as KeptSchema};
+ghost use Rattle.fx_trees.specs.Lawful.{IsLawfulSchema};
+ghost use Rattle.fx_trees.specs.declared.schema.Schema.{Schema as KeptSchema};
 ghost use Rattle.row_queries.specs.Queries.{CanTotal, IsQuery};
 ghost use Rattle.row_queries.specs.RowTests.{HasNoFaults};
 ghost use Rattle.row_queries.specs.TableRows.{AreCellsOf, IsRowOf};
@@ -17,7 +17,7 @@ ghost use Rattle.row_keeper.specs.Tables.{AreStatesOf, Tables, columns_at, rows_
 use crate::rows::Put;
 use fx_base::Memory;
 use fx_data::Totals;
-use fx_names::Schema;
+use fx_trees::Schema;
 use row_queries::{Cells, Query, RowList};
 use std::alloc::{AllocError, AllocFailed};
 

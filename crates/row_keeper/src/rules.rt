@@ -3,8 +3,8 @@ ghost use Rattle.std.specs.Prelude.{◌≡◌, ◌≤◌, ◌+◌, ◌-◌, ◌^
 ghost use Rattle.std.specs.List.{list_any};
 ghost use Rattle.fx_data.specs.ValueView.{view};
 ghost use Rattle.fx_data.specs.Values.{text as text_data};
-ghost use Rattle.fx_order.specs.Keys.{key_bytes};
-ghost use Rattle.fx_order.specs.Order.{IsScalar};
+ghost use Rattle.fx_value.specs.Keys.{key_bytes};
+ghost use Rattle.fx_value.specs.Order.{IsScalar};
 ghost use Rattle.row_queries.specs.RowTests.{is_empty as is_empty_data};
 ghost use Rattle.row_queries.specs.TableRows.{AreCellsOf};
 ghost use Rattle.row_keeper.specs.Covered.{covered_of, covers};
@@ -18,9 +18,8 @@ use crate::rows::{RowRefusal, RowRule};
 use crate::table::Table;
 use fx_base::Memory;
 use fx_data::{Value, Words};
-use fx_names::Column;
-use fx_order::{keys_order, value_is_proper};
-use fx_value::weigh;
+use fx_trees::Column;
+use fx_value::{keys_order, value_is_proper, weigh};
 use row_queries::{Cells, Key, KeyRange, Row};
 use std::alloc::Global;
 

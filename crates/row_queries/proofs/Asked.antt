@@ -12,7 +12,7 @@ use Rattle.std.proofs.lemmas.Cmp.{nat_cmp_total, on_total, then_total}
 use Rattle.std.proofs.lemmas.List.Elements.{All-from_recursion, recursion_from_All}
 use Rattle.std.proofs.lemmas.List.Sorted.{All-permutation, ranks_by, sum_by-IsPermutation}
 use Rattle.std.proofs.lemmas.List.Sums.{sum_by-cons}
-use Rattle.fx_order.specs.Order.{order}
+use Rattle.fx_value.specs.Order.{order}
 use Rattle.fx_tables.proofs.OrderSteps.{directed_total, sorted_once}
 use Rattle.row_queries.specs.Laws.{AskedOnce}
 use Rattle.row_queries.specs.Queries.{by_column, lies, row_order}
@@ -20,14 +20,14 @@ use Rattle.row_queries.specs.TableRows.{AreInIdOrder, IsBelowAll, value_at, valu
 use Rattle.row_queries.specs.declared.rows.Row.{Row}
 
 -- ---- the order is total, and tells rows of different numbers apart
-no_order : IsTotalOrder (by_column None)
+pub no_order : IsTotalOrder (by_column None)
 no_order = record { antisymm = λ a b. refl; trans = λ a b c e f. cc; congr = λ a b c e. refl }
 
-column_total : IsTotalOrder order → (o : Option (ℕ × Bool)) → IsTotalOrder (by_column o)
+pub column_total : IsTotalOrder order → (o : Option (ℕ × Bool)) → IsTotalOrder (by_column o)
 column_total t None = no_order
 column_total t (Some o) = on_total (λ (r : Row). value_at (values_of r) o.0) (directed_total t o.1)
 
-row_total : IsTotalOrder order → (o : Option (ℕ × Bool)) → IsTotalOrder (row_order o)
+pub row_total : IsTotalOrder order → (o : Option (ℕ × Bool)) → IsTotalOrder (row_order o)
 row_total t o = then_total (column_total t o) (on_total (λ (r : Row). r.id) nat_cmp_total)
 
 second_equal : (o p : Ordering) → ordering_then o p ≡ Equal → p ≡ Equal

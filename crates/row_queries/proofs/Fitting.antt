@@ -12,13 +12,14 @@ use Rattle.std.proofs.lemmas.Slice.Eq.{bytes_eq-Decides}
 use Rattle.fx_data.specs.TypeView.{shape}
 use Rattle.fx_data.specs.Types.{Shape, ColumnList, no_columns, column, numbers}
 use Rattle.fx_data.specs.Values.{Data, field_list, row_list}
-use Rattle.fx_names.specs.declared.schema.Column.{Column}
-use Rattle.fx_names.specs.declared.schema.TableShape.{TableShape}
-use Rattle.fx_names.specs.Lawful.{AreDistinct, DiffersFromAll, id_name}
-use Rattle.fx_names.specs.SourceTypes.{columns_of, put_column, put_columns}
+use Rattle.fx_trees.specs.declared.schema.Column.{Column}
+use Rattle.fx_trees.specs.declared.schema.TableShape.{TableShape}
+use Rattle.fx_trees.specs.Lawful.{AreDistinct, DiffersFromAll, id_name}
+use Rattle.fx_trees.specs.SourceTypes.{columns_of, put_column, put_columns}
 use Rattle.fx_tables.specs.Columns.{with_field}
 use Rattle.fx_tables.specs.Columns.{Row as Fields}
 use Rattle.fx_value.specs.Fits.{fields_fit, fits_in, rows_fit}
+use Rattle.fx_value.proofs.Widenings.{own_name}
 use Rattle.row_queries.specs.Laws.{RowsFit}
 use Rattle.row_queries.specs.TableRows.{AreCellsOf, IsRowOf, id_value, record_of, with_cells}
 use Rattle.row_queries.specs.declared.rows.Row.{Row}
@@ -33,9 +34,6 @@ first_of false b h = h
 second_of : (a b : Bool) → (a && b) ≡ true → b ≡ true
 second_of true b h = h
 second_of false b h = cc
-
-own_name : (n : List ℕ) → bytes_eq n n ≡ true
-own_name n = (bytes_eq-Decides n n).1 refl
 
 -- no column of this name
 abbrev Lacks : List ℕ → ColumnList → Type 0

@@ -1,13 +1,14 @@
 -- Empty texts, and parts of texts.
-use Rattle.std.proofs.Common.{◌≡◌, ℕ, zero, suc, ◌≤◌, Bool, true, false, List, [], ◌∷◌, length, take, nat_eq, refl, sym, ap, ◌↔◌, arith}
+use Rattle.std.proofs.Common.{◌≡◌, ℕ, zero, suc, ◌≤◌, Bool, true, false, List, [], ◌∷◌, length, take, nat_eq, refl, ap, ◌↔◌, arith}
 use Rattle.std.specs.Prelude.{◌||◌, IsTrue, encode_utf8_all}
 use Rattle.std.proofs.lemmas.Bool.Decides.{nat_tests}
 use Rattle.std.proofs.lemmas.Slice.Eq.{bytes_eq-Decides}
 use Rattle.std.proofs.lemmas.Str.{length-le-encodes}
 use Rattle.fx_data.specs.Values.{text}
-use Rattle.fx_text.specs.Folding.{HasPart}
-use Rattle.fx_text.specs.Search.{StandsAt}
+use Rattle.fx_builtins.specs.Folding.{HasPart}
+use Rattle.fx_builtins.specs.Search.{StandsAt}
 use Rattle.row_queries.specs.RowTests.{begins, has_part, is_empty}
+use Rattle.fx_trees.proofs.Spelled.{same_truth}
 
 -- a text is empty where its bytes are
 pub empty_by_bytes : (cs bs : List ℕ) → bs ≡ encode_utf8_all cs → nat_eq (length bs) 0 ≡ is_empty (text cs)
@@ -38,15 +39,6 @@ there_part [] part (suc k) s = absurd (let h = s.within in omega (arith, h))
 there_part (c ∷ cs) part zero s = ap (λ b. b || has_part cs part) (there_begins (c ∷ cs) part s)
 there_part (c ∷ cs) part (suc k) s =
     later (begins (c ∷ cs) part) (has_part cs part) (there_part cs part k (record { within = let h = s.within in omega (arith, h); same = s.same }))
-
-same_truth : (a b : Bool) → (a ≡ true → b ≡ true) → (b ≡ true → a ≡ true) → a ≡ b
-same_truth true b f g = sym (f refl)
-same_truth false true f g = g refl
-same_truth false false f g = refl
-
--- a test of a beginning, and of a part, is the definition's
-pub begins_by : (cs part : List ℕ) (b : Bool) → IsTrue b ↔ StandsAt part cs 0 → b ≡ begins cs part
-begins_by cs part b h = same_truth b (begins cs part) (λ e. there_begins cs part (h.0 e)) (λ e. h.1 (begins_there cs part e))
 
 pub has_part_by : (cs part : List ℕ) (b : Bool) → IsTrue b ↔ HasPart cs part → b ≡ has_part cs part
 has_part_by cs part b h = same_truth b (has_part cs part) (λ e. let w = h.0 e in there_part cs part w.0 w.1) (λ e. h.1 (part_there cs part e))

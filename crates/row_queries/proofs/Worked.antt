@@ -3,7 +3,7 @@ use Rattle.std.proofs.Common.{◌≡◌, ℕ, pos, negsuc, List, [], ◌∷◌, 
 use Rattle.fx_data.specs.declared.comparisons.Cmp.TheVariants.{Eq, Lt, Gt}
 use Rattle.fx_data.specs.declared.faults.Kind.TheVariants.{Div0, Custom}
 use Rattle.fx_data.specs.Values.{Data, blank, number, text, fault}
-use Rattle.fx_order.specs.Keys.{key_bytes}
+use Rattle.fx_value.specs.Keys.{key_bytes}
 use Rattle.row_queries.specs.Conditions.{Condition, flag, constant, compares, is_blank, all_of, any_of, opposite, no_conditions, also}
 use Rattle.row_queries.specs.Queries.{first_fault, first_of}
 use Rattle.row_queries.specs.Ranges.{in_ranges}

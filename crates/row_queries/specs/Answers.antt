@@ -5,7 +5,7 @@ use Rattle.fx_data.specs.declared.aggregates.Totals.{Totals}
 use Rattle.fx_data.specs.declared.faults.Fault.{Fault}
 use Rattle.fx_data.specs.Values.{Data, fault, tab, no_rows, row}
 use Rattle.fx_data.specs.Values.{RowList as TableRowList}
-use Rattle.fx_names.specs.declared.schema.TableShape.{TableShape}
+use Rattle.fx_trees.specs.declared.schema.TableShape.{TableShape}
 use Rattle.row_queries.specs.declared.queries.Query.{Query}
 use Rattle.row_queries.specs.declared.rows.Row.{Row}
 use Rattle.row_queries.specs.declared.rows.RowList.{RowList}

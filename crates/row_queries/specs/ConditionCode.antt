@@ -6,16 +6,9 @@ use base.Stored.{Gv, gnil, gnum, gcons}
 use Rattle.fx_data.specs.contracts.comparisons.Cmp.{the_row as cmp_row}
 use Rattle.fx_data.specs.ValueCode.{data_code}
 use Rattle.row_queries.specs.Conditions.{Condition, ConditionList, always, flag, constant, compares, is_blank, starts, contains, all_of, any_of, opposite, no_conditions, also}
+use Rattle.fx_trees.specs.TermCode.{front, back}
 
-abbrev front : Gv → Gv
-front (gcons a b) = a
-front g = gnil
-
-abbrev back : Gv → Gv
-back (gcons a b) = b
-back g = gnil
-
-abbrev count : Gv → ℕ
+abbrev pub count : Gv → ℕ
 count (gnum n) = n
 count g = 0
 

@@ -9,9 +9,9 @@ use Rattle.fx_data.specs.declared.aggregates.Totals.{Totals}
 use Rattle.fx_data.specs.declared.faults.Fault.{Fault}
 use Rattle.fx_data.specs.TypeView.{shape}
 use Rattle.fx_data.specs.Types.{numbers}
-use Rattle.fx_names.specs.declared.schema.Column.{Column}
-use Rattle.fx_names.specs.declared.schema.TableShape.{TableShape}
-use Rattle.fx_order.specs.Keys.{key_bytes}
+use Rattle.fx_trees.specs.declared.schema.Column.{Column}
+use Rattle.fx_trees.specs.declared.schema.TableShape.{TableShape}
+use Rattle.fx_value.specs.Keys.{key_bytes}
 use Rattle.fx_tables.specs.Aggregates.{SumsUp, numbers_in}
 use Rattle.fx_tables.specs.Ordered.{directed}
 use Rattle.row_queries.specs.declared.queries.Query.{Query}

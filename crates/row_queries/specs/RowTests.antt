@@ -4,8 +4,8 @@ use Rattle.caseless.specs.Caseless.{default_case_fold}
 use Rattle.fx_data.specs.declared.faults.Fault.{Fault}
 use Rattle.fx_data.specs.declared.faults.Kind.{Kind}
 use Rattle.fx_data.specs.Values.{Data, blank, text, boolean, fault}
-use Rattle.fx_order.specs.Operators.{CanCompare, holds_of}
-use Rattle.fx_order.specs.Order.{IsScalar}
+use Rattle.fx_value.specs.Operators.{CanCompare, holds_of}
+use Rattle.fx_value.specs.Order.{IsScalar}
 use Rattle.row_queries.specs.Conditions.{Condition, ConditionList, always, flag, constant, compares, is_blank, starts, contains, all_of, any_of, opposite, no_conditions, also}
 use Rattle.row_queries.specs.TableRows.{value_at}
 use Rattle.row_queries.specs.declared.row_tests.Held.{Held}

@@ -2,10 +2,10 @@
 use Rattle.std.specs.Prelude.{◌≡◌, true, ℕ, ◌*◌, ◌<◌, ◌≤◌, pos, List, [], ◌∷◌, slice_get, unwrap_or, map}
 use Rattle.fx_data.specs.TypeView.{shape}
 use Rattle.fx_data.specs.Values.{Data, blank, number, tab, row_list}
-use Rattle.fx_names.specs.declared.schema.Column.{Column}
-use Rattle.fx_names.specs.declared.schema.TableShape.{TableShape}
-use Rattle.fx_names.specs.Lawful.{id_name}
-use Rattle.fx_order.specs.Order.{IsScalar}
+use Rattle.fx_trees.specs.declared.schema.Column.{Column}
+use Rattle.fx_trees.specs.declared.schema.TableShape.{TableShape}
+use Rattle.fx_trees.specs.Lawful.{id_name}
+use Rattle.fx_value.specs.Order.{IsScalar}
 use Rattle.fx_tables.specs.Columns.{with_field}
 use Rattle.fx_tables.specs.Columns.{Row as Fields}
 use Rattle.fx_value.specs.Fits.{fits_in}

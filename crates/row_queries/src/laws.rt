@@ -1,7 +1,7 @@
 //! Laws of queries.
 ghost use Rattle.row_queries.specs.Laws.{AskedOnce, RowsFit};
 
-use fx_order::compare_is_total;
+use fx_value::compare_is_total;
 
 /// A law, and no work: of rows by rising numbers a query asks one list, so that a scan and a count
 /// have one answer.

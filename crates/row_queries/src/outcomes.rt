@@ -3,7 +3,7 @@ ghost use Rattle.std.specs.Prelude.{◌≡◌, ◌⊎◌, [], IfOk, IsSome, Matc
 ghost use Rattle.caseless.specs.Caseless.{default_case_fold};
 ghost use Rattle.fx_data.specs.ValueView.{view};
 ghost use Rattle.fx_data.specs.Values.{text as text_data};
-ghost use Rattle.fx_order.specs.Operators.{CanCompare, holds_of};
+ghost use Rattle.fx_value.specs.Operators.{CanCompare, holds_of};
 ghost use Rattle.row_queries.specs.Conditions.{condition_list};
 ghost use Rattle.row_queries.specs.Judgements.{judged};
 ghost use Rattle.row_queries.specs.RowTests.{CanAsk, CanAskAll, IsTruth, all_outcome, any_outcome, begins, begins_without_case, decided, decided_by, fault_in, has_part_without_case, held_of, is_empty, outcome, text_in, met, unmet, HasValue, ReadTextWhile, ReadsText};
@@ -15,7 +15,7 @@ use crate::rows::Row;
 use fx_base::Memory;
 use fx_data::{Cmp, Fault, Value, Words};
 use fx_number::Num;
-use fx_order::holds;
+use fx_value::holds;
 use std::alloc::Global;
 
 /// What a row test comes to, and the constant that is an error where it is one.
@@ -215,14 +215,14 @@ fn contains(alloc: Global, row: &Row, column: u16, part: &Value) -> Result<bool,
 fn starts_with(alloc: Global, text: &Words, part: &Words) -> Result<bool, Memory>
     ensures { IfOk result (λ b. b ≡ begins (default_case_fold text.now) (default_case_fold part.now)) }
 {
-    Ok(fx_text::starts_with(alloc, text, part)?)
+    Ok(fx_builtins::starts_with(alloc, text, part)?)
 }
 
 // Whether a text has a part somewhere, without case.
 fn has_part(alloc: Global, text: &Words, part: &Words) -> Result<bool, Memory>
     ensures { IfOk result (λ b. b ≡ has_part_in (default_case_fold text.now) (default_case_fold part.now)) }
 {
-    Ok(fx_text::contains(alloc, text, part)?)
+    Ok(fx_builtins::contains(alloc, text, part)?)
 }
 
 // The text in a column, or an empty one.

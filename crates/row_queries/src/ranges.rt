@@ -4,12 +4,12 @@ ghost use Rattle.std.specs.Cmp.Lexicographic.{slice_cmp, nat_list_eq_equiv, nat_
 ghost use Rattle.std.specs.Cmp.{partial_equiv_from_equiv};
 ghost use Rattle.std.specs.Ordering.{nat_cmp};
 ghost use Rattle.fx_data.specs.ValueView.{view};
-ghost use Rattle.fx_order.specs.Keys.{key_bytes};
-ghost use Rattle.fx_order.specs.Order.{IsScalar};
+ghost use Rattle.fx_value.specs.Keys.{key_bytes};
+ghost use Rattle.fx_value.specs.Order.{IsScalar};
 
 use fx_base::{InOrder, Memory};
 use fx_data::Value;
-use fx_order::key_of;
+use fx_value::key_of;
 use std::alloc::Global;
 use std::cmp::Ordering;
 use std::marker::Model;

@@ -5,12 +5,12 @@ use crate::operators::fun_of;
 use crate::records::{error_of, record_of};
 use crate::typed::{Stop, Typed};
 use fx_data::{Value, Words};
-use fx_functions::literals::{enumeration_of, with_literal};
-use fx_functions::rows::row_of;
-use fx_functions::{Fun, Scalar, SigShape};
 use fx_scalar::today;
 use fx_sig::signature;
-use fx_syntax::expr::{Expr, Node};
+use fx_trees::expr::{Expr, Node};
+use fx_trees::literals::{enumeration_of, with_literal};
+use fx_trees::rows::row_of;
+use fx_trees::{Fun, Scalar, SigShape};
 use std::alloc::Global;
 
 /// More than the depth of every formula.

@@ -6,8 +6,8 @@ ghost use Rattle.fx_data.specs.ValueView.{fields_view};
 use crate::typed::Stop;
 use fx_base::Memory;
 use fx_data::{Fields, Value, Words};
-use fx_functions::Fun;
 use fx_scalar::apply;
+use fx_trees::Fun;
 use std::alloc::Global;
 use std::cmp::Ordering;
 

@@ -2,7 +2,7 @@
 
 use fx_base::Memory;
 use fx_data::Value;
-use fx_functions::Scalar;
+use fx_trees::Scalar;
 use std::alloc::{AllocError, AllocFailed};
 
 /// A value and the type of the formula that gives it. The value may also be blank or an error.

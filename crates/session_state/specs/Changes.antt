@@ -4,10 +4,10 @@ use Rattle.fx_data.specs.Values.{Data, blank, tab, no_rows}
 use Rattle.fx_data.specs.ValueView.{view}
 use Rattle.fx_data.specs.Types.{Shape}
 use Rattle.fx_value.specs.Fits.{fits_in}
-use Rattle.fx_functions.specs.declared.sources.Source.{Source}
-use Rattle.fx_functions.specs.declared.sources.Source.TheVariants as source
-use Rattle.fx_names.specs.declared.names.Names.{Names}
-use Rattle.fx_names.specs.SourceTypes.{sources}
+use Rattle.fx_trees.specs.declared.sources.Source.{Source}
+use Rattle.fx_trees.specs.declared.sources.Source.TheVariants as source
+use Rattle.fx_trees.specs.declared.names.Names.{Names}
+use Rattle.fx_trees.specs.SourceTypes.{sources}
 use Rattle.session_state.specs.declared.change.Change.{Change}
 use Rattle.session_state.specs.declared.change.Change.TheVariants.{Global, Context, Gather, Empty, Input, Choose, Screen, Notice}
 use Rattle.session_state.specs.Sessions.{SessionState, weight, may_weigh, held, Holds}

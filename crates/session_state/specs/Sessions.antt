@@ -3,9 +3,9 @@ use Rattle.std.specs.Prelude.{ℕ, ◌+◌, ◌-◌, ◌^◌, ◌<◌, min, nat_
 use Rattle.std.specs.List.{slice_index_or, sum_by}
 use Rattle.fx_data.specs.Values.{Data, blank, tab, no_rows}
 use Rattle.fx_value.specs.Weight.{weight_of}
-use Rattle.fx_functions.specs.declared.sources.Source.{Source}
-use Rattle.fx_functions.specs.declared.sources.Source.TheVariants as source
-use Rattle.fx_names.specs.declared.names.Names.{Names}
+use Rattle.fx_trees.specs.declared.sources.Source.{Source}
+use Rattle.fx_trees.specs.declared.sources.Source.TheVariants as source
+use Rattle.fx_trees.specs.declared.names.Names.{Names}
 use Rattle.session_state.specs.Once.{Kept, nobody}
 
 -- The current screen, and whether one was made current in this request; variables and collections, by their numbers; by the

@@ -1,6 +1,6 @@
 use crate::{Change, Desk, Session, Turn};
 use fx_base::InOrder;
-use fx_names::{FormulaList, Names, Schema};
+use fx_trees::{FormulaList, Names, Schema};
 use std::test::Fail;
 
 #[test]

@@ -9,7 +9,7 @@ use crate::stop::Stop;
 use fx_data::types::Ty;
 use fx_data::words::Words;
 use fx_infer::Written;
-use fx_names::names::{Collection, FormulaName, Names, Property, Variable};
+use fx_trees::names::{Collection, FormulaName, Names, Property, Variable};
 use std::alloc::Global;
 
 /// The number of the gallery.

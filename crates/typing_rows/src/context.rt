@@ -13,11 +13,11 @@ use fx_data::controls::Control;
 use fx_data::types::Ty;
 use fx_data::words::Words;
 use fx_infer::{InferEnd, elaborate};
-use fx_lawful::is_lawful;
-use fx_names::formulas::FormulaList;
-use fx_names::names::{Collection, ControlName, FormulaName, Names, Property, Variable};
-use fx_names::schema::{Column, Schema, TableList, TableShape};
 use fx_sig::all;
+use fx_trees::formulas::FormulaList;
+use fx_trees::is_lawful;
+use fx_trees::names::{Collection, ControlName, FormulaName, Names, Property, Variable};
+use fx_trees::schema::{Column, Schema, TableList, TableShape};
 use std::alloc::Global;
 
 /// Nothing but the functions and the tables.

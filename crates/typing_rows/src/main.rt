@@ -23,9 +23,8 @@ use crate::tree::{DEPTH, tree_text};
 use crate::types::type_text;
 use fx_base::Memory;
 use fx_infer::{InferEnd, Written, elaborate};
-use fx_lawful::is_lawful;
-use fx_names::names::Names;
-use fx_rules::line as broken_line;
+use fx_trees::names::Names;
+use fx_trees::{is_lawful, line as broken_line};
 use std::alloc::Global;
 use std::io::{self, ErrorKind};
 

@@ -5,8 +5,7 @@ ghost use Rattle.fx_infer.specs.Below.{tree_depth};
 use crate::stop::Stop;
 use fx_data::types::{Columns, Ty};
 use fx_data::words::Words;
-use fx_depths::no_deeper;
-use fx_infer::{PlaceKind, Written};
+use fx_infer::{PlaceKind, Written, no_deeper};
 use fx_parser::{ParseEnd, parse_formula};
 use std::alloc::Global;
 

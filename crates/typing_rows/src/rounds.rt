@@ -2,18 +2,16 @@
 ghost use Rattle.std.specs.Prelude.{◌≤◌, All};
 ghost use Rattle.fx_infer.specs.Below.{tree_depth};
 ghost use Rattle.fx_infer.specs.declared.elaboration.Written.{Written};
-ghost use Rattle.fx_names.specs.Lawful.{IsLawful};
+ghost use Rattle.fx_trees.specs.Lawful.{IsLawful};
 
 use crate::apps::{App, app_of};
 use crate::stop::Stop;
 use crate::tree::DEPTH;
 use crate::types::type_text;
 use fx_data::types::Ty;
-use fx_infer::{InferEnd, Written, elaborate};
-use fx_lawful::is_lawful;
-use fx_names::names::{Names, Variable};
-use fx_rounds::type_rounds;
-use fx_rules::line as broken_line;
+use fx_infer::{InferEnd, Written, elaborate, type_rounds};
+use fx_trees::names::{Names, Variable};
+use fx_trees::{is_lawful, line as broken_line};
 use std::alloc::Global;
 
 /// The final types of the names of the app of these parts, and behind them the rule that each formula breaks

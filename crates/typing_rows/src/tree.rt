@@ -3,8 +3,8 @@
 use crate::stop::Stop;
 use crate::types::type_text;
 use fx_data::words::Words;
-use fx_functions::deeds::Deed;
-use fx_typed::{Core, CoreNode};
+use fx_trees::deeds::Deed;
+use fx_trees::{Core, CoreNode};
 use std::alloc::Global;
 use view_text::plain;
 

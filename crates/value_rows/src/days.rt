@@ -2,9 +2,9 @@
 
 use crate::page::Page;
 use fx_base::Memory;
+use fx_builtins::{date, date_add, today};
 use fx_data::{Day, Kind, Value};
-use fx_dates::{date, date_add, today};
-use fx_functions::TimeUnit;
+use fx_trees::TimeUnit;
 use view_text::plain;
 
 pub fn write(page: &mut Page) -> Result<(), Memory> {

@@ -1,13 +1,13 @@
 //! Keys, whose bytes are written as numbers, and the order of values.
 ghost use Rattle.fx_data.specs.ValueView.{view};
-ghost use Rattle.fx_order.specs.Order.{IsScalar};
+ghost use Rattle.fx_value.specs.Order.{IsScalar};
 
 use crate::page::Page;
 use crate::parts::text;
 use fx_base::Memory;
 use fx_data::{Day, Value};
 use fx_number::Num;
-use fx_order::{compare, key_of};
+use fx_value::{compare, key_of};
 use std::cmp::Ordering;
 use view_text::plain;
 

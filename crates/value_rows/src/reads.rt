@@ -2,10 +2,10 @@
 
 use crate::page::Page;
 use fx_base::Memory;
-use fx_functions::functions::Fun;
-use fx_functions::sources::Source;
-use fx_typed::make::{called, read};
-use fx_typed::trees::{Core, CoreArgs};
+use fx_trees::functions::Fun;
+use fx_trees::make_core::{called, read};
+use fx_trees::sources::Source;
+use fx_trees::trees::{Core, CoreArgs};
 use std::alloc::Global;
 
 pub fn write(page: &mut Page) -> Result<(), Memory> {

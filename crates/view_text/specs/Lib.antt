@@ -1,3 +1,5 @@
+pub mod Refusals
+pub mod Statuses
 pub mod JsonText
 pub mod PlainText
 pub mod RefusalText

@@ -1,21 +1,10 @@
 -- The plain form of a value, as `view` prints it.
 use Rattle.std.specs.Prelude.{ℕ, List, [], ◌∷◌, ◌++◌, Bool, true, false, ◌==◌, if◌then◌else◌, codes, flat_map, encode_utf8_all}
 use Rattle.fx_data.specs.declared.faults.Kind.{Kind}
-use Rattle.fx_data.specs.declared.faults.Kind.TheVariants.{Div0, Numeric, InvalidArgument, NotFound, MissingRequired, ConstraintViolated, QuotaExceeded, Validation, Custom}
+use Rattle.fx_data.specs.Faults.{kind_name}
 use Rattle.fx_data.specs.Values.{Data, blank, number, text, boolean, date, rec, tab, fault, FieldList, no_fields, field, RowList, no_rows, row}
 use Rattle.fx_number.specs.Spelling.{text_of}
-use Rattle.fx_calendar.specs.DateText.{date_text}
-
-abbrev pub kind_name : Kind → List ℕ
-kind_name Div0 = codes "Div0"
-kind_name Numeric = codes "Numeric"
-kind_name InvalidArgument = codes "InvalidArgument"
-kind_name NotFound = codes "NotFound"
-kind_name MissingRequired = codes "MissingRequired"
-kind_name ConstraintViolated = codes "ConstraintViolated"
-kind_name QuotaExceeded = codes "QuotaExceeded"
-kind_name Validation = codes "Validation"
-kind_name Custom = codes "Custom"
+use Rattle.fx_value.specs.DateText.{date_text}
 
 -- a character, and a quote twice
 abbrev pub doubled : ℕ → List ℕ

@@ -4,7 +4,7 @@ use Rattle.std.specs.Int.{IsInRange}
 use Rattle.serde_json.specs.Data.{Data, null, number, unsigned, string, array, object, member, no_members}
 use Rattle.serde_json.specs.View.{items_of}
 use Rattle.serde_json.specs.Written.{compact_text}
-use Rattle.refusals.specs.Refusals.{name_of}
+use Rattle.view_text.specs.Refusals.{name_of}
 use Rattle.view_text.specs.JsonText.{tagged}
 use Rattle.view_text.specs.declared.refused.Refusal.{Refusal}
 use Rattle.view_text.specs.declared.refused.Detail.{Detail}

@@ -6,11 +6,10 @@ ghost use Rattle.fx_data.specs.Values.{field_list, row_list};
 ghost use Rattle.fx_data.specs.ValueView.{view};
 ghost use Rattle.view_text.specs.JsonText.{error_data, fields_data, number_data, rows_data, tagged, value_data};
 
-use crate::plain_form::kind_text;
 use fx_base::Memory;
-use fx_calendar::date_text;
 use fx_data::{Fault, Fields, Rows, Value};
 use fx_number::Num;
+use fx_value::date_text;
 use serde_json::{Map, Value as Json, json};
 use std::alloc::Global;
 
@@ -82,7 +81,7 @@ fn number_json(alloc: Global, number: Num) -> Result<Json, Memory>
 fn error_json(alloc: Global, fault: &Fault) -> Result<Json, Memory>
     ensures { IfOk result (λ v. json_view v ≡ error_data fault.now.kind fault.now.message) }
 {
-    let kind = kind_text(fault.kind);
+    let kind = fault.kind.name();
     let message = fault.message.as_str();
     Ok(json!(in alloc; {"e": {"kind": kind, "message": message}})?)
 }

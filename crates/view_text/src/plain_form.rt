@@ -3,11 +3,11 @@
 ghost use Rattle.std.specs.Prelude.{◌≡◌, ◌++◌, ◌∷◌, [], IfOk, OnOk, string_bytes, false, encode_utf8_all};
 ghost use Rattle.fx_data.specs.Values.{field_list, row_list};
 ghost use Rattle.fx_data.specs.ValueView.{view};
-ghost use Rattle.view_text.specs.PlainText.{comma_if, doubled, error_text, fields_text, kind_name, plain_text, quoted_text, rows_text};
+ghost use Rattle.view_text.specs.PlainText.{comma_if, doubled, error_text, fields_text, plain_text, quoted_text, rows_text};
 
 use fx_base::Memory;
-use fx_calendar::date_text;
 use fx_data::{Fields, Kind, Rows, Value, Words};
+use fx_value::date_text;
 use std::alloc::Global;
 
 /// The plain form of a value, as `{A: 1, B: "x"}`.
@@ -108,23 +108,6 @@ fn write_kind(out: &mut String, kind: Kind) -> Result<(), Memory>
     ensures { OnOk result (string_bytes out.new ≡ string_bytes out.old ++ error_text kind) }
 {
     out.push_str("Error(")?;
-    out.push_str(kind_text(kind))?;
+    out.push_str(kind.name())?;
     Ok(out.push(')')?)
-}
-
-/// The name of an error's kind.
-pub fn kind_text(kind: Kind) -> &'static str
-    ensures { result.now ≡ kind_name kind }
-{
-    match kind {
-        Kind::Div0 => "Div0",
-        Kind::Numeric => "Numeric",
-        Kind::InvalidArgument => "InvalidArgument",
-        Kind::NotFound => "NotFound",
-        Kind::MissingRequired => "MissingRequired",
-        Kind::ConstraintViolated => "ConstraintViolated",
-        Kind::QuotaExceeded => "QuotaExceeded",
-        Kind::Validation => "Validation",
-        Kind::Custom => "Custom",
-    }
 }

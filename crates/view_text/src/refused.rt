@@ -1,16 +1,15 @@
 // The JSON of refusals.
-ghost use Rattle.std.specs.Prelude.{◌≡◌, ◌≤◌, ◌++◌, ◌∷◌, [], length, slice_get, Some, IfOk, OnOk, OnErr, MatchOption, map, string_bytes};
+ghost use Rattle.std.specs.Prelude.{◌≡◌, IfOk, map, string_bytes};
 ghost use Rattle.std.specs.Int.{IsInRange};
 ghost use Rattle.serde_json.specs.View.{view as json_view};
 ghost use Rattle.view_text.specs.RefusalText.{Fits, detail_data, line_data, move_data, refusal_data, refusal_text, row_data};
 
+use crate::Cause;
 use crate::json::tagged;
-use fx_base::Memory;
+use fx_base::{InOrder, Memory};
 use fx_data::Words;
-use refusals::Refusal as Cause;
 use serde_json::{Value as Json, json};
 use std::alloc::Global;
-use std::marker::Model;
 
 /// Why a request is refused.
 #[derive(Drop)]
@@ -37,60 +36,7 @@ pub enum Detail {
 }
 
 /// Lines of text.
-#[derive(Drop)]
-pub struct Lines {
-    items: Vec<Words>,
-}
-
-impl Model for Lines {
-    ghost use Rattle.std.specs.Prelude.{ℕ, List};
-
-    ghost Value = { List (List ℕ) };
-
-    ghost view = { λ a. a.items.items };
-}
-
-impl Lines {
-    /// No lines.
-    pub fn new(alloc: Global) -> Lines
-        ensures { result ≡ [] }
-    {
-        Lines {
-            items: Vec::new(alloc),
-        }
-    }
-
-    /// Adds a line at the end.
-    pub fn push(&mut self, item: Words) -> Result<(), Memory>
-        ensures ok { OnOk result (self.new ≡ self.old ++ item ∷ []) }
-        ensures err { OnErr result (self.new ≡ self.old) }
-    {
-        self.items.push(item)?;
-        Ok(())
-    }
-
-    /// How many lines there are.
-    pub fn len(&self) -> usize
-        ensures { result ≡ length self.now }
-    {
-        self.items.len()
-    }
-
-    /// The line at a place, counted from 0.
-    pub fn get(&self, place: usize) -> Option<&Words>
-        ensures { MatchOption result (length self.now ≤ place)
-            (λ l. slice_get self.now place ≡ Some l.now) }
-    {
-        self.items.get(place)
-    }
-
-    /// The lines in order.
-    pub fn as_slice(&self) -> &[Words]
-        ensures { result.now ≡ self.now }
-    {
-        self.items.as_slice()
-    }
-}
+pub type Lines = InOrder<Words>;
 
 /// The body of a refusal, `{"refused":{"code":13,"detail":1,"name":"OutOfStep"}}`.
 pub fn refusal_json(alloc: Global, refusal: &Refusal) -> Result<String, Memory>

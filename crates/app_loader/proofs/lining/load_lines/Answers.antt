@@ -2,8 +2,8 @@ use Rattle.std.proofs.Common.{◌≡◌, ◌<◌, List, ap, arith, length, nat_e
 use Rattle.app_loader.proofs.Known.{as_many, is_bare}
 use Rattle.app_loader.proofs.Loads.{step, unordered}
 use Rattle.app_loader.proofs.ReadySteps.{lawful_before}
-use Rattle.fx_names.specs.Lawful.{IsLawful}
-use Rattle.fx_names.specs.declared.names.FormulaName.{FormulaName}
+use Rattle.fx_trees.specs.Lawful.{IsLawful}
+use Rattle.fx_trees.specs.declared.names.FormulaName.{FormulaName}
 use Rattle.app_loader.proofs.lining.load_lines.Goals as goal
 
 pub bare-found-requires : goal.bare-found-requires

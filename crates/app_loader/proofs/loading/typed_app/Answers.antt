@@ -1,6 +1,6 @@
 use Rattle.app_loader.proofs.Ended.{unsettling}
 use Rattle.std.proofs.Common.{Err, ap, map, ◌∙◌}
-use Rattle.fx_rounds.specs.CellView.{cell}
+use Rattle.fx_infer.specs.CellView.{cell}
 use Rattle.app_loader.proofs.loading.typed_app.Goals as goal
 
 pub returns-in-Err-Broken-clause-refused : goal.returns-in-Err-Broken-clause-refused

@@ -4,7 +4,7 @@ use Rattle.app_loader.specs.Cells.{cell_of}
 use Rattle.app_loader.proofs.Writes.{cells_more, shallow_at, shallow_written}
 use Rattle.fx_infer.specs.Below.{tree_depth}
 use Rattle.fx_infer.specs.declared.elaboration.Written.{Written}
-use Rattle.fx_rounds.specs.CellView.{cell}
+use Rattle.fx_infer.specs.CellView.{cell}
 use Rattle.app_loader.proofs.writing.all_written.Goals as goal
 
 pub loop-formula-preserved : goal.loop-formula-preserved

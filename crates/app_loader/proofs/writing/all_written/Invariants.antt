@@ -2,7 +2,7 @@ use Rattle.std.proofs.Common.{◌≡◌, ◌≤◌, All, map, take}
 use Rattle.app_loader.specs.Cells.{cell_of}
 use Rattle.fx_infer.specs.Below.{tree_depth}
 use Rattle.fx_infer.specs.declared.elaboration.Written.{Written}
-use Rattle.fx_rounds.specs.CellView.{cell}
+use Rattle.fx_infer.specs.CellView.{cell}
 use Rattle.app_loader.proofs.writing.all_written.Given as goal
 
 abbrev pub invariant-loop-formula : goal.invariant-loop-formula

@@ -1,6 +1,6 @@
 use Rattle.std.proofs.Common.{◌≤◌, List, length, subst, sym}
 use Rattle.std.proofs.lemmas.Result.{IfOk-weaker}
-use Rattle.fx_functions.specs.declared.signatures.Signature.{Signature}
+use Rattle.fx_trees.specs.declared.signatures.Signature.{Signature}
 use Rattle.app_names.specs.Declarations.{things_of}
 use Rattle.app_names.proofs.Lawful.{both_ok, few, lawful_names}
 use Rattle.app_names.proofs.naming.names_of.Goals as goal

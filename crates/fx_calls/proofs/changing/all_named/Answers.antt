@@ -1,9 +1,9 @@
 use Rattle.std.proofs.Common.{◌≡◌, ◌∷◌, map, rules, arith, ap, Vec, Global}
 use Rattle.std.proofs.lemmas.List.{nil_from_length}
 use Rattle.fx_data.specs.Types.{column_list}
-use Rattle.fx_judge.specs.Deeds.{rows_named_by, row_named}
-use Rattle.fx_local.specs.declared.typed.Typed.{Typed}
-use Rattle.fx_local.specs.TypedView.{typed}
+use Rattle.fx_typing.specs.Deeds.{rows_named_by, row_named}
+use Rattle.fx_typing.specs.declared.typed.Typed.{Typed}
+use Rattle.fx_typing.specs.TypedView.{typed}
 use Rattle.fx_calls.proofs.Kept.{keeps_on, kept_all}
 use Rattle.fx_calls.proofs.changing.all_named.Goals as goal
 

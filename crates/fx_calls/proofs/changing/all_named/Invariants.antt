@@ -1,7 +1,7 @@
 use Rattle.std.proofs.Common.{map}
 use Rattle.fx_data.specs.Types.{column_list}
-use Rattle.fx_judge.specs.Deeds.{rows_named_by, row_named}
-use Rattle.fx_local.specs.TypedView.{typed}
+use Rattle.fx_typing.specs.Deeds.{rows_named_by, row_named}
+use Rattle.fx_typing.specs.TypedView.{typed}
 use Rattle.fx_calls.proofs.Kept.{Keeps}
 use Rattle.fx_calls.proofs.changing.all_named.Given as goal
 

@@ -1,6 +1,6 @@
 use Rattle.std.proofs.Common.{List, ℕ, ap, sym}
 use Rattle.fx_data.specs.Types.{Shape, column_list, records}
-use Rattle.fx_local.specs.TypedView.{typed}
+use Rattle.fx_typing.specs.TypedView.{typed}
 use Rattle.fx_typing.specs.Local.{by_way}
 use Rattle.fx_typing.specs.Ways.{way}
 use Rattle.fx_calls.proofs.Exits.{as_same}

@@ -1,7 +1,7 @@
 use Rattle.std.proofs.Common.{◌≡◌, drop}
 use Rattle.fx_data.specs.Types.{column_list}
 use Rattle.fx_data.specs.TypeView.{columns_view}
-use Rattle.fx_judge.specs.Deeds.{fields_join}
+use Rattle.fx_typing.specs.Deeds.{fields_join}
 use Rattle.fx_calls.proofs.changing.fields_join.Given as goal
 
 abbrev pub invariant-loop-name : goal.invariant-loop-name

@@ -1,7 +1,7 @@
 use Rattle.fx_data.specs.Types.{column_list}
-use Rattle.fx_judge.specs.Deeds.{when_columns}
-use Rattle.fx_local.specs.TypedView.{typed}
-use Rattle.fx_calls.proofs.Rows.{kept, broken}
+use Rattle.fx_typing.specs.Deeds.{when_columns}
+use Rattle.fx_typing.specs.TypedView.{typed}
+use Rattle.fx_calls.proofs.RowSteps.{kept, broken}
 use Rattle.fx_calls.proofs.changing.whole_row.Goals as goal
 
 pub returns-in-Some : goal.returns-in-Some

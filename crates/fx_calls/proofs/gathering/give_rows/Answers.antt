@@ -1,7 +1,7 @@
 use Rattle.std.proofs.Common.{ap, sym}
 use Rattle.fx_data.specs.TypeView.{shape}
-use Rattle.fx_judge.specs.Deeds.{given, rows_of}
-use Rattle.fx_local.specs.TypedView.{typed}
+use Rattle.fx_typing.specs.Deeds.{given, rows_of}
+use Rattle.fx_typing.specs.TypedView.{typed}
 use Rattle.fx_calls.proofs.Exits.{as_same}
 use Rattle.fx_calls.proofs.gathering.give_rows.Goals as goal
 

@@ -2,9 +2,9 @@ use Rattle.std.proofs.Common.{◌≡◌, ◌∷◌, map, rules, Vec, Global}
 use Rattle.std.proofs.lemmas.Result.{err_from_is_err_and}
 use Rattle.fx_data.specs.Types.{Shape}
 use Rattle.fx_data.specs.TypeView.{shape}
-use Rattle.fx_judge.specs.Deeds.{given, rows_of, rows_given}
-use Rattle.fx_local.specs.declared.typed.Typed.{Typed}
-use Rattle.fx_local.specs.TypedView.{typed}
+use Rattle.fx_typing.specs.Deeds.{given, rows_of, rows_given}
+use Rattle.fx_typing.specs.declared.typed.Typed.{Typed}
+use Rattle.fx_typing.specs.TypedView.{typed}
 use Rattle.fx_calls.proofs.Walks.{Steps, walk, halts, after_first}
 use Rattle.fx_calls.proofs.gathering.rows_given.Goals as goal
 

@@ -1,7 +1,7 @@
 use Rattle.std.proofs.Common.{◌≡◌, map}
 use Rattle.fx_data.specs.TypeView.{shape}
-use Rattle.fx_judge.specs.Deeds.{rows_given}
-use Rattle.fx_local.specs.TypedView.{typed}
+use Rattle.fx_typing.specs.Deeds.{rows_given}
+use Rattle.fx_typing.specs.TypedView.{typed}
 use Rattle.fx_calls.specs.Lists.{behind}
 use Rattle.fx_calls.proofs.gathering.rows_given.Given as goal
 

@@ -1,5 +1,5 @@
 use Rattle.std.proofs.Common.{◌≡◌, ◌++◌}
-use Rattle.fx_judge.specs.Deeds.{given_sources, given_terms}
+use Rattle.fx_typing.specs.Deeds.{given_sources, given_terms}
 use Rattle.fx_calls.proofs.given.context_given.Given as goal
 
 abbrev pub invariant-loop-source : goal.invariant-loop-source

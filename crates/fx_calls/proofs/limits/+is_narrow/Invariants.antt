@@ -1,7 +1,7 @@
 use Rattle.std.proofs.Common.{◌≡◌, drop}
 use Rattle.fx_data.specs.Types.{column_list, shape_size, columns_size}
 use Rattle.fx_data.specs.TypeView.{shape, columns_view}
-use Rattle.fx_judge.specs.Builds.{are_narrow}
+use Rattle.fx_typing.specs.Builds.{are_narrow}
 use Rattle.fx_calls.proofs.limits.+is_narrow.Given as goal
 
 abbrev pub invariant-are_narrow-loop-ty : goal.invariant-are_narrow-loop-ty

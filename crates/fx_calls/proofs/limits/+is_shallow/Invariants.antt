@@ -1,7 +1,7 @@
 use Rattle.std.proofs.Common.{◌≡◌, drop, nat_le}
 use Rattle.fx_data.specs.Types.{column_list, shape_size, columns_size}
 use Rattle.fx_data.specs.TypeView.{shape, columns_view}
-use Rattle.fx_judge.specs.Builds.{columns_depth}
+use Rattle.fx_typing.specs.Builds.{columns_depth}
 use Rattle.fx_calls.proofs.limits.+is_shallow.Given as goal
 
 abbrev pub invariant-are_shallow-loop-ty : goal.invariant-are_shallow-loop-ty

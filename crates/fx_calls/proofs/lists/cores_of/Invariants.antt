@@ -1,6 +1,6 @@
 use Rattle.std.proofs.Common.{◌≡◌, ◌++◌, map}
 use Rattle.fx_typing.specs.Local.{firsts}
-use Rattle.fx_local.specs.TypedView.{typed}
+use Rattle.fx_typing.specs.TypedView.{typed}
 use Rattle.fx_calls.proofs.lists.cores_of.Given as goal
 
 abbrev pub invariant-loop-part : goal.invariant-loop-part

@@ -2,9 +2,9 @@ use Rattle.std.proofs.Common.{◌≡◌, List, [], ◌∷◌, ◌<◌, Some, Err
 use Rattle.std.proofs.lemmas.Result.{err_from_is_err_and}
 use Rattle.fx_data.specs.Types.{blanks}
 use Rattle.fx_data.specs.TypeView.{shape}
-use Rattle.fx_judge.specs.Builds.{bounded, bounded_by, list_of, list_as}
-use Rattle.fx_local.specs.declared.typed.Typed.{Typed}
-use Rattle.fx_local.specs.TypedView.{typed}
+use Rattle.fx_typing.specs.Builds.{bounded, bounded_by, list_of, list_as}
+use Rattle.fx_typing.specs.declared.typed.Typed.{Typed}
+use Rattle.fx_typing.specs.TypedView.{typed}
 use Rattle.fx_typing.specs.Local.{join_all}
 use Rattle.fx_calls.proofs.Exits.{as_same, first_stops, goes_on}
 use Rattle.fx_calls.proofs.lists.full_list.Goals as goal

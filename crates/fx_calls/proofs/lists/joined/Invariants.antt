@@ -1,7 +1,7 @@
 use Rattle.std.proofs.Common.{◌≡◌, map, drop, option_map}
 use Rattle.fx_data.specs.TypeView.{shape}
 use Rattle.fx_typing.specs.Local.{join_all}
-use Rattle.fx_local.specs.TypedView.{typed}
+use Rattle.fx_typing.specs.TypedView.{typed}
 use Rattle.fx_calls.proofs.lists.joined.Given as goal
 
 abbrev pub invariant-loop-part : goal.invariant-loop-part

@@ -1,8 +1,8 @@
 use Rattle.std.proofs.Common.{◌≡◌, List, [], length, map, ap, arith}
 use Rattle.std.proofs.lemmas.List.{nil_from_length}
-use Rattle.fx_judge.specs.Builds.{list_of}
-use Rattle.fx_local.specs.declared.typed.Typed.{Typed}
-use Rattle.fx_local.specs.TypedView.{typed}
+use Rattle.fx_typing.specs.Builds.{list_of}
+use Rattle.fx_typing.specs.declared.typed.Typed.{Typed}
+use Rattle.fx_typing.specs.TypedView.{typed}
 use Rattle.fx_calls.proofs.Exits.{as_same}
 use Rattle.fx_calls.proofs.lists.list_of.Goals as goal
 

@@ -1,7 +1,7 @@
 use Rattle.std.proofs.Common.{◌≡◌, map}
 use Rattle.fx_data.specs.TypeView.{shape}
-use Rattle.fx_judge.specs.Builds.{rows_to}
-use Rattle.fx_local.specs.TypedView.{typed}
+use Rattle.fx_typing.specs.Builds.{rows_to}
+use Rattle.fx_typing.specs.TypedView.{typed}
 use Rattle.fx_calls.specs.Lists.{behind}
 use Rattle.fx_calls.proofs.lists.rows_to.Given as goal
 

@@ -1,7 +1,7 @@
 use Rattle.std.proofs.Common.{◌∷◌, ◌++◌, [], map, Vec, Global}
 use Rattle.std.proofs.lemmas.Result.{err_from_is_err_and}
-use Rattle.fx_local.specs.declared.typed.Typed.{Typed}
-use Rattle.fx_local.specs.TypedView.{typed}
+use Rattle.fx_typing.specs.declared.typed.Typed.{Typed}
+use Rattle.fx_typing.specs.TypedView.{typed}
 use Rattle.fx_calls.proofs.Kept.{both_err}
 use Rattle.fx_calls.proofs.lowest.keep.Goals as goal
 

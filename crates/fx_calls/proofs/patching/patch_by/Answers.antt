@@ -1,13 +1,13 @@
 use Rattle.std.proofs.Common.{ℕ, ◌∷◌, Err, List, Ok, Result, map, ap, sym, ◌∙◌}
 use Rattle.fx_data.specs.Types.{Shape, records}
 use Rattle.std.proofs.lemmas.Result.{err_from_is_err_and}
-use Rattle.fx_local.specs.TypedView.{typed}
-use Rattle.fx_typed.specs.Term.{Term}
+use Rattle.fx_typing.specs.TypedView.{typed}
+use Rattle.fx_trees.specs.Term.{Term}
 use Rattle.fx_calls.specs.Changes.{changing_view, patched}
-use Rattle.fx_judge.specs.Deeds.{patch_to}
+use Rattle.fx_typing.specs.Deeds.{patch_to}
 use Rattle.fx_typing.specs.Columns.{and_then}
 use Rattle.fx_calls.proofs.Exits.{first_stops, as_same}
-use Rattle.fx_calls.proofs.Rows.{patch_is, patching}
+use Rattle.fx_calls.proofs.RowSteps.{patch_is, patching}
 use Rattle.fx_calls.proofs.patching.patch_by.Goals as goal
 
 pub returns-in_err-cores : goal.returns-in_err-cores

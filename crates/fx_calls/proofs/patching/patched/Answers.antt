@@ -1,10 +1,10 @@
 use Rattle.std.proofs.Common.{◌∷◌, List, map, Vec, Global}
 use Rattle.std.proofs.lemmas.Result.{err_from_is_err_and}
 use Rattle.fx_data.specs.Types.{column_list}
-use Rattle.fx_judge.specs.Deeds.{row_named, changes_of}
-use Rattle.fx_local.specs.declared.typed.Typed.{Typed}
-use Rattle.fx_local.specs.TypedView.{typed}
-use Rattle.fx_typed.specs.Term.{Term}
+use Rattle.fx_typing.specs.Deeds.{row_named, changes_of}
+use Rattle.fx_typing.specs.declared.typed.Typed.{Typed}
+use Rattle.fx_typing.specs.TypedView.{typed}
+use Rattle.fx_trees.specs.Term.{Term}
 use Rattle.fx_typing.specs.Local.{firsts}
 use Rattle.fx_calls.proofs.Kept.{both_err}
 use Rattle.fx_calls.proofs.patching.patched.Goals as goal

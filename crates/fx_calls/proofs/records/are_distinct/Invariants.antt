@@ -1,5 +1,5 @@
 use Rattle.std.proofs.Common.{◌≡◌, drop}
-use Rattle.fx_judge.specs.Builds.{are_distinct}
+use Rattle.fx_typing.specs.Builds.{are_distinct}
 use Rattle.fx_calls.proofs.records.are_distinct.Given as goal
 
 abbrev pub invariant-loop-place : goal.invariant-loop-place

@@ -1,5 +1,5 @@
 use Rattle.std.proofs.Common.{◌≡◌, ◌++◌, [], ◌∷◌, length, arith, ◌∙◌, ap, sym, map}
-use Rattle.fx_local.specs.TypedView.{typed}
+use Rattle.fx_typing.specs.TypedView.{typed}
 use Rattle.fx_calls.specs.Fields.{field_view, put_onto}
 use Rattle.fx_calls.proofs.Fields.{as_many_of, both_shorter, onto_last}
 use Rattle.fx_calls.proofs.records.put_fields.Goals as goal

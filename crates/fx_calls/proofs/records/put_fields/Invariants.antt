@@ -1,6 +1,6 @@
 use Rattle.std.proofs.Common.{◌≡◌, length, map}
-use Rattle.fx_judge.specs.Builds.{put_fields}
-use Rattle.fx_local.specs.TypedView.{typed}
+use Rattle.fx_typing.specs.Builds.{put_fields}
+use Rattle.fx_typing.specs.TypedView.{typed}
 use Rattle.fx_calls.specs.Fields.{field_view, put_onto}
 use Rattle.fx_calls.proofs.records.put_fields.Given as goal
 

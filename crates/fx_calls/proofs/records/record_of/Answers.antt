@@ -1,5 +1,5 @@
 use Rattle.std.proofs.Common.{map}
-use Rattle.fx_local.specs.TypedView.{typed}
+use Rattle.fx_typing.specs.TypedView.{typed}
 use Rattle.fx_calls.proofs.Fields.{rising_puts}
 use Rattle.fx_calls.proofs.records.record_of.Goals as goal
 

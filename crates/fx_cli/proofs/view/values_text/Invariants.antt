@@ -1,6 +1,6 @@
 use Rattle.std.proofs.Common.{◌≡◌, string_bytes, flat_map, map, take}
 use Rattle.fx_cli.specs.Plain.{line_of}
-use Rattle.named_values.specs.Valued.{seen}
+use Rattle.recalc.specs.Valued.{seen}
 use Rattle.fx_cli.proofs.view.values_text.Given as goal
 
 abbrev pub invariant-loop-named : goal.invariant-loop-named

@@ -1,8 +1,8 @@
 use Rattle.std.proofs.Common.{◌≡◌, ◌∷◌, [], map, rules, subst, sym}
 use Rattle.fx_data.specs.TypeView.{shape}
-use Rattle.fx_judge.specs.Parts as parts
-use Rattle.fx_judge.specs.Typing.{alias_by}
-use Rattle.fx_local.specs.Answers.{Answers}
+use Rattle.fx_typing.specs.Parts as parts
+use Rattle.fx_typing.specs.Typing.{alias_by}
+use Rattle.fx_typing.specs.Answers.{Answers}
 use Rattle.fx_scopes.specs.PartView.{part}
 use Rattle.fx_scopes.specs.PlanView.{grant}
 use Rattle.fx_typing.specs.Local as local

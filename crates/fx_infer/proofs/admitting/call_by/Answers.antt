@@ -1,9 +1,9 @@
 use Rattle.std.proofs.Common.{◌∙◌, List, ap, map, subst}
-use Rattle.fx_judge.specs.Calls.{called}
-use Rattle.fx_judge.specs.Parts.{unless}
-use Rattle.fx_judge.specs.Typing.{is_too_deep}
-use Rattle.fx_local.specs.Answers.{Answers}
-use Rattle.fx_local.specs.TypedView.{typed}
+use Rattle.fx_typing.specs.Calls.{called}
+use Rattle.fx_typing.specs.Parts.{unless}
+use Rattle.fx_typing.specs.Typing.{is_too_deep}
+use Rattle.fx_typing.specs.Answers.{Answers}
+use Rattle.fx_typing.specs.TypedView.{typed}
 use Rattle.fx_scopes.specs.MeaningView.{place}
 use Rattle.fx_scopes.specs.PartView.{part}
 use Rattle.fx_scopes.specs.PlanView.{head_of}

@@ -1,6 +1,6 @@
 use Rattle.std.proofs.Common.{option_map, subst, sym, inl, inr}
-use Rattle.fx_judge.specs.Typing.{name_by}
-use Rattle.fx_local.specs.Answers.{Answers}
+use Rattle.fx_typing.specs.Typing.{name_by}
+use Rattle.fx_typing.specs.Answers.{Answers}
 use Rattle.fx_scopes.specs.MeaningView.{meaning_view}
 use Rattle.fx_typing.specs.Meaning.{named}
 use Rattle.fx_scopes.specs.PartView.{part}

@@ -2,7 +2,7 @@ use Rattle.std.proofs.Common.{◌∙◌, Ok, ap, sym}
 use Rattle.std.proofs.lemmas.Str.{chars-nil}
 use Rattle.fx_data.specs.Types.{texts}
 use Rattle.fx_data.specs.Values.{text}
-use Rattle.fx_typed.specs.Term.{Term, const, nil, of}
+use Rattle.fx_trees.specs.Term.{Term, const, nil, of}
 use Rattle.fx_infer.proofs.admitting.no_pieces.Goals as goal
 
 pub returns : goal.returns

@@ -1,9 +1,9 @@
 use Rattle.std.proofs.Common.{◌≡◌, ◌∙◌, List, None, Some, ap, map, subst, sym}
-use Rattle.fx_judge.specs.Calls.{made_if}
-use Rattle.fx_judge.specs.Parts.{pieces, values}
-use Rattle.fx_judge.specs.Typing.{paired_by}
-use Rattle.fx_local.specs.Answers.{Answers}
-use Rattle.fx_local.specs.TypedView.{typed}
+use Rattle.fx_typing.specs.Calls.{made_if}
+use Rattle.fx_typing.specs.Parts.{pieces, values}
+use Rattle.fx_typing.specs.Typing.{paired_by}
+use Rattle.fx_typing.specs.Answers.{Answers}
+use Rattle.fx_typing.specs.TypedView.{typed}
 use Rattle.fx_scopes.specs.PartView.{part}
 use Rattle.fx_scopes.specs.declared.parts.Part.{Part}
 use Rattle.fx_typing.specs.Columns.{and_then}

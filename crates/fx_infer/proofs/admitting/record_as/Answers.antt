@@ -1,8 +1,8 @@
 use Rattle.std.proofs.Common.{map, subst, sym, inl, inr}
-use Rattle.fx_judge.specs.Builds.{record_of}
-use Rattle.fx_judge.specs.Typing.{record_as}
-use Rattle.fx_local.specs.Answers.{Answers}
-use Rattle.fx_local.specs.TypedView.{typed}
+use Rattle.fx_typing.specs.Builds.{record_of}
+use Rattle.fx_typing.specs.Typing.{record_as}
+use Rattle.fx_typing.specs.Answers.{Answers}
+use Rattle.fx_typing.specs.TypedView.{typed}
 use Rattle.fx_scopes.specs.PartView.{part}
 use Rattle.fx_scopes.specs.PlanView.{grant}
 use Rattle.fx_scopes.specs.declared.plans.Grant.{Grant}

@@ -1,6 +1,6 @@
 use Rattle.std.proofs.Common.{◌≡◌, ◌∙◌, List, ap, arith, length, map}
 use Rattle.std.proofs.lemmas.List.{nil_from_length}
-use Rattle.fx_judge.specs.Typing.{woven_by}
+use Rattle.fx_typing.specs.Typing.{woven_by}
 use Rattle.fx_scopes.specs.PartView.{part}
 use Rattle.fx_scopes.specs.declared.parts.Part.{Part}
 use Rattle.fx_infer.proofs.admitting.woven_by.Goals as goal

@@ -1,5 +1,5 @@
 use Rattle.std.proofs.Common.{◌∙◌, ap, sym}
-use Rattle.fx_judge.specs.Typing.{position}
+use Rattle.fx_typing.specs.Typing.{position}
 use Rattle.fx_infer.proofs.Goes.{begins_at}
 use Rattle.fx_infer.proofs.below.begins.Goals as goal
 

@@ -1,8 +1,8 @@
 use Rattle.std.proofs.Common.{option_map, refl}
 use Rattle.std.proofs.lemmas.Result.{IfOk-weaker}
 use Rattle.fx_data.specs.TypeView.{shape}
-use Rattle.fx_rules.specs.Rules.{number_of}
-use Rattle.fx_local.specs.TypedView.{typed}
+use Rattle.fx_trees.specs.Rules.{number_of}
+use Rattle.fx_typing.specs.TypedView.{typed}
 use Rattle.fx_infer.specs.Written.{may_act, place_of}
 use Rattle.fx_infer.proofs.Wholes.{ends_admitted, ends_typed, ends_told, whole_broken}
 use Rattle.fx_infer.proofs.elaboration.elaborate.Goals as goal

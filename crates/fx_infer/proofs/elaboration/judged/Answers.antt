@@ -1,9 +1,9 @@
 use Rattle.std.proofs.Common.{◌∙◌, Err, ap, inl, option_map, subst}
 use Rattle.fx_data.specs.TypeView.{shape}
-use Rattle.fx_details.specs.declared.flaw.Halt.{Halt}
-use Rattle.fx_judge.specs.Details.{IsToldBroken}
-use Rattle.fx_judge.specs.Typing.{judge}
-use Rattle.fx_rules.specs.Rules.{number_of}
+use Rattle.fx_infer.specs.declared.flaw.Halt.{Halt}
+use Rattle.fx_typing.specs.Details.{IsToldBroken}
+use Rattle.fx_typing.specs.Typing.{judge}
+use Rattle.fx_trees.specs.Rules.{number_of}
 use Rattle.fx_scopes.specs.PartView.{part}
 use Rattle.fx_scopes.specs.SettingView.{setting}
 use Rattle.fx_infer.specs.Judged.{Judged}

@@ -1,9 +1,9 @@
 use Rattle.std.proofs.Common.{Err, inr, option_map, subst}
 use Rattle.fx_data.specs.TypeView.{shape}
-use Rattle.fx_judge.specs.Typing.{whole_of}
-use Rattle.fx_local.specs.Answers.{Answers}
-use Rattle.fx_local.specs.TypedView.{typed}
-use Rattle.fx_local.specs.declared.wrong.Wrong.{Wrong}
+use Rattle.fx_typing.specs.Typing.{whole_of}
+use Rattle.fx_typing.specs.Answers.{Answers}
+use Rattle.fx_typing.specs.TypedView.{typed}
+use Rattle.fx_typing.specs.declared.wrong.Wrong.{Wrong}
 use Rattle.fx_scopes.specs.PartView.{part}
 use Rattle.fx_infer.specs.Written.{place_of}
 use Rattle.fx_infer.proofs.elaboration.settled.Goals as goal

@@ -1,9 +1,9 @@
 use Rattle.std.proofs.Common.{◌≡◌, ℕ, suc, ◌+◌, ◌<◌, ◌≤◌, List, [], ◌∷◌, length, map, Ok, ap, sym, subst, ◌∙◌, arith, length-append}
 use Rattle.std.proofs.lemmas.List.{length-map, map-append}
-use Rattle.fx_syntax.specs.Tree.{more, tree_size, forest_size}
-use Rattle.fx_judge.specs.Parts.{parts_in}
-use Rattle.fx_judge.specs.Plans.{setting_at}
-use Rattle.fx_judge.specs.Typing as typing
+use Rattle.fx_trees.specs.Tree.{more, tree_size, forest_size}
+use Rattle.fx_typing.specs.Parts.{parts_in}
+use Rattle.fx_typing.specs.Plans.{setting_at}
+use Rattle.fx_typing.specs.Typing as typing
 use Rattle.fx_scopes.specs.MeaningView.{place}
 use Rattle.fx_scopes.specs.PartView.{part}
 use Rattle.fx_scopes.specs.PlanView.{head_of}

@@ -1,6 +1,6 @@
 use Rattle.std.proofs.Common.{◌≡◌, ◌+◌, ◌-◌, ◌*◌, length, map}
-use Rattle.fx_syntax.specs.Tree.{tree_size}
-use Rattle.fx_judge.specs.Parts.{parts_in}
+use Rattle.fx_trees.specs.Tree.{tree_size}
+use Rattle.fx_typing.specs.Parts.{parts_in}
 use Rattle.fx_scopes.specs.MeaningView.{place}
 use Rattle.fx_scopes.specs.PartView.{part}
 use Rattle.fx_scopes.specs.PlanView.{head_of}

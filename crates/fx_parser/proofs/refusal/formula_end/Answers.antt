@@ -1,4 +1,4 @@
-use Rattle.fx_recognizer.specs.Trees.{HasFormula}
+use Rattle.fx_parser.specs.Trees.{HasFormula}
 use Rattle.fx_parser.proofs.Ends.{has_tree, formula_long}
 use Rattle.fx_parser.proofs.refusal.formula_end.Goals as goal
 

@@ -21,6 +21,6 @@ returns c =
     let first = c.in_ok-of.ensures in
     let second = c.in_ok-of-2.ensures in
     let kind = c.in_ok-kind.ensures in
-    let name = c.kind_name.ensures in
+    let name = c.name.ensures in
     let message = c.in_ok-message.ensures in
     rw (all, pushed, none, first, second, kind, name, kind_characters c.args.fault.now.kind, message) refl

@@ -1,5 +1,5 @@
 use Rattle.std.proofs.Common.{◌≡◌, ◌&&◌, bytes_eq, drop}
-use Rattle.fx_names.specs.declared.names.Variable.{Variable}
+use Rattle.fx_trees.specs.declared.names.Variable.{Variable}
 use Rattle.fx_typing.specs.Meaning.{is_global, place_of}
 use Rattle.fx_scopes.proofs.named.global_in.Given as goal
 

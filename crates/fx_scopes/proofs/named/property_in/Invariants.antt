@@ -1,5 +1,5 @@
 use Rattle.std.proofs.Common.{◌≡◌, ◌&&◌, bytes_eq, drop, nat_eq}
-use Rattle.fx_names.specs.declared.names.Property.{Property}
+use Rattle.fx_trees.specs.declared.names.Property.{Property}
 use Rattle.fx_typing.specs.Meaning.{place_of}
 use Rattle.fx_scopes.proofs.named.property_in.Given as goal
 

@@ -1,5 +1,5 @@
 use Rattle.std.proofs.Common.{◌≡◌, ◌∙◌, ◌+◌, ◌||◌, ap, drop, false, length, map, sym, take, true}
-use Rattle.fx_judge.specs.Plans.{is_inside, opens_rows, plan_at}
+use Rattle.fx_typing.specs.Plans.{is_inside, opens_rows, plan_at}
 use Rattle.fx_scopes.proofs.Planned.{opens_step}
 use Rattle.fx_scopes.proofs.plans.opens_rows.Goals as goal
 use Rattle.fx_scopes.specs.PartView.{part}

@@ -1,5 +1,5 @@
 use Rattle.std.proofs.Common.{◌≡◌, [], drop, length, map, take}
-use Rattle.fx_judge.specs.Plans.{opens_rows}
+use Rattle.fx_typing.specs.Plans.{opens_rows}
 use Rattle.fx_scopes.specs.PartView.{part}
 use Rattle.fx_scopes.specs.PlanView.{grant, head_of}
 use Rattle.fx_scopes.proofs.plans.opens_rows.Given as goal

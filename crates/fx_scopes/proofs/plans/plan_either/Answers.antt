@@ -1,7 +1,7 @@
 use Rattle.std.proofs.Common.{◌≡◌, ◌∙◌, [], ap, false, length, sym, true}
 use Rattle.std.specs.Prelude.{◌==◌}
-use Rattle.fx_functions.specs.Rows.{row_of}
-use Rattle.fx_judge.specs.Plans.{plan_by_row}
+use Rattle.fx_trees.specs.Rows.{row_of}
+use Rattle.fx_typing.specs.Plans.{plan_by_row}
 use Rattle.fx_scopes.proofs.Planned.{either_behind}
 use Rattle.fx_scopes.proofs.plans.plan_either.Goals as goal
 

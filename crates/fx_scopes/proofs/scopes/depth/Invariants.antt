@@ -1,5 +1,5 @@
 use Rattle.std.proofs.Common.{◌≡◌, ◌+◌, ◌≤◌, drop, map}
-use Rattle.fx_judge.specs.Plans.{depth_of}
+use Rattle.fx_typing.specs.Plans.{depth_of}
 use Rattle.fx_scopes.specs.ScopeView.{scope}
 use Rattle.fx_scopes.proofs.scopes.depth.Given as goal
 

@@ -1,6 +1,6 @@
 use Rattle.std.proofs.Common.{◌≡◌, drop}
 use Rattle.fx_data.specs.Types.{column_list}
-use Rattle.fx_names.specs.SourceTypes.{columns_of, put_columns}
+use Rattle.fx_trees.specs.SourceTypes.{columns_of, put_columns}
 use Rattle.fx_scopes.proofs.tables.columns_of.Given as goal
 
 -- the columns that are left, put to those that stand already, are all in order

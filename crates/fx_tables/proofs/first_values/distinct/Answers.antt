@@ -3,7 +3,7 @@ use Rattle.std.specs.List.{All}
 use Rattle.std.proofs.lemmas.List.Elements.{All-push}
 use Rattle.fx_data.specs.Values.{Data}
 use Rattle.fx_data.specs.ValueView.{view}
-use Rattle.fx_order.specs.Keys.{IsProper}
+use Rattle.fx_value.specs.Keys.{IsProper}
 use Rattle.fx_tables.specs.Seen.{HoldsFirsts}
 use Rattle.fx_tables.proofs.DistinctSteps.{goes_with_earlier, scalar_at}
 use Rattle.fx_tables.proofs.SumSteps.{seen_more}

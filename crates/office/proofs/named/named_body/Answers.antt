@@ -1,6 +1,6 @@
 use Rattle.std.proofs.Common.{map, ap, ◌∙◌}
 use Rattle.std.proofs.lemmas.Result.{IfOk-weaker}
-use Rattle.named_values.specs.Valued.{seen}
+use Rattle.recalc.specs.Valued.{seen}
 use Rattle.office.specs.NamedReply.{shown}
 use Rattle.office.proofs.Replies.{named_is}
 use Rattle.office.proofs.named.named_body.Goals as goal

@@ -1,5 +1,5 @@
 use Rattle.std.proofs.Common.{◌≡◌, map}
-use Rattle.named_values.specs.Valued.{seen}
+use Rattle.recalc.specs.Valued.{seen}
 use Rattle.office.specs.NamedReply.{shown}
 use Rattle.office.proofs.named.rows_of.Given as goal
 

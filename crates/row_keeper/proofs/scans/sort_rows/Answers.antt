@@ -4,7 +4,7 @@ use Rattle.std.proofs.lemmas.Fn.{always_returns_same}
 use Rattle.std.proofs.lemmas.List.Sorted.{ranks_by}
 use Rattle.row_queries.specs.Queries.{row_order}
 use Rattle.row_queries.specs.declared.rows.Row.{Row}
-use Rattle.row_keeper.proofs.OrderLemmas.{row_total}
+use Rattle.row_queries.proofs.Asked.{row_total}
 use Rattle.row_keeper.proofs.scans.sort_rows.Goals as goal
 
 pub returns-clause-sorted : goal.returns-clause-sorted

@@ -1,7 +1,7 @@
 use Rattle.std.proofs.Common.{take, map}
 use Rattle.std.specs.List.{AllByRecursion}
 use Rattle.fx_data.specs.ValueView.{view}
-use Rattle.fx_order.specs.Keys.{IsProper}
+use Rattle.fx_value.specs.Keys.{IsProper}
 use Rattle.row_keeper.proofs.table.cells_are_proper.Given as goal
 
 abbrev pub invariant-loop-cell : goal.invariant-loop-cell

@@ -1,6 +1,6 @@
 use Rattle.std.proofs.Common.{◌≡◌, ◌∙◌, ap, sym, subst, Some}
 use Rattle.std.specs.Option.{IfSome}
-use Rattle.fx_order.specs.Order.{IsScalar}
+use Rattle.fx_value.specs.Order.{IsScalar}
 use Rattle.row_queries.specs.TableRows.{value_at}
 use Rattle.row_keeper.specs.Slots.{now_at, now_in_slot}
 use Rattle.row_keeper.proofs.table.entries_at.Goals as goal

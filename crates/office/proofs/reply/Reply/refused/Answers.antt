@@ -1,5 +1,5 @@
 use Rattle.std.proofs.Common.{ap, ◌∙◌}
-use Rattle.refusals.specs.Refusals.{status_of}
+use Rattle.view_text.specs.Refusals.{status_of}
 use Rattle.app_wire.specs.ReplyBytes.{refusal, reply}
 use Rattle.office.proofs.Replies.{plain_body}
 use Rattle.office.proofs.reply.Reply.refused.Goals as goal

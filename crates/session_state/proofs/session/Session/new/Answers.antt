@@ -3,7 +3,7 @@ use Rattle.std.specs.Prelude.{option_map, replicate, false}
 use Rattle.fx_data.specs.Values.{Data, blank, tab, no_rows}
 use Rattle.fx_data.specs.ValueView.{view}
 use Rattle.fx_data.specs.declared.values.Value.{Value}
-use Rattle.fx_names.specs.declared.names.Names.{Names}
+use Rattle.fx_trees.specs.declared.names.Names.{Names}
 use Rattle.session_state.specs.Once.{Kept, nobody}
 use Rattle.session_state.specs.Sessions.{SessionState, opened}
 use Rattle.session_state.proofs.Fitting.{fits_opened}

@@ -1,0 +1,1 @@
+-- The parts of a node that may not act may not act.

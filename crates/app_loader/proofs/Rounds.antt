@@ -1,0 +1,101 @@
+-- Names with their final types are one, but for the place of their table of functions.
+use Rattle.std.proofs.Common.{inl, inr, ◌≡◌, ℕ, zero, suc, ◌+◌, ◌-◌, ◌≤◌, List, map, refl, ap, sym, subst, ◌∙◌, arith}
+use Rattle.std.proofs.lemmas.Bool.{cases_lt}
+use Rattle.std.specs.Borrow.{Bor}
+use Rattle.std.specs.List.{filter}
+use Rattle.app_names.specs.AppNames.{AreNames, as_collection, as_variable, is_collection, is_variable}
+use Rattle.app_names.specs.declared.declarations.Declared.{Declared}
+use Rattle.app_loader.proofs.Functions.{things_alike}
+use Rattle.app_loader.proofs.Judging.{round_alike}
+use Rattle.app_loader.proofs.Known.{same_after}
+use Rattle.fx_trees.specs.declared.signatures.Signature.{Signature}
+use Rattle.fx_typing.specs.Rounds.{AfterRounds, Cell, IsFinal, SameNames, StillChanges, next_types, types_in}
+use Rattle.fx_trees.specs.declared.names.Names.{Names}
+use Rattle.fx_parser.specs.declared.entries.Named.{Named}
+use Rattle.fx_sig.specs.Entries.{entry}
+use Rattle.fx_infer.proofs.Only.{after_one, final_settles}
+
+-- types that a round keeps are kept by all further ones
+kept : (cs : List Cell) (n m : Names) (k d : ℕ) → AfterRounds cs n k m → next_types cs m ≡ types_in m → (j : ℕ) → j ≡ k + d → AfterRounds cs n j m
+kept cs n m k zero a e j q = subst (λ i. AfterRounds cs n i m) (omega (arith, q)) a
+kept cs n m k (suc d) a e zero q = absurd (omega (arith, q))
+kept cs n m k (suc d) a e (suc j) q =
+    let before = kept cs n m k d a e j (omega (arith, q)) in
+    (same_after cs n j m before, m, before, sym e)
+
+final_behind : (cs : List Cell) (n a b : Names) (x : IsFinal cs n a) (y : IsFinal cs n b) → x.0 ≤ y.0 → a ≡ b
+final_behind cs n a b x y l = after_one cs n y.0 a b (kept cs n a x.0 (y.0 - x.0) x.2 x.3 y.0 (omega (arith, l))) y.2
+
+final_one : (cs : List Cell) (n a b : Names) → IsFinal cs n a → IsFinal cs n b → a ≡ b
+final_one cs n a b x y = elim (cases_lt y.0 x.0) [
+  | inl less ↦ sym (final_behind cs n b a y x (omega (arith, less)))
+  | inr more ↦ final_behind cs n a b x y (omega (arith, more))
+]
+
+-- ---- where the table of functions stands
+abbrev pub functions_at : Names → Bor (List Signature) → Names
+functions_at m s = record m { signatures = s }
+
+-- both tables have the same entries
+abbrev pub AreAlike : Bor (List Signature) → Bor (List Signature) → Type 0
+AreAlike s t = map entry s.now ≡ map entry t.now
+
+same_alike : (n : Names) (s : Bor (List Signature)) (m : Names) → SameNames (functions_at n s) m → SameNames n (functions_at m n.signatures)
+same_alike n s m a = record {
+  signatures = refl;
+  schema = a.schema;
+  screens = a.screens;
+  properties = a.properties;
+  controls = a.controls;
+  formulas = a.formulas;
+  variables = a.variables;
+  collections = a.collections;
+}
+
+after_alike : (cs : List Cell) (n : Names) (s : Bor (List Signature)) (k : ℕ) (m : Names) → AreAlike s n.signatures → AfterRounds cs (functions_at n s) k m → AfterRounds cs n k (functions_at m n.signatures)
+after_alike cs n s zero m e a = (same_alike n s m a.0, a.1)
+after_alike cs n s (suc k) m e a =
+    let before = a.1 in
+    let same = same_after cs (functions_at n s) k before a.2 in
+    let functions : AreAlike before.signatures n.signatures = ap (λ (r : Bor (List Signature)). map entry r.now) (sym same.signatures) ∙ e in
+    (same_alike n s m a.0, functions_at before n.signatures, after_alike cs n s k before e a.2, a.3 ∙ round_alike before before.signatures n.signatures functions cs)
+
+final_alike : (cs : List Cell) (n : Names) (s : Bor (List Signature)) (m : Names) → AreAlike s n.signatures → IsFinal cs (functions_at n s) m → IsFinal cs n (functions_at m n.signatures)
+final_alike cs n s m e x =
+    let same = same_after cs (functions_at n s) x.0 m x.2 in
+    let functions : AreAlike m.signatures n.signatures = ap (λ (r : Bor (List Signature)). map entry r.now) (sym same.signatures) ∙ e in
+    (x.0, x.1, after_alike cs n s x.0 m e x.2, sym (round_alike m m.signatures n.signatures functions cs) ∙ x.3)
+
+-- ---- the names of cells
+names_alike : (cells : List Named) (n k : Names) → AreNames cells n → AreNames cells k → k ≡ functions_at n k.signatures
+names_alike cells n k a b =
+    let things = things_alike k.signatures.now n.signatures.now (b.signatures ∙ sym a.signatures) cells in
+    λ i. record {
+      signatures = k.signatures;
+      schema = record { tables = (b.tables ∙ sym a.tables) i };
+      screens = (b.screens ∙ sym a.screens) i;
+      controls = (b.controls ∙ sym a.controls) i;
+      properties = (b.properties ∙ sym a.properties) i;
+      formulas = (b.formulas ∙ sym a.formulas) i;
+      variables = (b.variables ∙ ap (λ (ds : List Declared). map as_variable (filter is_variable ds)) things ∙ sym a.variables) i;
+      collections = (b.collections ∙ ap (λ (ds : List Declared). map as_collection (filter is_collection ds)) things ∙ sym a.collections) i;
+    }
+
+-- final names of the same cells
+pub final_names : (cs : List Cell) (cells : List Named) (n k a b : Names) → AreNames cells n → AreNames cells k → IsFinal cs n a → IsFinal cs k b → (b ≡ functions_at a b.signatures) × AreAlike b.signatures a.signatures
+final_names cs cells n k a b x y f g =
+    let alike : AreAlike k.signatures n.signatures = y.signatures ∙ sym x.signatures in
+    let moved : IsFinal cs (functions_at n k.signatures) b = subst (λ (z : Names). IsFinal cs z b) (names_alike cells n k x y) g in
+    let one : functions_at b n.signatures ≡ a = final_one cs n (functions_at b n.signatures) a (final_alike cs n k.signatures b alike moved) f in
+    let first = same_after cs n f.0 a f.2 in
+    let second = same_after cs k g.0 b g.2 in (
+      ap (λ (z : Names). functions_at z b.signatures) one,
+      ap (λ (r : Bor (List Signature)). map entry r.now) (sym second.signatures) ∙ alike ∙ ap (λ (r : Bor (List Signature)). map entry r.now) first.signatures,
+    )
+
+-- names that settle don't change in each round
+pub settles_alike : (cs : List Cell) (cells : List Named) (n k a : Names) → AreNames cells n → AreNames cells k → IsFinal cs n a → StillChanges cs k → ⊥
+settles_alike cs cells n k a x y f g =
+    let alike : AreAlike n.signatures k.signatures = x.signatures ∙ sym y.signatures in
+    let moved : IsFinal cs (functions_at k n.signatures) a = subst (λ (z : Names). IsFinal cs z a) (names_alike cells k n y x) f in
+    final_settles cs k (functions_at a k.signatures) (final_alike cs k n.signatures a alike moved) g

@@ -1,5 +1,0 @@
-use Rattle.app_verdicts.proofs.OneRefusal.{one_refusal}
-use Rattle.app_verdicts.proofs.one_refusal_of_a_text.Goals as goal
-
-pub returns : goal.returns
-returns c = one_refusal

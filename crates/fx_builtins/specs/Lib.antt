@@ -1,0 +1,10 @@
+pub mod Folding
+pub mod Search
+pub mod Substitution
+pub mod Texts
+pub mod Dates
+pub mod Months
+pub mod DateTexts
+pub mod Folds
+pub mod Formats
+pub mod Numbers

@@ -1,4 +1,0 @@
-pub mod Blanks
-pub mod InTurn
-pub mod Literals
-pub mod Named

@@ -1,0 +1,298 @@
+//! Calls, by the table of functions.
+ghost use Rattle.std.specs.Prelude.{◌≡◌, ◌&&◌, IfOk, List, Result, encode_utf8_all, is_some, map, option_map, ℕ};
+ghost use Rattle.fx_data.specs.Types.{Shape, column_list};
+ghost use Rattle.fx_data.specs.Values.{field_list};
+ghost use Rattle.fx_trees.specs.Signatures.{signature_in};
+ghost use Rattle.fx_typing.specs.Breaks.{large_given};
+ghost use Rattle.fx_typing.specs.Builds as builds;
+ghost use Rattle.fx_typing.specs.Calls as calls;
+ghost use Rattle.fx_typing.specs.Deeds.{by_name};
+ghost use Rattle.fx_typing.specs.Parts as parts;
+ghost use Rattle.fx_trees.specs.Lawful.{IsLawful};
+ghost use Rattle.fx_trees.specs.Rules.{number_of};
+ghost use Rattle.fx_trees.specs.Term.{Term};
+ghost use Rattle.fx_typing.specs.Meaning as meaning;
+ghost use Rattle.fx_typing.specs.Answers.{Answers};
+ghost use Rattle.fx_typing.specs.TypedView.{typed, piece};
+ghost use Rattle.fx_scopes.specs.MeaningView.{place};
+ghost use Rattle.fx_scopes.specs.PartView.{part};
+ghost use Rattle.fx_scopes.specs.SettingView.{setting};
+
+use crate::deeds::{acted, until_settled};
+use crate::fitting::{could_act, gives_variables, mistells};
+use crate::large::large_given;
+use crate::limits::bounded;
+use crate::lists::{table_of, with_of};
+use crate::rows::find_rows;
+use crate::taken::taken_at;
+use crate::values::{named_first, pieces, values};
+use fx_base::Memory;
+use fx_data::types::{Columns, Ty};
+use fx_data::values::{Fields, Value};
+use fx_data::words::Words;
+use fx_operators::local::{formed, made};
+use fx_scopes::{Part, Place, Stand, pick};
+use fx_trees::functions::{Acting, Fun};
+use fx_trees::literals::with_literal;
+use fx_trees::names::Names;
+use fx_trees::rows::{is_within, row_of};
+use fx_trees::signatures::{SigShape, Signature, signature_in};
+use fx_trees::sources::Source;
+use fx_trees::{Rule, make_core};
+use fx_typing::columns::label_of;
+use fx_typing::{Piece, Typed, Wrong};
+use std::alloc::Global;
+
+// The text of a literal, which stands alone behind the other arguments.
+fn literal_in(behind: &[Piece]) -> Option<&Words>
+    ensures { option_map (λ w. w.now) result ≡ calls.literal_in (map piece behind.now) }
+{
+    match behind {
+        [Piece::Value(None, value)] => label_of(&value.core),
+        _ => None,
+    }
+}
+
+// The function that a literal makes of another one.
+fn function_by(fun: Fun, literal: Option<&Words>) -> Option<Fun>
+    ensures { result ≡ calls.function_by fun (option_map (λ w. w.now) literal.entry) }
+{
+    match literal {
+        Some(text) => with_literal(fun, text.as_str()),
+        None => None,
+    }
+}
+
+// A function that a literal may change, which is one argument more than its row has.
+fn made_literal(alloc: Global, fun: Fun, arguments: Vec<Piece>) -> Result<Typed, Wrong>
+    ensures { Answers typed (calls.made_literal fun (map piece arguments.items)) result }
+{
+    let most = row_of(fun).most as usize;
+    if arguments.len() <= most {
+        return made(alloc, fun, arguments);
+    }
+    if arguments.len() != most + 1 {
+        return Err(Wrong::Breaks(Rule::WrongCount));
+    }
+    let Some(chosen) = function_by(fun, literal_in(&arguments[most..])) else {
+        return Err(Wrong::Breaks(Rule::WrongType));
+    };
+    let mut others = arguments;
+    others.truncate(most);
+    made(alloc, chosen, others)
+}
+
+// A blank for each column.
+fn blank_fields(alloc: Global, columns: &Columns) -> Result<Fields, Memory>
+    ensures { IfOk result (λ fs. field_list fs ≡ builds.blank_fields (column_list columns.now)) }
+{
+    let mut fields = Vec::new(alloc);
+    for (name, _) in columns.as_slice() {
+        fields.push((name.copy(alloc)?, Value::Blank))?;
+    }
+    Ok(Fields::from_rising(fields))
+}
+
+// A record of blanks.
+fn blank_record(alloc: Global, columns: Columns) -> Result<Typed, Memory>
+    ensures { IfOk result (λ t. typed t ≡ builds.blank_record (column_list columns)) }
+{
+    let fields = blank_fields(alloc, &columns)?;
+    Ok(Typed {
+        core: make_core::constant(Value::Rec(fields)),
+        ty: Ty::Rec(columns),
+    })
+}
+
+// `Defaults`: rows.
+fn defaults_of(alloc: Global, names: &Names, all: Vec<Part>) -> Result<Typed, Wrong>
+    requires { IsLawful names.now }
+    ensures { Answers typed (by_name (map part all.entry.items) (calls.defaults_of names.now)) result }
+{
+    let (name, _) = named_first(all)?;
+    let rows = find_rows(alloc, names, &name)?;
+    Ok(blank_record(alloc, rows.columns)?)
+}
+
+/// A rule that the place of a node breaks, where the node breaks no lower one.
+pub fn unless(breaks: bool, rule: Rule, made: Result<Typed, Wrong>) -> Result<Typed, Wrong>
+    ensures { (r : Result (Term × Shape) ℕ) → Answers typed r made
+        → Answers typed (parts.unless breaks (number_of rule) r) result }
+{
+    match made {
+        Ok(value) => {
+            if breaks {
+                Err(Wrong::Breaks(rule))
+            } else {
+                Ok(value)
+            }
+        }
+        Err(Wrong::Breaks(other)) => {
+            if breaks && rule.number() < other.number() {
+                Err(Wrong::Breaks(rule))
+            } else {
+                Err(Wrong::Breaks(other))
+            }
+        }
+        Err(Wrong::Memory) => Err(Wrong::Memory),
+    }
+}
+
+// A call of a function, or the lowest rule that its parts break.
+fn made_or_lowest(alloc: Global, fun: Fun, all: Vec<Part>) -> Result<Typed, Wrong>
+    ensures { Answers typed (calls.made_or_lowest fun (map part all.entry.items)) result }
+{
+    let is_taken = taken_at(alloc, fun, all.as_slice())?.is_some();
+    let is_mistold = mistells(alloc, fun, all.as_slice())?;
+    let found = made(alloc, fun, pieces(alloc, all)?);
+    unless(
+        is_taken,
+        Rule::NameTwice,
+        unless(is_mistold, Rule::WrongType, found),
+    )
+}
+
+// An acting call that gives values to variables of its screen alone.
+fn acted_on_screen(
+    alloc: Global,
+    at: &Place,
+    acting: Acting,
+    all: Vec<Part>,
+) -> Result<Typed, Wrong>
+    requires { IsLawful at.now.names.now }
+    ensures { Answers typed (calls.acted_on_screen (place at.now) acting (map part all.entry.items)) result }
+{
+    let known = gives_variables(at.names, at.screen, acting, all.as_slice());
+    let found = acted(alloc, at.names, at.screen, acting, all);
+    let found = until_settled(alloc, at.settled, found);
+    unless(!known, Rule::NotAVariable, found)
+}
+
+// Whether the types are settled, and that of a variable or collection that is given a value passes the
+// limits.
+fn is_large(at: &Place, acting: Acting, all: &[Part]) -> bool
+    requires { IsLawful at.now.names.now }
+    ensures { result ≡ (is_some (large_given at.now.names.now at.now.screen acting (map part all.now)) && at.now.settled) }
+{
+    large_given(at.names, at.screen, acting, all).is_some() && at.settled
+}
+
+// An acting call at its place. While types aren't settled no value is of a wrong type for a variable, and no
+// type passes the limits; but what is no variable is none.
+fn acted_by(alloc: Global, at: &Place, acting: Acting, all: Vec<Part>) -> Result<Typed, Wrong>
+    requires { IsLawful at.now.names.now }
+    ensures { Answers typed (calls.acted_by (place at.now) acting (map part all.entry.items)) result }
+{
+    let large = is_large(at, acting, all.as_slice());
+    let found = acted_on_screen(alloc, at, acting, all);
+    unless(large, Rule::LimitPassed, found)
+}
+
+// An acting call, where it stands, or the lowest rule that it breaks.
+fn acted_or_lowest(
+    alloc: Global,
+    at: &Place,
+    stand: Stand,
+    acting: Acting,
+    all: Vec<Part>,
+) -> Result<Typed, Wrong>
+    requires { IsLawful at.now.names.now }
+    ensures { (ss : List meaning.Scope)
+        → Answers typed (calls.acted_or_lowest (place at.now) (setting ss stand) acting (map part all.entry.items)) result }
+{
+    let fits = could_act(alloc, acting, all.as_slice())?;
+    let found = acted_by(alloc, at, acting, all);
+    let found = unless(!fits, Rule::WrongType, found);
+    unless(!stand.grant.may_act(), Rule::BehaviourInPure, found)
+}
+
+/// A call of a function of this shape, of these parts, where it stands, or the rule that is broken.
+pub fn called_by(
+    alloc: Global,
+    at: &Place,
+    stand: Stand,
+    shape: SigShape,
+    all: Vec<Part>,
+) -> Result<Typed, Wrong>
+    requires { IsLawful at.now.names.now }
+    ensures { (ss : List meaning.Scope)
+        → Answers typed (calls.called_by (place at.now) (setting ss stand) shape (map part all.entry.items)) result }
+{
+    match shape {
+        SigShape::One(fun) => made_or_lowest(alloc, fun, all),
+        SigShape::Either(scalars, rows) => {
+            let fun = pick(scalars, rows, all.as_slice());
+            made(alloc, fun, pieces(alloc, all)?)
+        }
+        SigShape::Literal(fun) => made_literal(alloc, fun, pieces(alloc, all)?),
+        SigShape::Form(form) => formed(alloc, form, pieces(alloc, all)?),
+        SigShape::With => with_of(alloc, values(alloc, all)?),
+        SigShape::Table => table_of(alloc, values(alloc, all)?),
+        SigShape::Today => Ok(Typed {
+            core: make_core::read(Source::Today),
+            ty: Ty::Date,
+        }),
+        SigShape::Defaults => defaults_of(alloc, at.names, all),
+        SigShape::Act(acting) => acted_or_lowest(alloc, at, stand, acting, all),
+    }
+}
+
+// A call of a function of this shape, whose type keeps to the limits.
+fn bounded_by(
+    alloc: Global,
+    at: &Place,
+    stand: Stand,
+    shape: SigShape,
+    all: Vec<Part>,
+) -> Result<Typed, Wrong>
+    requires { IsLawful at.now.names.now }
+    ensures { (ss : List meaning.Scope) → Answers typed (builds.bounded
+        (calls.called_by (place at.now) (setting ss stand) shape (map part all.entry.items))) result }
+{
+    let made = called_by(alloc, at, stand, shape, all)?;
+    bounded(made)
+}
+
+// A call of a function of the table, with as many parts as it takes.
+fn called_with(
+    alloc: Global,
+    at: &Place,
+    stand: Stand,
+    signature: Option<Signature>,
+    all: Vec<Part>,
+) -> Result<Typed, Wrong>
+    requires { IsLawful at.now.names.now }
+    ensures { (ss : List meaning.Scope)
+        → Answers typed (calls.called_with (place at.now) (setting ss stand) signature (map part all.entry.items)) result }
+{
+    let Some(signature) = signature else {
+        return Err(Wrong::Breaks(Rule::NoFunction));
+    };
+    if !is_within(signature.least, signature.most, all.len()) {
+        return Err(Wrong::Breaks(Rule::WrongCount));
+    }
+    bounded_by(alloc, at, stand, signature.shape, all)
+}
+
+// The function of this name.
+fn signature_of(names: &Names, name: &Words) -> Option<Signature>
+    ensures { result ≡ signature_in names.now.signatures.now (encode_utf8_all name.now) }
+{
+    signature_in(names.signatures, name.as_str())
+}
+
+/// A call of the function of this name, of these parts, where it stands, or the rule that is broken.
+pub fn called(
+    alloc: Global,
+    at: &Place,
+    stand: Stand,
+    name: &Words,
+    all: Vec<Part>,
+) -> Result<Typed, Wrong>
+    requires { IsLawful at.now.names.now }
+    ensures { (ss : List meaning.Scope)
+        → Answers typed (calls.called (place at.now) (setting ss stand) name.now (map part all.entry.items)) result }
+{
+    let signature = signature_of(at.names, name);
+    called_with(alloc, at, stand, signature, all)
+}

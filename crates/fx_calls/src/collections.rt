@@ -1,0 +1,79 @@
+//! Rows that are put in collections by name.
+ghost use Rattle.std.specs.Prelude.{◌≡◌, map, if◌then◌else◌};
+ghost use Rattle.fx_trees.specs.declared.deeds.Deed.TheVariants as deed;
+ghost use Rattle.fx_typing.specs.Deeds as deeds;
+ghost use Rattle.fx_trees.specs.Lawful.{IsLawful};
+ghost use Rattle.fx_typing.specs.Answers.{Answers};
+ghost use Rattle.fx_typing.specs.TypedView.{typed};
+ghost use Rattle.fx_scopes.specs.PartView.{part};
+
+use crate::gathering::{collecting, rows_given};
+use crate::given::done_by;
+use crate::lists::cores_of;
+use crate::values::values;
+use fx_data::types::Ty;
+use fx_data::words::Words;
+use fx_scopes::Part;
+use fx_scopes::targets::collection_named;
+use fx_trees::deeds::Deed;
+use fx_trees::names::{Collection, Names};
+use fx_trees::{CoreArgs, Rule};
+use fx_typing::typed::Typed;
+use fx_typing::wrong::Wrong;
+use std::alloc::Global;
+
+// `Collect`, or `ClearCollect`, which clears, to this collection, whose number this is.
+fn collect_to(
+    alloc: Global,
+    clears: bool,
+    number: u32,
+    collection: &Collection,
+    values: Vec<Typed>,
+) -> Result<Typed, Wrong>
+    ensures { Answers typed (deeds.collect_to (if clears then deed.ClearCollect else deed.Collect)
+        (number, collection.now) (map typed values.items)) result }
+{
+    if values.is_empty() {
+        return Err(Wrong::Breaks(Rule::WrongCount));
+    }
+    let rows = rows_given(alloc, &collection.ty, values)?;
+    Ok(done_by(collecting(clears, number), cores_of(alloc, rows)?))
+}
+
+/// `Collect`, or `ClearCollect`, which clears: a collection and values.
+pub fn collect_of(
+    alloc: Global,
+    clears: bool,
+    names: &Names,
+    name: &Words,
+    parts: Vec<Part>,
+) -> Result<Typed, Wrong>
+    requires { IsLawful names.now }
+    ensures { Answers typed (deeds.collect_of (if clears then deed.ClearCollect else deed.Collect)
+        names.now name.now (map part parts.entry.items)) result }
+{
+    let values = values(alloc, parts)?;
+    match collection_named(names, name) {
+        Some((number, collection)) => collect_to(alloc, clears, number, collection, values),
+        None => Err(Wrong::Breaks(Rule::NotAVariable)),
+    }
+}
+
+/// `Clear`: a collection.
+pub fn clear_of(
+    alloc: Global,
+    names: &Names,
+    name: &Words,
+    parts: Vec<Part>,
+) -> Result<Typed, Wrong>
+    requires { IsLawful names.now }
+    ensures { Answers typed (deeds.clear_of names.now name.now (map part parts.entry.items)) result }
+{
+    let Some((number, collection)) = collection_named(names, name) else {
+        return Err(Wrong::Breaks(Rule::NotAVariable));
+    };
+    match &collection.ty {
+        Ty::Tab(_) => Ok(done_by(Deed::Clear(number), CoreArgs::new(alloc))),
+        _ => Err(Wrong::Breaks(Rule::WrongType)),
+    }
+}

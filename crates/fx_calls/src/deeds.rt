@@ -1,0 +1,163 @@
+//! Acting calls.
+ghost use Rattle.std.specs.Prelude.{◌≡◌, Result, false, map, ℕ};
+ghost use Rattle.fx_data.specs.Types.{Shape};
+ghost use Rattle.fx_typing.specs.Deeds as deeds;
+ghost use Rattle.fx_trees.specs.Lawful.{IsLawful};
+ghost use Rattle.fx_trees.specs.Term.{Term};
+ghost use Rattle.fx_typing.specs.Answers.{Answers};
+ghost use Rattle.fx_typing.specs.TypedView.{typed};
+ghost use Rattle.fx_scopes.specs.PartView.{part};
+ghost use Rattle.fx_calls.specs.Acts.{is_by_name, acted_on};
+
+use crate::collections::{clear_of, collect_of};
+use crate::few::one;
+use crate::filtering::{remove_if, update_if};
+use crate::given::{alone, done_by, nothing_done};
+use crate::lists::come_to;
+use crate::rows::{patch_of, remove_of};
+use crate::values::{named_first, values};
+use crate::variables::{set_of, update_of};
+use fx_data::types::Ty;
+use fx_data::words::Words;
+use fx_scopes::Part;
+use fx_scopes::targets::{control_named, screen_named};
+use fx_trees::controls::input_ty;
+use fx_trees::deeds::Deed;
+use fx_trees::functions::Acting;
+use fx_trees::names::Names;
+use fx_trees::{CoreArgs, Rule};
+use fx_typing::typed::Typed;
+use fx_typing::wrong::Wrong;
+use std::alloc::Global;
+
+// `Navigate`: a screen.
+fn navigate_of(alloc: Global, names: &Names, name: &Words, parts: Vec<Part>) -> Result<Typed, Wrong>
+    requires { IsLawful names.now }
+    ensures { Answers typed (deeds.navigate_of names.now name.now (map part parts.entry.items)) result }
+{
+    let Some((number, _)) = screen_named(names, name) else {
+        return Err(Wrong::Breaks(Rule::NotAVariable));
+    };
+    Ok(done_by(Deed::Navigate(number), CoreArgs::new(alloc)))
+}
+
+// `Notify`: a text.
+fn notify_of(alloc: Global, values: Vec<Typed>) -> Result<Typed, Wrong>
+    ensures { Answers typed (deeds.notify_of (map typed values.items)) result }
+{
+    let Some(value) = one(values) else {
+        return Err(Wrong::Breaks(Rule::WrongCount));
+    };
+    let value = come_to(alloc, value, &Ty::Text)?;
+    Ok(done_by(Deed::Notify, alone(alloc, value.core)?))
+}
+
+// `Reset`: a control that takes input.
+fn reset_of(alloc: Global, names: &Names, name: &Words, parts: Vec<Part>) -> Result<Typed, Wrong>
+    requires { IsLawful names.now }
+    ensures { Answers typed (deeds.reset_of names.now name.now (map part parts.entry.items)) result }
+{
+    let Some((number, control)) = control_named(names, name) else {
+        return Err(Wrong::Breaks(Rule::NotAVariable));
+    };
+    if input_ty(control.kind).is_none() {
+        return Err(Wrong::Breaks(Rule::NotAVariable));
+    }
+    Ok(done_by(Deed::Reset(number), CoreArgs::new(alloc)))
+}
+
+// Whether the first part of an acting call is a name alone.
+fn is_by_name(acting: Acting) -> bool
+    ensures { result ≡ is_by_name acting }
+{
+    !matches!(
+        acting,
+        Acting::UpdateContext | Acting::RemoveIf | Acting::UpdateIf | Acting::Notify
+    )
+}
+
+// An acting call of what has this name.
+fn acted_on(
+    alloc: Global,
+    names: &Names,
+    acting: Acting,
+    name: &Words,
+    rest: Vec<Part>,
+) -> Result<Typed, Wrong>
+    requires { IsLawful names.now }
+    ensures { Answers typed (acted_on names.now acting name.now (map part rest.entry.items)) result }
+{
+    match acting {
+        Acting::Set => set_of(alloc, names, name, rest),
+        Acting::Collect => collect_of(alloc, false, names, name, rest),
+        Acting::ClearCollect => collect_of(alloc, true, names, name, rest),
+        Acting::Clear => clear_of(alloc, names, name, rest),
+        Acting::Patch => patch_of(alloc, names, name, rest),
+        Acting::Remove => remove_of(alloc, names, name, rest),
+        Acting::Navigate => navigate_of(alloc, names, name, rest),
+        Acting::Reset => reset_of(alloc, names, name, rest),
+        _ => Err(Wrong::Breaks(Rule::NotAVariable)),
+    }
+}
+
+// An acting call whose first part is no name alone.
+fn acted_plainly(
+    alloc: Global,
+    names: &Names,
+    screen: Option<u32>,
+    acting: Acting,
+    parts: Vec<Part>,
+) -> Result<Typed, Wrong>
+    requires lawful { IsLawful names.now }
+    requires plain { is_by_name acting ≡ false }
+    ensures { Answers typed (deeds.acted names.now screen acting (map part parts.entry.items)) result }
+{
+    match acting {
+        Acting::UpdateContext => update_of(alloc, names, screen, parts),
+        Acting::RemoveIf => remove_if(alloc, names, parts),
+        Acting::UpdateIf => update_if(alloc, names, parts),
+        Acting::Notify => notify_of(alloc, values(alloc, parts)?),
+        _ => unreachable!(),
+    }
+}
+
+/// An acting call on this screen, whose parts are as many as it takes, or the rule that is broken.
+pub fn acted(
+    alloc: Global,
+    names: &Names,
+    screen: Option<u32>,
+    acting: Acting,
+    parts: Vec<Part>,
+) -> Result<Typed, Wrong>
+    requires { IsLawful names.now }
+    ensures { Answers typed (deeds.acted names.now screen acting (map part parts.entry.items)) result }
+{
+    if !is_by_name(acting) {
+        return acted_plainly(alloc, names, screen, acting, parts);
+    }
+    let (name, rest) = named_first(parts)?;
+    acted_on(alloc, names, acting, &name, rest)
+}
+
+/// What an acting call comes to: until the types of variables and collections are settled, one that gives
+/// a value of a wrong type is done, and changes nothing.
+pub fn until_settled(
+    alloc: Global,
+    settled: bool,
+    made: Result<Typed, Wrong>,
+) -> Result<Typed, Wrong>
+    ensures { (r : Result (Term × Shape) ℕ) → Answers typed r made
+        → Answers typed (deeds.until_settled settled r) result }
+{
+    match made {
+        Ok(value) => Ok(value),
+        Err(Wrong::Breaks(rule)) => {
+            if !settled && rule.number() == Rule::VariableTypes.number() {
+                Ok(nothing_done(alloc))
+            } else {
+                Err(Wrong::Breaks(rule))
+            }
+        }
+        Err(Wrong::Memory) => Err(Wrong::Memory),
+    }
+}

@@ -1,2 +1,0 @@
-mod MonthLemmas
-mod TextLemmas

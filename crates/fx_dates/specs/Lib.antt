@@ -1,3 +1,0 @@
-pub mod Dates
-pub mod Months
-pub mod Texts

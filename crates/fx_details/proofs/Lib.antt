@@ -1,5 +1,0 @@
-pub mod Lists
-pub mod Pairs
-pub mod RecordTypes
-pub mod Sought
-pub mod Twice

@@ -1,0 +1,83 @@
+-- One more part, condition or column in its turn.
+use Rattle.std.proofs.Common.{◌≡◌, ℕ, ◌+◌, ◌<◌, suc, List, [], ◌∷◌, length, get_or, drop, map, Bool, true, false, Option, Some, None, refl, sym, ap, subst, ◌∙◌, arith, if◌then◌else◌}
+use Rattle.std.specs.Prelude.{unwrap_or}
+use Rattle.std.specs.List.{find}
+use Rattle.std.proofs.lemmas.List.{length-map}
+use Rattle.fx_data.specs.Values.{Data, boolean, text, row_list, field_list}
+use Rattle.fx_data.specs.ValueView.{view}
+use Rattle.fx_data.specs.declared.values.Value.{Value}
+use Rattle.fx_data.specs.declared.values.Value.TheVariants.{Boolean}
+use Rattle.fx_semantics.specs.Rows.{fields_of, rows_of}
+use Rattle.fx_tables.proofs.FirstErrors.{found_passes}
+use Rattle.fx_tables.specs.RowCalls.{holds}
+use Rattle.fx_eval.specs.Given.{Given, once, each, IsName, given}
+use Rattle.fx_eval.specs.TableCalls.{AreFor, AreFormulas, AreNames, value_found, verdicts_behind, with_condition}
+use Rattle.fx_eval.specs.declared.answers.Answers.{Answers}
+use Rattle.fx_tables.specs.Columns.{Row}
+use Rattle.fx_tables.specs.Unions.{fault_or, is_fault}
+use Rattle.fx_value.proofs.JoinSteps.{left}
+
+-- ---- the rows of a table
+fields_back : (fs : Row) → fields_of (field_list fs) ≡ fs
+fields_back [] = refl
+fields_back (f ∷ fs) = ap (λ z. f ∷ z) (fields_back fs)
+
+pub rows_back : (rs : List Row) → rs ≡ rows_of (row_list rs)
+rows_back [] = refl
+rows_back (r ∷ rs) = λ i. sym (fields_back r) i ∷ rows_back rs i
+
+-- ---- names
+pub first_name : (g : Given) (gs : List Given) → AreNames (g ∷ gs) → IsName (Some g) × AreNames gs
+first_name (once (text n)) gs h = (tt, h)
+first_name (once d) gs h = absurd h
+first_name (each ds) gs h = absurd h
+
+some_is : (g h : Given) → Some g ≡ Some h → g ≡ h
+some_is g h e = cc
+
+-- ---- conditions
+pub truths_seen : (rows : List Row) → map view (map (λ (r : Row). Boolean true) rows) ≡ map (λ (r : Row). boolean true) rows
+truths_seen [] = refl
+truths_seen (r ∷ rows) = ap (λ ds. boolean true ∷ ds) (truths_seen rows)
+
+pub condition_many : (vs cs : List Data) → length cs ≡ length vs → length (with_condition vs cs) ≡ length vs
+condition_many [] [] e = refl
+condition_many (v ∷ vs) (c ∷ cs) e = let q : length cs ≡ length vs = omega arith in ap suc (condition_many vs cs q)
+condition_many [] (c ∷ cs) e = absurd cc
+condition_many (v ∷ vs) [] e = absurd cc
+
+pub next_formula : (n : ℕ) (left rest : List Answers) (x : Answers) → left ≡ x ∷ rest → AreFormulas n (map given left) → AreFormulas n (given x ∷ map given rest)
+next_formula n left rest x e h = let P : List Answers → Type 0 = λ zs. AreFormulas n (map given zs) in subst P e h
+
+pub for_many : (n : ℕ) (g : Given) (vs : List Value) → Some g ≡ Some (each (map view vs)) → AreFor n g → length vs ≡ n
+for_many n g vs e h =
+    let P : Given → Type 0 = λ z. AreFor n z in
+    sym (length-map vs view) ∙ subst P (some_is g (each (map view vs)) e) h
+
+pub verdict_step : (all vs : List Data) (left rest : List Answers) (x : Answers) (ds ws : List Data) → left ≡ x ∷ rest → Some (given x) ≡ Some (each ds) → ws ≡ with_condition vs ds →
+    verdicts_behind vs (map given left) ≡ all → verdicts_behind ws (map given rest) ≡ all
+verdict_step all vs left rest x ds ws e g m h =
+    let P : List Answers → Type 0 = λ zs. verdicts_behind vs (map given zs) ≡ all in
+    let Q : Given → Type 0 = λ z. verdicts_behind vs (z ∷ map given rest) ≡ all in
+    let R : List Data → Type 0 = λ z. verdicts_behind z (map given rest) ≡ all in
+    subst R (sym m) (subst Q (some_is (given x) (each ds) g) (subst P e h))
+
+-- ---- what is found
+found_from : (conditions : List Value) (i : ℕ) (c : Value) (vs rest : List Value) (v : Value) → i < length conditions → c ≡ get_or conditions i c → vs ≡ v ∷ rest →
+    value_found (map view (drop i conditions)) (map view vs) ≡ (if holds (view c) then view v else value_found (map view (drop (i + 1) conditions)) (map view rest))
+found_from conditions i c vs rest v l e q =
+    let P : List Value → Type 0 = λ zs. value_found (map view (drop i conditions)) (map view zs) ≡ (if holds (view c) then view v else value_found (map view (drop (i + 1) conditions)) (map view rest)) in
+    let Q : List Value → Type 0 = λ zs. value_found (map view zs) (view v ∷ map view rest) ≡ (if holds (view c) then view v else value_found (map view (drop (i + 1) conditions)) (map view rest)) in
+    subst P (sym q) (subst Q (sym (left conditions i c l e)) refl)
+
+pub found_here : (conditions : List Value) (i : ℕ) (c : Value) (vs rest : List Value) (v : Value) (all : Data) → i < length conditions → c ≡ get_or conditions i c → vs ≡ v ∷ rest → holds (view c) ≡ true →
+    value_found (map view (drop i conditions)) (map view vs) ≡ all → view v ≡ all
+found_here conditions i c vs rest v all l e q t h =
+    sym (found_from conditions i c vs rest v l e q ∙ ap (λ b. if b then view v else value_found (map view (drop (i + 1) conditions)) (map view rest)) t) ∙ h
+
+pub no_error_found : (ds : List Data) (b : Bool) (v d : Data) → v ≡ fault_or ds (boolean b) → is_fault v ≡ false → d ≡ fault_or ds d
+no_error_found ds b v d e f = by (find is_fault ds) (λ w q. found_passes ds w q) e
+  where
+    by : (o : Option Data) → ((w : Data) → o ≡ Some w → is_fault w ≡ true) → v ≡ unwrap_or o (boolean b) → d ≡ unwrap_or o d
+    by None p q = refl
+    by (Some w) p q = let k : is_fault v ≡ true = ap is_fault q ∙ p w refl in absurd cc

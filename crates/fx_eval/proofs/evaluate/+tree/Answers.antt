@@ -1,0 +1,372 @@
+use Rattle.std.proofs.lemmas.List.{length-append}
+use Rattle.std.proofs.lemmas.Result.{IfOk-weaker}
+use Rattle.std.specs.Prelude.{if◌then◌else◌}
+use Rattle.std.proofs.Common.{◌≡◌, ◌∷◌, [], None, true, length, ap, sym, subst, ◌∙◌, refl, arith}
+use Rattle.fx_data.specs.ValueView.{view}
+use Rattle.fx_eval.proofs.CallPlaces.{call_fine}
+use Rattle.fx_eval.proofs.Forms.{ThenSet}
+use Rattle.fx_eval.proofs.Nodes.{apply_is, called_is, coerce_is, fields_rise, fields_there, list_fine, list_is, only_is, over_is, record_is, row_is, there}
+use Rattle.fx_eval.proofs.Passing.{as_before, heard_before, held_before, meant_before, went_on}
+use Rattle.fx_eval.proofs.Ready.{formula_ready, ready_fits}
+use Rattle.fx_eval.proofs.Rows.{asked_there, each_step, given_step, inside_at, make_there, over_there, part_asked, table_can}
+use Rattle.fx_eval.proofs.Sizes.{field_is_smaller, fields_fall, one_falls, part_is_smaller, parts_fall, rest_falls, table_falls}
+use Rattle.fx_eval.proofs.Standings.{all_ready, any_ready, coalesce_ready, fields_ready, if_ready, recover_ready, switch_ready}
+use Rattle.fx_eval.proofs.EvalSteps.{beyond_then, branch_then, end_step, fallback_then, next_falls, next_step, some_there, then_step, turn_step}
+use Rattle.fx_eval.proofs.Values.{field_fine, filled_step, part_fine, values_step}
+use Rattle.fx_eval.specs.Courses.{answers, catches, chooses, goes, going, passes}
+use Rattle.fx_eval.specs.Parts.{AreBranches, AreConditions, AreFine, AreRecoveries, IsSwitched, caught_in, inner, terms_of}
+use Rattle.fx_eval.specs.Scopes.{CanEvaluate, around}
+use Rattle.fx_semantics.specs.Around.{record_of}
+use Rattle.fx_semantics.specs.Fresh.{IsValue, meaning}
+use Rattle.fx_trees.specs.Term.{of, all, call}
+use Rattle.fx_trees.specs.TermView.{branch}
+use Rattle.fx_typing.specs.WellTyped.{inside, plain}
+use Rattle.fx_eval.specs.Given.{IsGiven, given}
+use Rattle.fx_value.specs.Fits.{fits_in}
+use Rattle.fx_eval.proofs.evaluate.+tree.Goals as goal
+
+pub tree-returns-clause-fits : goal.tree-returns-clause-fits
+tree-returns-clause-fits g t c = λ u r.
+    IfOk-weaker c.node.result _ (λ v. fits_in (view v) u ≡ true)
+    (λ v k. ready_fits c.values_fit.ensures (g.E.Env.fixed c.args.env.now).types None c.args.scope.now c.args.core.now u r (view v) (k None tt))
+    c.node.ensures.value
+
+-- ---- nodes
+
+pub node-row-requires : goal.node-row-requires
+node-row-requires g t c = row_is _ _ c.in-Row.place _ (sym (ap branch c.in-Row.is) ∙ c.core.view_is) c.requires
+
+pub node-tree-requires : goal.node-tree-requires
+node-tree-requires g t c κs within =
+    let e = sym (ap branch c.in-Dot.is) ∙ c.core.view_is in
+    (let h = one_falls _ _ _ _ e c.deref.ensures in omega (arith, h), (within.0, (within.1, only_is _ _ _ _ _ _ refl e c.deref.ensures c.requires)))
+
+pub node-tree-requires-in-Coerce : goal.node-tree-requires-in-Coerce
+node-tree-requires-in-Coerce g t c κs within =
+    let e = sym (ap branch c.in-Coerce.is) ∙ c.core.view_is in
+    (let h = one_falls _ _ _ _ e c.deref-in-Coerce.ensures in omega (arith, h), (within.0, (within.1, only_is _ _ _ _ _ _ refl e c.deref-in-Coerce.ensures c.requires)))
+
+pub node-coerce-requires : goal.node-coerce-requires
+node-coerce-requires g t c =
+    coerce_is _ _ _ _ _ _ _ (sym (ap branch c.in-Coerce.is) ∙ c.core.view_is) c.deref-in-Coerce.ensures c.requires c.in_ok-value-in-Coerce.ensures.fits
+
+pub node-go_through-requires : goal.node-go_through-requires
+node-go_through-requires g t c κs within =
+    let e = sym (ap branch c.in-All.is) ∙ c.core.view_is in (
+      let h = parts_fall _ _ _ _ e c.as_slice.ensures in omega (arith, h),
+      (within.0, (within.1, there (AreConditions _ _) _ _ _ _ _ _ (all_ready _ _ _) e c.as_slice.ensures c.requires)),
+    )
+
+pub node-go_through-requires-in-Any : goal.node-go_through-requires-in-Any
+node-go_through-requires-in-Any g t c κs within =
+    let e = sym (ap branch c.in-Any.is) ∙ c.core.view_is in (
+      let h = parts_fall _ _ _ _ e c.as_slice-in-Any.ensures in omega (arith, h),
+      (within.0, (within.1, there (AreConditions _ _) _ _ _ _ _ _ (any_ready _ _ _) e c.as_slice-in-Any.ensures c.requires)),
+    )
+
+pub node-go_through-requires-in-If : goal.node-go_through-requires-in-If
+node-go_through-requires-in-If g t c κs within =
+    let e = sym (ap branch c.in-If.is) ∙ c.core.view_is in (
+      let h = parts_fall _ _ _ _ e c.as_slice-in-If.ensures in omega (arith, h),
+      (within.0, (within.1, there (AreBranches _ _) _ _ _ _ _ _ (if_ready _ _ _) e c.as_slice-in-If.ensures c.requires)),
+    )
+
+pub node-go_through-requires-in-Switch : goal.node-go_through-requires-in-Switch
+node-go_through-requires-in-Switch g t c κs within =
+    let e = sym (ap branch c.in-Switch.is) ∙ c.core.view_is in (
+      let h = parts_fall _ _ _ _ e c.as_slice-in-Switch.ensures in omega (arith, h),
+      (within.0, (within.1, there (IsSwitched _ _) _ _ _ _ _ _ (switch_ready _ _ _) e c.as_slice-in-Switch.ensures c.requires)),
+    )
+
+pub node-go_through-requires-in-IfError : goal.node-go_through-requires-in-IfError
+node-go_through-requires-in-IfError g t c κs within =
+    let e = sym (ap branch c.in-IfError.is) ∙ c.core.view_is in (
+      let h = parts_fall _ _ _ _ e c.as_slice-in-IfError.ensures in omega (arith, h),
+      (within.0, (within.1, there (AreRecoveries _ _) _ _ _ _ _ _ (recover_ready _ _ _) e c.as_slice-in-IfError.ensures c.requires)),
+    )
+
+pub node-go_through-requires-in-Coalesce : goal.node-go_through-requires-in-Coalesce
+node-go_through-requires-in-Coalesce g t c κs within =
+    let e = ap (λ f. of (call f) (all c.in-Call.parts)) (sym c.in-Coalesce.is) ∙ sym (ap branch c.in-Call.is) ∙ c.core.view_is in (
+      let h = parts_fall _ _ _ _ e c.as_slice-in-Coalesce.ensures in omega (arith, h),
+      (within.0, (within.1, there (AreFine _ _) _ _ _ _ _ _ (coalesce_ready _ _ _) e c.as_slice-in-Coalesce.ensures c.requires)),
+    )
+
+pub node-part_values-requires : goal.node-part_values-requires
+node-part_values-requires g t c κs within =
+    let e = sym (ap branch c.in-Call.is) ∙ c.core.view_is in (
+      let h = parts_fall _ _ _ _ e c.as_slice-in_default.ensures in omega (arith, h),
+      (within.0, (within.1, there (AreFine _ _) _ _ _ _ _ _ (call_fine _ _ _ _) e c.as_slice-in_default.ensures c.requires)),
+    )
+
+pub node-apply-requires : goal.node-apply-requires
+node-apply-requires g t c =
+    apply_is c.values_fit.ensures c.fitting_can_apply.ensures _ None _ _ _ _ _ _ _ (sym (ap branch c.in-Call.is) ∙ c.core.view_is) c.as_slice-in_default.ensures c.requires
+    (c.in_ok-values-in_default.ensures.value None tt) c.as_slice-in_default-2.ensures.value
+
+pub node-returns-in_ok-apply-in_default : goal.node-returns-in_ok-apply-in_default
+node-returns-in_ok-apply-in_default g t c = record {
+  went = c.part_values.ensures.went;
+  keeper = λ e. absurd cc;
+  value = λ told h. called_is _ _ _ _ _ _ _ _ c.in_default.not-Coalesce (sym (ap branch c.in-Call.is) ∙ c.core.view_is) c.as_slice-in_default.ensures
+      (c.in_ok-values-in_default.ensures.value told h) c.as_slice-in_default-2.ensures.value c.in_ok-apply-in_default.ensures.answer;
+}
+
+pub node-field_values-requires : goal.node-field_values-requires
+node-field_values-requires g t c κs within =
+    let e = sym (ap branch c.in-Rec.is) ∙ c.core.view_is in (
+      let h = fields_fall _ _ _ _ e c.as_slice-in-Rec.ensures in omega (arith, h),
+      (within.0, (within.1, fields_there (λ fs. AreFine (g.E.Env.fixed c.args.env.now).types c.args.scope.now (terms_of fs)) _ _ _ _ _ (fields_ready _ _ _) e c.as_slice-in-Rec.ensures c.requires)),
+    )
+
+pub node-from_rising-requires : goal.node-from_rising-requires
+node-from_rising-requires g t c =
+    fields_rise _ _ _ _ _ _ _ (sym (ap branch c.in-Rec.is) ∙ c.core.view_is) c.as_slice-in-Rec.ensures c.requires (c.in_ok-items-in-Rec.ensures.value None tt)
+
+pub node-returns-in_ok-items-in-Rec-clause-value : goal.node-returns-in_ok-items-in-Rec-clause-value
+node-returns-in_ok-items-in-Rec-clause-value g t c = λ told h.
+    record_is _ _ _ _ _ _ (sym (ap branch c.in-Rec.is) ∙ c.core.view_is) c.as_slice-in-Rec.ensures (c.in_ok-items-in-Rec.ensures.value told h) c.from_rising.ensures
+
+pub node-call_over-requires : goal.node-call_over-requires
+node-call_over-requires g t c κs within =
+    let e = sym (ap branch c.in-Over.is) ∙ c.core.view_is in (
+      let h = table_falls _ _ _ _ _ _ e c.deref-in-Over.ensures c.as_slice-in-Over.ensures in omega (arith, h),
+      (within.0, (within.1, over_is _ _ _ _ _ _ _ _ e c.deref-in-Over.ensures c.as_slice-in-Over.ensures c.requires)),
+    )
+
+pub node-part_values-requires-in-List : goal.node-part_values-requires-in-List
+node-part_values-requires-in-List g t c κs within =
+    let e = sym (ap branch c.in-List.is) ∙ c.core.view_is in (
+      let h = parts_fall _ _ _ _ e c.as_slice-in-List.ensures in omega (arith, h),
+      (within.0, (within.1, there (AreFine _ _) _ _ _ _ _ _ (list_fine _ _ _ _) e c.as_slice-in-List.ensures c.requires)),
+    )
+
+pub node-listed-requires : goal.node-listed-requires
+node-listed-requires g t c =
+    list_is c.values_fit.ensures _ None _ _ _ _ _ _ (sym (ap branch c.in-List.is) ∙ c.core.view_is) c.as_slice-in-List.ensures c.requires (c.in_ok-values-in-List.ensures.value None tt)
+
+-- ---- With
+
+pub within-in_scope-requires : goal.within-in_scope-requires
+within-in_scope-requires g t c κs within = (
+  omega arith,
+  (
+    within.0,
+    (
+      within.1,
+      as_before (λ types s. CanEvaluate types (inner s (view c.in-Ok.row)) c.args.formula.now) _ _ c.tree.ensures.went
+          (subst (λ d. CanEvaluate (g.E.Env.fixed c.args.env.now).types (inner c.args.scope.now d) c.args.formula.now) (sym c.in-Ok.ensures.0) (formula_ready _ _ c.args.part.now c.args.formula.now c.requires _ c.in_ok-value.ensures.fits)),
+    ),
+  ),
+)
+
+-- ---- fields, and parts one after another
+
+pub field_values-tree-requires : goal.field_values-tree-requires
+field_values-tree-requires g t c κs within = (
+  let h = field_is_smaller c.args.fields.now c.loop-name.name-index c.loop-name-item.result c.loop-name-test.true c.loop-name-item.is in omega (arith, h),
+  (
+    within.0,
+    (
+      within.1,
+      field_fine _ _ c.args.fields.now c.loop-name.name-index c.loop-name-item.result (as_before (λ types s. AreFine types s (terms_of c.args.fields.now)) _ _ c.loop-name.invariant.went c.requires)
+          c.loop-name-test.true c.loop-name-item.is,
+    ),
+  ),
+)
+
+pub field_values-loop-name-preserved : goal.field_values-loop-name-preserved
+field_values-loop-name-preserved g t c = record {
+  went = went_on _ _ _ c.loop-name.invariant.went c.tree.ensures.went;
+  values = λ told h. filled_step _ c.args.fields.now c.loop-name.name-index c.loop-name-item.result _ _ _ _ c.loop-name-test.true c.loop-name-item.is
+      (c.loop-name.invariant.values told (heard_before _ _ c.tree.ensures.went told h))
+      c.in_ok-push.ensures.items c.in_ok-copy.ensures (meant_before told (meaning c.loop-name-item.result.1) (λ s. s) _ _ c.loop-name.invariant.went _ (c.in_ok-value.ensures.value told h));
+}
+
+pub part_values-tree-requires : goal.part_values-tree-requires
+part_values-tree-requires g t c κs within = (
+  let h = part_is_smaller c.args.parts.now c.loop-part.part-index c.part-item.result c.loop-part-test.true c.part-item.is in omega (arith, h),
+  (
+    within.0,
+    (
+      within.1,
+      part_fine _ _ c.args.parts.now c.loop-part.part-index c.part-item.result (as_before (λ types s. AreFine types s c.args.parts.now) _ _ c.loop-part.invariant.went c.requires)
+          c.loop-part-test.true c.part-item.is,
+    ),
+  ),
+)
+
+pub part_values-loop-part-preserved : goal.part_values-loop-part-preserved
+part_values-loop-part-preserved g t c = record {
+  went = went_on _ _ _ c.loop-part.invariant.went c.tree.ensures.went;
+  values = λ told h. values_step _ c.args.parts.now c.loop-part.part-index c.part-item.result _ _ _ c.loop-part-test.true c.part-item.is
+      (c.loop-part.invariant.values told (heard_before _ _ c.tree.ensures.went told h))
+      c.in_ok-push.ensures.items (meant_before told (meaning c.part-item.result) (λ s. s) _ _ c.loop-part.invariant.went _ (c.in_ok-value.ensures.value told h));
+}
+
+-- ---- forms
+
+pub go_through-returns-then-ends_here-clause-value : goal.go_through-returns-then-ends_here-clause-value
+go_through-returns-then-ends_here-clause-value g t c =
+    let l = c.ends_here.ensures.last c.if-ends_here.true in
+    IfOk-weaker c.tree.result _ _
+    (λ v k told h. end_step told _ _ (going c.args.course) _ c.args.parts.now _ c.in-Some.part.now c.in-Some.others.now c.loop-part.invariant.went
+    (c.loop-part.invariant.value told (heard_before _ _ c.tree.ensures.went told h)) c.in-Some.ensures.cases.0 l.0 l.1 (view v) (k told h))
+    c.tree.ensures.value
+
+pub go_through-turn-requires : goal.go_through-turn-requires
+go_through-turn-requires g t c =
+    turn_step _ _ _ _ c.in-Some.part.now c.in-Some.others.now _ c.loop-part.invariant.went c.loop-part.invariant.parts c.in-Some.ensures.cases.0
+    (c.ends_here.ensures.next c.if-ends_here.false) c.in_ok-value.ensures.fits
+
+pub go_through-returns-in-Answer-clause-value : goal.go_through-returns-in-Answer-clause-value
+go_through-returns-in-Answer-clause-value g t c = λ told h.
+    then_step told _ _ (going c.args.course) _ c.args.parts.now _ c.in-Some.part.now c.in-Some.others.now _ (answers (view c.in-Answer.value)) c.loop-part.invariant.went (c.loop-part.invariant.value told (heard_before _ _ c.tree-in-Some.ensures.went told h)) c.in-Some.ensures.cases.0
+    (c.ends_here.ensures.next c.if-ends_here.false) (c.in_ok-value.ensures.value told h) c.in-Answer.ensures (view c.in-Answer.value) refl
+
+pub go_through-returns-in-Branch-clause-value : goal.go_through-returns-in-Branch-clause-value
+go_through-returns-in-Branch-clause-value g t c =
+    IfOk-weaker c.tree-in-Branch.result _ _
+    (λ v k told h. then_step told _ _ (going c.args.course) _ c.args.parts.now _ c.in-Some.part.now c.in-Some.others.now _ chooses c.loop-part.invariant.went
+    (c.loop-part.invariant.value told (heard_before _ _ c.tree-in-Some.ensures.went told (heard_before _ _ c.tree-in-Branch.ensures.went told h))) c.in-Some.ensures.cases.0
+    (c.ends_here.ensures.next c.if-ends_here.false) (c.in_ok-value.ensures.value told (heard_before _ _ c.tree-in-Branch.ensures.went told h)) c.in-Branch.ensures (view v)
+    (branch_then _ _ _ _ _ c.split.ensures (meant_before told (meaning c.split.result.0.now) (λ s. s) _ _ (went_on _ _ _ c.loop-part.invariant.went c.tree-in-Some.ensures.went) _ (k told h))))
+    c.tree-in-Branch.ensures.value
+
+pub go_through-catching-requires : goal.go_through-catching-requires
+go_through-catching-requires g t c κs within =
+    let k = c.in-Fallback.fault.kind in
+    let cs = c.in-Fallback.fault.message in
+    let ready = next_step _ _ _ _ c.in-Some.part.now c.in-Some.others.now _ (catches k cs) c.loop-part.invariant.went c.loop-part.invariant.parts c.in-Some.ensures.cases.0
+    (c.ends_here.ensures.next c.if-ends_here.false) c.in_ok-value.ensures.fits c.in-Fallback.ensures in (
+      let h = next_falls _ _ _ _ _ c.in-Some.ensures.cases.0 c.split-in-Fallback.ensures in let small = c.loop-part.invariant.small in omega (arith, h, small),
+      (
+        within.0,
+        (
+          within.1,
+          as_before (λ types s. CanEvaluate types (caught_in s k cs) c.split-in-Fallback.result.0.now) _ _ (went_on _ _ _ c.loop-part.invariant.went c.tree-in-Some.ensures.went)
+              (subst (ThenSet (g.E.Env.fixed c.args.env.now).types c.args.scope.now (catches k cs)) c.split-in-Fallback.ensures ready),
+        ),
+      ),
+    )
+
+pub go_through-returns-in-Fallback-clause-value : goal.go_through-returns-in-Fallback-clause-value
+go_through-returns-in-Fallback-clause-value g t c =
+    let k = c.in-Fallback.fault.kind in
+    let cs = c.in-Fallback.fault.message in
+    IfOk-weaker c.catching.result _ _
+    (λ v q told h. then_step told _ _ (going c.args.course) _ c.args.parts.now _ c.in-Some.part.now c.in-Some.others.now _ (catches k cs) c.loop-part.invariant.went
+    (c.loop-part.invariant.value told (heard_before _ _ c.tree-in-Some.ensures.went told (heard_before _ _ c.catching.ensures.went told h))) c.in-Some.ensures.cases.0
+    (c.ends_here.ensures.next c.if-ends_here.false) (c.in_ok-value.ensures.value told (heard_before _ _ c.catching.ensures.went told h)) c.in-Fallback.ensures (view v)
+    (fallback_then _ _ _ _ _ _ _ c.split-in-Fallback.ensures
+    (meant_before told (meaning c.split-in-Fallback.result.0.now) (λ s. caught_in s k cs) _ _ (went_on _ _ _ c.loop-part.invariant.went c.tree-in-Some.ensures.went) _ (q told h))))
+    c.catching.ensures.value
+
+pub go_through-loop-part-preserved-in-Further : goal.go_through-loop-part-preserved-in-Further
+go_through-loop-part-preserved-in-Further g t c = record {
+  went = went_on _ _ _ c.loop-part.invariant.went c.tree-in-Some.ensures.went;
+  parts = next_step _ _ _ _ c.in-Some.part.now c.in-Some.others.now _ (goes (going c.in-Further.next)) c.loop-part.invariant.went c.loop-part.invariant.parts c.in-Some.ensures.cases.0
+      (c.ends_here.ensures.next c.if-ends_here.false) c.in_ok-value.ensures.fits c.in-Further.ensures;
+  value = λ told h. then_step told _ _ (going c.args.course) _ c.args.parts.now _ c.in-Some.part.now c.in-Some.others.now _ (goes (going c.in-Further.next)) c.loop-part.invariant.went
+      (c.loop-part.invariant.value told (heard_before _ _ c.tree-in-Some.ensures.went told h)) c.in-Some.ensures.cases.0
+      (c.ends_here.ensures.next c.if-ends_here.false) (c.in_ok-value.ensures.value told h) c.in-Further.ensures;
+  small = let small = c.loop-part.invariant.small in let h = rest_falls _ _ _ c.in-Some.ensures.cases.0 in omega (arith, h, small);
+}
+
+pub go_through-split-requires-in-Beyond : goal.go_through-split-requires-in-Beyond
+go_through-split-requires-in-Beyond g t c =
+    some_there _ _ (passes (going c.in-Beyond.next)) _ tt
+    (next_step _ _ _ _ c.in-Some.part.now c.in-Some.others.now _ (passes (going c.in-Beyond.next)) c.loop-part.invariant.went c.loop-part.invariant.parts c.in-Some.ensures.cases.0
+    (c.ends_here.ensures.next c.if-ends_here.false) c.in_ok-value.ensures.fits c.in-Beyond.ensures)
+
+pub go_through-loop-part-preserved : goal.go_through-loop-part-preserved
+go_through-loop-part-preserved g t c =
+    let ready = next_step _ _ _ _ c.in-Some.part.now c.in-Some.others.now _ (passes (going c.in-Beyond.next)) c.loop-part.invariant.went c.loop-part.invariant.parts c.in-Some.ensures.cases.0
+    (c.ends_here.ensures.next c.if-ends_here.false) c.in_ok-value.ensures.fits c.in-Beyond.ensures in
+    record {
+      went = went_on _ _ _ c.loop-part.invariant.went c.tree-in-Some.ensures.went;
+      parts = subst (ThenSet (g.E.Env.fixed c.args.env.now).types c.args.scope.now (passes (going c.in-Beyond.next))) c.split-in-Beyond.ensures ready;
+      value = λ told h v k. then_step told _ _ (going c.args.course) _ c.args.parts.now _ c.in-Some.part.now c.in-Some.others.now _ (passes (going c.in-Beyond.next)) c.loop-part.invariant.went
+          (c.loop-part.invariant.value told (heard_before _ _ c.tree-in-Some.ensures.went told h)) c.in-Some.ensures.cases.0
+          (c.ends_here.ensures.next c.if-ends_here.false) (c.in_ok-value.ensures.value told h) c.in-Beyond.ensures v (beyond_then _ _ _ _ _ _ c.split-in-Beyond.ensures k);
+      small = let small = c.loop-part.invariant.small in let h = rest_falls _ _ _ c.in-Some.ensures.cases.0 in let k = rest_falls _ _ _ c.split-in-Beyond.ensures in omega (arith, h, k, small);
+    }
+
+-- ---- calls over tables
+
+pub call_over-tree-requires : goal.call_over-tree-requires
+call_over-tree-requires g t c κs within = (omega arith, (within.0, (within.1, table_can _ _ _ _ c.args.parts.now c.requires)))
+
+pub call_over-part_answers-requires : goal.call_over-part_answers-requires
+call_over-part_answers-requires g t c κs within = (
+  omega arith,
+  (
+    within.0,
+    (
+      within.1,
+      asked_there _ _ _ c.args.table.now c.args.parts.now (view c.in_ok-value.value) c.in-Ok.rows _ c.tree.ensures.went c.requires c.in_ok-value.ensures.fits c.in-Ok.ensures.0 c.as_slice.ensures,
+    ),
+  ),
+)
+
+pub call_over-over-requires : goal.call_over-over-requires
+call_over-over-requires g t c =
+    make_there None _ _ _ c.args.table.now c.args.parts.now _ (view c.in_ok-value.value) c.in-Ok.rows _ _ c.tree.ensures.went c.requires (c.in_ok-value.ensures.value None tt) c.in-Ok.ensures.0 c.as_slice.ensures
+    (c.in_ok-answers-in-Ok.ensures.value None tt)
+
+pub call_over-returns-in_ok-over-in-Ok-clause-value : goal.call_over-returns-in_ok-over-in-Ok-clause-value
+call_over-returns-in_ok-over-in-Ok-clause-value g t c = λ told h.
+    over_there told _ _ _ c.args.table.now c.args.parts.now _ (view c.in_ok-value.value) c.in-Ok.rows _ _ _ c.tree.ensures.went c.requires
+    (c.in_ok-value.ensures.value told (heard_before _ _ c.part_answers.ensures.went told h)) c.in-Ok.ensures.0 c.in-Ok.ensures.1
+    c.as_slice.ensures (c.in_ok-answers-in-Ok.ensures.value told h) c.in_ok-over-in-Ok.ensures
+
+pub part_answers-answer-requires : goal.part_answers-answer-requires
+part_answers-answer-requires g t c κs within = (
+  let h = part_is_smaller c.args.parts.now c.loop-part.part-index c.part-item.result c.loop-part-test.true c.part-item.is in omega (arith, h),
+  (
+    within.0,
+    (
+      within.1,
+      part_asked _ _ _ _ _ c.args.parts.now c.loop-part.part-index c.part-item.result _ c.is_formula-in_rows.result c.loop-part.invariant.went c.requires c.loop-part-test.true c.part-item.is
+          (let k = c.loop-part.invariant.count in let l = c.len.ensures in omega (arith, k, l)) c.is_formula-in_rows.ensures,
+    ),
+  ),
+)
+
+pub part_answers-loop-part-preserved : goal.part_answers-loop-part-preserved
+part_answers-loop-part-preserved g t c =
+    let k = c.loop-part.invariant.count in
+    let l = c.len.ensures in
+    record {
+      went = went_on _ _ _ c.loop-part.invariant.went c.answer.ensures.went;
+      count = let e = ap length c.in_ok-push.ensures.items in let f = length-append c.loop-part.answers.items (c.in_ok-answer.answer ∷ []) in omega (arith, e, f, k);
+      answers = λ told h. given_step _ _ c.args.parts.now _ _ c.loop-part.part-index _ c.part-item.result _ _ c.in_ok-answer.answer c.is_formula-in_rows.result c.loop-part-test.true c.part-item.is
+          (c.loop-part.invariant.answers told (heard_before _ _ c.answer.ensures.went told h)) c.in_ok-push.ensures.items (omega (arith, k, l)) c.is_formula-in_rows.ensures
+          (held_before told (λ a. IsGiven (if c.is_formula-in_rows.result then inside else plain) (meaning c.part-item.result) a c.args.rows.now (given c.in_ok-answer.answer)) _ _ c.loop-part.invariant.went
+          (c.in_ok-answer.ensures.value told h));
+    }
+
+pub each-in_scope-requires : goal.each-in_scope-requires
+each-in_scope-requires g t c κs within = (
+  omega arith,
+  (
+    within.0,
+    (
+      within.1,
+      as_before (λ types s. CanEvaluate types (inner s (record_of c.in_ok-copy.field-0)) c.args.formula.now) _ _ c.loop-row.invariant.went
+          (subst (λ r. CanEvaluate (g.E.Env.fixed c.args.env.now).types (inner c.args.scope.now (record_of r)) c.args.formula.now) (sym c.in_ok-copy.ensures)
+          (inside_at _ _ _ c.args.rows.now c.loop-row.row-index c.row-item.result c.requires c.loop-row-test.true c.row-item.is)),
+    ),
+  ),
+)
+
+pub each-loop-row-preserved : goal.each-loop-row-preserved
+each-loop-row-preserved g t c = record {
+  went = went_on _ _ _ c.loop-row.invariant.went c.in_scope.ensures.went;
+  values = λ told h. each_step (meaning c.args.formula.now) _ c.args.rows.now c.loop-row.row-index c.row-item.result _ _ c.in_ok-value.value c.loop-row-test.true c.row-item.is
+      (c.loop-row.invariant.values told (heard_before _ _ c.in_scope.ensures.went told h))
+      c.in_ok-push.ensures.items
+      (meant_before told (meaning c.args.formula.now) (λ s. inner s (record_of c.row-item.result)) _ _ c.loop-row.invariant.went _
+      (subst (λ r. IsValue (around (g.E.Env.fixed c.loop-row.env).types told (inner c.loop-row.scope (record_of r))) c.args.formula.now (view c.in_ok-value.value))
+      c.in_ok-copy.ensures (c.in_ok-value.ensures.value told h)));
+}

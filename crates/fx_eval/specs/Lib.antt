@@ -1,0 +1,11 @@
+pub mod Given
+pub mod Laws
+pub mod Lists
+pub mod TableCalls
+pub mod Courses
+pub mod Kept
+pub mod Kinds
+pub mod Moments
+pub mod Parts
+pub mod Scopes
+pub mod Telling

@@ -1,0 +1,31 @@
+-- What an evaluation finds and leaves.
+use Rattle.std.specs.Prelude.{◌≡◌, ℕ, ◌+◌, ◌≤◌, Option}
+use Rattle.fx_base.specs.Silence.{Goes, IsLater, IsLost, Marks}
+use Rattle.fx_base.specs.Telling.{Stays}
+use Rattle.fx_eval.specs.Scopes.{Fixed, Held}
+use Rattle.fx_eval.specs.Telling.{Told}
+
+-- what the environment leaves as it is, what it tells, its marks, the steps that its reads took, the rows that
+-- were visited, what the scope holds, and all steps
+pub record Moment (B : Type 0) : Type 0 where
+  pub fixed : Fixed
+  pub told : Option (Told B)
+  pub marks : Marks
+  pub ticked : ℕ
+  pub visited : ℕ
+  pub scope : Held
+  pub steps : ℕ
+
+abbrev pub moment : {B : Type 0} → Fixed → Option (Told B) → Marks → ℕ → ℕ → Held → ℕ → Moment B
+moment fixed told marks ticked visited scope steps =
+    record { fixed = fixed; told = told; marks = marks; ticked = ticked; visited = visited; scope = scope; steps = steps }
+
+-- from one moment to another nothing has changed but faults that were counted, doubts that came up, steps that
+-- reads took and rows that were visited; and it tells what it told, or nothing where a fault or a doubt is why
+pub record Went {B : Type 0} (a b : Moment B) : Type 0 where
+  pub fixed : b.fixed ≡ a.fixed
+  pub scope : b.scope ≡ a.scope
+  pub told : Goes (IsLost a.marks b.marks) Stays a.told b.told
+  pub later : IsLater a.marks b.marks
+  pub ticks : b.steps + a.ticked ≡ a.steps + b.ticked
+  pub visited : a.visited ≤ b.visited

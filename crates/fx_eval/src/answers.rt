@@ -1,0 +1,107 @@
+// What the parts of a call come to.
+ghost use Rattle.std.specs.Prelude.{◌≡◌, false, length, map, option_map, Some, MatchResult, if◌then◌else◌};
+ghost use Rattle.fx_data.specs.ValueView.{view};
+ghost use Rattle.fx_data.specs.Values.{fault, text};
+ghost use Rattle.fx_semantics.specs.Rows.{rows_in};
+ghost use Rattle.fx_eval.specs.Given.{is_inner as is_inner_place, IsEach, IsName, IsOnce, count_in, each, given, once, value_in, values_in};
+ghost use Rattle.fx_eval.specs.TableCalls.{IsCount, IsFormula};
+ghost use Rattle.fx_tables.specs.Unions.{is_fault};
+ghost use Rattle.fx_trees.specs.Term.{over};
+ghost use Rattle.fx_typing.specs.WellTyped.{inside, plain, standing_at};
+
+use fx_data::faults::Fault;
+use fx_data::values::{Rows, Value};
+use fx_data::words::Words;
+use fx_trees::functions::Fun;
+use fx_trees::rows::{Takes, row_of};
+use std::alloc::Global;
+
+/// What a part of a call over a table comes to.
+#[derive(Drop)]
+pub enum Answers {
+    /// A value, where the part stands in no row's scope.
+    Once(Value),
+    /// A value for each row in order, each in the scope of its row.
+    Each(Vec<Value>),
+}
+
+/// Whether a part of a call over a table stands in the scope of a row, by its place among so many; the
+/// table is at place 0.
+pub fn is_formula(fun: Fun, count: usize, place: usize) -> bool
+    ensures { standing_at (over fun) count place ≡ (if result then inside else plain) }
+{
+    is_inner(row_of(fun).takes(count, place))
+}
+
+fn is_inner(takes: Takes) -> bool
+    ensures { result ≡ is_inner_place takes }
+{
+    match takes {
+        Takes::Formula(_) | Takes::ScalarFormula | Takes::AnyFormula | Takes::RowFormula => true,
+        _ => false,
+    }
+}
+
+/// The rows of a table, of which a blank one has none, or the error in its place.
+pub fn rows_of(alloc: Global, table: Value) -> Result<Rows, Fault>
+    ensures { MatchResult result
+        (λ r. (r ≡ rows_in (view table)) × (is_fault (view table) ≡ false))
+        (λ f. view table ≡ fault f.kind f.message) }
+{
+    match table {
+        Value::Tab(rows) => Ok(rows),
+        Value::Fault(fault) => Err(fault),
+        _ => Ok(Rows::new(alloc)),
+    }
+}
+
+// The values of the one formula.
+pub(crate) fn only(answers: Vec<Answers>) -> Vec<Value>
+    requires { IsFormula (map given answers.items) }
+    ensures values { map view result.items ≡ values_in (map given answers.items) }
+    ensures long { length result.items ≡ length (values_in (map given answers.items)) }
+{
+    values_of(answers.into_iter().next())
+}
+
+// The one value, where it is not left out.
+pub(crate) fn count(answers: Vec<Answers>) -> Option<Value>
+    requires { IsCount (map given answers.items) }
+    ensures { option_map view result ≡ count_in (map given answers.items) }
+{
+    value(answers.into_iter().next())
+}
+
+// The values of a formula.
+pub(crate) fn values_of(answers: Option<Answers>) -> Vec<Value>
+    requires { IsEach (option_map given answers) }
+    ensures { option_map given answers ≡ Some (each (map view result.items)) }
+{
+    match answers {
+        Some(Answers::Each(values)) => values,
+        _ => unreachable!(),
+    }
+}
+
+// The name of a column.
+pub(crate) fn name_of(answers: Option<Answers>) -> Words
+    requires { IsName (option_map given answers) }
+    ensures { option_map given answers ≡ Some (once (text result)) }
+{
+    match answers {
+        Some(Answers::Once(Value::Text(name))) => name,
+        _ => unreachable!(),
+    }
+}
+
+// A value that may be left out.
+pub(crate) fn value(answers: Option<Answers>) -> Option<Value>
+    requires { IsOnce (option_map given answers) }
+    ensures { option_map view result ≡ value_in (option_map given answers) }
+{
+    match answers {
+        None => None,
+        Some(Answers::Once(value)) => Some(value),
+        Some(Answers::Each(_)) => unreachable!(),
+    }
+}

@@ -1,0 +1,452 @@
+//! The evaluator.
+ghost use Rattle.std.specs.Prelude.{◌≡◌, ◌+◌, ◌≤◌, ◌∷◌, [], true, false, length, map, IfOk, IsErrOf, if◌then◌else◌};
+ghost use Rattle.fx_base.specs.Faults.{Rose};
+ghost use Rattle.fx_base.specs.Silence.{Goes, IsLater, IsLost};
+ghost use Rattle.fx_base.specs.Telling.{Stays};
+ghost use Rattle.fx_data.specs.Types.{Shape};
+ghost use Rattle.fx_data.specs.ValueView.{fields_view, view};
+ghost use Rattle.fx_eval.specs.Courses.{IsWorth, ends_in_branch, going};
+ghost use Rattle.fx_eval.specs.Moments.{Went, moment};
+ghost use Rattle.fx_eval.specs.Parts.{AreAsked, AreFilled, AreFine, AreInside, AreSet, AreSome, HasNext, IsAsked, caught_in, inner, terms_of};
+ghost use Rattle.fx_eval.specs.Scopes.{CanEvaluate, IsReady, around};
+ghost use Rattle.fx_eval.specs.Telling.{Heard, values_told};
+ghost use Rattle.fx_semantics.specs.Around.{AreEach, AreValues};
+ghost use Rattle.fx_semantics.specs.Fresh.{IsValue, IsWithin, field_of, meaning, meanings};
+ghost use Rattle.fx_semantics.specs.Rows.{IsOver};
+ghost use Rattle.fx_eval.specs.Given.{AreGiven, IsGiven, given};
+ghost use Rattle.fx_trees.specs.Term.{all, cons, nil, of};
+ghost use Rattle.fx_trees.specs.Term.{over as over_head, within as scoped};
+ghost use Rattle.fx_typing.specs.WellTyped.{inside, plain};
+ghost use Rattle.fx_value.specs.Fits.{fits_in};
+
+use crate::courses::{Course, Turn};
+use crate::environment::{Env, Stop};
+use crate::scope::Scope;
+use crate::{Answers, Steps, is_formula, listed, over, rows_of};
+use fx_base::Memory;
+use fx_data::{Fault, Fields, Value, Words};
+use fx_scalar::{apply, fitting_can_apply, without_error};
+use fx_semantics::values_fit;
+use fx_trees::{Core, CoreNode, Fun};
+use fx_value::coerce;
+use std::alloc::Global;
+use std::sync::ledger::Ledger;
+
+/// The value of a tree, in one step beside those of its reads: that of the definition, by what the
+/// environment still tells of its sources. It may have fallen silent only where a fault was counted or a
+/// doubt has come up. `Keeper` only where a fault was counted.
+pub fn eval<E: Env, L: Ledger>(
+    alloc: Global,
+    env: &mut E,
+    scope: &mut Scope,
+    core: &Core,
+    steps: &mut Steps<L>,
+) -> Result<Value, Stop>
+    requires { CanEvaluate (E.fixed env.old).types scope.old core.now }
+    ensures fixed { E.fixed env.new ≡ E.fixed env.old }
+    ensures scope { scope.new ≡ scope.old }
+    ensures told { Goes (IsLost (E.marks env.old) (E.marks env.new)) Stays (E.told env.old) (E.told env.new) }
+    ensures value { IfOk result (λ v. IsValue (around (E.fixed env.old).types (values_told (E.told env.new)) scope.old) core.now (view v)) }
+    ensures fits { (u : Shape) → IsReady (E.fixed env.old).types scope.old core.now u → IfOk result (λ v. fits_in (view v) u ≡ true) }
+    ensures marks { IsLater (E.marks env.old) (E.marks env.new) }
+    ensures keeper { IsErrOf result Stop.Keeper → Rose (E.marks env.old).faults (E.marks env.new).faults }
+    ensures ticks { steps.new + E.ticked env.old ≡ steps.old + 1 + E.ticked env.new }
+    ensures visited { E.visited env.old ≤ E.visited env.new }
+{
+    steps.tick();
+    tree(alloc, env, scope, core, steps)
+}
+
+// The value of a tree, which fits its type.
+#[cycle(tree)]
+fn tree<E: Env, L: Ledger>(
+    alloc: Global,
+    env: &mut E,
+    scope: &mut Scope,
+    core: &Core,
+    steps: &mut Steps<L>,
+) -> Result<Value, Stop>
+    requires { CanEvaluate (E.fixed env.old).types scope.old core.now }
+    ensures went { Went
+        (moment (E.fixed env.old) (E.told env.old) (E.marks env.old) (E.ticked env.old) (E.visited env.old) scope.old steps.old)
+        (moment (E.fixed env.new) (E.told env.new) (E.marks env.new) (E.ticked env.new) (E.visited env.new) scope.new steps.new) }
+    ensures keeper { IsErrOf result Stop.Keeper → Rose (E.marks env.old).faults (E.marks env.new).faults }
+    ensures value { IfOk result (λ v. Heard (values_told (E.told env.new)) (λ told. IsValue (around (E.fixed env.old).types told scope.old) core.now (view v))) }
+    ensures fits { (u : Shape) → IsReady (E.fixed env.old).types scope.old core.now u → IfOk result (λ v. fits_in (view v) u ≡ true) }
+{
+    values_fit();
+    node(alloc, env, scope, core, steps)
+}
+
+// The value of a tree by its head.
+#[cycle(tree)]
+fn node<E: Env, L: Ledger>(
+    alloc: Global,
+    env: &mut E,
+    scope: &mut Scope,
+    core: &Core,
+    steps: &mut Steps<L>,
+) -> Result<Value, Stop>
+    requires { CanEvaluate (E.fixed env.old).types scope.old core.now }
+    ensures went { Went
+        (moment (E.fixed env.old) (E.told env.old) (E.marks env.old) (E.ticked env.old) (E.visited env.old) scope.old steps.old)
+        (moment (E.fixed env.new) (E.told env.new) (E.marks env.new) (E.ticked env.new) (E.visited env.new) scope.new steps.new) }
+    ensures keeper { IsErrOf result Stop.Keeper → Rose (E.marks env.old).faults (E.marks env.new).faults }
+    ensures value { IfOk result (λ v. Heard (values_told (E.told env.new)) (λ told. IsValue (around (E.fixed env.old).types told scope.old) core.now (view v))) }
+{
+    values_fit();
+    fitting_can_apply();
+    match &core.node {
+        CoreNode::Const(value) => Ok(value.copy(alloc)?),
+        CoreNode::Read(source) => env.read(*source, steps),
+        CoreNode::Row(place) => Ok(scope.row(alloc, *place)?),
+        CoreNode::Item => Ok(scope.gallery_item(alloc)?),
+        CoreNode::Caught => Ok(scope.caught_error(alloc)?),
+        CoreNode::Dot(part, name) => {
+            let value = tree(alloc, env, scope, part, steps)?;
+            Ok(dotted(alloc, value, name)?)
+        }
+        CoreNode::With(part, formula) => within(alloc, env, scope, part, formula, steps),
+        CoreNode::Coerce(part, ty) => {
+            let value = tree(alloc, env, scope, part, steps)?;
+            Ok(coerce(alloc, value, ty)?)
+        }
+        CoreNode::All(parts) => go_through(alloc, env, scope, Course::All, parts.as_slice(), steps),
+        CoreNode::Any(parts) => go_through(alloc, env, scope, Course::Any, parts.as_slice(), steps),
+        CoreNode::If(parts) => go_through(alloc, env, scope, Course::If, parts.as_slice(), steps),
+        CoreNode::Switch(parts) => {
+            go_through(alloc, env, scope, Course::Switch, parts.as_slice(), steps)
+        }
+        CoreNode::IfError(parts) => {
+            let course = Course::Recover(Value::Blank);
+            go_through(alloc, env, scope, course, parts.as_slice(), steps)
+        }
+        CoreNode::Rec(fields) => {
+            let items = field_values(alloc, env, scope, fields.as_slice(), steps)?;
+            Ok(Value::Rec(Fields::from_rising(items)))
+        }
+        CoreNode::Call(fun, parts) => match fun {
+            Fun::Coalesce => {
+                go_through(alloc, env, scope, Course::Coalesce, parts.as_slice(), steps)
+            }
+            _ => {
+                let values = part_values(alloc, env, scope, parts.as_slice(), steps)?;
+                Ok(apply(alloc, *fun, values.as_slice())?)
+            }
+        },
+        CoreNode::Over(fun, table, parts) => {
+            call_over(alloc, env, scope, *fun, table, parts.as_slice(), steps)
+        }
+        CoreNode::List(row, parts) => {
+            let values = part_values(alloc, env, scope, parts.as_slice(), steps)?;
+            Ok(listed(alloc, row, values)?)
+        }
+        CoreNode::Chain(_) | CoreNode::Act(_, _) => unreachable!(),
+    }
+}
+
+// A field of a record, which is blank where there is none of the name, and an error as it is.
+fn dotted(alloc: Global, value: Value, name: &Words) -> Result<Value, Memory>
+    ensures { IfOk result (λ v. view v ≡ field_of name.now (view value)) }
+{
+    match value {
+        Value::Rec(fields) => match fields.value(name) {
+            Some(value) => value.copy(alloc),
+            None => Ok(Value::Blank),
+        },
+        Value::Fault(fault) => Ok(Value::Fault(fault)),
+        _ => Ok(Value::Blank),
+    }
+}
+
+// The value of a formula in the scope of a record, or the error that stands in its place.
+#[cycle(tree)]
+fn within<E: Env, L: Ledger>(
+    alloc: Global,
+    env: &mut E,
+    scope: &mut Scope,
+    part: &Core,
+    formula: &Core,
+    steps: &mut Steps<L>,
+) -> Result<Value, Stop>
+    requires { CanEvaluate (E.fixed env.old).types scope.old (of scoped (cons part.now (cons formula.now nil))) }
+    ensures went { Went
+        (moment (E.fixed env.old) (E.told env.old) (E.marks env.old) (E.ticked env.old) (E.visited env.old) scope.old steps.old)
+        (moment (E.fixed env.new) (E.told env.new) (E.marks env.new) (E.ticked env.new) (E.visited env.new) scope.new steps.new) }
+    ensures keeper { IsErrOf result Stop.Keeper → Rose (E.marks env.old).faults (E.marks env.new).faults }
+    ensures value { IfOk result (λ v. Heard (values_told (E.told env.new)) (λ told. IsWithin (meaning part.now ∷ meaning formula.now ∷ []) (around (E.fixed env.old).types told scope.old) (view v))) }
+{
+    let value = tree(alloc, env, scope, part, steps)?;
+    match without_error(value) {
+        Ok(row) => in_scope(alloc, env, scope, row, formula, steps),
+        Err(fault) => Ok(Value::Fault(fault)),
+    }
+}
+
+// The value of a formula in one more scope.
+#[cycle(tree)]
+fn in_scope<E: Env, L: Ledger>(
+    alloc: Global,
+    env: &mut E,
+    scope: &mut Scope,
+    row: Value,
+    formula: &Core,
+    steps: &mut Steps<L>,
+) -> Result<Value, Stop>
+    requires { CanEvaluate (E.fixed env.old).types (inner scope.old (view row)) formula.now }
+    ensures went { Went
+        (moment (E.fixed env.old) (E.told env.old) (E.marks env.old) (E.ticked env.old) (E.visited env.old) scope.old steps.old)
+        (moment (E.fixed env.new) (E.told env.new) (E.marks env.new) (E.ticked env.new) (E.visited env.new) scope.new steps.new) }
+    ensures keeper { IsErrOf result Stop.Keeper → Rose (E.marks env.old).faults (E.marks env.new).faults }
+    ensures value { IfOk result (λ v. Heard (values_told (E.told env.new)) (λ told. IsValue (around (E.fixed env.old).types told (inner scope.old (view row))) formula.now (view v))) }
+{
+    scope.rows.push(row)?;
+    let value = tree(alloc, env, scope, formula, steps);
+    let _ = scope.rows.pop();
+    value
+}
+
+// The value of a formula where an error was caught.
+#[cycle(tree)]
+fn catching<E: Env, L: Ledger>(
+    alloc: Global,
+    env: &mut E,
+    scope: &mut Scope,
+    fault: Fault,
+    formula: &Core,
+    steps: &mut Steps<L>,
+) -> Result<Value, Stop>
+    requires { CanEvaluate (E.fixed env.old).types (caught_in scope.old fault.kind fault.message) formula.now }
+    ensures went { Went
+        (moment (E.fixed env.old) (E.told env.old) (E.marks env.old) (E.ticked env.old) (E.visited env.old) scope.old steps.old)
+        (moment (E.fixed env.new) (E.told env.new) (E.marks env.new) (E.ticked env.new) (E.visited env.new) scope.new steps.new) }
+    ensures keeper { IsErrOf result Stop.Keeper → Rose (E.marks env.old).faults (E.marks env.new).faults }
+    ensures value { IfOk result (λ v. Heard (values_told (E.told env.new)) (λ told. IsValue (around (E.fixed env.old).types told (caught_in scope.old fault.kind fault.message)) formula.now (view v))) }
+{
+    let outer = scope.caught.replace(fault);
+    let value = tree(alloc, env, scope, formula, steps);
+    scope.caught = outer;
+    value
+}
+
+// Whether the value of a part, behind which these stand, is the form's.
+fn ends_here(course: &Course, others: &[Core]) -> bool
+    ensures last { result ≡ true → (others.now ≡ []) × (ends_in_branch (going course.now) ≡ true) }
+    ensures next { result ≡ false → HasNext (going course.now) others.now }
+{
+    others.is_empty() && course.ends_in_branch()
+}
+
+// The first of these parts, and the others.
+fn split(parts: &[Core]) -> (&Core, &[Core])
+    requires { AreSome parts.now }
+    ensures { parts.now ≡ result.0.now ∷ result.1.now }
+{
+    match parts.split_first() {
+        Some(pair) => pair,
+        None => unreachable!(),
+    }
+}
+
+// The value of a form, part by part.
+#[cycle(tree)]
+fn go_through<E: Env, L: Ledger>(
+    alloc: Global,
+    env: &mut E,
+    scope: &mut Scope,
+    course: Course,
+    parts: &[Core],
+    steps: &mut Steps<L>,
+) -> Result<Value, Stop>
+    requires { AreSet (E.fixed env.old).types scope.old (going course) parts.now }
+    ensures went { Went
+        (moment (E.fixed env.old) (E.told env.old) (E.marks env.old) (E.ticked env.old) (E.visited env.old) scope.old steps.old)
+        (moment (E.fixed env.new) (E.told env.new) (E.marks env.new) (E.ticked env.new) (E.visited env.new) scope.new steps.new) }
+    ensures keeper { IsErrOf result Stop.Keeper → Rose (E.marks env.old).faults (E.marks env.new).faults }
+    ensures value { IfOk result (λ v. Heard (values_told (E.told env.new)) (λ told. IsWorth (going course) (meanings (all parts.now)) (around (E.fixed env.old).types told scope.old) (view v))) }
+{
+    let mut course = course;
+    let mut rest = parts;
+    while let Some((part, others)) = rest.split_first() {
+        if ends_here(&course, others) {
+            return tree(alloc, env, scope, part, steps);
+        }
+        let value = tree(alloc, env, scope, part, steps)?;
+        match course.turn(value) {
+            Turn::Answer(value) => return Ok(value),
+            Turn::Branch => {
+                let (branch, _) = split(others);
+                return tree(alloc, env, scope, branch, steps);
+            }
+            Turn::Fallback(fault) => {
+                let (formula, _) = split(others);
+                return catching(alloc, env, scope, fault, formula, steps);
+            }
+            Turn::Further(next) => {
+                course = next;
+                rest = others;
+            }
+            Turn::Beyond(next) => {
+                let (_, beyond) = split(others);
+                course = next;
+                rest = beyond;
+            }
+        }
+    }
+    Ok(course.end())
+}
+
+// The fields of a record, each with its value.
+#[cycle(tree)]
+fn field_values<E: Env, L: Ledger>(
+    alloc: Global,
+    env: &mut E,
+    scope: &mut Scope,
+    fields: &[(Words, Core)],
+    steps: &mut Steps<L>,
+) -> Result<Vec<(Words, Value)>, Stop>
+    requires { AreFine (E.fixed env.old).types scope.old (terms_of fields.now) }
+    ensures went { Went
+        (moment (E.fixed env.old) (E.told env.old) (E.marks env.old) (E.ticked env.old) (E.visited env.old) scope.old steps.old)
+        (moment (E.fixed env.new) (E.told env.new) (E.marks env.new) (E.ticked env.new) (E.visited env.new) scope.new steps.new) }
+    ensures keeper { IsErrOf result Stop.Keeper → Rose (E.marks env.old).faults (E.marks env.new).faults }
+    ensures value { IfOk result (λ fs. Heard (values_told (E.told env.new)) (λ told. AreFilled fields.now (around (E.fixed env.old).types told scope.old) (fields_view fs.items))) }
+{
+    let mut items = Vec::new(alloc);
+    for (name, part) in fields {
+        let value = tree(alloc, env, scope, part, steps)?;
+        items.push((name.copy(alloc)?, value))?;
+    }
+    Ok(items)
+}
+
+// The values of parts that stand where the whole stands.
+#[cycle(tree)]
+fn part_values<E: Env, L: Ledger>(
+    alloc: Global,
+    env: &mut E,
+    scope: &mut Scope,
+    parts: &[Core],
+    steps: &mut Steps<L>,
+) -> Result<Vec<Value>, Stop>
+    requires { AreFine (E.fixed env.old).types scope.old parts.now }
+    ensures went { Went
+        (moment (E.fixed env.old) (E.told env.old) (E.marks env.old) (E.ticked env.old) (E.visited env.old) scope.old steps.old)
+        (moment (E.fixed env.new) (E.told env.new) (E.marks env.new) (E.ticked env.new) (E.visited env.new) scope.new steps.new) }
+    ensures keeper { IsErrOf result Stop.Keeper → Rose (E.marks env.old).faults (E.marks env.new).faults }
+    ensures value { IfOk result (λ vs. Heard (values_told (E.told env.new)) (λ told. AreValues (meanings (all parts.now)) (around (E.fixed env.old).types told scope.old) (map view vs.items))) }
+{
+    let mut values = Vec::new(alloc);
+    for part in parts {
+        let value = tree(alloc, env, scope, part, steps)?;
+        values.push(value)?;
+    }
+    Ok(values)
+}
+
+// The value of a function of a table, or the error that stands in the table's place.
+#[cycle(tree)]
+fn call_over<E: Env, L: Ledger>(
+    alloc: Global,
+    env: &mut E,
+    scope: &mut Scope,
+    fun: Fun,
+    table: &Core,
+    parts: &[Core],
+    steps: &mut Steps<L>,
+) -> Result<Value, Stop>
+    requires { CanEvaluate (E.fixed env.old).types scope.old (of (over_head fun) (cons table.now (all parts.now))) }
+    ensures went { Went
+        (moment (E.fixed env.old) (E.told env.old) (E.marks env.old) (E.ticked env.old) (E.visited env.old) scope.old steps.old)
+        (moment (E.fixed env.new) (E.told env.new) (E.marks env.new) (E.ticked env.new) (E.visited env.new) scope.new steps.new) }
+    ensures keeper { IsErrOf result Stop.Keeper → Rose (E.marks env.old).faults (E.marks env.new).faults }
+    ensures value { IfOk result (λ v. Heard (values_told (E.told env.new)) (λ told. IsOver fun (meaning table.now ∷ meanings (all parts.now)) (around (E.fixed env.old).types told scope.old) (view v))) }
+{
+    let value = tree(alloc, env, scope, table, steps)?;
+    match rows_of(alloc, value) {
+        Ok(rows) => {
+            let answers = part_answers(alloc, env, scope, fun, rows.as_slice(), parts, steps)?;
+            Ok(over(alloc, fun, rows, answers)?)
+        }
+        Err(fault) => Ok(Value::Fault(fault)),
+    }
+}
+
+// What the parts of a call over these rows come to.
+#[cycle(tree)]
+fn part_answers<E: Env, L: Ledger>(
+    alloc: Global,
+    env: &mut E,
+    scope: &mut Scope,
+    fun: Fun,
+    rows: &[Fields],
+    parts: &[Core],
+    steps: &mut Steps<L>,
+) -> Result<Vec<Answers>, Stop>
+    requires { AreAsked fun (length parts.now + 1) 1 (E.fixed env.old).types scope.old rows.now parts.now }
+    ensures went { Went
+        (moment (E.fixed env.old) (E.told env.old) (E.marks env.old) (E.ticked env.old) (E.visited env.old) scope.old steps.old)
+        (moment (E.fixed env.new) (E.told env.new) (E.marks env.new) (E.ticked env.new) (E.visited env.new) scope.new steps.new) }
+    ensures keeper { IsErrOf result Stop.Keeper → Rose (E.marks env.old).faults (E.marks env.new).faults }
+    ensures value { IfOk result (λ gs. Heard (values_told (E.told env.new)) (λ told. AreGiven (over_head fun) (length parts.now + 1) 1 (meanings (all parts.now)) (around (E.fixed env.old).types told scope.old) rows.now (map given gs.items))) }
+{
+    let count = parts.len() + 1;
+    let mut answers = Vec::new(alloc);
+    for part in parts {
+        let in_rows = is_formula(fun, count, answers.len() + 1);
+        let answer = answer(alloc, env, scope, in_rows, rows, part, steps)?;
+        answers.push(answer)?;
+    }
+    Ok(answers)
+}
+
+// What a part comes to: a value for each of these rows, or a value alone.
+#[cycle(tree)]
+fn answer<E: Env, L: Ledger>(
+    alloc: Global,
+    env: &mut E,
+    scope: &mut Scope,
+    in_rows: bool,
+    rows: &[Fields],
+    part: &Core,
+    steps: &mut Steps<L>,
+) -> Result<Answers, Stop>
+    requires { IsAsked (if in_rows then inside else plain) (E.fixed env.old).types scope.old rows.now part.now }
+    ensures went { Went
+        (moment (E.fixed env.old) (E.told env.old) (E.marks env.old) (E.ticked env.old) (E.visited env.old) scope.old steps.old)
+        (moment (E.fixed env.new) (E.told env.new) (E.marks env.new) (E.ticked env.new) (E.visited env.new) scope.new steps.new) }
+    ensures keeper { IsErrOf result Stop.Keeper → Rose (E.marks env.old).faults (E.marks env.new).faults }
+    ensures value { IfOk result (λ g. Heard (values_told (E.told env.new)) (λ told. IsGiven (if in_rows then inside else plain) (meaning part.now) (around (E.fixed env.old).types told scope.old) rows.now (given g))) }
+{
+    if in_rows {
+        Ok(Answers::Each(each(alloc, env, scope, rows, part, steps)?))
+    } else {
+        Ok(Answers::Once(tree(alloc, env, scope, part, steps)?))
+    }
+}
+
+// The values of a formula for these rows, each in the scope of its row.
+#[cycle(tree)]
+fn each<E: Env, L: Ledger>(
+    alloc: Global,
+    env: &mut E,
+    scope: &mut Scope,
+    rows: &[Fields],
+    formula: &Core,
+    steps: &mut Steps<L>,
+) -> Result<Vec<Value>, Stop>
+    requires { AreInside (E.fixed env.old).types scope.old formula.now rows.now }
+    ensures went { Went
+        (moment (E.fixed env.old) (E.told env.old) (E.marks env.old) (E.ticked env.old) (E.visited env.old) scope.old steps.old)
+        (moment (E.fixed env.new) (E.told env.new) (E.marks env.new) (E.ticked env.new) (E.visited env.new) scope.new steps.new) }
+    ensures keeper { IsErrOf result Stop.Keeper → Rose (E.marks env.old).faults (E.marks env.new).faults }
+    ensures value { IfOk result (λ vs. Heard (values_told (E.told env.new)) (λ told. AreEach (meaning formula.now) (around (E.fixed env.old).types told scope.old) rows.now (map view vs.items))) }
+{
+    let mut values = Vec::new(alloc);
+    for row in rows {
+        let record = Value::Rec(row.copy(alloc)?);
+        let value = in_scope(alloc, env, scope, record, formula, steps)?;
+        values.push(value)?;
+    }
+    Ok(values)
+}

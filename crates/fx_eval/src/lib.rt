@@ -1,0 +1,25 @@
+//! Evaluates typed trees over any environment.
+#![tactic(auto)]
+
+pub mod answers;
+pub mod calls;
+mod columns;
+mod conditions;
+mod courses;
+pub mod environment;
+pub mod evaluate;
+pub mod kept;
+pub mod laws;
+pub mod lists;
+pub mod scope;
+pub mod steps;
+
+pub use answers::{Answers, is_formula, rows_of};
+pub use calls::over;
+pub use environment::{Env, Stop};
+pub use evaluate::eval;
+pub use kept::{Kept, KeptCell, kept_is_named};
+pub use laws::{made_is_worth, typed_can_make};
+pub use lists::listed;
+pub use scope::Scope;
+pub use steps::Steps;

@@ -1,5 +1,0 @@
-use Rattle.fx_fresh.proofs.Lawful.{typings_lawful}
-use Rattle.fx_fresh.proofs.laws.typings_are_lawful.Goals as goal
-
-pub returns : goal.returns
-returns c = typings_lawful

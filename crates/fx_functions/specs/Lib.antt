@@ -1,3 +1,0 @@
-pub mod Literals
-pub mod Rows
-pub mod Signatures

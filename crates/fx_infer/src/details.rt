@@ -1,0 +1,150 @@
+//! What is said of a broken node besides the rule that it breaks.
+ghost use Rattle.std.specs.Prelude.{◌≡◌, IfOk, map, option_map};
+ghost use Rattle.fx_data.specs.TypeView.{shape as type_of};
+ghost use Rattle.fx_typing.specs.Calls.{called_by};
+ghost use Rattle.fx_typing.specs.Details as told;
+ghost use Rattle.fx_trees.specs.Lawful.{IsLawful};
+ghost use Rattle.fx_trees.specs.Rules.{number_of};
+ghost use Rattle.fx_scopes.specs.MeaningView.{place};
+ghost use Rattle.fx_scopes.specs.PartView.{part};
+ghost use Rattle.fx_scopes.specs.PlanView.{head_of};
+ghost use Rattle.fx_scopes.specs.SettingView.{setting};
+
+use crate::borrowed::values_or_none;
+use crate::limits::{list_limit, nested, record_limit, type_limit};
+use crate::mismatches::misjoined;
+use crate::mistyped::{called_as, part_names, wrong_types};
+use crate::stuck::{named_twice, unknown_column};
+use crate::texts::{commas, counted, head_name, nothing};
+use crate::too_deep::is_too_deep;
+use fx_base::Memory;
+use fx_calls::{called_by, large_given};
+use fx_data::types::Ty;
+use fx_data::words::Words;
+use fx_scopes::{Part, Place, Scopes, Stand};
+use fx_trees::Rule;
+use fx_trees::expr::{Expr, Node};
+use fx_trees::names::Names;
+use fx_trees::signatures::SigShape;
+use fx_typing::Wrong;
+use std::alloc::Global;
+
+// The name that a call can't act on, and else the call's.
+fn no_variable(alloc: Global, whole: &Expr, all: &[Part]) -> Result<Words, Memory>
+    ensures { IfOk result (λ w. w ≡ told.no_variable (told.head_name (head_of whole.now)) (map part all.now)) }
+{
+    match all.first() {
+        Some(Part::Target(_, name)) => name.copy(alloc),
+        _ => head_name(alloc, whole),
+    }
+}
+
+// The type that passes the limits, of what a call gives a value to.
+fn large_in<'n>(at: &Place<'n>, shape: SigShape, all: &[Part]) -> Option<&'n Ty>
+    requires { IsLawful at.now.names.now }
+    ensures { option_map (λ t. type_of t.now) result ≡ told.large_in (place at.now) shape (map part all.now) }
+{
+    match shape {
+        SigShape::Act(acting) => large_given(at.names, at.screen, acting, all),
+        _ => None,
+    }
+}
+
+// The limit that the type of a call passes, or what it gives a value to.
+fn call_limit(
+    alloc: Global,
+    at: &Place,
+    scopes: &Scopes,
+    stand: Stand,
+    shape: Option<SigShape>,
+    all: Vec<Part>,
+) -> Result<Words, Memory>
+    requires { IsLawful at.now.names.now }
+    ensures { IfOk result (λ w. w ≡ told.call_limit (place at.now) (setting scopes.now stand) shape
+        (map part all.entry.items)) }
+{
+    let Some(shape) = shape else {
+        return nothing(alloc);
+    };
+    match large_in(at, shape, &all) {
+        Some(ty) => type_limit(alloc, ty),
+        None => own_limit(alloc, at, scopes, stand, shape, all),
+    }
+}
+
+// The limit that the type of a call passes.
+fn own_limit(
+    alloc: Global,
+    at: &Place,
+    scopes: &Scopes,
+    stand: Stand,
+    shape: SigShape,
+    all: Vec<Part>,
+) -> Result<Words, Memory>
+    requires { IsLawful at.now.names.now }
+    ensures { IfOk result (λ w. w ≡ told.limit_of (called_by (place at.now) (setting scopes.now stand) shape
+        (map part all.entry.items))) }
+{
+    match called_by(alloc, at, stand, shape, all) {
+        Ok(tree) => type_limit(alloc, &tree.ty),
+        Err(Wrong::Breaks(_)) => nothing(alloc),
+        Err(Wrong::Memory) => Err(Memory),
+    }
+}
+
+// The limit that a node passes.
+fn limit_passed(
+    alloc: Global,
+    at: &Place,
+    scopes: &Scopes,
+    stand: Stand,
+    whole: &Expr,
+    all: Vec<Part>,
+) -> Result<Words, Memory>
+    requires { IsLawful at.now.names.now }
+    ensures { IfOk result (λ w. w ≡ told.limit_passed (place at.now) (setting scopes.now stand)
+        (head_of whole.now) (map part all.entry.items)) }
+{
+    match &whole.node {
+        Node::Call(_, _) if is_too_deep(at, scopes, stand, whole, &all) => nested(alloc, scopes),
+        Node::Call(name, _) => {
+            call_limit(alloc, at, scopes, stand, called_as(at.names, name), all)
+        }
+        Node::Rec(fields) => record_limit(alloc, fields.as_slice(), &values_or_none(alloc, &all)?),
+        _ => list_limit(alloc, &values_or_none(alloc, &all)?),
+    }
+}
+
+/// What is said of a node of these parts that breaks a rule.
+pub fn detail_of(
+    alloc: Global,
+    at: &Place,
+    scopes: &Scopes,
+    stand: Stand,
+    whole: &Expr,
+    all: Vec<Part>,
+    rule: Rule,
+) -> Result<Words, Memory>
+    requires { IsLawful at.now.names.now }
+    ensures { IfOk result (λ w. w ≡ told.detail_of (place at.now) (setting scopes.now stand)
+        (head_of whole.now) (map part all.entry.items) (number_of rule)) }
+{
+    match rule {
+        Rule::NameTwice => named_twice(alloc, at.names, whole, &all),
+        Rule::WrongType => commas(alloc, &wrong_types(alloc, at.names, whole, &all)?),
+        Rule::WrongCount => counted(alloc, &head_name(alloc, whole)?, all.len()),
+        Rule::VariableTypes => misjoined(alloc, at, whole, &all),
+        Rule::UnknownColumn => unknown_column(alloc, at.names, whole, &all),
+        Rule::LimitPassed => limit_passed(alloc, at, scopes, stand, whole, all),
+        Rule::NotAVariable => no_variable(alloc, whole, &all),
+        _ => head_name(alloc, whole),
+    }
+}
+
+/// What is said of a formula of a type that isn't what is wanted.
+pub fn wanted_detail(alloc: Global, names: &Names, one: &Part) -> Result<Words, Memory>
+    requires { IsLawful names.now }
+    ensures { IfOk result (λ w. w ≡ told.wanted_detail names.now (part one.now)) }
+{
+    commas(alloc, &part_names(alloc, names, one)?)
+}

@@ -1,3 +1,0 @@
-mod Differing
-mod Spelled
-mod Tested

@@ -1,9 +1,0 @@
-pub mod Befores
-pub mod ColumnLists
-pub mod Heads
-pub mod Pairs
-pub mod Parts
-pub mod SameColumns
-pub mod StandSteps
-pub mod Stops
-pub mod Tellings

@@ -1,7 +1,0 @@
-use Rattle.std.proofs.Common.{◌≡◌, ◌+◌, drop}
-use Rattle.fx_data.specs.TypeView.{columns_view}
-use Rattle.fx_local.specs.Places.{place_of}
-use Rattle.fx_local.proofs.columns.place_of.Given as goal
-
-abbrev pub invariant-loop-place : goal.invariant-loop-place
-invariant-loop-place l = l.place + place_of l.name (columns_view (drop l.place l.columns)) ≡ place_of l.name (columns_view l.columns)

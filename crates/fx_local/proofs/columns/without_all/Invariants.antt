@@ -1,7 +1,0 @@
-use Rattle.std.proofs.Common.{◌≡◌, drop}
-use Rattle.fx_data.specs.Types.{column_list}
-use Rattle.fx_typing.specs.Columns.{without_all}
-use Rattle.fx_local.proofs.columns.without_all.Given as goal
-
-abbrev pub invariant-loop-name : goal.invariant-loop-name
-invariant-loop-name l = without_all (drop l.name-index l.names) (column_list l.left) ≡ without_all l.names (column_list l.fn.columns)

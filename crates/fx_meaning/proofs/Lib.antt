@@ -1,4 +1,0 @@
-pub mod Doubling
-pub mod Meanings
-pub mod Spoken
-pub mod Sound

@@ -1,9 +1,0 @@
-use Rattle.fx_meaning.proofs.Meanings.{one_list, one_items, one_tree_of}
-use Rattle.fx_meaning.proofs.laws.one_tree_of_a_text.Goals as goal
-
-pub returns : goal.returns
-returns c = record {
-  meanings = λ ls xs ys p q. one_list p ys q;
-  items = λ cs xs ys p q. one_items cs xs ys p q;
-  trees = λ cs n m t u p q. one_tree_of cs n m t u p q;
-}

@@ -1,2 +1,0 @@
-pub mod Undoubling
-pub mod Meant

@@ -1,4 +1,0 @@
-pub mod Controls
-pub mod Formulas
-pub mod Lawful
-pub mod SourceTypes

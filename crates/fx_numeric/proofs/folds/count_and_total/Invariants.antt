@@ -1,6 +1,0 @@
-use Rattle.std.proofs.Common.{◌≤◌, take}
-use Rattle.fx_numeric.specs.Folds.{IsCounted, present}
-use Rattle.fx_numeric.proofs.folds.count_and_total.Given as goal
-
-abbrev pub invariant-loop-number : goal.invariant-loop-number
-invariant-loop-number l = (l.count ≤ l.number-index) × IsCounted (present (take l.number-index l.numbers)) l.count l.total

@@ -1,0 +1,4 @@
+pub mod Heads
+pub mod Parts
+pub mod StandSteps
+pub mod Stops

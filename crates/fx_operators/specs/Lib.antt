@@ -1,0 +1,2 @@
+pub mod ComparedView
+pub mod Tables

@@ -1,0 +1,98 @@
+//! The types that calls answer.
+ghost use Rattle.std.specs.Prelude.{◌≡◌, ◌∷◌, IfOk, map};
+ghost use Rattle.fx_data.specs.TypeView.{shape};
+ghost use Rattle.fx_data.specs.Types.{column_list};
+ghost use Rattle.fx_typing.specs.WellTyped as typing;
+ghost use Rattle.fx_typing.specs.Answers.{Answers};
+ghost use Rattle.fx_operators.specs.Tables.{table_columns};
+ghost use Rattle.fx_typing.specs.TypedView.{typed};
+
+use fx_base::Memory;
+use fx_data::types::{Columns, Ty};
+use fx_trees::Rule;
+use fx_trees::rows::Answer;
+use fx_typing::columns::{added, dropped, renamed, row_columns, shown, value_column};
+use fx_typing::typed::Typed;
+use fx_typing::wrong::Wrong;
+use std::alloc::Global;
+
+/// The type that a call answers, from its parts as they stand and the common type of its branches, or
+/// the rule that is broken.
+pub fn answered(alloc: Global, answer: Answer, common: &Ty, parts: &[Typed]) -> Result<Ty, Wrong>
+    ensures { Answers shape (typing.answered answer (shape common.now) (map typed parts.now)) result }
+{
+    match parts.split_first() {
+        Some((first, rest)) => answered_of(alloc, answer, common, first, rest),
+        None => match answer {
+            Answer::Scalar(scalar) => Ok(scalar.ty()),
+            Answer::Common => Ok(common.copy(alloc)?),
+            _ => Err(Wrong::Breaks(Rule::WrongType)),
+        },
+    }
+}
+
+// The type that a call with a first part answers.
+fn answered_of(
+    alloc: Global,
+    answer: Answer,
+    common: &Ty,
+    first: &Typed,
+    rest: &[Typed],
+) -> Result<Ty, Wrong>
+    ensures { Answers shape (typing.answered answer (shape common.now) (typed first.now ∷ map typed rest.now)) result }
+{
+    match answer {
+        Answer::Scalar(scalar) => Ok(scalar.ty()),
+        Answer::Common => Ok(common.copy(alloc)?),
+        Answer::Same => Ok(first.ty.copy(alloc)?),
+        Answer::Row => Ok(row_type(alloc, &first.ty)?),
+        Answer::Found => match rest {
+            [_, formula, ..] => Ok(formula.ty.copy(alloc)?),
+            _ => Ok(row_type(alloc, &first.ty)?),
+        },
+        Answer::Added => {
+            let columns = added(alloc, rest, columns_of(alloc, &first.ty)?)?;
+            Ok(Ty::Tab(columns))
+        }
+        Answer::Dropped => {
+            let columns = dropped(alloc, rest, columns_of(alloc, &first.ty)?)?;
+            Ok(Ty::Tab(columns))
+        }
+        Answer::Shown => {
+            let columns = shown(alloc, rest, columns_of(alloc, &first.ty)?)?;
+            Ok(Ty::Tab(columns))
+        }
+        Answer::Renamed => {
+            let columns = renamed(alloc, rest, columns_of(alloc, &first.ty)?)?;
+            Ok(Ty::Tab(columns))
+        }
+        Answer::Values => match rest.first() {
+            Some(formula) => Ok(Ty::Tab(value_column(alloc, formula.ty.copy(alloc)?)?)),
+            None => Err(Wrong::Breaks(Rule::WrongType)),
+        },
+        Answer::Each => match rest.first() {
+            Some(formula) => Ok(Ty::Tab(row_columns(alloc, formula.ty.copy(alloc)?)?)),
+            None => Err(Wrong::Breaks(Rule::WrongType)),
+        },
+    }
+}
+
+// A row of a table.
+fn row_type(alloc: Global, table: &Ty) -> Result<Ty, Memory>
+    ensures { IfOk result (λ t. shape t ≡ typing.row_type (shape table.now)) }
+{
+    match table {
+        Ty::Tab(columns) => Ok(Ty::Rec(columns.copy(alloc)?)),
+        _ => Ok(Ty::Rec(Columns::new(alloc))),
+    }
+}
+
+// The columns of a table.
+fn columns_of(alloc: Global, table: &Ty) -> Result<Columns, Wrong>
+    ensures { Answers column_list (table_columns (shape table.now)) result }
+{
+    match table {
+        Ty::Tab(columns) => Ok(columns.copy(alloc)?),
+        _ => Err(Wrong::Breaks(Rule::WrongType)),
+    }
+}

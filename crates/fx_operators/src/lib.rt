@@ -1,0 +1,14 @@
+//! The typed tree of an operator, a form or a function of values, made of its parts as they were judged.
+#![tactic(auto)]
+
+pub mod acting;
+pub mod answering;
+pub mod common;
+pub mod local;
+pub mod operators;
+pub mod standing;
+
+pub use acting::acts;
+pub use common::join_all;
+pub use local::{formed, made};
+pub use operators::function_of;

@@ -1,5 +1,0 @@
-use Rattle.fx_order.proofs.KeyLemmas.{keys_order, keys_tell}
-use Rattle.fx_order.proofs.keys.keys_order.Goals as goal
-
-pub returns : goal.returns
-returns c = record { order = keys_order; tell = keys_tell }

@@ -1,5 +1,0 @@
-use Rattle.fx_order.proofs.Orders.{order_total, order_tells}
-use Rattle.fx_order.proofs.ordering.compare_is_total.Goals as goal
-
-pub returns : goal.returns
-returns c = record { total = order_total; tells = order_tells }

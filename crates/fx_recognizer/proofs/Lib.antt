@@ -1,7 +1,0 @@
-pub mod Lines
-pub mod Runs
-pub mod Complete
-pub mod Suffix
-pub mod Wants
-pub mod Sound
-pub mod Finish

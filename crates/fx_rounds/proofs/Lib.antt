@@ -1,5 +1,0 @@
-mod After
-mod Known
-mod Only
-mod Same
-mod Walked

@@ -1,7 +1,0 @@
-use Rattle.std.proofs.Common.{◌∙◌, ap}
-use Rattle.fx_numeric.specs.Folds.{present}
-use Rattle.fx_row_calls.proofs.Numbers.{present_numbers}
-use Rattle.fx_row_calls.proofs.aggregates.numbers.Goals as goal
-
-pub returns : goal.returns
-returns c = ap present c.in_ok-each_number.ensures ∙ present_numbers c.args.values.now

@@ -1,6 +1,0 @@
-use Rattle.std.proofs.Common.{◌≡◌, drop}
-use Rattle.fx_row_calls.specs.ColumnCalls.{without_columns}
-use Rattle.fx_row_calls.proofs.columns.drop_columns.Given as goal
-
-abbrev pub invariant-loop-name : goal.invariant-loop-name
-invariant-loop-name l = without_columns (drop l.name-index l.names) l.narrower ≡ without_columns l.names l.fn.rows

@@ -1,2 +1,0 @@
-pub mod BrokenText
-pub mod Rules

@@ -1,4 +1,0 @@
-pub mod Tree
-pub mod TreeCode
-pub mod TreeView
-pub mod TreeFalls

@@ -1,5 +1,0 @@
-//! The trees of formulas.
-#![tactic(auto)]
-
-pub mod expr;
-pub mod make;

@@ -1,7 +1,0 @@
-use Rattle.std.proofs.Common.{◌∙◌, ap, map}
-use Rattle.fx_data.specs.ValueView.{view}
-use Rattle.fx_table_calls.proofs.Turns.{truths_seen}
-use Rattle.fx_table_calls.proofs.conditions.truths.Goals as goal
-
-pub returns : goal.returns
-returns c = ap (map view) c.in_ok-each_truth.ensures ∙ truths_seen c.args.rows.now

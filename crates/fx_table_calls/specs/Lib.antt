@@ -1,4 +1,0 @@
-pub mod Given
-pub mod Laws
-pub mod Lists
-pub mod TableCalls

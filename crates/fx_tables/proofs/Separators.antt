@@ -1,0 +1,1 @@
+-- One more text among texts with a separator between each two.

@@ -1,0 +1,12 @@
+use Rattle.std.proofs.Common.{◌≡◌, List, subst, sym, true}
+use Rattle.fx_data.specs.Values.{row_list}
+use Rattle.fx_value.specs.Fits.{rows_fit}
+use Rattle.fx_tables.specs.Columns.{Row}
+use Rattle.fx_typing.specs.Columns.{only}
+use Rattle.fx_tables.proofs.FitColumns.{rows_only_fit}
+use Rattle.fx_tables.proofs.column_calls.show_columns.Goals as goal
+
+pub returns-clause-fits : goal.returns-clause-fits
+returns-clause-fits c = λ cs h.
+    let P : List Row → Type 0 = λ rows. rows_fit (row_list rows) (only c.args.names.now cs) ≡ true in
+    subst P (sym c.in_ok-show_columns.ensures) (rows_only_fit c.args.names.now c.args.rows cs h)

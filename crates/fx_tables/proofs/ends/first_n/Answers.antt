@@ -1,0 +1,11 @@
+use Rattle.std.proofs.Common.{◌≡◌, List, subst, sym, true}
+use Rattle.fx_data.specs.Values.{tab, row_list}
+use Rattle.fx_value.specs.Fits.{fits_in}
+use Rattle.fx_tables.specs.Columns.{Row}
+use Rattle.fx_tables.proofs.FitRows.{first_rows_fit}
+use Rattle.fx_tables.proofs.ends.first_n.Goals as goal
+
+pub returns-in_default-clause-fits : goal.returns-in_default-clause-fits
+returns-in_default-clause-fits c = λ t h.
+    let P : List Row → Type 0 = λ rs. fits_in (tab (row_list rs)) t ≡ true in
+    subst P (sym c.first_rows_of.ensures) (first_rows_fit c.args.rows c.count_asked.result t h)

@@ -1,4 +1,0 @@
-pub mod Folding
-pub mod Search
-pub mod Substitution
-pub mod Texts

@@ -1,0 +1,45 @@
+//! The trees of formulas, plain and typed, the functions and rules that they name, and what an app names.
+#![tactic(auto)]
+
+mod app_end;
+mod broken;
+mod broken_text;
+pub mod controls;
+pub mod deeds;
+mod distinct;
+pub mod expr;
+pub mod formulas;
+pub mod functions;
+mod lawful_names;
+mod lawful_schema;
+pub mod literals;
+pub mod make_core;
+pub mod make_expr;
+pub mod names;
+pub mod reading;
+pub mod rows;
+mod rule;
+pub mod schema;
+pub mod signatures;
+pub mod sources;
+pub mod trees;
+
+pub use app_end::AppEnd;
+pub use broken::Broken;
+pub use broken_text::{address, line, lines};
+pub use deeds::{Deed, Sources, Target};
+pub use formulas::FormulaList;
+pub use functions::{Acting, Form, Fun};
+pub use lawful_names::is_lawful;
+pub use lawful_schema::is_lawful_schema;
+pub use literals::{DateFormat, Enumeration, NumberFormat, SortOrder, TimeUnit};
+pub use names::{
+    Collection, CollectionList, ControlList, ControlName, FormulaName, Names, Property,
+    PropertyList, ScreenList, Variable, VariableList,
+};
+pub use rows::{Answer, Ending, Row, Scalar, Takes};
+pub use rule::Rule;
+pub use schema::{Column, ColumnList, Schema, TableList, TableShape};
+pub use signatures::{SigShape, Signature, signature_in};
+pub use sources::Source;
+pub use trees::{Core, CoreArgs, CoreFields, CoreNode};

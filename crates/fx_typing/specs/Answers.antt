@@ -1,0 +1,11 @@
+-- What a body answers, where the definition answers a thing or the rule that is broken.
+use Rattle.std.specs.Prelude.{◌≡◌, ℕ, Result, Ok, Err}
+use Rattle.fx_trees.specs.Rules.{number_of}
+use Rattle.fx_typing.specs.declared.wrong.Wrong.{Wrong}
+use Rattle.fx_typing.specs.declared.wrong.Wrong.TheVariants.{Breaks, Memory}
+
+-- the thing and the rule are the definition's; memory may run out
+abbrev pub Answers : {A B : Type 0} → (A → B) → Result B ℕ → Result A Wrong → Type 0
+Answers f r (Ok x) = r ≡ Ok (f x)
+Answers f r (Err (Breaks rule)) = r ≡ Err (number_of rule)
+Answers f r (Err Memory) = Unit {0}

@@ -1,0 +1,21 @@
+-- What a typed tree with its type, and a part of a node, are seen as.
+use Rattle.std.specs.Prelude.{List, map}
+use Rattle.fx_data.specs.TypeView.{shape}
+use Rattle.fx_data.specs.Types.{Shape}
+use Rattle.fx_data.specs.declared.types.Ty.{Ty}
+use Rattle.fx_trees.specs.Term.{Term, Top, of, all}
+use Rattle.fx_typing.specs.Local as local
+use Rattle.fx_typing.specs.declared.typed.Piece.{Piece}
+use Rattle.fx_typing.specs.declared.typed.Piece.TheVariants.{Value, Label}
+use Rattle.fx_typing.specs.declared.typed.Typed.{Typed}
+
+abbrev pub typed : Typed → Term × Shape
+typed t = (t.core, shape t.ty)
+
+abbrev pub piece : Piece → local.Piece
+piece (Value a t) = local.value a t.core (shape t.ty)
+piece (Label x) = local.label x
+
+-- a head over parts that stand, and the type of the whole
+abbrev pub built : Top → List Typed → Ty → Term × Shape
+built h parts t = (of h (all (local.firsts (map typed parts))), shape t)

@@ -1,0 +1,62 @@
+// The keys of scalars.
+ghost use Rattle.std.specs.Prelude.{◌≡◌, IfOk};
+ghost use Rattle.fx_data.specs.ValueView.{view};
+ghost use Rattle.fx_value.specs.Keys.{key_bytes, IsProper, KeysOrder, KeysTell};
+ghost use Rattle.fx_value.specs.Order.{IsScalar};
+
+use fx_base::Memory;
+use fx_data::values::Value;
+use std::alloc::Global;
+
+/// The bytes that stand for a scalar in an index, which order as `compare` does.
+pub fn key_of(alloc: Global, v: &Value) -> Result<Vec<u8>, Memory>
+    requires { IsScalar (view v.now) }
+    ensures { IfOk result (λ k. k.items ≡ key_bytes (view v.now)) }
+{
+    let mut key = Vec::new(alloc);
+    match v {
+        Value::Blank => key.push(0)?,
+        Value::Number(number) => {
+            let shifted = i128::from(number.units()) + (1 << 63);
+            key.push(1)?;
+            key.extend_from_slice(&(shifted as u64).to_be_bytes())?;
+        }
+        Value::Text(text) => {
+            key.push(1)?;
+            key.extend_from_slice(text.as_str().as_bytes())?;
+        }
+        Value::Boolean(truth) => key.extend_from_slice(&[1, u8::from(*truth)])?,
+        Value::Date(day) => {
+            let shifted = i64::from(day.days()) + (1 << 31);
+            key.push(1)?;
+            key.extend_from_slice(&(shifted as u32).to_be_bytes())?;
+        }
+        _ => unreachable!(),
+    }
+    Ok(key)
+}
+
+/// A fact about every value, for the law of keys: a number and a day are in their ranges, and a text
+/// is of scalar values.
+pub fn value_is_proper(v: &Value)
+    ensures { IsProper (view v.now) }
+{
+    match v {
+        Value::Number(number) => {
+            let _units = number.units();
+        }
+        Value::Date(day) => {
+            let _days = day.days();
+        }
+        Value::Text(text) => {
+            let _text = text.as_str();
+        }
+        _ => {}
+    }
+}
+
+/// A law, and no work: keys order as `compare` does, and are equal exactly where it answers `Equal`.
+pub fn keys_order()
+    ensures order { KeysOrder }
+    ensures tell { KeysTell }
+{}

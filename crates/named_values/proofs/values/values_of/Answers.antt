@@ -1,5 +1,0 @@
-use Rattle.named_values.proofs.Keeps.{kept_long}
-use Rattle.named_values.proofs.values.values_of.Goals as goal
-
-pub named-requires : goal.named-requires
-named-requires g c = kept_long c.as_slice-formulas.result.now c.in_ok-kept.kept.items c.in_ok-kept.ensures.kept
