@@ -1,4 +1,0 @@
-use Rattle.language_rows.proofs.views.viewed.Given as goal
-
-abbrev pub ghosts-status : goal.ghosts-status
-ghosts-status a = record { name = a.blank.name; parts = a.blank.parts }

@@ -1,0 +1,55 @@
+//! Writes first what libraries answer where no formula shows it: keys and orders of values, how types join and what
+//! values weigh, the ends of days, values and refusals in their written forms, what a typed tree reads, how numbers
+//! round, the tokens of texts, and the properties of controls. Then it reads formulas of literals, operators and
+//! functions of values, one a line, and writes each with the plain form of what it answers. The day of `Today()` is
+//! that of the moment 1704067200. An empty line and one of `#` are written as they are.
+#![tactic(auto)]
+
+mod answers;
+mod arguments;
+mod days;
+mod evaluate;
+mod forms;
+mod keys;
+mod names;
+mod numbers;
+mod operators;
+mod page;
+mod parts;
+mod reads;
+mod records;
+mod refused;
+mod tokens;
+mod typed;
+mod weights;
+
+use crate::answers::row;
+use crate::page::Page;
+use fx_base::Memory;
+use std::io::{self, ErrorKind};
+
+fn main(rt: HostRuntime) -> io::Result<()> {
+    let mut page = Page::new(rt.alloc());
+    match write(&mut page) {
+        Ok(()) => print!(rt; "{}", page.text.as_str())?,
+        Err(Memory) => return Err(ErrorKind::OutOfMemory.into()),
+    }
+    for line in rt.lines(rt.alloc()) {
+        let row = row(rt.alloc(), line?.as_str())?;
+        println!(rt; "{row}")?;
+    }
+    Ok(())
+}
+
+/// Writes what libraries answer.
+fn write(page: &mut Page) -> Result<(), Memory> {
+    keys::write(page)?;
+    weights::write(page)?;
+    days::write(page)?;
+    forms::write(page)?;
+    refused::write(page)?;
+    reads::write(page)?;
+    numbers::write(page)?;
+    tokens::write(page)?;
+    names::write(page)
+}
