@@ -1,10 +1,12 @@
 pub mod AgreeLemmas
+pub mod AnswerLemmas
 pub mod FoundLemmas
 pub mod HitLemmas
 pub mod MarkLemmas
-pub mod OrderLemmas
+pub mod PutLemmas
 pub mod RowLists
 pub mod RuleLemmas
 pub mod SlotLemmas
 pub mod SoundLemmas
+pub mod StoreLemmas
 pub mod WholeLemmas

@@ -189,25 +189,25 @@ repeated law columns place d id fits proper (r ∷ rows) h = by id (lies_is law 
         more false g false f ih = ih ∙ ap (λ b. b || list_any (has_value (suc place) d) tail) (sym g)
         more true g false f ih = ap (λ t. not t || list_any (is_other (Some n)) found) f ∙ sym (ap (λ b. b || list_any (has_value (suc place) d) tail) g)
 
--- ---- a unique column is covered
-or_true : (a b : Bool) → b ≡ true → (a || b) ≡ true
+-- ---- an indexed or unique column is covered
+pub or_true : (a b : Bool) → b ≡ true → (a || b) ≡ true
 or_true true b h = refl
 or_true false b h = h
 
-unique_covered : (columns : List Column) (place k : ℕ) (c : Column) → slice_get columns place ≡ Some c → c.unique ≡ true → covers (indexed_from k columns) (k + place) ≡ true
-unique_covered [] place k c e u = absurd cc
-unique_covered (x ∷ xs) zero k c e u =
+pub indexed_covered : (columns : List Column) (place k : ℕ) (c : Column) → slice_get columns place ≡ Some c → (c.indexed || c.unique) ≡ true → covers (indexed_from k columns) (k + place) ≡ true
+indexed_covered [] place k c e u = absurd cc
+indexed_covered (x ∷ xs) zero k c e u =
     let same : x ≡ c = cc in
-    ap (λ b. covers (cond b (k ∷ indexed_from (k + 1) xs) (indexed_from (k + 1) xs)) (k + 0)) (or_true x.indexed x.unique (ap (λ (y : Column). y.unique) same ∙ u))
+    ap (λ b. covers (cond b (k ∷ indexed_from (k + 1) xs) (indexed_from (k + 1) xs)) (k + 0)) (ap (λ (y : Column). y.indexed || y.unique) same ∙ u)
     ∙ ap (λ t. t || covers (indexed_from (k + 1) xs) (k + 0)) (eq-eqb k (k + 0) (omega arith))
-unique_covered (x ∷ xs) (suc place) k c e u = by (x.indexed || x.unique) (subst (λ n. covers (indexed_from (k + 1) xs) n ≡ true) (let q : k + 1 + place ≡ k + suc place = omega arith in q) (unique_covered xs place (k + 1) c e u))
+indexed_covered (x ∷ xs) (suc place) k c e u = by (x.indexed || x.unique) (subst (λ n. covers (indexed_from (k + 1) xs) n ≡ true) (let q : k + 1 + place ≡ k + suc place = omega arith in q) (indexed_covered xs place (k + 1) c e u))
   where
     by : (b : Bool) → covers (indexed_from (k + 1) xs) (k + suc place) ≡ true → covers (cond b (k ∷ indexed_from (k + 1) xs) (indexed_from (k + 1) xs)) (k + suc place) ≡ true
     by true h = or_true (k == (k + suc place)) (covers (indexed_from (k + 1) xs) (k + suc place)) h
     by false h = h
 
 pub covered_at : (columns : List Column) (place : ℕ) (c : Column) → slice_get columns place ≡ Some c → c.unique ≡ true → covers (covered_of columns) (place + 1) ≡ true
-covered_at columns place c e u = or_true (0 == (place + 1)) (covers (indexed_from 1 columns) (place + 1)) (subst (λ n. covers (indexed_from 1 columns) n ≡ true) (let q : 1 + place ≡ place + 1 = omega arith in q) (unique_covered columns place 1 c e u))
+covered_at columns place c e u = or_true (0 == (place + 1)) (covers (indexed_from 1 columns) (place + 1)) (subst (λ n. covers (indexed_from 1 columns) n ≡ true) (let q : 1 + place ≡ place + 1 = omega arith in q) (indexed_covered columns place 1 c e (or_true c.indexed c.unique u)))
 
 pub repeated_at : KeysOrder → (columns : List Column) (place : ℕ) (d : Data) (id : Option ℕ) → FitsColumn columns place d → IsProper d → (rows : List Row) → AllByRecursion (IsSoundRow columns) rows
     → list_any (is_other id) (filter (lies_among (place + 1) (only_key (key_bytes d) ∷ [])) rows) ≡ list_any (has_value (place + 1) d) (others id rows)

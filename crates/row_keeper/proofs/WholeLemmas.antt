@@ -263,3 +263,7 @@ some_row rows id old sorted e = has_row id (rows_now rows) ∙ ap is_some (row_i
 
 pub some_count : (rows : List (ℕ × Slot)) (id : ℕ) (old : List Data) → IsStrictlySortedBy nat_cmp (keys_of rows) → now_at rows id ≡ Some old → 1 ≤ length (rows_now rows)
 some_count rows id old sorted e = let one = one_less id (rows_now rows) (in_order cells_now rows sorted) (some_row rows id old sorted e) in omega (arith, one)
+
+-- whether a row is one, by what stands under its number
+pub is_row : (rows : List (ℕ × Slot)) (id : ℕ) (at : Option (List Data)) → IsStrictlySortedBy nat_cmp (keys_of rows) → now_at rows id ≡ at → is_some at ≡ list_any (has_id id) (rows_now rows)
+is_row rows id at sorted e = sym (ap is_some e) ∙ sym (ap is_some (row_is cells_now rows sorted id)) ∙ sym (has_row id (rows_now rows))

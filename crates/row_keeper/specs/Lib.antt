@@ -3,11 +3,15 @@ pub mod Changes
 pub mod Covered
 pub mod Entries
 pub mod Found
+pub mod InMemory
+pub mod Kept
+pub mod OneTable
 pub mod RowRules
 pub mod Rules
 pub mod Sameness
 pub mod Slots
 pub mod Sound
+pub mod StoreView
 pub mod TableView
 pub mod Tables
 pub mod Whole

@@ -12,3 +12,6 @@ pub record TableView : Type 0 where
 -- the states of tables, now and as the transaction began
 abbrev pub states_now : List TableView → List TableState
 states_now tables = map (λ (t : TableView). t.now) tables
+
+abbrev pub states_then : List TableView → List TableState
+states_then tables = map (λ (t : TableView). t.then) tables

@@ -1,15 +1,20 @@
 //! What keeps rows, with transactions.
 #![tactic(auto)]
 
+mod answers;
 mod index;
 pub mod keeper;
+pub mod memory;
 mod picked;
+mod puts;
 pub mod rows;
 mod rules;
 mod scans;
 mod schemas;
 mod slots;
+mod store;
 mod table;
 
 pub use keeper::{Keeper, KeeperEnd};
+pub use memory::MemoryKeeper;
 pub use rows::{Put, RowRefusal, RowRule};

@@ -42,6 +42,13 @@ fn cell<'t>(row: &'t Row, column: u16, number: &'t Value, blank: &'t Value) -> &
     }
 }
 
+/// The value of a row in a column, as one of its own.
+pub fn value_in(alloc: Global, row: &Row, column: u16) -> Result<Value, Memory>
+    ensures { IfOk result (λ v. view v ≡ value_at (values_of row.now) column) }
+{
+    cell(row, column, &number_of(row.id), &Value::Blank).copy(alloc)
+}
+
 /// The order of two rows by a column.
 fn compare_at(a: &Row, b: &Row, column: u16) -> Ordering
     ensures { result ≡ order (value_at (values_of a.now) column) (value_at (values_of b.now) column) }

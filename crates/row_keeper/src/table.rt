@@ -212,6 +212,17 @@ impl Table {
         Ok(true)
     }
 
+    /// Whether there is a row of this number.
+    pub fn has(&self, id: u32) -> bool
+        ensures { result ≡ list_any (has_id id) self.now.now.rows }
+    {
+        let _len = self.rows.len();
+        match self.rows.get(&id) {
+            Some(slot) => slot.cells().is_some(),
+            None => false,
+        }
+    }
+
     /// A fact about its rows, and no work.
     pub fn is_sound(&self)
         ensures { IsSound self.now }

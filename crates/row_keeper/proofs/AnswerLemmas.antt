@@ -1,0 +1,134 @@
+-- What queries answer of the rows that they ask.
+use Rattle.std.proofs.Common.{◌≡◌, ◌≤◌, List, [], ◌∷◌, map, length, refl, sym, ap, ◌∙◌, arith, Bool, true, false, ℕ, Option, None, Some, subst}
+use Rattle.std.specs.Prelude.{IsSomeAnd, MatchOption, slice_get, unwrap_or}
+use Rattle.std.specs.List.{All, AllByRecursion, filter}
+use Rattle.std.proofs.lemmas.List.{length-take}
+use Rattle.std.proofs.lemmas.List.Elements.{All-filter, All-from_recursion, All-take}
+use Rattle.fx_data.specs.Values.{Data, blank, boolean, fault}
+use Rattle.fx_data.specs.declared.faults.Fault.{Fault}
+use Rattle.fx_data.specs.declared.aggregates.Totals.{Totals}
+use Rattle.fx_tables.specs.Aggregates.{SumsUp, numbers_in}
+use Rattle.fx_trees.specs.declared.schema.TableShape.{TableShape}
+use Rattle.row_queries.specs.Conditions.{Condition, ConditionList, all_of, also, always, any_of, compares, constant, contains, flag, is_blank, no_conditions, opposite, starts}
+use Rattle.row_queries.specs.Queries.{AreAsked, IsQuery, IsTotalled, first_fault, first_of, given_of, outcome_on, rows_or_fault}
+use Rattle.row_queries.specs.RowTests.{CanAsk, CanAskAll, HasNoFaults, HaveNoFaults, IsFaultOr, IsNoFault, IsTruth, Outcome, all_outcome, and_then, any_outcome, decided, decided_by, failed, fault_in, is_met, met, or_else, outcome, reversed, unless_fault, unmet}
+use Rattle.row_queries.specs.TableRows.{IsRowOf, value_at, values_of}
+use Rattle.row_queries.specs.declared.queries.Query.{Query}
+use Rattle.row_queries.specs.declared.rows.Row.{Row}
+use Rattle.row_keeper.proofs.StoreLemmas.{shorter}
+
+-- ---- a test without errors as constants is no error on a row that it can be asked of
+truth : (d : Data) → IsTruth d → fault_in (decided_by d) ≡ None
+truth (boolean true) h = refl
+truth (boolean false) h = refl
+truth blank h = refl
+truth d h = absurd h
+
+truth_at : (o : Option Data) → IsSomeAnd o IsTruth → fault_in (decided_by (unwrap_or o blank)) ≡ None
+truth_at None h = absurd h
+truth_at (Some d) h = truth d h
+
+truth_given : (d : Data) → IsFaultOr IsTruth d → IsNoFault d → fault_in (decided_by d) ≡ None
+truth_given (fault k cs) h n = absurd n
+truth_given (boolean true) h n = refl
+truth_given (boolean false) h n = refl
+truth_given blank h n = refl
+truth_given d h n = absurd h
+
+decided_sound : (b : Bool) → fault_in (decided b) ≡ None
+decided_sound true = refl
+decided_sound false = refl
+
+unless_sound : (d : Data) (b : Bool) → IsNoFault d → fault_in (unless_fault d (decided b)) ≡ None
+unless_sound (fault k cs) b n = absurd n
+unless_sound d b n = decided_sound b
+
+reversed_sound : (o : Outcome) → fault_in o ≡ None → fault_in (reversed o) ≡ None
+reversed_sound met h = refl
+reversed_sound unmet h = refl
+reversed_sound (failed k cs) h = h
+
+and_sound : (o p : Outcome) → fault_in o ≡ None → fault_in p ≡ None → fault_in (and_then o p) ≡ None
+and_sound met p h k = k
+and_sound unmet p h k = refl
+and_sound (failed kind cs) p h k = h
+
+or_sound : (o p : Outcome) → fault_in o ≡ None → fault_in p ≡ None → fault_in (or_else o p) ≡ None
+or_sound met p h k = refl
+or_sound unmet p h k = k
+or_sound (failed kind cs) p h k = h
+
+mutual
+  no_fault : (row : List Data) (c : Condition) → CanAsk row c → HasNoFaults c → fault_in (outcome row c) ≡ None
+  no_fault row always h n = refl
+  no_fault row (flag k) h n = truth_at (slice_get row k) h
+  no_fault row (constant d) h n = truth_given d h n
+  no_fault row (compares op k d) h n = unless_sound d _ n
+  no_fault row (is_blank k) h n = decided_sound _
+  no_fault row (starts k d) h n = unless_sound d _ n
+  no_fault row (contains k d) h n = unless_sound d _ n
+  no_fault row (all_of cs) h n = no_fault_all row cs h n
+  no_fault row (any_of cs) h n = no_fault_any row cs h n
+  no_fault row (opposite c) h n = reversed_sound (outcome row c) (no_fault row c h n)
+
+  no_fault_all : (row : List Data) (cs : ConditionList) → CanAskAll row cs → HaveNoFaults cs → fault_in (all_outcome row cs) ≡ None
+  no_fault_all row no_conditions h n = refl
+  no_fault_all row (also c cs) h n = and_sound (outcome row c) (all_outcome row cs) (no_fault row c h.0 n.0) (no_fault_all row cs h.1 n.1)
+
+  no_fault_any : (row : List Data) (cs : ConditionList) → CanAskAll row cs → HaveNoFaults cs → fault_in (any_outcome row cs) ≡ None
+  no_fault_any row no_conditions h n = refl
+  no_fault_any row (also c cs) h n = or_sound (outcome row c) (any_outcome row cs) (no_fault row c h.0 n.0) (no_fault_any row cs h.1 n.1)
+
+next_fault : (o : Outcome) (os : List Outcome) → fault_in o ≡ None → first_fault os ≡ None → first_fault (o ∷ os) ≡ None
+next_fault met os h k = k
+next_fault unmet os h k = k
+next_fault (failed kind cs) os h k = absurd cc
+
+pub no_faults : (q : Query) (rows : List Row) → AllByRecursion (λ (r : Row). CanAsk (values_of r) q.test) rows → HasNoFaults q.test → first_fault (map (outcome_on q) rows) ≡ None
+no_faults q [] h n = refl
+no_faults q (r ∷ rows) h n = next_fault (outcome_on q r) (map (outcome_on q) rows) (no_fault (values_of r) q.test h.0 n) (no_faults q rows h.1 n)
+
+-- the rows that were judged, where there is no error
+pub judged_rows : (q : Query) (asked rows : List Row) (f : Option Fault) → first_fault (map (outcome_on q) asked) ≡ None
+    → MatchOption f ((first_fault (map (outcome_on q) asked) ≡ None) × (rows ≡ filter (λ r. is_met (outcome_on q r)) asked)) (λ x. first_fault (map (outcome_on q) asked) ≡ Some x)
+    → rows ≡ filter (λ r. is_met (outcome_on q r)) asked
+judged_rows q asked rows None n h = h.1
+judged_rows q asked rows (Some x) n h = absurd (let e : None ≡ Some x = sym n ∙ h in cc)
+
+-- ---- rows that are asked can be asked
+pub asks : (shapes : List TableShape) (q : Query) (rows : List Row) → IsQuery shapes q → IsSomeAnd (slice_get shapes q.table) (λ (t : TableShape). AllByRecursion (IsRowOf t) rows) → AllByRecursion (λ (r : Row). CanAsk (values_of r) q.test) rows
+asks shapes q rows is fit = all rows (subst (λ o. IsSomeAnd o (λ (t : TableShape). AllByRecursion (IsRowOf t) rows)) is.is_table fit)
+  where
+    all : (rs : List Row) → AllByRecursion (IsRowOf is.table) rs → AllByRecursion (λ (r : Row). CanAsk (values_of r) q.test) rs
+    all [] h = tt
+    all (r ∷ rs) h = (is.asks r h.0, all rs h.1)
+
+-- ---- what is given is some of what is asked
+given_fits : (P : Row → Type 0) (q : Query) (asked : List Row) → All P asked → All P (given_of q asked)
+given_fits P q asked h = by q.take (All-filter (λ r. is_met (outcome_on q r)) P asked h)
+  where
+    by : (most : Option ℕ) → All P (filter (λ r. is_met (outcome_on q r)) asked) → All P (first_of most (filter (λ r. is_met (outcome_on q r)) asked))
+    by None k = k
+    by (Some n) k = All-take P n _ k
+
+pub answer_fits : (o : Option TableShape) (q : Query) (asked : List Row) (f : Option Fault) → IsSomeAnd o (λ (t : TableShape). AllByRecursion (IsRowOf t) asked)
+    → IsSomeAnd o (λ (t : TableShape). All (IsRowOf t) (rows_or_fault (given_of q asked) f).rows)
+answer_fits None q asked f h = absurd h
+answer_fits (Some t) q asked None h = given_fits (IsRowOf t) q asked (All-from_recursion (IsRowOf t) asked h)
+answer_fits (Some t) q asked (Some x) h = All-from_recursion (IsRowOf t) [] tt
+
+pub given_short : (q : Query) (asked : List Row) → length (given_of q asked) ≤ length asked
+given_short q asked = by q.take (shorter (λ r. is_met (outcome_on q r)) asked)
+  where
+    by : (most : Option ℕ) → length (filter (λ r. is_met (outcome_on q r)) asked) ≤ length asked → length (first_of most (filter (λ r. is_met (outcome_on q r)) asked)) ≤ length asked
+    by None k = k
+    by (Some n) k = let e = length-take n (filter (λ r. is_met (outcome_on q r)) asked) in omega (arith, e, k)
+
+pub answer_short : (q : Query) (asked : List Row) (f : Option Fault) → length (rows_or_fault (given_of q asked) f).rows ≤ length asked
+answer_short q asked None = given_short q asked
+answer_short q asked (Some x) = omega arith
+
+-- what the values of the rows that are given come to
+pub totalled : (q : Query) (rows asked given : List Row) (column : ℕ) (values : List Data) (totals : Totals) → AreAsked q rows asked → given ≡ given_of q asked → values ≡ map (λ (r : Row). value_at (values_of r) column) given
+    → SumsUp (numbers_in values) totals → IsTotalled q rows column totals
+totalled q rows asked given column values totals is e f h = (asked, is, subst (λ (vs : List Data). SumsUp (numbers_in vs) totals) (f ∙ ap (map (λ (r : Row). value_at (values_of r) column)) e) h)

@@ -1,2 +1,0 @@
--- The order of rows is total.
-use Rattle.fx_value.specs.Order.{order}

@@ -1,0 +1,202 @@
+//! Rows in memory.
+ghost use Rattle.std.specs.Prelude.{◌≡◌, ◌≤◌, ◌+◌, length, slice_get, IfOk, IsSomeAnd};
+ghost use Rattle.std.specs.List.{AllByRecursion};
+ghost use Rattle.row_queries.specs.Queries.{AreAsked, IsQuery};
+ghost use Rattle.row_queries.specs.TableRows.{IsRowOf, rows_at};
+ghost use Rattle.row_queries.specs.Visits.{VisitsAtLeast, VisitsItsRanges};
+ghost use Rattle.row_keeper.specs.InMemory.{unused};
+ghost use Rattle.row_keeper.specs.Tables.{rows_of, shapes_of};
+
+use crate::answers::{answered, given, values_in};
+use crate::keeper::{Keeper, KeeperEnd};
+use crate::rows::Put;
+use crate::store::Store;
+use fx_base::Memory;
+use fx_base::plan::FaultPlan;
+use fx_data::Totals;
+use fx_tables::totals;
+use fx_trees::Schema;
+use row_queries::{Cells, Query, Row, RowList};
+use std::alloc::Global;
+use std::marker::Model;
+
+/// Rows in memory. It tells all that it keeps, and fails only at the calls that it was told to.
+#[derive(Drop)]
+pub struct MemoryKeeper {
+    alloc: Global,
+    name: Option<String>,
+    store: Store,
+    visited: u64,
+    plan: FaultPlan,
+}
+
+impl Model for MemoryKeeper {
+    ghost use Rattle.std.specs.Prelude.{option_map, string_bytes};
+    ghost use Rattle.std.specs.Coded.{codes};
+    ghost use Rattle.fx_trees.specs.contracts.schema.Schema.{the_row as schema_row};
+    ghost use Rattle.row_queries.specs.contracts.rows.Row.{the_row as row_row};
+    ghost use Rattle.row_keeper.specs.InMemory.{InMemory};
+
+    ghost Value = { InMemory };
+
+    ghost coded = { Prim.hlevel (codes, schema_row.coded, row_row.coded) };
+
+    ghost view = { λ k. record { name = option_map string_bytes k.name; store = k.store; visited = k.visited; plan = k.plan } };
+}
+
+impl MemoryKeeper {
+    /// No schema and no transaction. The calls that the plan names are to fail; `back` isn't counted.
+    pub fn new(alloc: Global, plan: FaultPlan) -> MemoryKeeper
+        ensures { result ≡ unused plan }
+    {
+        MemoryKeeper {
+            alloc,
+            name: None,
+            store: Store::new(alloc),
+            visited: 0,
+            plan,
+        }
+    }
+
+    /// Counts rows as visited.
+    fn visit(&mut self, rows: &[Row])
+        ensures least { VisitsAtLeast (length rows.now) self.old.visited self.new.visited }
+        ensures most { self.new.visited ≤ self.old.visited + length rows.now }
+        ensures later { self.old.visited ≤ self.new.visited }
+        ensures same { self.new ≡ record self.old { visited = self.new.visited } }
+    {
+        self.visited = self.visited.saturating_add(rows.len() as u64);
+    }
+
+    /// The rows that a query asks, in its order. They are counted as visited.
+    fn ask(&mut self, query: &Query) -> Result<Vec<Row>, Memory>
+        requires { IsQuery (shapes_of self.old.store.schema) query.now }
+        ensures asked { IfOk result (λ rows. AreAsked query.now (rows_at (rows_of self.old.store.now) query.now.table) rows.items) }
+        ensures fit { IfOk result (λ rows. IsSomeAnd (slice_get (shapes_of self.old.store.schema) query.now.table) (λ t. AllByRecursion (IsRowOf t) rows.items)) }
+        ensures few { IfOk result (λ rows. length rows.items ≤ 200000) }
+        ensures least { IfOk result (λ rows. VisitsAtLeast (length rows.items) self.old.visited self.new.visited) }
+        ensures most { VisitsItsRanges query.now (rows_at (rows_of self.old.store.now) query.now.table) self.old.visited self.new.visited }
+        ensures later { self.old.visited ≤ self.new.visited }
+        ensures same { self.new ≡ record self.old { visited = self.new.visited } }
+    {
+        let rows = self.store.asked(query)?;
+        self.visit(&rows);
+        Ok(rows)
+    }
+}
+
+impl Keeper for MemoryKeeper {
+    ghost use Rattle.std.specs.Prelude.{Some};
+    ghost use Rattle.std.proofs.Common.{sym};
+    ghost use Rattle.std.proofs.lemmas.Option.{none-some};
+    ghost use Rattle.row_keeper.specs.InMemory.{EndsAsPlanned, EndsWithoutMemory, IsPlanned, marks_of};
+    ghost use Rattle.row_keeper.specs.StoreView.{tables_now, tables_then};
+
+    ghost told = { λ k. Some (tables_now k.store) };
+
+    ghost began = { λ k. Some (tables_then k.store) };
+
+    ghost attached = { λ k. Some k.name };
+
+    ghost shaped = { λ k. k.store.schema };
+
+    ghost in_transaction = { λ k. k.store.is_begun };
+
+    ghost marks = { marks_of };
+
+    ghost visited = { λ k. k.visited };
+
+    ghost attaches = { λ k name l. l.store ≡ k.store };
+
+    ghost ends = { λ k l end. IsPlanned EndsAsPlanned k.plan l.plan end };
+
+    ghost commits = { λ k l end. IsPlanned EndsWithoutMemory k.plan l.plan end };
+
+    ghost backs = { λ k l. l.plan ≡ k.plan };
+
+    ghost quiet = { λ k e. absurd (none-some (tables_now k.store) (sym e)) };
+
+    fn attach(&mut self, name: &str) -> Result<(), KeeperEnd> {
+        if self.plan.next_fails() {
+            return Err(KeeperEnd::Failed);
+        }
+        self.name = Some(String::from_str(self.alloc, name)?);
+        Ok(())
+    }
+
+    fn shape(&mut self, schema: &Schema) -> Result<Option<Schema>, KeeperEnd> {
+        if self.plan.next_fails() {
+            return Err(KeeperEnd::Failed);
+        }
+        Ok(self.store.shape(schema)?)
+    }
+
+    fn begin(&mut self) -> Result<(), KeeperEnd> {
+        if self.plan.next_fails() {
+            return Err(KeeperEnd::Failed);
+        }
+        self.store.begin();
+        Ok(())
+    }
+
+    fn insert(&mut self, table: u16, cells: &Cells) -> Result<Put, KeeperEnd> {
+        if self.plan.next_fails() {
+            return Err(KeeperEnd::Failed);
+        }
+        Ok(self.store.insert(table, cells)?)
+    }
+
+    fn replace(&mut self, table: u16, id: u32, cells: &Cells) -> Result<Put, KeeperEnd> {
+        if self.plan.next_fails() {
+            return Err(KeeperEnd::Failed);
+        }
+        Ok(self.store.replace(table, id, cells)?)
+    }
+
+    fn remove(&mut self, table: u16, id: u32) -> Result<bool, KeeperEnd> {
+        if self.plan.next_fails() {
+            return Err(KeeperEnd::Failed);
+        }
+        Ok(self.store.remove(table, id)?)
+    }
+
+    fn commit(&mut self) -> Result<(), KeeperEnd> {
+        if self.plan.next_fails() {
+            self.store.restore();
+            return Err(KeeperEnd::Failed);
+        }
+        self.store.settle();
+        Ok(())
+    }
+
+    fn back(&mut self) {
+        self.store.restore();
+    }
+
+    fn scan(&mut self, query: &Query) -> Result<RowList, KeeperEnd> {
+        if self.plan.next_fails() {
+            return Err(KeeperEnd::Failed);
+        }
+        let asked = self.ask(query)?;
+        Ok(answered(self.alloc, asked, query)?)
+    }
+
+    fn count(&mut self, query: &Query) -> Result<u32, KeeperEnd> {
+        if self.plan.next_fails() {
+            return Err(KeeperEnd::Failed);
+        }
+        let asked = self.ask(query)?;
+        let rows = given(self.alloc, asked, query)?;
+        Ok(rows.len() as u32)
+    }
+
+    fn total(&mut self, query: &Query, column: u16) -> Result<Totals, KeeperEnd> {
+        if self.plan.next_fails() {
+            return Err(KeeperEnd::Failed);
+        }
+        let asked = self.ask(query)?;
+        let rows = given(self.alloc, asked, query)?;
+        let values = values_in(self.alloc, rows.as_slice(), column)?;
+        Ok(totals(values.as_slice()))
+    }
+}

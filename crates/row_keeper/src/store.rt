@@ -1,0 +1,183 @@
+// The tables of a schema, with a transaction.
+ghost use Rattle.std.specs.Prelude.{◌≡◌, ◌≢◌, ◌≤◌, true, false, length, map, slice_get, IfNone, IfOk, IfSome, IsSome, IsSomeAnd, OnErr};
+ghost use Rattle.std.specs.List.{AllByRecursion};
+ghost use Rattle.fx_trees.specs.Lawful.{IsLawfulSchema};
+ghost use Rattle.fx_trees.specs.declared.schema.TableShape.{TableShape as Shape};
+ghost use Rattle.row_queries.specs.Queries.{AreAsked, IsQuery};
+ghost use Rattle.row_queries.specs.TableRows.{AreCellsOf, IsRowOf, rows_at};
+ghost use Rattle.row_keeper.specs.Changes.{Inserts, IsInserted, IsReplaced, Removes, Replaces, Shapes};
+ghost use Rattle.row_keeper.specs.Kept.{empty_table};
+ghost use Rattle.row_keeper.specs.StoreView.{no_store, tables_now, tables_then};
+ghost use Rattle.row_keeper.specs.Tables.{AreStatesOf, columns_at, rows_of, shapes_of};
+
+use crate::puts::{are_sound, insert_at, remove_at, replace_at, restore_all, settle_all};
+use crate::rows::Put;
+use crate::scans::sort_rows;
+use crate::schemas::{copy_columns, copy_schema, is_same_schema};
+use crate::table::Table;
+use fx_base::Memory;
+use fx_trees::{Schema, TableShape};
+use row_queries::{Cells, Query, Row};
+use std::alloc::Global;
+use std::marker::Model;
+
+#[derive(Drop)]
+pub struct Store {
+    alloc: Global,
+    /// The schema that is kept, if any.
+    schema: Option<Schema>,
+    /// A table for each of the schema.
+    tables: Vec<Table>,
+    /// Whether a transaction is begun.
+    is_begun: bool,
+}
+
+impl Model for Store {
+    ghost use Rattle.row_keeper.specs.Kept.{IsKept};
+    ghost use Rattle.row_keeper.specs.StoreView.{StoreView};
+    ghost use Rattle.row_keeper.specs.TableView.{states_now, states_then};
+    ghost use Rattle.std.specs.Coded.{codes};
+    ghost use Rattle.fx_trees.specs.contracts.schema.Schema.{the_row as schema_row};
+    ghost use Rattle.row_queries.specs.contracts.rows.Row.{the_row as row_row};
+
+    ghost Value = { StoreView };
+
+    ghost coded = { Prim.hlevel (codes, schema_row.coded, row_row.coded) };
+
+    ghost view = { λ s. record {
+      schema = s.schema;
+      now = states_now s.tables.items;
+      then = states_then s.tables.items;
+      is_begun = s.is_begun;
+    } };
+
+    ghost invariant = { λ s. IsKept s.schema s.tables.items s.is_begun };
+}
+
+/// A table without rows for each of these shapes.
+fn empty_tables(alloc: Global, shapes: &[TableShape]) -> Result<Vec<Table>, Memory>
+    requires { AllByRecursion (λ (t : Shape). length t.columns ≤ 63) shapes.now }
+    ensures { IfOk result (λ v. v.items ≡ map empty_table shapes.now) }
+{
+    let mut tables = Vec::with_capacity(alloc, shapes.len())?;
+    for shape in shapes {
+        let columns = copy_columns(alloc, &shape.columns)?;
+        tables.push(Table::new(alloc, columns)?)?;
+    }
+    Ok(tables)
+}
+
+impl Store {
+    /// No schema and no transaction.
+    pub fn new(alloc: Global) -> Store
+        ensures { result ≡ no_store }
+    {
+        Store {
+            alloc,
+            schema: None,
+            tables: Vec::new(alloc),
+            is_begun: false,
+        }
+    }
+
+    /// Keeps a schema, with tables without rows, unless one is kept. Where another one is, it answers that one.
+    pub fn shape(&mut self, schema: &Schema) -> Result<Option<Schema>, Memory>
+        requires idle { self.old.is_begun ≡ false }
+        requires lawful { IsLawfulSchema schema.now }
+        ensures shapes { IfOk result (λ other. Shapes schema.now other (tables_now self.old) (tables_now self.new)) }
+        ensures another { IfOk result (λ other. IfSome other (λ s. s ≢ schema.now)) }
+        ensures sound { IfOk result (λ other. IfNone other (AreStatesOf schema.now.tables self.new.now)) }
+        ensures idle { self.new.is_begun ≡ false }
+        ensures err { OnErr result (self.new ≡ self.old) }
+    {
+        are_sound(&self.tables);
+        if let Some(kept) = &self.schema {
+            if is_same_schema(kept, schema) {
+                return Ok(None);
+            }
+            return Ok(Some(copy_schema(self.alloc, kept)?));
+        }
+        let tables = empty_tables(self.alloc, schema.tables.as_slice())?;
+        let kept = copy_schema(self.alloc, schema)?;
+        self.tables = tables;
+        self.schema = Some(kept);
+        Ok(None)
+    }
+
+    /// Begins a transaction.
+    pub fn begin(&mut self)
+        requires idle { self.old.is_begun ≡ false }
+        ensures begun { self.new ≡ record self.old { is_begun = true } }
+        ensures still { self.old.then ≡ self.old.now }
+    {
+        self.is_begun = true;
+    }
+
+    /// Puts a new row into a table, or says which rule it breaks first.
+    pub fn insert(&mut self, table: u16, cells: &Cells) -> Result<Put, Memory>
+        requires begun { self.old.is_begun ≡ true }
+        requires fit { IsSomeAnd (slice_get (shapes_of self.old.schema) table) (λ t. AreCellsOf t.columns cells.now) }
+        ensures put { IfOk result (λ put. Inserts (columns_at (shapes_of self.old.schema) table) table cells.now put (tables_now self.old) (tables_now self.new)) }
+        ensures sound { IfOk result (λ put. IsInserted (columns_at (shapes_of self.old.schema) table) put) }
+        ensures began { tables_then self.new ≡ tables_then self.old }
+        ensures begun { self.new.is_begun ≡ true }
+        ensures err { OnErr result (self.new ≡ self.old) }
+    {
+        insert_at(self.alloc, &mut self.tables, table, cells)
+    }
+
+    /// Puts other cells into a row, or says that there is none of this number, or which rule it would break first.
+    pub fn replace(&mut self, table: u16, id: u32, cells: &Cells) -> Result<Put, Memory>
+        requires begun { self.old.is_begun ≡ true }
+        requires fit { IsSomeAnd (slice_get (shapes_of self.old.schema) table) (λ t. AreCellsOf t.columns cells.now) }
+        ensures put { IfOk result (λ put. Replaces (columns_at (shapes_of self.old.schema) table) table id cells.now put (tables_now self.old) (tables_now self.new)) }
+        ensures sound { IfOk result (λ put. IsReplaced (columns_at (shapes_of self.old.schema) table) id put) }
+        ensures began { tables_then self.new ≡ tables_then self.old }
+        ensures begun { self.new.is_begun ≡ true }
+        ensures err { OnErr result (self.new ≡ self.old) }
+    {
+        replace_at(self.alloc, &mut self.tables, table, id, cells)
+    }
+
+    /// Takes a row out, and says whether it was there.
+    pub fn remove(&mut self, table: u16, id: u32) -> Result<bool, Memory>
+        requires begun { self.old.is_begun ≡ true }
+        requires table { IsSome (slice_get (shapes_of self.old.schema) table) }
+        ensures was { IfOk result (λ was. Removes table id was (tables_now self.old) (tables_now self.new)) }
+        ensures began { tables_then self.new ≡ tables_then self.old }
+        ensures begun { self.new.is_begun ≡ true }
+        ensures err { OnErr result (self.new ≡ self.old) }
+    {
+        remove_at(&mut self.tables, table, id)
+    }
+
+    /// Ends a transaction with its changes, and takes no memory.
+    pub fn settle(&mut self)
+        ensures { self.new ≡ record self.old { then = self.old.now; is_begun = false } }
+    {
+        settle_all(&mut self.tables);
+        self.is_begun = false;
+    }
+
+    /// Ends a transaction without its changes, and takes no memory.
+    pub fn restore(&mut self)
+        ensures { self.new ≡ record self.old { now = self.old.then; is_begun = false } }
+    {
+        restore_all(&mut self.tables);
+        self.is_begun = false;
+    }
+
+    /// The rows that a query asks, in its order.
+    pub fn asked(&self, query: &Query) -> Result<Vec<Row>, Memory>
+        requires { IsQuery (shapes_of self.now.schema) query.now }
+        ensures asked { IfOk result (λ rows. AreAsked query.now (rows_at (rows_of self.now.now) query.now.table) rows.items) }
+        ensures fit { IfOk result (λ rows. IsSomeAnd (slice_get (shapes_of self.now.schema) query.now.table) (λ t. AllByRecursion (IsRowOf t) rows.items)) }
+        ensures few { IfOk result (λ rows. length rows.items ≤ 200000) }
+    {
+        let table = &self.tables[query.table as usize];
+        table.is_sound();
+        let mut rows = table.asked(query.column, query.ranges.as_slice())?;
+        sort_rows(&mut rows, query.order)?;
+        Ok(rows)
+    }
+}
