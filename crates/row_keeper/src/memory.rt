@@ -58,6 +58,20 @@ impl MemoryKeeper {
         }
     }
 
+    /// How many rows have been visited.
+    pub fn visited(&self) -> u64
+        ensures { result ≡ self.now.visited }
+    {
+        self.visited
+    }
+
+    /// How many calls have failed.
+    pub fn faults(&self) -> u64
+        ensures { result ≡ self.now.plan.count }
+    {
+        self.plan.count()
+    }
+
     /// Counts rows as visited.
     fn visit(&mut self, rows: &[Row])
         ensures least { VisitsAtLeast (length rows.now) self.old.visited self.new.visited }
