@@ -1,4 +1,5 @@
 pub mod Conjuncts
+pub mod Delegable
 pub mod KeyOrder
 pub mod Missed
 pub mod Outlined

@@ -1,12 +1,15 @@
 //! Plans of queries.
 #![tactic(auto)]
 
+pub mod conditions;
 pub mod filling;
 pub mod patterns;
 pub mod plans;
 pub mod ranges;
+pub mod sketches;
 
 pub use filling::filled;
 pub use patterns::{Pattern, PatternNode, Patterns};
 pub use plans::{Sketch, plan};
 pub use ranges::{Reach, no_row_is_missed, ranges_of};
+pub use sketches::sketch;
