@@ -1,5 +1,5 @@
 -- Blank lines, and the fronts that end with them.
-use Rattle.std.proofs.Common.{◌≡◌, ℕ, ◌+◌, ◌-◌, ◌<◌, ◌≤◌, inl, inr, Bool, true, false, List, [], ◌∷◌, ◌++◌, length, take, codes, refl, ap, sym, ◌∙◌, arith, nat_eq, min, below_more}
+use Rattle.std.proofs.Common.{◌≡◌, ℕ, ◌+◌, ◌-◌, ◌<◌, ◌≤◌, inl, inr, Bool, true, false, List, [], ◌∷◌, ◌++◌, length, take, codes, refl, ap, sym, ◌∙◌, subst, arith, nat_eq, min, below_more}
 use Rattle.std.specs.List.{ends_with}
 use Rattle.std.proofs.lemmas.Bool.Decides.{Decides-eqb}
 use Rattle.std.proofs.lemmas.Slice.Eq.{ends_is}
@@ -44,7 +44,7 @@ one_more bytes n none here k le =
 -- without a blank line in what came, and with room for more
 pub open_short : (bytes : List ℕ) → length bytes < 8192 → HasNoBlank bytes (min (length bytes) 8192) → IsOpen bytes
 open_short [] short none = inl refl
-open_short (b ∷ bytes) short none = inr (refl, record { some = omega arith; short = short; none = λ k le. none k (omega arith) })
+open_short (b ∷ bytes) short none = inr (refl, inl (record { some = omega arith; short = short; none = λ k le. none k (omega arith) }))
 
 -- what more bytes leave
 pub none_more : (bytes more : List ℕ) (n : ℕ) → n ≤ length bytes → HasNoBlank bytes n → HasNoBlank (bytes ++ more) n
@@ -60,4 +60,15 @@ front_more {bytes} more {n} f = record {
   near = f.near;
   blank = rw (take_front more f) f.blank;
   first = λ k below. let h : k ≤ length bytes = omega (arith, f.within, below) in rw (take-append-le k bytes more h) (f.first k below);
+}
+
+-- what fewer bytes leave
+pub front_less : (bytes more : List ℕ) (n : ℕ) → n ≤ length bytes → IsFront (bytes ++ more) n → IsFront bytes n
+front_less bytes more n le f = record {
+  within = le;
+  near = f.near;
+  blank = subst EndsBlank (take-append-le n bytes more le) f.blank;
+  first = λ k below blank.
+      let h : k ≤ length bytes = omega arith in
+      f.first k below (subst EndsBlank (sym (take-append-le k bytes more h)) blank);
 }

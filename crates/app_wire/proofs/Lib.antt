@@ -1,4 +1,5 @@
 pub mod Blanks
+pub mod Bodies
 pub mod Callers
 pub mod Doorways
 pub mod Heads

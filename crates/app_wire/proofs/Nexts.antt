@@ -25,7 +25,7 @@ begins : (answer : Result Fed Memory) (found : Found) (came unread held' : List 
     → OnErr answer (0 < length came) → Begins found (came ++ unread) came held'
 begins (Ok fed.Need) found came unread held' h e some = cc
 begins (Ok (fed.Whole request)) found came unread held' h e some =
-    begins_as found (next.Whole request) (came ++ unread) came held' e (h.0, whole_more unread h.1, h.1.front.within, h.2)
+    begins_as found (next.Whole request) (came ++ unread) came held' e (h.0, whole_more unread h.1, h.1.within, h.2)
 begins (Ok (fed.Refused code)) found came unread held' h e some =
     begins_as found (next.Refused code) (came ++ unread) came held' e (refusal_more came unread true code h.0, h.1)
 begins (Err error) found came unread held' h e some =
@@ -71,7 +71,7 @@ open_little held held' a b k is_open = inr (k.read, [], subst IsOpen k.held_is i
 -- no request was begun, where none is cut short
 none_begun : (held : List ℕ) → IsOpen held → (Framing held true (refused 6) → ⊥) → held ≡ []
 none_begun held (inl none) whole_so_far = none
-none_begun held (inr need) whole_so_far = absurd (whole_so_far (inr (inr (inr (refl, refl, need.1)))))
+none_begun held (inr need) whole_so_far = absurd (whole_so_far (inr (inr (inr (inr (inr (refl, refl, need.1)))))))
 
 -- the end of the input came, and a request is cut short, or none was begun
 pub found_cut : (held held' bytes : List ℕ) (room : ℕ) → bytes ≡ [] → IsOpen held' → Framing held' true (refused 6) → 0 < room → (a b c : Doorway) → Keeps held held' a b → Reads bytes room b c → FindsNext (next.Refused 6) held held' a c
@@ -108,11 +108,13 @@ pub little_after : (first held bytes : List ℕ) (a b : Doorway) → Keeps first
 little_after first held bytes a b k open_before short read e =
     inr (k.read, bytes, subst IsOpen k.held_is open_before, short, append_cancel_left first read (k.read ++ bytes) (sym e ∙ ap (λ s. s ++ bytes) k.held_is ∙ append_assoc first k.read bytes))
 
-numbered : (bytes : List ℕ) (code : ℕ) → Refuses bytes false code → (code ≡ 1) ⊎ (code ≡ 2) ⊎ (code ≡ 5) ⊎ (code ≡ 6)
+numbered : (bytes : List ℕ) (code : ℕ) → Refuses bytes false code → (code ≡ 1) ⊎ (code ≡ 2) ⊎ (code ≡ 3) ⊎ (code ≡ 4) ⊎ (code ≡ 5) ⊎ (code ≡ 6)
 numbered bytes code (inl h) = inl h.0
 numbered bytes code (inr (inl h)) = inr (inl h.0)
 numbered bytes code (inr (inr (inl h))) = inr (inr (inl h.0))
-numbered bytes code (inr (inr (inr h))) = inr (inr (inr h.0))
+numbered bytes code (inr (inr (inr (inl h)))) = inr (inr (inr (inl h.0)))
+numbered bytes code (inr (inr (inr (inr (inl h))))) = inr (inr (inr (inr (inl h.0))))
+numbered bytes code (inr (inr (inr (inr (inr h))))) = inr (inr (inr (inr (inr h.0))))
 
 code_as : (found at : Found) → Some at ≡ Some found → HasCode at → HasCode found
 code_as found at e h = let same : at ≡ found = cc in subst HasCode same h

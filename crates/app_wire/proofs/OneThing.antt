@@ -1,10 +1,14 @@
 -- The bytes begin with one thing only.
-use Rattle.std.proofs.Common.{◌≡◌, ℕ, ◌<◌, ◌≤◌, ◌⊎◌, inl, inr, Bool, true, false, List, [], length, take, refl, ap, sym, ◌∙◌, subst, arith, cond}
+use Rattle.std.proofs.Common.{◌≡◌, ℕ, ◌+◌, ◌<◌, ◌≤◌, ◌⊎◌, inl, inr, Bool, true, false, List, [], length, take, nat_le, refl, ap, sym, ◌∙◌, subst, arith, cond}
+use Rattle.std.specs.List.{slice_range}
+use Rattle.std.proofs.lemmas.Bool.{cond-true, cond-false, le-leb, lt-leb}
 use Rattle.httparse.specs.Grammar.{RequestHead}
 use Rattle.httparse.proofs.GrammarLemmas.{request_unique}
 use Rattle.app_wire.proofs.Blanks.{front_some}
-use Rattle.app_wire.specs.Head.{IsHead, has_framing}
-use Rattle.app_wire.specs.Framing.{HasNoBlank, IsFront, IsBegun, IsTooLong, Frame, nothing, need, refused, whole, Refuses, Framing, Finds, request_of}
+use Rattle.app_wire.specs.Head.{IsHead, body_of}
+use Rattle.app_wire.specs.Framing.{Announces, Asked, HasNoBlank, IsFront, IsBegun, IsInHead, IsTooLong, IsWhole, Frame, nothing, need, refused, whole, Refuses, Framing, Finds, request_of}
+use Rattle.app_wire.specs.declared.body.BodyLength.{BodyLength}
+use Rattle.app_wire.specs.declared.body.BodyLength.TheVariants.{NotOffered, Bad, TooLong, Bytes}
 use Rattle.app_wire.specs.declared.framer.Look.{Look}
 use Rattle.app_wire.specs.declared.framer.Look.TheVariants.{Need, Refused, Whole}
 
@@ -24,30 +28,38 @@ front_same bytes m n f g =
 head_same : (front : List ℕ) (h k : RequestHead) → IsHead front h → IsHead front k → h ≡ k
 head_same front h k a b = (request_unique front h k [] [] a.reads b.reads).0
 
--- of a front
-Judged : List ℕ → ℕ → Frame → Type 0
-Judged front n frame =
-    (((h : RequestHead) → IsHead front h → ⊥) × (frame ≡ refused 1))
-    ⊎ ((h : RequestHead) × IsHead front h × (frame ≡ cond (has_framing h) (refused 5) (whole (request_of h) n)))
+-- what a head makes of the bytes, by what its fields say of its body
+abbrev framed : List ℕ → Bool → ℕ → RequestHead → BodyLength → Frame
+framed bytes ended n h Bad = refused 3
+framed bytes ended n h TooLong = refused 4
+framed bytes ended n h NotOffered = refused 5
+framed bytes ended n h (Bytes size) =
+    cond (nat_le (n + size) (length bytes)) (whole (request_of h (slice_range bytes n (n + size))) (n + size)) (cond ended (refused 6) need)
 
-judged_same : (front : List ℕ) (n : ℕ) (a b : Frame) → Judged front n a → Judged front n b → a ≡ b
+-- what a front makes of them
+Judged : List ℕ → Bool → ℕ → Frame → Type 0
+Judged bytes ended n frame =
+    (((h : RequestHead) → IsHead (take n bytes) h → ⊥) × (frame ≡ refused 1))
+    ⊎ ((h : RequestHead) × IsHead (take n bytes) h × (frame ≡ framed bytes ended n h (body_of h)))
+
+judged_same : (bytes : List ℕ) (ended : Bool) (n : ℕ) (a b : Frame) → Judged bytes ended n a → Judged bytes ended n b → a ≡ b
 unfolding Judged
-judged_same front n a b (inl x) (inl y) = x.1 ∙ sym y.1
-judged_same front n a b (inl x) (inr y) = absurd (x.0 y.0 y.1)
-judged_same front n a b (inr x) (inl y) = absurd (y.0 x.0 x.1)
-judged_same front n a b (inr x) (inr y) = x.2 ∙ ap (λ h. cond (has_framing h) (refused 5) (whole (request_of h) n)) (head_same front x.0 y.0 x.1 y.1) ∙ sym y.2
+judged_same bytes ended n a b (inl x) (inl y) = x.1 ∙ sym y.1
+judged_same bytes ended n a b (inl x) (inr y) = absurd (x.0 y.0 y.1)
+judged_same bytes ended n a b (inr x) (inl y) = absurd (y.0 x.0 x.1)
+judged_same bytes ended n a b (inr x) (inr y) = x.2 ∙ ap (λ h. framed bytes ended n h (body_of h)) (head_same (take n bytes) x.0 y.0 x.1 y.1) ∙ sym y.2
 
 Sorted : List ℕ → Bool → Frame → Type 0
 Sorted bytes ended frame =
-    ((n : ℕ) × IsFront bytes n × Judged (take n bytes) n frame)
-    ⊎ (IsBegun bytes × (frame ≡ cond ended (refused 6) need))
+    ((n : ℕ) × IsFront bytes n × Judged bytes ended n frame)
+    ⊎ (IsInHead bytes × (frame ≡ cond ended (refused 6) need))
     ⊎ (IsTooLong bytes × (frame ≡ refused 2))
     ⊎ ((bytes ≡ []) × (frame ≡ nothing))
 
 sorted_same : (bytes : List ℕ) (ended : Bool) (a b : Frame) → Sorted bytes ended a → Sorted bytes ended b → a ≡ b
 unfolding Sorted
 sorted_same bytes ended a b (inl x) (inl y) =
-    judged_same (take y.0 bytes) y.0 a b (subst (λ n. Judged (take n bytes) n a) (front_same bytes x.0 y.0 x.1 y.1) x.2) y.2
+    judged_same bytes ended y.0 a b (subst (λ n. Judged bytes ended n a) (front_same bytes x.0 y.0 x.1 y.1) x.2) y.2
 sorted_same bytes ended a b (inl x) (inr (inl y)) = absurd (front_in bytes x.0 (length bytes) x.1 y.0.none x.1.within)
 sorted_same bytes ended a b (inl x) (inr (inr (inl y))) = absurd (front_in bytes x.0 8192 x.1 y.0.none x.1.near)
 sorted_same bytes ended a b (inl x) (inr (inr (inr y))) = absurd (front_some bytes x.0 x.1 y.0)
@@ -64,19 +76,42 @@ sorted_same bytes ended a b (inr (inr (inr x))) (inr (inl y)) = absurd (omega (a
 sorted_same bytes ended a b (inr (inr (inr x))) (inr (inr (inl y))) = absurd (omega (arith, y.0.long, ap length x.0))
 sorted_same bytes ended a b (inr (inr (inr x))) (inr (inr (inr y))) = x.1 ∙ sym y.1
 
+-- where a head says this of its body
+announced : (bytes : List ℕ) (ended : Bool) (body : BodyLength) (a : Announces bytes body) (frame : Frame) → frame ≡ framed bytes ended a.start a.head body → Sorted bytes ended frame
+unfolding Sorted Judged
+announced bytes ended body a frame e = inl (a.start, a.front, inr (a.head, a.is, e ∙ ap (framed bytes ended a.start a.head) (sym a.body_is)))
+
+begun : (bytes : List ℕ) (ended : Bool) (frame : Frame) → IsBegun bytes → frame ≡ cond ended (refused 6) need → Sorted bytes ended frame
+unfolding Sorted
+begun bytes ended frame (inl h) e = inr (inl (h, e))
+begun bytes ended frame (inr h) e =
+    announced bytes ended (Bytes h.size) h.head frame
+    (e ∙ sym (cond-false (nat_le (h.head.start + h.size) (length bytes)) (whole (request_of h.head.head (slice_range bytes h.head.start (h.head.start + h.size))) (h.head.start + h.size))
+    (cond ended (refused 6) need) (lt-leb (h.head.start + h.size) (length bytes) h.short)))
+
+whole_sorted : (bytes : List ℕ) (ended : Bool) (request : Asked) (len : ℕ) → IsWhole bytes request len → Sorted bytes ended (whole request len)
+whole_sorted bytes ended request len w =
+    let within : w.head.start + w.size ≤ length bytes = omega (arith, w.len_is, w.within) in
+    announced bytes ended (Bytes w.size) w.head (whole request len)
+    (ap (λ r. whole r len) w.same ∙ ap (λ n. whole (request_of w.head.head (slice_range bytes w.head.start n)) n) w.len_is
+    ∙ sym (cond-true (nat_le (w.head.start + w.size) (length bytes)) (whole (request_of w.head.head (slice_range bytes w.head.start (w.head.start + w.size))) (w.head.start + w.size))
+    (cond ended (refused 6) need) (le-leb (w.head.start + w.size) (length bytes) within)))
+
 refused_sorted : (bytes : List ℕ) (ended : Bool) (code : ℕ) → Refuses bytes ended code → Sorted bytes ended (refused code)
 unfolding Sorted Judged
 refused_sorted bytes ended code (inl x) = inl (x.1.len, x.1.front, inl (x.1.bad, ap refused x.0))
 refused_sorted bytes ended code (inr (inl x)) = inr (inr (inl (x.1, ap refused x.0)))
-refused_sorted bytes ended code (inr (inr (inl x))) = inl (x.1.len, x.1.front, inr (x.1.head, x.1.is, ap refused x.0 ∙ rw x.1.framing refl))
-refused_sorted bytes ended code (inr (inr (inr x))) = inr (inl (x.2, ap refused x.0 ∙ rw x.1 refl))
+refused_sorted bytes ended code (inr (inr (inl x))) = announced bytes ended Bad x.1 (refused code) (ap refused x.0)
+refused_sorted bytes ended code (inr (inr (inr (inl x)))) = announced bytes ended TooLong x.1 (refused code) (ap refused x.0)
+refused_sorted bytes ended code (inr (inr (inr (inr (inl x))))) = announced bytes ended NotOffered x.1 (refused code) (ap refused x.0)
+refused_sorted bytes ended code (inr (inr (inr (inr (inr x))))) = begun bytes ended (refused code) x.2 (ap refused x.0 ∙ ap (λ b. cond b (refused 6) need) (sym x.1))
 
 sorted_of : (bytes : List ℕ) (ended : Bool) (frame : Frame) → Framing bytes ended frame → Sorted bytes ended frame
-unfolding Sorted Judged
+unfolding Sorted
 sorted_of bytes ended nothing x = inr (inr (inr (x, refl)))
-sorted_of bytes ended need x = inr (inl (x.1, rw x.0 refl))
+sorted_of bytes ended need x = begun bytes ended need x.1 (ap (λ b. cond b (refused 6) need) (sym x.0))
 sorted_of bytes ended (refused code) x = refused_sorted bytes ended code x
-sorted_of bytes ended (whole request len) x = inl (len, x.front, inr (x.head, x.is, ap (λ r. whole r len) x.same ∙ rw x.plain refl))
+sorted_of bytes ended (whole request len) x = whole_sorted bytes ended request len x
 
 pub one_thing : (bytes : List ℕ) (ended : Bool) (a b : Frame) → Framing bytes ended a → Framing bytes ended b → a ≡ b
 one_thing bytes ended a b x y = sorted_same bytes ended a b (sorted_of bytes ended a x) (sorted_of bytes ended b y)
@@ -85,12 +120,15 @@ one_thing bytes ended a b x y = sorted_same bytes ended a b (sorted_of bytes end
 pub begun_needs : (bytes : List ℕ) (found : Look) → Finds bytes found → IsBegun bytes → found ≡ Need
 begun_needs bytes Need f begun = refl
 begun_needs bytes (Refused code) f begun = let same : refused code ≡ need = one_thing bytes false (refused code) need f (refl, begun) in cc
-begun_needs bytes (Whole method path len) f begun =
-    let same : whole (record { method = method; path = path.now; body = [] }) len ≡ need = one_thing bytes false (whole (record { method = method; path = path.now; body = [] }) len) need f (refl, begun) in cc
+begun_needs bytes (Whole method path body len) f begun =
+    let request : Asked = record { method = method; path = path.now; body = body.now } in
+    let same : whole request len ≡ need = one_thing bytes false (whole request len) need f (refl, begun) in cc
 
 -- the one refusal that only the end of the input makes
 pub cut_begun : (bytes : List ℕ) → Framing bytes true (refused 6) → IsBegun bytes
 cut_begun bytes (inl h) = cc
 cut_begun bytes (inr (inl h)) = cc
 cut_begun bytes (inr (inr (inl h))) = cc
-cut_begun bytes (inr (inr (inr h))) = h.2
+cut_begun bytes (inr (inr (inr (inl h)))) = cc
+cut_begun bytes (inr (inr (inr (inr (inl h))))) = cc
+cut_begun bytes (inr (inr (inr (inr (inr h))))) = h.2

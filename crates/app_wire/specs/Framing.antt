@@ -1,7 +1,9 @@
 -- What the bytes of a conversation begin with.
-use Rattle.std.specs.Prelude.{◌≡◌, ℕ, ◌<◌, ◌≤◌, ◌⊎◌, Bool, true, false, List, [], ◌++◌, length, take, drop, codes}
+use Rattle.std.specs.Prelude.{◌≡◌, ℕ, ◌+◌, ◌<◌, ◌≤◌, ◌⊎◌, Bool, true, false, List, [], ◌++◌, length, take, drop, slice_range, codes}
 use Rattle.httparse.specs.Grammar.{RequestHead}
-use Rattle.app_wire.specs.Head.{IsHead, has_framing, method_of, path_of}
+use Rattle.app_wire.specs.Head.{IsHead, body_of, method_of, path_of}
+use Rattle.app_wire.specs.declared.body.BodyLength.{BodyLength}
+use Rattle.app_wire.specs.declared.body.BodyLength.TheVariants.{NotOffered, Bad, TooLong, Bytes}
 use Rattle.app_wire.specs.declared.head.Method.{Method}
 use Rattle.app_wire.specs.declared.framer.Request.{Request}
 use Rattle.app_wire.specs.declared.framer.Fed.{Fed}
@@ -19,9 +21,9 @@ pub record Asked : Type 0 where
 abbrev pub asked : Request → Asked
 asked r = record { method = r.method; path = r.path.items; body = r.body.items }
 
--- the request of a head with no body
-abbrev pub request_of : RequestHead → Asked
-request_of h = record { method = method_of h.method; path = path_of h.target; body = [] }
+-- the request of a head with this body
+abbrev pub request_of : RequestHead → List ℕ → Asked
+request_of h body = record { method = method_of h.method; path = path_of h.target; body = body }
 
 -- the bytes end with a blank line: an LF, an optional CR and an LF
 abbrev pub EndsBlank : List ℕ → Type 0
@@ -51,27 +53,37 @@ pub record IsTooLong (bytes : List ℕ) : Type 0 where
   pub long : 8192 ≤ length bytes
   pub none : HasNoBlank bytes 8192
 
--- a head with a field that frames a body
-pub record IsNotOffered (bytes : List ℕ) : Type 0 where
-  pub len : ℕ
-  pub front : IsFront bytes len
+-- a front that is a head, whose fields say this of its body, which begins at start
+pub record Announces (bytes : List ℕ) (body : BodyLength) : Type 0 where
+  pub start : ℕ
+  pub front : IsFront bytes start
   pub head : RequestHead
-  pub is : IsHead (take len bytes) head
-  pub framing : has_framing head ≡ true
+  pub is : IsHead (take start bytes) head
+  pub body_is : body_of head ≡ body
 
--- the first len bytes are this request
+-- the first len bytes are this request: a head, and behind it a body of so many bytes as its fields say
 pub record IsWhole (bytes : List ℕ) (request : Asked) (len : ℕ) : Type 0 where
-  pub front : IsFront bytes len
-  pub head : RequestHead
-  pub is : IsHead (take len bytes) head
-  pub plain : has_framing head ≡ false
-  pub same : request ≡ request_of head
+  pub size : ℕ
+  pub head : Announces bytes (Bytes size)
+  pub len_is : len ≡ head.start + size
+  pub within : len ≤ length bytes
+  pub same : request ≡ request_of head.head (slice_range bytes head.start len)
 
--- a request was begun and isn't whole
-pub record IsBegun (bytes : List ℕ) : Type 0 where
+-- bytes came, and the head isn't whole
+pub record IsInHead (bytes : List ℕ) : Type 0 where
   pub some : 0 < length bytes
   pub short : length bytes < 8192
   pub none : HasNoBlank bytes (length bytes)
+
+-- the head is whole, and the body isn't
+pub record IsInBody (bytes : List ℕ) : Type 0 where
+  pub size : ℕ
+  pub head : Announces bytes (Bytes size)
+  pub short : length bytes < head.start + size
+
+-- a request was begun and isn't whole
+abbrev pub IsBegun : List ℕ → Type 0
+IsBegun bytes = IsInHead bytes ⊎ IsInBody bytes
 
 -- what bytes can begin with
 pub data Frame : Type 0 where
@@ -85,7 +97,9 @@ abbrev pub Refuses : List ℕ → Bool → ℕ → Type 0
 Refuses bytes ended code =
     ((code ≡ 1) × IsBadHead bytes)
     ⊎ ((code ≡ 2) × IsTooLong bytes)
-    ⊎ ((code ≡ 5) × IsNotOffered bytes)
+    ⊎ ((code ≡ 3) × Announces bytes Bad)
+    ⊎ ((code ≡ 4) × Announces bytes TooLong)
+    ⊎ ((code ≡ 5) × Announces bytes NotOffered)
     ⊎ ((code ≡ 6) × (ended ≡ true) × IsBegun bytes)
 
 -- the bytes taken so far, which end the input or not, begin with this
@@ -103,8 +117,8 @@ IsOpen bytes = Framing bytes false nothing ⊎ Framing bytes false need
 abbrev pub Finds : List ℕ → Look → Type 0
 Finds bytes look.Need = IsOpen bytes
 Finds bytes (look.Refused code) = Framing bytes false (refused code)
-Finds bytes (look.Whole method path len) =
-    Framing bytes false (whole (record { method = method; path = path.now; body = [] }) len)
+Finds bytes (look.Whole method path body len) =
+    Framing bytes false (whole (record { method = method; path = path.now; body = body.now }) len)
 
 -- the framer's answer on the bytes that came, and what of them it then holds
 abbrev pub Feeds : List ℕ → Fed → List ℕ → Type 0

@@ -1,28 +1,22 @@
 -- What the head of a request says, by RFC 9112.
-use Rattle.std.specs.Prelude.{◌≡◌, ℕ, ◌≤◌, ◌==◌, ◌||◌, Bool, true, false, List, [], length, map, take, position, unwrap_or, codes, if◌then◌else◌, bytes_eq}
-use Rattle.std.specs.List.{list_any}
-use Rattle.std.specs.Char.{to_ascii_lowercase}
+use Rattle.std.specs.Prelude.{◌≡◌, ℕ, ◌≤◌, ◌==◌, List, [], length, map, take, position, unwrap_or, codes, if◌then◌else◌, bytes_eq}
 use Rattle.httparse.specs.Grammar.{RequestHead, ReadsRequest}
 use Rattle.httparse.specs.Spans.{name_and_value}
+use Rattle.app_wire.specs.Bodies.{body_length}
+use Rattle.app_wire.specs.declared.body.BodyLength.{BodyLength}
 use Rattle.app_wire.specs.declared.head.Method.{Method}
 use Rattle.app_wire.specs.declared.head.Method.TheVariants.{Get, Put, Post, Delete, Other}
 use Rattle.app_wire.specs.declared.head.Head.{Head}
-use Rattle.app_wire.specs.declared.head.Head.TheVariants.{Bad, NotOffered, Whole}
+use Rattle.app_wire.specs.declared.head.Head.TheVariants.{Bad, Whole}
 
 -- the bytes are a request head with at most 64 fields, and nothing more
 pub record IsHead (front : List ℕ) (h : RequestHead) : Type 0 where
   pub reads : ReadsRequest front h []
   pub few : length h.fields ≤ 64
 
--- a field of this name says how a body is framed; names are compared without case of A to Z
-abbrev pub is_framing : List ℕ → Bool
-is_framing name =
-    bytes_eq (map to_ascii_lowercase name) (codes "content-length")
-    || bytes_eq (map to_ascii_lowercase name) (codes "transfer-encoding")
-
--- one of the fields does
-abbrev pub has_framing : RequestHead → Bool
-has_framing h = list_any (λ field. is_framing field.0) (map name_and_value h.fields)
+-- what its fields say of its body
+abbrev pub body_of : RequestHead → BodyLength
+body_of h = body_length (map name_and_value h.fields)
 
 -- the method of this name
 abbrev pub method_of : List ℕ → Method
@@ -40,7 +34,5 @@ path_of target = take (unwrap_or (position (λ b. b == 63) target) (length targe
 -- what was read of a front
 abbrev pub Reads : List ℕ → Head → Type 0
 Reads front Bad = (h : RequestHead) → IsHead front h → ⊥
-Reads front NotOffered = (h : RequestHead) × IsHead front h × (has_framing h ≡ true)
-Reads front (Whole method path) =
-    (h : RequestHead) × IsHead front h × (has_framing h ≡ false)
-    × (method ≡ method_of h.method) × (path.now ≡ path_of h.target)
+Reads front (Whole method path body) =
+    (h : RequestHead) × IsHead front h × (body ≡ body_of h) × (method ≡ method_of h.method) × (path.now ≡ path_of h.target)

@@ -1,3 +1,4 @@
+pub mod Bodies
 pub mod DoorsInMemory
 pub mod Doorway
 pub mod Framing

@@ -46,7 +46,8 @@ pub record FindsNext (found : Found) (held held' : List ℕ) (a b : Doorway) : T
 
 -- a refusal has one of the codes of framing, also where nothing is told
 abbrev pub HasCode : Found → Type 0
-HasCode (next.Refused code) = (code ≡ 1) ⊎ (code ≡ 2) ⊎ (code ≡ 5) ⊎ (code ≡ 6)
+HasCode (next.Refused code) =
+    (code ≡ 1) ⊎ (code ≡ 2) ⊎ (code ≡ 3) ⊎ (code ≡ 4) ⊎ (code ≡ 5) ⊎ (code ≡ 6)
 HasCode (next.Whole request) = Unit {0}
 HasCode next.Quiet = Unit {0}
 HasCode next.Memory = Unit {0}

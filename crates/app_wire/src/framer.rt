@@ -2,6 +2,7 @@
 ghost use Rattle.std.specs.Prelude.{◌≡◌, ◌<◌, ◌≤◌, ◌++◌, IfOk, OnErr, [], drop, length, vec_len, ◌↔◌, IsTrue, true};
 ghost use Rattle.app_wire.specs.Framing.{Finds, Feeds, Framing, refused};
 
+use crate::body::BodyLength;
 use crate::front::{HEAD_ROOM, head_end};
 use crate::head::{Head, Method, read_head};
 use fx_base::Memory;
@@ -14,6 +15,7 @@ pub struct Request {
     pub method: Method,
     /// The bytes of the target up to its first question mark.
     pub path: Vec<u8>,
+    /// The bytes behind the head, as many as its `Content-Length` says.
     pub body: Vec<u8>,
 }
 
@@ -32,8 +34,8 @@ pub enum Fed {
 pub(crate) enum Look<'a> {
     Need,
     Refused(u8),
-    /// A request with its method, its path and its length in bytes.
-    Whole(Method, &'a [u8], usize),
+    /// A request with its method, its path, its body, and its length in bytes.
+    Whole(Method, &'a [u8], &'a [u8], usize),
 }
 
 /// Looks at the bytes that came.
@@ -41,10 +43,19 @@ pub(crate) fn look_at(bytes: &[u8]) -> Look<'_>
     ensures { Finds bytes.now result }
 {
     match head_end(bytes) {
-        Some(len) => match read_head(&bytes[..len]) {
+        Some(start) => match read_head(&bytes[..start]) {
             Head::Bad => Look::Refused(1),
-            Head::NotOffered => Look::Refused(5),
-            Head::Whole(method, path) => Look::Whole(method, path, len),
+            Head::Whole(_, _, BodyLength::Bad) => Look::Refused(3),
+            Head::Whole(_, _, BodyLength::TooLong) => Look::Refused(4),
+            Head::Whole(_, _, BodyLength::NotOffered) => Look::Refused(5),
+            Head::Whole(method, path, BodyLength::Bytes(size)) => {
+                if bytes.len() - start < size {
+                    Look::Need
+                } else {
+                    let len = start + size;
+                    Look::Whole(method, path, &bytes[start..len], len)
+                }
+            }
         },
         None => {
             if bytes.len() < HEAD_ROOM {
@@ -103,10 +114,10 @@ impl Framer {
         match look_at(&self.held) {
             Look::Need => Ok(Fed::Need),
             Look::Refused(code) => Ok(Fed::Refused(code)),
-            Look::Whole(method, path, len) => {
+            Look::Whole(method, path, body, len) => {
                 let path = Vec::from_slice(self.alloc, path)?;
+                let body = Vec::from_slice(self.alloc, body)?;
                 drop_front(&mut self.held, len);
-                let body = Vec::new(self.alloc);
                 Ok(Fed::Whole(Request { method, path, body }))
             }
         }

@@ -1,11 +1,10 @@
 //! The head of a request.
 ghost use Rattle.std.specs.Prelude.{◌≡◌, ◌==◌, position, ◌≤◌, ◌<◌, ℕ, length, map, take, IsTrue, All};
-ghost use Rattle.std.specs.List.{list_any};
-ghost use Rattle.httparse.specs.Spans.{IsHeaderWithin, header_bytes, span_bytes};
-ghost use Rattle.app_wire.specs.Head.{is_framing, method_of, path_of, Reads};
+ghost use Rattle.app_wire.specs.Head.{method_of, path_of, Reads};
 
+use crate::body::{BodyLength, body_length};
 use httparse::Status;
-use httparse::spans::{EMPTY_HEADER_SPAN, HeaderSpan, parse_request};
+use httparse::spans::{EMPTY_HEADER_SPAN, parse_request};
 
 /// The most fields of a head.
 pub const FIELD_ROOM: usize = 64;
@@ -25,10 +24,8 @@ pub enum Method {
 pub(crate) enum Head<'a> {
     /// No request head of at most 64 fields.
     Bad,
-    /// A head with a field that frames a body.
-    NotOffered,
-    /// A head with no such field: its method and its path.
-    Whole(Method, &'a [u8]),
+    /// A head: its method, its path, and what its fields say of its body.
+    Whole(Method, &'a [u8], BodyLength),
 }
 
 fn method_named(name: &[u8]) -> Method
@@ -62,35 +59,17 @@ fn path_within(target: &[u8]) -> &[u8]
     }
 }
 
-fn is_framing_name(name: &[u8]) -> bool
-    ensures { result ≡ is_framing name.now }
-{
-    name.eq_ignore_ascii_case(b"content-length") || name.eq_ignore_ascii_case(b"transfer-encoding")
-}
-
-fn any_framing(front: &[u8], headers: &[HeaderSpan]) -> bool
-    requires { All (IsHeaderWithin (length front.now)) headers.now }
-    ensures { result ≡ list_any (λ h. is_framing (span_bytes front.now h.name)) headers.now }
-{
-    headers.iter().any(|h| is_framing_name(h.name.of(front)))
-}
-
 /// Reads a front that ends with its first blank line.
 pub(crate) fn read_head(front: &[u8]) -> Head<'_>
     ensures { Reads front.now result }
 {
     let mut headers = [EMPTY_HEADER_SPAN; FIELD_ROOM];
     match parse_request(front, &mut headers) {
-        Ok(Status::Complete(head)) if head.len == front.len() => {
-            if any_framing(front, &headers[..head.headers]) {
-                Head::NotOffered
-            } else {
-                Head::Whole(
-                    method_named(head.method.of(front)),
-                    path_within(head.path.of(front)),
-                )
-            }
-        }
+        Ok(Status::Complete(head)) if head.len == front.len() => Head::Whole(
+            method_named(head.method.of(front)),
+            path_within(head.path.of(front)),
+            body_length(front, &headers[..head.headers]),
+        ),
         _ => Head::Bad,
     }
 }

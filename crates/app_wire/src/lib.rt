@@ -1,6 +1,7 @@
 //! Bytes to requests and replies to bytes: conversations, framing, routes, and the moments of a clock.
 #![tactic(auto)]
 
+mod body;
 pub mod clock;
 pub mod doors;
 pub mod framer;

@@ -63,7 +63,7 @@ fn heads(rt: HostRuntime) -> Result<(), Memory> {
         (b"GET / HTTP/1.1\r\n\r\n", WHOLE),
         (b"GET / HTTP/1.1\n\r\n", WHOLE),
         (b"GET / HTTP/1.1\r\nHost: a\r\n\r\nrest", WHOLE),
-        (b"GET / HTTP/1.1\r\ncONTENT-lENGTH: 0\r\n\r\n", 5),
+        (b"GET / HTTP/1.1\r\ncONTENT-lENGTH: 0\r\n\r\n", WHOLE),
         (b"GET / HTTP/1.1\r\nTransfer-Encoding: chunked\r\n\r\n", 5),
         (b"GET / HTTP/1.1\r\nContent-Lengths: 0\r\n\r\n", WHOLE),
         (b"GET / HTTP/1.1\r\nHost: a\r\n", 6),

@@ -291,8 +291,10 @@ pub count_one : (m : ℕ) (one : Bool) (n : ℕ) → m ≡ n + 1 → one ≡ tru
 count_one m one n e single only = let none = none_before one n only single in (omega (arith, e, none), λ _. omega (arith, e, none))
 
 -- the codes of framing are those of replies that take no memory
-pub is_number : (code : ℕ) → (code ≡ 1) ⊎ (code ≡ 2) ⊎ (code ≡ 5) ⊎ (code ≡ 6) → IsTrue (is_fixed code)
+pub is_number : (code : ℕ) → (code ≡ 1) ⊎ (code ≡ 2) ⊎ (code ≡ 3) ⊎ (code ≡ 4) ⊎ (code ≡ 5) ⊎ (code ≡ 6) → IsTrue (is_fixed code)
 is_number code (inl e) = subst (λ k. IsTrue (is_fixed k)) (sym e) refl
 is_number code (inr (inl e)) = subst (λ k. IsTrue (is_fixed k)) (sym e) refl
 is_number code (inr (inr (inl e))) = subst (λ k. IsTrue (is_fixed k)) (sym e) refl
-is_number code (inr (inr (inr e))) = subst (λ k. IsTrue (is_fixed k)) (sym e) refl
+is_number code (inr (inr (inr (inl e)))) = subst (λ k. IsTrue (is_fixed k)) (sym e) refl
+is_number code (inr (inr (inr (inr (inl e))))) = subst (λ k. IsTrue (is_fixed k)) (sym e) refl
+is_number code (inr (inr (inr (inr (inr e))))) = subst (λ k. IsTrue (is_fixed k)) (sym e) refl

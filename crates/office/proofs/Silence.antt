@@ -2,24 +2,31 @@
 use Rattle.std.proofs.Common.{◌≡◌, ℕ, inl, inr, Bool, true, false, List, [], ◌∷◌, length, refl, ap, ◌∙◌, subst, arith}
 use Rattle.std.proofs.lemmas.List.{length-append}
 use Rattle.app_wire.specs.Doorway.{IsCutOff}
-use Rattle.app_wire.specs.Framing.{Refuses}
+use Rattle.app_wire.specs.Framing.{IsBegun, Refuses}
 use Rattle.app_wire.proofs.Blanks.{front_byte}
 use Rattle.office.specs.Answers.{EndsSo, Exchange, Frames, IsOver, IsSpent, IsTalk, Plays}
 use Rattle.office.specs.State.{State}
 use Rattle.office.specs.declared.converse.ConvEnd.{ConvEnd}
 use Rattle.office.specs.declared.converse.ConvEnd.TheVariants.{Ended, Faulted, Full}
 
--- no refusal of no bytes
+-- no request of no bytes
+unbegun : IsBegun [] → ⊥
+unbegun (inl h) = omega (arith, h.some)
+unbegun (inr h) = omega (arith, front_byte [] h.head.start h.head.front)
+
+-- and no refusal
 unrefused : (code : ℕ) → Refuses [] true code → ⊥
 unrefused code (inl h) = omega (arith, front_byte [] h.1.len h.1.front)
 unrefused code (inr (inl h)) = omega (arith, h.1.long)
-unrefused code (inr (inr (inl h))) = omega (arith, front_byte [] h.1.len h.1.front)
-unrefused code (inr (inr (inr h))) = omega (arith, h.2.some)
+unrefused code (inr (inr (inl h))) = omega (arith, front_byte [] h.1.start h.1.front)
+unrefused code (inr (inr (inr (inl h)))) = omega (arith, front_byte [] h.1.start h.1.front)
+unrefused code (inr (inr (inr (inr (inl h))))) = omega (arith, front_byte [] h.1.start h.1.front)
+unrefused code (inr (inr (inr (inr (inr h))))) = unbegun h.2
 
 -- no request begins there
 unanswered : (xs : List Exchange) (left : List ℕ) → Frames [] xs left → (xs ≡ []) × (left ≡ [])
 unanswered [] left h = (refl, h)
-unanswered (x ∷ xs) left h = absurd (omega (arith, front_byte [] h.0 h.1.front))
+unanswered (x ∷ xs) left h = absurd (omega (arith, front_byte [] h.1.head.start h.1.head.front))
 
 -- nothing is said
 unsaid : (words : List ℕ) → IsSpent [] words → words ≡ []

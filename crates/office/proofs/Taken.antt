@@ -1,22 +1,17 @@
 -- How much is taken of a conversation past a request.
-use Rattle.std.proofs.Common.{◌≡◌, ℕ, zero, suc, ◌≤◌, inl, inr, List, [], ◌∷◌, ◌++◌, length, take, drop, refl, ap, sym, ◌∙◌, subst, append_assoc, arith}
-use Rattle.std.proofs.lemmas.List.{length-append, length-drop, take-append-le}
-use Rattle.app_wire.specs.Framing.{Asked, EndsBlank, IsOpen, IsWhole}
+use Rattle.std.proofs.Common.{◌≡◌, ℕ, ◌≤◌, inl, inr, false, List, ◌++◌, length, drop, ap, sym, ◌∙◌, subst, append_assoc, arith}
+use Rattle.std.proofs.lemmas.List.{length-append, length-drop}
+use Rattle.app_wire.specs.Framing.{Asked, IsOpen, IsWhole, need, nothing, whole}
 use Rattle.app_wire.specs.NextRequest.{ReadsLittle}
-
-take_none : (n : ℕ) → take {A = ℕ} n [] ≡ []
-take_none zero = refl
-take_none (suc n) = refl
-
-none_ends : EndsBlank [] → ⊥
-none_ends (inl b) = omega (arith, ap length b.1, length-append b.0 (10 ∷ 10 ∷ []))
-none_ends (inr b) = omega (arith, ap length b.1, length-append b.0 (10 ∷ 13 ∷ 10 ∷ []))
+use Rattle.app_wire.proofs.OneThing.{one_thing}
+use Rattle.app_wire.proofs.Stands.{whole_less}
 
 -- a request ends past bytes in which none is whole
 ends_past : (held more : List ℕ) (request : Asked) (len : ℕ) → IsOpen held → IsWhole (held ++ more) request len → len ≤ length held → ⊥
 ends_past held more request len (inl none) w le =
-    none_ends (subst EndsBlank (take-append-le len held more le ∙ ap (take len) none ∙ take_none len) w.front.blank)
-ends_past held more request len (inr need) w le = need.1.none len le (subst EndsBlank (take-append-le len held more le) w.front.blank)
+    let same : whole request len ≡ nothing = one_thing held false (whole request len) nothing (whole_less held more w le) none in cc
+ends_past held more request len (inr begun) w le =
+    let same : whole request len ≡ need = one_thing held false (whole request len) need (whole_less held more w le) begun in cc
 
 -- what is held past a request is at most what one read takes
 pub little : (held read unread : List ℕ) (request : Asked) (len : ℕ) → length held ≤ 512

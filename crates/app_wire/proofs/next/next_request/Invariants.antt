@@ -17,4 +17,4 @@ invariant-reading g l =
     }
 
 abbrev pub decreases-reading : goal.decreases-reading
-decreases-reading g l = 8192 - length l.framer
+decreases-reading g l = 1056768 - length l.framer

@@ -6,4 +6,5 @@ use Rattle.app_wire.proofs.framer.Framer.more.Goals as goal
 pub returns-in_err-path-in-Whole-clause-some : goal.returns-in_err-path-in-Whole-clause-some
 returns-in_err-path-in-Whole-clause-some c =
     let p = err_from_is_err_and c.from_residual.result c.from_residual.ensures.1 in
-    rw p.1 (subst (λ bytes. 0 < length bytes) (c.deref.ensures.value ∙ c.self.view_is) (front_byte c.deref.result.now c.in-Whole.len c.in-Whole.ensures.front))
+    let head = c.in-Whole.ensures.head in
+    rw p.1 (subst (λ bytes. 0 < length bytes) (c.deref.ensures.value ∙ c.self.view_is) (front_byte c.deref.result.now head.start head.front))
