@@ -1,6 +1,7 @@
 pub mod Conjuncts
 pub mod Delegable
 pub mod KeyOrder
+pub mod Listing
 pub mod Missed
 pub mod Outlined
 pub mod Places

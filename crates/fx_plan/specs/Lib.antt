@@ -1,3 +1,4 @@
+pub mod CallNames
 pub mod OutlineCode
 pub mod OutlineFalls
 pub mod OutlineView
@@ -5,4 +6,6 @@ pub mod Outlines
 pub mod Plans
 pub mod QueryExpressions
 pub mod Ranges
+pub mod SitePlaces
+pub mod Sites
 pub mod Spans

@@ -19,7 +19,7 @@ use Rattle.fx_trees.specs.Lawful.{id_name}
 use Rattle.fx_trees.specs.Term.{Term, Terms, of, nil, cons, Top}
 use Rattle.fx_trees.specs.Term as top
 use Rattle.fx_plan.specs.declared.plans.Sketch.{Sketch}
-use Rattle.fx_plan.specs.Outlines.{Outline, OutlineList, always, flag, constant, compares, is_blank, starts, contains, all_of, any_of, opposite, no_outlines, with, outline_list}
+use Rattle.fx_plan.specs.Outlines.{Outline, always, flag, constant, compares, is_blank, starts, contains, all_of, any_of, opposite, outline_list}
 use Rattle.fx_plan.specs.Ranges.{column_type}
 
 -- ---- constants

@@ -1,15 +1,18 @@
 //! Plans of queries.
 #![tactic(auto)]
 
+mod call_names;
 pub mod conditions;
 pub mod filling;
 pub mod patterns;
 pub mod plans;
 pub mod ranges;
+pub mod site_list;
 pub mod sketches;
 
 pub use filling::filled;
 pub use patterns::{Pattern, PatternNode, Patterns};
 pub use plans::{Sketch, plan};
 pub use ranges::{Reach, no_row_is_missed, ranges_of};
+pub use site_list::{Site, sites};
 pub use sketches::sketch;

@@ -1,0 +1,145 @@
+-- Sites: where a formula takes rows of tables. Each is a largest query expression of its tree, and they are numbered
+-- in the order in which they begin.
+use Rattle.std.specs.Prelude.{ℕ, zero, suc, codes, List, [], ◌∷◌, ◌++◌, Bool, true, false, not, ◌&&◌, Option, Some, None, is_some, length, slice_get, option_and_then, unwrap_or, if◌then◌else◌}
+use Rattle.fx_data.specs.Words.{scalars_of}
+use Rattle.fx_trees.specs.declared.deeds.Deed.{Deed}
+use Rattle.fx_trees.specs.declared.deeds.Deed.TheVariants as deed
+use Rattle.fx_trees.specs.declared.functions.Fun.TheVariants as fun
+use Rattle.fx_trees.specs.declared.rows.Scalar.TheVariants.{Number}
+use Rattle.fx_trees.specs.declared.rows.Takes.{Takes}
+use Rattle.fx_trees.specs.declared.rows.Takes.TheVariants as takes
+use Rattle.fx_trees.specs.declared.schema.TableShape.{TableShape}
+use Rattle.fx_trees.specs.Rows.{row_of, takes_at}
+use Rattle.fx_trees.specs.Term.{Term, Terms, of, nil, cons, Top}
+use Rattle.fx_trees.specs.Term as top
+use Rattle.fx_plan.specs.declared.plans.Sketch.{Sketch}
+use Rattle.fx_plan.specs.declared.site_list.Site.{Site}
+use Rattle.fx_plan.specs.CallNames.{call_name}
+use Rattle.fx_plan.specs.QueryExpressions.{column_of, sketch_of}
+
+abbrev pub is_query : List TableShape → ℕ → Term → Bool
+is_query ts k c = is_some (sketch_of ts k c)
+
+-- ---- what takes a query expression
+
+-- a column of numbers of the table that a query asks
+abbrev pub number_column : List TableShape → ℕ → Term → Sketch → Option ℕ
+number_column ts k f s = option_and_then (λ (t : TableShape). column_of t k Number f) (slice_get ts s.table)
+
+-- the total of a plain column of numbers
+abbrev pub totals_column : List TableShape → ℕ → Term → Term → Bool
+totals_column ts k q f = is_some (option_and_then (number_column ts k f) (sketch_of ts k q))
+
+abbrev pub totals : List TableShape → ℕ → Term → Terms → Bool
+totals ts k q (cons f nil) = totals_column ts k q f
+totals ts k q cs = false
+
+-- rows with conditions besides
+abbrev pub is_filter : List TableShape → ℕ → Term → Terms → Bool
+is_filter ts k q cs = is_query ts k (of (top.over fun.Filter) (cons q cs))
+
+-- whether a node takes the whole of the query expression that is its first part. `LookUp` does with a delegable
+-- condition, so that its rows with that condition are a query expression too.
+abbrev pub takes_whole : List TableShape → ℕ → Term → Bool
+takes_whole ts k (of (top.over fun.CountRows) cs) = true
+takes_whole ts k (of (top.over fun.First) cs) = true
+takes_whole ts k (of (top.over fun.LookUp) (cons q (cons c cs))) = is_filter ts k q (cons c nil)
+takes_whole ts k (of (top.over fun.SumRows) (cons q cs)) = totals ts k q cs
+takes_whole ts k (of (top.over fun.MinRows) (cons q cs)) = totals ts k q cs
+takes_whole ts k (of (top.over fun.MaxRows) (cons q cs)) = totals ts k q cs
+takes_whole ts k (of (top.over fun.AverageRows) (cons q cs)) = totals ts k q cs
+takes_whole ts k c = false
+
+-- ---- where a tree stands
+
+-- under how many scopes; in the call of which function, and `cell` where there is none around; whether that takes the
+-- whole of it; and whether it is the first part of a larger query expression
+pub record Position : Type 0 where
+  pub depth : ℕ
+  pub by : List ℕ
+  pub delegated : Bool
+  pub inner : Bool
+
+abbrev pub outermost : Position
+outermost = record { depth = 0; by = codes "cell"; delegated = false; inner = false }
+
+-- formulas in the scope of a row
+abbrev pub is_formula : Takes → Bool
+is_formula (takes.Formula s) = true
+is_formula takes.ScalarFormula = true
+is_formula takes.AnyFormula = true
+is_formula takes.RowFormula = true
+is_formula k = false
+
+abbrev pub is_first : ℕ → Bool
+is_first zero = true
+is_first (suc i) = false
+
+abbrev pub is_update : Deed → Bool
+is_update (deed.UpdateIf t) = true
+is_update d = false
+
+-- whether the part at a place of so many stands in a scope of its node: the formulas behind a table and the change of
+-- `UpdateIf` in that of each row, and the second part of `With` in that of its record
+abbrev pub opens : Top → ℕ → ℕ → Bool
+opens (top.over f) n i = not (is_first i) && is_formula (takes_at (row_of f) n i)
+opens top.within n i = not (is_first i)
+opens (top.act d) n i = not (is_first i) && is_update d
+opens h n i = false
+
+abbrev pub deeper : Bool → ℕ → ℕ
+deeper b k = if b then suc k else k
+
+abbrev pub count_of : Terms → ℕ
+count_of nil = 0
+count_of (cons c cs) = suc (count_of cs)
+
+-- where the part at a place stands
+abbrev pub part_at : List TableShape → Position → Term → ℕ → Position
+part_at ts p (of h cs) i = record {
+  depth = deeper (opens h (count_of cs) i) p.depth;
+  by = unwrap_or (call_name h) p.by;
+  delegated = takes_whole ts p.depth (of h cs) && is_first i;
+  inner = is_query ts p.depth (of h cs) && is_first i;
+}
+
+-- ---- sites
+
+-- a site without its number
+pub record Use : Type 0 where
+  pub table : ℕ
+  pub by : List ℕ
+  pub delegated : Bool
+
+abbrev pub use_by : Position → Option Sketch → List Use
+use_by p None = []
+use_by p (Some s) = record { table = s.table; by = scalars_of p.by; delegated = p.delegated } ∷ []
+
+-- the tree itself, if it is a query expression and not the first part of a larger one
+abbrev pub own_use : List TableShape → Position → Term → List Use
+own_use ts p c = if p.inner then [] else use_by p (sketch_of ts p.depth c)
+
+abbrev mutual
+  -- the largest query expressions in a tree, in the order in which they begin
+  pub uses_in : List TableShape → Position → Term → List Use
+  uses_in ts p (of h cs) = own_use ts p (of h cs) ++ uses_among ts (part_at ts p (of h cs)) 0 cs
+
+  -- those in the parts from a place on
+  pub uses_among : List TableShape → (ℕ → Position) → ℕ → Terms → List Use
+  uses_among ts at i nil = []
+  uses_among ts at i (cons c cs) = uses_in ts (at i) c ++ uses_among ts at (suc i) cs
+
+abbrev pub site : ℕ → Use → Site
+site n u = record { number = n; table = u.table; by = u.by; delegated = u.delegated }
+
+abbrev pub numbered : ℕ → List Use → List Site
+numbered n [] = []
+numbered n (u ∷ us) = site n u ∷ numbered (suc n) us
+
+-- these sites, and behind them those that follow, numbered on
+abbrev pub listed : List Site → List Use → List Site
+listed ss us = ss ++ numbered (suc (length ss)) us
+
+-- THE sites of a cell's tree
+abbrev pub sites_of : List TableShape → Term → List Site
+sites_of ts c = numbered 1 (uses_in ts outermost c)
