@@ -1,11 +1,12 @@
 //! Lists of things that are told by their places.
-ghost use Rattle.std.specs.Prelude.{◌≡◌, ◌≤◌, ◌++◌, ◌∷◌, [], length, slice_get, Some, OnOk, OnErr, MatchOption};
+ghost use Rattle.std.specs.Prelude.{◌≡◌, ◌≤◌, ◌++◌, ◌∷◌, [], length, slice_get, Some, IfOk, OnOk, OnErr, MatchOption};
 
 use crate::Memory;
 use std::alloc::Global;
 use std::marker::Model;
 
 /// Things in order. A thing's number is its place, from 0.
+// Contracts see the things alone: of a bare `Vec` in a struct, an equation would also speak of its capacity.
 #[derive(Drop)]
 pub struct InOrder<T> {
     items: Vec<T>,
@@ -68,5 +69,16 @@ impl<T: Drop> InOrder<T> {
         ensures { result.items ≡ self }
     {
         self.items
+    }
+}
+
+impl<T: Copy> InOrder<T> {
+    /// The same things.
+    pub fn copy(&self, alloc: Global) -> Result<InOrder<T>, Memory>
+        ensures { IfOk result (λ a. a ≡ self.now) }
+    {
+        Ok(InOrder {
+            items: Vec::from_slice(alloc, self.items.as_slice())?,
+        })
     }
 }
