@@ -3,3 +3,5 @@ pub mod Given
 pub mod ThingSteps
 pub mod BreakSteps
 pub mod Lawful
+mod Differing
+mod Tested

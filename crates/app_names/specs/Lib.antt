@@ -3,3 +3,4 @@ pub mod Tops
 pub mod AppNames
 pub mod NameRules
 pub mod ReadyLines
+pub mod Decided

@@ -7,7 +7,7 @@ use crate::broken::put_break;
 use crate::declarations::Declared;
 use crate::limits::{app_break, limit_break};
 use crate::taken::taken_break;
-use crate::things::{declared_of, names_in, new_behind, put_behind, things_of};
+use crate::things::{declared_things, names_in, new_behind, put_behind, things_of};
 use fx_base::Memory;
 use fx_data::words::Words;
 use fx_parser::Named;
@@ -46,7 +46,7 @@ fn put_breaks(
     let mut before = BTreeSet::new(alloc);
     let mut things = Vec::new(alloc);
     for cell in cells {
-        let declared = declared_of(alloc, functions, formulas, cell)?;
+        let declared = declared_things(alloc, functions, formulas, cell)?;
         let new = new_behind(alloc, &things, declared)?;
         let broken = name_break(alloc, &before, &things, &new, cell)?;
         put_break(breaks, broken)?;

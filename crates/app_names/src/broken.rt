@@ -34,6 +34,7 @@ pub fn in_formula(
     Ok(Broken {
         cell: address(alloc, &formula.name)?,
         rule,
+        // Saturating, so that no caller has to promise that the byte lies in the formula.
         at: at.saturating_sub(formula.at),
         detail,
     })
@@ -48,7 +49,7 @@ pub fn word(alloc: Global, text: &str) -> Result<Words, Memory>
 }
 
 /// A word of ASCII characters and a number, a space between them.
-pub fn counted(alloc: Global, word: &str, number: usize) -> Result<Words, Memory>
+pub fn word_with_count(alloc: Global, word: &str, number: usize) -> Result<Words, Memory>
     requires { IsAscii word.now }
     ensures { IfOk result (λ w. w ≡ rules.counted word.now number) }
 {

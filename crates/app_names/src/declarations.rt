@@ -29,7 +29,7 @@ pub struct Declared {
 }
 
 // What a function declares.
-fn declared_by(shape: Option<SigShape>) -> Option<Thing>
+fn declared_thing(shape: Option<SigShape>) -> Option<Thing>
     ensures { result ≡ table.declared_by shape }
 {
     match shape {
@@ -41,7 +41,7 @@ fn declared_by(shape: Option<SigShape>) -> Option<Thing>
 }
 
 // How a function is called.
-fn called_as(functions: &[Signature], name: &Words) -> Option<SigShape>
+fn call_shape(functions: &[Signature], name: &Words) -> Option<SigShape>
     ensures { result ≡ table.called_as functions.now name.now }
 {
     signature_in(functions, name.as_str()).map(|signature| signature.shape)
@@ -74,7 +74,7 @@ fn declare_here(
         return Ok(());
     };
     match (
-        declared_by(called_as(functions, function)),
+        declared_thing(call_shape(functions, function)),
         first_name(parts.as_slice()),
     ) {
         (Some(thing), Some((name, at))) => {

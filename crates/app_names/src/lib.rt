@@ -4,7 +4,10 @@
 pub mod breaks;
 pub mod broken;
 pub mod declarations;
+mod distinct;
 pub mod formula;
+mod lawful_names;
+mod lawful_schema;
 pub mod limits;
 pub mod lines;
 pub mod naming;
@@ -14,5 +17,7 @@ pub mod things;
 pub use breaks::name_breaks;
 pub use declarations::{Declared, Thing};
 pub use formula::Formula;
+pub use lawful_names::is_lawful;
+pub use lawful_schema::is_lawful_schema;
 pub use lines::Lines;
 pub use naming::names_of;

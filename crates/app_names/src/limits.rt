@@ -4,7 +4,7 @@ ghost use Rattle.std.specs.List.{find};
 ghost use Rattle.std.specs.Str.{IsAscii};
 ghost use Rattle.app_names.specs.NameRules as rules;
 
-use crate::broken::{counted, in_app, in_formula};
+use crate::broken::{in_app, in_formula, word_with_count};
 use crate::declarations::Declared;
 use fx_base::Memory;
 use fx_data::words::Words;
@@ -25,12 +25,17 @@ pub const MOST_CELLS: usize = 2_000;
 pub const MOST_VARIABLES: usize = 1_000;
 
 // A limit that is passed, with the number that was counted.
-fn passed(alloc: Global, most: usize, count: usize, limit: &str) -> Result<Option<Words>, Memory>
+fn passed_limit(
+    alloc: Global,
+    most: usize,
+    count: usize,
+    limit: &str,
+) -> Result<Option<Words>, Memory>
     requires { IsAscii limit.now }
     ensures { IfOk result (λ o. o ≡ rules.passed most count limit.now) }
 {
     if count > most {
-        Ok(Some(counted(alloc, limit, count)?))
+        Ok(Some(word_with_count(alloc, limit, count)?))
     } else {
         Ok(None)
     }
@@ -51,7 +56,7 @@ fn is_long(name: &Words) -> bool
 fn long_name(alloc: Global, name: &Words) -> Result<Words, Memory>
     ensures { IfOk result (λ w. w ≡ rules.long_name name.now) }
 {
-    counted(alloc, "name", length_of(name))
+    word_with_count(alloc, "name", length_of(name))
 }
 
 // The first of these whose name is too long.
@@ -66,7 +71,7 @@ fn long_formula(alloc: Global, formula: &Named) -> Result<Option<Broken>, Memory
     ensures { IfOk result (λ o. o ≡ rules.long_formula formula.now) }
 {
     let bytes = formula.text.as_str().len();
-    match passed(alloc, MOST_FORMULA_BYTES, bytes, "formula")? {
+    match passed_limit(alloc, MOST_FORMULA_BYTES, bytes, "formula")? {
         Some(detail) => {
             let rule = Rule::LimitPassed;
             Ok(Some(in_formula(alloc, formula, rule, formula.at, detail)?))
@@ -111,9 +116,9 @@ pub fn limit_break(
 fn app_limit(alloc: Global, cells: usize, things: usize) -> Result<Option<Words>, Memory>
     ensures { IfOk result (λ o. o ≡ rules.app_limit cells things) }
 {
-    match passed(alloc, MOST_CELLS, cells, "cells")? {
+    match passed_limit(alloc, MOST_CELLS, cells, "cells")? {
         Some(detail) => Ok(Some(detail)),
-        None => passed(alloc, MOST_VARIABLES, things, "variables"),
+        None => passed_limit(alloc, MOST_VARIABLES, things, "variables"),
     }
 }
 

@@ -70,7 +70,8 @@ fn collections_of(alloc: Global, things: &[Declared]) -> Result<CollectionList, 
     Ok(collections)
 }
 
-// The names of cells, each of type Blank so far.
+// The names of cells, each of type Blank so far. That they are lawful, where nothing is broken, is proved in `names_of`
+// over these clauses alone.
 fn first_names(
     alloc: Global,
     functions: &'static [Signature],

@@ -18,6 +18,7 @@ use std::collections::BTreeSet;
 fn is_word(text: &str) -> bool
     ensures { result ≡ rules.is_word text.now }
 {
+    // Grouped as in the definition.
     text == "App" || (text == "ThisRecord" || (text == "ThisItem" || text == "FirstError"))
 }
 
@@ -43,7 +44,7 @@ fn is_taken(before: &[Declared], earlier: &[Declared], name: &Words) -> bool
 }
 
 // The first new thing whose name is reserved, or that of a thing before it.
-fn first_taken<'a>(before: &[Declared], new: &'a [Declared]) -> Option<&'a Declared>
+fn first_taken_thing<'a>(before: &[Declared], new: &'a [Declared]) -> Option<&'a Declared>
     ensures { option_map (λ d. d.now) result ≡ rules.first_taken before.now new.now }
 {
     for (place, one) in new.iter().enumerate() {
@@ -71,7 +72,7 @@ pub fn taken_break(
         let detail = formula.name.copy(alloc)?;
         return Ok(Some(in_formula(alloc, formula, rule, formula.at, detail)?));
     }
-    match first_taken(things, new) {
+    match first_taken_thing(things, new) {
         Some(one) => {
             let detail = one.name.copy(alloc)?;
             Ok(Some(in_formula(alloc, formula, rule, one.at, detail)?))

@@ -25,7 +25,7 @@ pub fn names_in(alloc: Global, cells: &[Named]) -> Result<BTreeSet<Words>, Memor
 }
 
 /// What a formula declares: never a name that formulas have.
-pub fn declared_of(
+pub fn declared_things(
     alloc: Global,
     functions: &[Signature],
     formulas: &BTreeSet<Words>,
@@ -106,7 +106,7 @@ pub fn things_of(
 {
     let mut things = Vec::new(alloc);
     for cell in cells {
-        let declared = declared_of(alloc, functions, formulas, cell)?;
+        let declared = declared_things(alloc, functions, formulas, cell)?;
         let new = new_behind(alloc, &things, declared)?;
         put_behind(&mut things, new)?;
     }

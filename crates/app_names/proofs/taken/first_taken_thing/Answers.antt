@@ -1,7 +1,7 @@
 use Rattle.std.proofs.Common.{◌++◌, ap, sym, ◌∙◌}
 use Rattle.app_names.specs.NameRules.{is_taken}
 use Rattle.app_names.proofs.BreakSteps.{taken_found, taken_later}
-use Rattle.app_names.proofs.taken.first_taken.Goals as goal
+use Rattle.app_names.proofs.taken.first_taken_thing.Goals as goal
 
 pub returns-then-is_taken : goal.returns-then-is_taken
 returns-then-is_taken c =

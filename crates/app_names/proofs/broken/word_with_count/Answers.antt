@@ -5,7 +5,7 @@ use Rattle.std.proofs.lemmas.Str.{chars-IsAscii, IsAscii-append}
 use Rattle.std.specs.Fmt.{decimal}
 use Rattle.std.specs.Str.{IsAscii}
 use Rattle.app_names.specs.NameRules.{counted}
-use Rattle.app_names.proofs.broken.counted.Goals as goal
+use Rattle.app_names.proofs.broken.word_with_count.Goals as goal
 
 pub returns : goal.returns
 returns c =

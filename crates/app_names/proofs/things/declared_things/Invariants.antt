@@ -3,7 +3,7 @@ use Rattle.std.specs.List.{filter}
 use Rattle.app_names.specs.Declarations.{declared_in}
 use Rattle.app_names.specs.Tops.{has}
 use Rattle.app_names.specs.declared.declarations.Declared.{Declared}
-use Rattle.app_names.proofs.things.declared_of.Given as goal
+use Rattle.app_names.proofs.things.declared_things.Given as goal
 
 abbrev pub invariant-loop-one : goal.invariant-loop-one
 invariant-loop-one l =
