@@ -11,8 +11,8 @@ use row_queries::{Test, TestNode, Tests};
 use std::alloc::Global;
 
 /// The test of a pattern with these constants in their places.
-#[cycle(filled)]
-pub fn filled(alloc: Global, pattern: &Pattern, constants: &[Value]) -> Result<Test, Memory>
+#[cycle(fill)]
+pub fn fill(alloc: Global, pattern: &Pattern, constants: &[Value]) -> Result<Test, Memory>
     requires { IsWithin (length constants.now) pattern.now }
     ensures { IfOk result (λ t. t ≡ filled_of (map view constants.now) pattern.now) }
 {
@@ -30,24 +30,22 @@ pub fn filled(alloc: Global, pattern: &Pattern, constants: &[Value]) -> Result<T
         PatternNode::Contains(column, at) => {
             TestNode::Contains(*column, constant(alloc, constants, *at)?)
         }
-        PatternNode::And(parts) => TestNode::And(all_filled(alloc, parts.as_slice(), constants)?),
-        PatternNode::Or(parts) => TestNode::Or(all_filled(alloc, parts.as_slice(), constants)?),
-        PatternNode::Not(part) => {
-            TestNode::Not(Box::new(alloc, filled(alloc, part, constants)?)?)
-        }
+        PatternNode::And(parts) => TestNode::And(fill_all(alloc, parts.as_slice(), constants)?),
+        PatternNode::Or(parts) => TestNode::Or(fill_all(alloc, parts.as_slice(), constants)?),
+        PatternNode::Not(part) => { TestNode::Not(Box::new(alloc, fill(alloc, part, constants)?)?) }
     };
     Ok(Test { node })
 }
 
 // The tests of several patterns.
-#[cycle(filled)]
-fn all_filled(alloc: Global, patterns: &[Pattern], constants: &[Value]) -> Result<Tests, Memory>
+#[cycle(fill)]
+fn fill_all(alloc: Global, patterns: &[Pattern], constants: &[Value]) -> Result<Tests, Memory>
     requires { AreWithin (length constants.now) (outline_list patterns.now) }
     ensures { IfOk result (λ ts. condition_list ts ≡ all_filled_of (map view constants.now) (outline_list patterns.now)) }
 {
     let mut tests = Tests::new(alloc);
     for pattern in patterns {
-        tests.push(filled(alloc, pattern, constants)?)?;
+        tests.push(fill(alloc, pattern, constants)?)?;
     }
     Ok(tests)
 }

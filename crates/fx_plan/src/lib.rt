@@ -10,7 +10,7 @@ pub mod ranges;
 pub mod site_list;
 pub mod sketches;
 
-pub use filling::filled;
+pub use filling::fill;
 pub use patterns::{Pattern, PatternNode, Patterns};
 pub use plans::{Sketch, plan};
 pub use ranges::{Reach, no_row_is_missed, ranges_of};

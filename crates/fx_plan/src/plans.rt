@@ -7,7 +7,7 @@ ghost use Rattle.fx_plan.specs.Ranges.{TakesComparisons};
 ghost use Rattle.row_queries.specs.Queries.{IsIndexed, IsQuery};
 ghost use Rattle.row_queries.specs.Ranges.{AreRising, HoldEveryKey};
 
-use crate::filling::filled;
+use crate::filling::fill;
 use crate::patterns::Pattern;
 use crate::ranges::{Reach, everything, ranges_of};
 use fx_base::Memory;
@@ -39,7 +39,7 @@ pub fn plan(
     ensures plan { IfOk result (λ q. IsPlan schema.now.tables sketch.now (map view constants.now) take q) }
     ensures query { IfOk result (λ q. IsQuery schema.now.tables q) }
 {
-    let test = filled(alloc, &sketch.test, constants)?;
+    let test = fill(alloc, &sketch.test, constants)?;
     match schema.tables.get(sketch.table as usize) {
         Some(table) => {
             let reach = reach_of(alloc, table, &test, constants)?;

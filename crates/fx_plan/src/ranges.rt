@@ -100,6 +100,7 @@ fn reach_on(alloc: Global, column: u16, numbers: bool, span: Span) -> Result<Rea
     ensures { IfOk result (λ r. (r.column ≡ column) × (r.ranges ≡ span_ranges numbers span)) }
 {
     let mut ranges = InOrder::new(alloc);
+    // A blank cell compares as 0 in a column of numbers, and its key stands apart from that of 0.
     if span.blank || (numbers && span.zero) {
         let from = Key::from_bytes(vec![in alloc; 0]?);
         let upto = Some(least(alloc)?);
@@ -142,13 +143,13 @@ fn span_of_all(
     let mut found = None;
     for test in tests {
         let next = span_of(alloc, test, column, numbers)?;
-        found = joined(found, next);
+        found = join(found, next);
     }
     Ok(found)
 }
 
 // The span of comparisons of which one part has this one and the other part that one, if there are any.
-fn joined(a: Option<Span>, b: Option<Span>) -> Option<Span>
+fn join(a: Option<Span>, b: Option<Span>) -> Option<Span>
     ensures { result ≡ joined_spans a b }
 {
     match (a, b) {
@@ -295,7 +296,7 @@ fn least(alloc: Global) -> Result<Key, Memory>
     Ok(Key::from_bytes(vec![in alloc; 1]?))
 }
 
-// The key after a value's.
+// The key after a value's. With a 0 behind it: no key lies between the two.
 fn after(alloc: Global, constant: &Value) -> Result<Key, Memory>
     requires { IsScalar (view constant.now) }
     ensures { IfOk result (λ k. k ≡ after_key (key_bytes (view constant.now))) }

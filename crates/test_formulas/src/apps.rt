@@ -4,7 +4,7 @@ ghost use Rattle.fx_infer.specs.Below.{tree_depth};
 ghost use Rattle.fx_infer.specs.declared.elaboration.Written.{Written};
 
 use crate::context::bare_app;
-use crate::place::{Spot, any_table, written};
+use crate::place::{Spot, any_table, write_formula};
 use crate::stop::Stop;
 use fx_data::types::Ty;
 use fx_data::words::Words;
@@ -54,10 +54,10 @@ fn add_part(alloc: Global, app: &mut App, part: &str) -> Result<(), Stop> {
         "collection" => add_collections(alloc, &mut app.names, text),
         "named" => add_named(alloc, app, text),
         "List.Items" => add_items(alloc, app, text),
-        "App.OnStart" => add_cell(alloc, app, head, Spot::acting(None, None), text),
-        "Home.OnVisible" => add_cell(alloc, app, head, Spot::acting(Some(0), None), text),
-        "Info.OnVisible" => add_cell(alloc, app, head, Spot::acting(Some(1), None), text),
-        "List.OnSelect" => add_cell(alloc, app, head, Spot::acting(Some(0), Some(LIST)), text),
+        "App.OnStart" => add_cell(alloc, app, head, Spot::behaviour(None, None), text),
+        "Home.OnVisible" => add_cell(alloc, app, head, Spot::behaviour(Some(0), None), text),
+        "Info.OnVisible" => add_cell(alloc, app, head, Spot::behaviour(Some(1), None), text),
+        "List.OnSelect" => add_cell(alloc, app, head, Spot::behaviour(Some(0), Some(LIST)), text),
         "Line.Text" => {
             let spot = Spot::pure(Some(0), Some(LIST), Some(Ty::Text));
             add_cell(alloc, app, head, spot, text)
@@ -131,7 +131,7 @@ fn add_cell(
     spot: Spot,
     text: &str,
 ) -> Result<(), Stop> {
-    let cell = written(alloc, address, spot, text)?;
+    let cell = write_formula(alloc, address, spot, text)?;
     app.cells.push(cell)?;
     Ok(())
 }

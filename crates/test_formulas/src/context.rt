@@ -6,8 +6,9 @@
 //! `picked` (a record of `Name` and `Qty`) and `none` (Blank); on `Home` the variable `hint` (Text). A collection
 //! `Basket` of `Name` and `Qty`.
 
-use crate::place::placed;
+use crate::place::place_formula;
 use crate::stop::Stop;
+use app_names::is_lawful;
 use fx_base::InOrder;
 use fx_data::controls::Control;
 use fx_data::types::Ty;
@@ -15,7 +16,6 @@ use fx_data::words::Words;
 use fx_infer::{InferEnd, elaborate};
 use fx_sig::all;
 use fx_trees::formulas::FormulaList;
-use fx_trees::is_lawful;
 use fx_trees::names::{Collection, ControlName, FormulaName, Names, Property, Variable};
 use fx_trees::schema::{Column, Schema, TableList, TableShape};
 use std::alloc::Global;
@@ -62,7 +62,7 @@ fn stock(alloc: Global) -> Result<TableList, Stop> {
 fn type_of(alloc: Global, text: &str) -> Result<Ty, Stop> {
     let mut names = bare(alloc, stock(alloc)?);
     names.screens.push(Words::of(alloc, "Home")?)?;
-    let cell = placed(alloc, "pure", text)?;
+    let cell = place_formula(alloc, "pure", text)?;
     if !is_lawful(&names) {
         return Err(Stop::NoRow);
     }

@@ -2,15 +2,17 @@
 ghost use Rattle.std.specs.Prelude.{◌≤◌};
 ghost use Rattle.fx_infer.specs.Below.{tree_depth};
 
-use crate::place::placed;
+use crate::place::place_formula;
+use crate::queries::queries_text;
 use crate::rounds::rounds_text;
 use crate::stop::Stop;
 use crate::tree::{DEPTH, tree_text};
 use crate::types::type_text;
+use app_names::is_lawful;
 use fx_base::Memory;
 use fx_infer::{InferEnd, Written, elaborate};
+use fx_trees::line as broken_line;
 use fx_trees::names::Names;
-use fx_trees::{is_lawful, line as broken_line};
 use std::alloc::Global;
 use std::io::{self, ErrorKind};
 
@@ -19,14 +21,14 @@ pub fn row(alloc: Global, names: &Names, line: &str) -> io::Result<String> {
     if line.is_empty() || line.starts_with("#") {
         return Ok(String::from_str(alloc, line)?);
     }
-    match answered(alloc, names, line) {
+    match answer_line(alloc, names, line) {
         Ok(text) => Ok(text),
         Err(Memory) => Err(ErrorKind::OutOfMemory.into()),
     }
 }
 
 /// A formula, or an app, with what is answered of it.
-fn answered(alloc: Global, names: &Names, line: &str) -> Result<String, Memory> {
+fn answer_line(alloc: Global, names: &Names, line: &str) -> Result<String, Memory> {
     match answer(alloc, names, line) {
         Ok(answer) => Ok(format!(in alloc; "{line} -> {answer}")?),
         Err(Stop::NoRow) => Ok(format!(in alloc; "{line} is no row of this table")?),
@@ -34,7 +36,7 @@ fn answered(alloc: Global, names: &Names, line: &str) -> Result<String, Memory> 
     }
 }
 
-/// The type and the tree of a formula, or the rule that it breaks; or the types of an app.
+/// The type and the tree of a formula, or the rule that it breaks; or the types of an app, or what a formula asks.
 fn answer(alloc: Global, names: &Names, line: &str) -> Result<String, Stop> {
     let Some((place, text)) = line.split_once(" ") else {
         return Err(Stop::NoRow);
@@ -42,12 +44,15 @@ fn answer(alloc: Global, names: &Names, line: &str) -> Result<String, Stop> {
     if place == "rounds" {
         return rounds_text(alloc, text);
     }
-    let cell = placed(alloc, place, text)?;
-    judged(alloc, names, &cell)
+    if place == "queries" {
+        return queries_text(alloc, names, text);
+    }
+    let cell = place_formula(alloc, place, text)?;
+    judge(alloc, names, &cell)
 }
 
 /// The type and the tree of a formula where it is written, or the rule that it breaks.
-fn judged(alloc: Global, names: &Names, cell: &Written) -> Result<String, Stop>
+fn judge(alloc: Global, names: &Names, cell: &Written) -> Result<String, Stop>
     requires { tree_depth cell.now.expr ≤ 64 }
 {
     if !is_lawful(names) {

@@ -24,7 +24,7 @@ pub struct Spot {
 
 impl Spot {
     /// A place of a behaviour formula.
-    pub fn acting(screen: Option<u32>, item: Option<u32>) -> Spot {
+    pub fn behaviour(screen: Option<u32>, item: Option<u32>) -> Spot {
         Spot {
             screen,
             item,
@@ -52,14 +52,14 @@ pub fn any_table(alloc: Global) -> Ty {
 /// A formula in the place that this word names: `pure`, on the first screen; `item`, in the template of the
 /// gallery; `acts`, a behaviour formula of the first screen, and `start` one of none; or a type that is wanted
 /// of it on the first screen.
-pub fn placed(alloc: Global, place: &str, text: &str) -> Result<Written, Stop>
+pub fn place_formula(alloc: Global, place: &str, text: &str) -> Result<Written, Stop>
     ensures shallow { IfOk result (λ w. tree_depth w.expr ≤ 64) }
 {
     let spot = match place {
         "pure" => Spot::pure(Some(0), None, None),
         "item" => Spot::pure(Some(0), Some(4), None),
-        "acts" => Spot::acting(Some(0), None),
-        "start" => Spot::acting(None, None),
+        "acts" => Spot::behaviour(Some(0), None),
+        "start" => Spot::behaviour(None, None),
         "number" => Spot::pure(Some(0), None, Some(Ty::Number)),
         "text" => Spot::pure(Some(0), None, Some(Ty::Text)),
         "boolean" => Spot::pure(Some(0), None, Some(Ty::Boolean)),
@@ -67,11 +67,11 @@ pub fn placed(alloc: Global, place: &str, text: &str) -> Result<Written, Stop>
         "table" => Spot::pure(Some(0), None, Some(any_table(alloc))),
         _ => return Err(Stop::NoRow),
     };
-    written(alloc, "F", spot, text)
+    write_formula(alloc, "F", spot, text)
 }
 
 /// A formula of this text, in the cell of this address.
-pub fn written(alloc: Global, cell: &str, spot: Spot, text: &str) -> Result<Written, Stop>
+pub fn write_formula(alloc: Global, cell: &str, spot: Spot, text: &str) -> Result<Written, Stop>
     ensures shallow { IfOk result (λ w. tree_depth w.expr ≤ 64) }
 {
     no_deeper();

@@ -2,7 +2,7 @@
 ghost use Rattle.std.specs.Prelude.{◌<◌, ◌^◌, length};
 
 use fx_base::Memory;
-use fx_parser::{ParseEnd, ReadBackEnd, bad_token, parse_formula, print, read_back, unexpected};
+use fx_parser::{ParseEnd, ReadBackEnd, bad_token, parse_formula, print, read_back, syntax_detail};
 use fx_trees::expr::Expr;
 use std::alloc::Global;
 use std::io::{self, ErrorKind};
@@ -12,24 +12,24 @@ pub fn row(alloc: Global, line: &str) -> io::Result<String> {
     if line.len() >= 4_294_967_296 {
         return Err(ErrorKind::InvalidInput.into());
     }
-    match printed(alloc, line) {
+    match print_line(alloc, line) {
         Ok(text) => Ok(text),
         Err(Memory) => Err(ErrorKind::OutOfMemory.into()),
     }
 }
 
 /// A formula as it is printed, or the rule that it breaks.
-fn printed(alloc: Global, source: &str) -> Result<String, Memory>
+fn print_line(alloc: Global, source: &str) -> Result<String, Memory>
     requires { length source.now < 2 ^ 32 }
 {
     match parse_formula(alloc, source) {
-        Ok(tree) => shown(alloc, &tree),
-        Err(end) => broken(alloc, source, end),
+        Ok(tree) => show(alloc, &tree),
+        Err(end) => break_text(alloc, source, end),
     }
 }
 
 /// A formula as it is printed, where it can be read back from that text.
-fn shown(alloc: Global, tree: &Expr) -> Result<String, Memory> {
+fn show(alloc: Global, tree: &Expr) -> Result<String, Memory> {
     match read_back(alloc, tree) {
         Ok(_) => print(alloc, tree),
         Err(ReadBackEnd::Parse(ParseEnd::Memory)) => Err(Memory),
@@ -38,7 +38,7 @@ fn shown(alloc: Global, tree: &Expr) -> Result<String, Memory> {
 }
 
 /// The rule that a text breaks, as a refusal says it.
-fn broken(alloc: Global, source: &str, end: ParseEnd) -> Result<String, Memory>
+fn break_text(alloc: Global, source: &str, end: ParseEnd) -> Result<String, Memory>
     requires { length source.now < 2 ^ 32 }
 {
     match end {
@@ -47,7 +47,7 @@ fn broken(alloc: Global, source: &str, end: ParseEnd) -> Result<String, Memory>
             Ok(format!(in alloc; "Formula: E1 BadToken at {}: {what}", bad.at)?)
         }
         ParseEnd::Syntax(at) => {
-            let what = unexpected(alloc, source, at)?;
+            let what = syntax_detail(alloc, source, at)?;
             Ok(format!(in alloc; "Formula: E2 Syntax at {at}: {}", what.as_str())?)
         }
         ParseEnd::TooDeep(at) => Ok(format!(in alloc;

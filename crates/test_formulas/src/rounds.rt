@@ -8,10 +8,11 @@ use crate::apps::{App, app_of};
 use crate::stop::Stop;
 use crate::tree::DEPTH;
 use crate::types::type_text;
+use app_names::is_lawful;
 use fx_data::types::Ty;
 use fx_infer::{InferEnd, Written, elaborate, type_rounds};
+use fx_trees::line as broken_line;
 use fx_trees::names::{Names, Variable};
-use fx_trees::{is_lawful, line as broken_line};
 use std::alloc::Global;
 
 /// The final types of the names of the app of these parts, and behind them the rule that each formula breaks

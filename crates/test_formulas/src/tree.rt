@@ -31,11 +31,11 @@ pub fn tree_text(alloc: Global, core: &Core, depth: u32) -> Result<String, Stop>
         }
         CoreNode::Call(fun, parts) => {
             let head = format!(in alloc; "{fun:?}")?;
-            headed(alloc, head.as_str(), None, parts.as_slice(), depth)
+            parts_text(alloc, head.as_str(), None, parts.as_slice(), depth)
         }
         CoreNode::Over(fun, table, parts) => {
             let head = format!(in alloc; "{fun:?}")?;
-            headed(alloc, head.as_str(), Some(table), parts.as_slice(), depth)
+            parts_text(alloc, head.as_str(), Some(table), parts.as_slice(), depth)
         }
         CoreNode::With(record, formula) => {
             let record = tree_text(alloc, record, depth)?;
@@ -43,25 +43,31 @@ pub fn tree_text(alloc: Global, core: &Core, depth: u32) -> Result<String, Stop>
             Ok(format!(in alloc; "With({record}, {formula})")?)
         }
         CoreNode::Rec(fields) => fields_text(alloc, fields.as_slice(), depth),
-        CoreNode::List(_, parts) => headed(alloc, "List", None, parts.as_slice(), depth),
-        CoreNode::All(parts) => headed(alloc, "All", None, parts.as_slice(), depth),
-        CoreNode::Any(parts) => headed(alloc, "Any", None, parts.as_slice(), depth),
-        CoreNode::If(parts) => headed(alloc, "If", None, parts.as_slice(), depth),
-        CoreNode::Switch(parts) => headed(alloc, "Switch", None, parts.as_slice(), depth),
-        CoreNode::IfError(parts) => headed(alloc, "IfError", None, parts.as_slice(), depth),
+        CoreNode::List(_, parts) => parts_text(alloc, "List", None, parts.as_slice(), depth),
+        CoreNode::All(parts) => parts_text(alloc, "All", None, parts.as_slice(), depth),
+        CoreNode::Any(parts) => parts_text(alloc, "Any", None, parts.as_slice(), depth),
+        CoreNode::If(parts) => parts_text(alloc, "If", None, parts.as_slice(), depth),
+        CoreNode::Switch(parts) => parts_text(alloc, "Switch", None, parts.as_slice(), depth),
+        CoreNode::IfError(parts) => parts_text(alloc, "IfError", None, parts.as_slice(), depth),
         CoreNode::Coerce(part, ty) => {
             let part = tree_text(alloc, part, depth)?;
             let ty = type_text(alloc, ty, DEPTH)?;
             Ok(format!(in alloc; "({part} as {ty})")?)
         }
-        CoreNode::Chain(parts) => headed(alloc, "Chain", None, parts.as_slice(), depth),
-        CoreNode::Act(deed, parts) => headed(alloc, deed_text(deed), None, parts.as_slice(), depth),
+        CoreNode::Chain(parts) => parts_text(alloc, "Chain", None, parts.as_slice(), depth),
+        CoreNode::Act(deed, parts) => parts_text(
+            alloc,
+            deed_text(deed),
+            None,
+            parts.as_slice(),
+            depth,
+        ),
     }
 }
 
 /// Parts behind the name of what they are parts of.
 #[cycle(tree)]
-fn headed(
+fn parts_text(
     alloc: Global,
     head: &str,
     first: Option<&Core>,

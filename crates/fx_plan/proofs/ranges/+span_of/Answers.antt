@@ -11,4 +11,4 @@ span_of_all-span_of-requires t c = (
 
 pub span_of_all-loop-test-preserved : goal.span_of_all-loop-test-preserved
 span_of_all-loop-test-preserved t c =
-    span_more c.args.numbers c.args.column c.args.tests.now c.loop-test.test-index c.test-item.result _ _ _ c.loop-test-test.true c.test-item.is c.loop-test.invariant c.in_ok-next.ensures c.joined-found.ensures
+    span_more c.args.numbers c.args.column c.args.tests.now c.loop-test.test-index c.test-item.result _ _ _ c.loop-test-test.true c.test-item.is c.loop-test.invariant c.in_ok-next.ensures c.join-found.ensures

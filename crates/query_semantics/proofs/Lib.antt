@@ -1,0 +1,12 @@
+pub mod Placing
+pub mod Carried
+pub mod Constancy
+pub mod Columns
+pub mod Testing
+pub mod Arranged
+pub mod Sound
+pub mod Wholes
+pub mod Limiting
+pub mod Retyped
+pub mod Firsts
+pub mod Consumers

@@ -1,0 +1,6 @@
+pub mod Settings
+pub mod Constants
+pub mod TestValues
+pub mod Wholes
+pub mod Limited
+pub mod Consumers

@@ -1,0 +1,19 @@
+-- Where a formula stands, over sources of given types of which values may be told.
+use Rattle.std.specs.Prelude.{List, Option}
+use Rattle.fx_data.specs.declared.faults.Fault.{Fault}
+use Rattle.fx_data.specs.Types.{Shape}
+use Rattle.fx_data.specs.Values.{Data}
+use Rattle.fx_trees.specs.declared.sources.Source.{Source}
+use Rattle.fx_semantics.specs.Around.{Around}
+use Rattle.fx_semantics.specs.Sources.{Gives}
+
+-- the type of each source that may be read, the value of each where it is told, and what is around
+pub record Setting : Type 0 where
+  pub types : Source → Option Shape
+  pub told : Option (Source → Data)
+  pub rows : List Data
+  pub item : Option Data
+  pub caught : Option Fault
+
+abbrev pub around : Setting → Around
+around s = record { gives = Gives s.types s.told; rows = s.rows; item = s.item; caught = s.caught }
