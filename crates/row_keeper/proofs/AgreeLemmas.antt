@@ -1,15 +1,12 @@
 -- The index keeps the entries of the rows.
 use Rattle.std.proofs.Common.{◌≡◌, ℕ, ◌==◌, List, [], ◌∷◌, refl, sym, ap, ap₂, ◌∙◌, Bool, true, false, cond, ◌&&◌, ◌||◌, Option, None, Some, subst}
 use Rattle.std.specs.Prelude.{bytes_eq}
-use Rattle.std.specs.Map.{lookup}
 use Rattle.std.specs.Option.{is_some}
-use Rattle.std.specs.BTreeMap.{is_at}
 use Rattle.std.proofs.lemmas.Bool.{eqb-true}
 use Rattle.fx_data.specs.Values.{Data}
 use Rattle.row_keeper.specs.Covered.{Agrees, NoneAbove, covers, entries_of, has_entry, key_at}
-use Rattle.row_keeper.specs.Entries.{Entry, Entries, entry_cmp, has_room, is_now, is_one_of, now_in, then_in}
+use Rattle.row_keeper.specs.Entries.{Entry, Entries, is_one_of, now_in, then_in}
 use Rattle.row_keeper.specs.Slots.{now_at, then_at}
-use Rattle.row_keeper.specs.declared.index.Mark.{Mark}
 use Rattle.row_keeper.specs.declared.slots.Slot.{Slot}
 
 -- the entries of a row, as what is asked of one
@@ -129,19 +126,6 @@ pub end_agrees : (covered : List ℕ) (at : ℕ → Option (List Data)) (rows' :
     → Agrees covered rows' es'
 end_agrees covered at rows' has es' h now then now_has then_has =
     (λ q. now_has q ∙ h q ∙ sym (ap (stands covered q) (now q.1)), λ q. then_has q ∙ h q ∙ sym (ap (stands covered q) (then q.1)))
-
--- the entries of a row have room
-pub entries_there : (covered : List ℕ) (rows : List (ℕ × Slot)) (es : Entries) (id : ℕ) (old : List Data) → Agrees covered rows es → now_at rows id ≡ Some old
-    → (q : Entry) → is_one_of (entries_of covered id old) q ≡ true → has_room es q ≡ true
-entries_there covered rows es id old h there q one = some (lookup (is_at (entry_cmp q)) es) (h.0 q ∙ go (id == q.1) refl (sym (of_row covered id old q) ∙ one))
-  where
-    some : (o : Option Mark) → is_now o ≡ true → is_some o ≡ true
-    some None f = absurd cc
-    some (Some m) f = refl
-
-    go : (t : Bool) → (id == q.1) ≡ t → (t && stands covered q (Some old)) ≡ true → stands covered q (now_at rows q.1) ≡ true
-    go false f g = absurd cc
-    go true f g = ap (stands covered q) (subst (λ n. now_at rows n ≡ Some old) (eqb-true id q.1 f) there) ∙ g
 
 -- no number above the last has a row, still
 pub above_stays : (last id : ℕ) (at at' : ℕ → Option (List Data)) (w : Option (List Data)) → NoneAbove last at → is_some (at id) ≡ true → ((i : ℕ) → at' i ≡ cond (id == i) w (at i)) → NoneAbove last at'

@@ -1,20 +1,22 @@
 -- What queries answer of the rows that they ask.
-use Rattle.std.proofs.Common.{◌≡◌, ◌≤◌, List, [], ◌∷◌, map, length, refl, sym, ap, ◌∙◌, arith, Bool, true, false, ℕ, Option, None, Some, subst}
+use Rattle.std.proofs.Common.{◌≡◌, ◌⊎◌, inl, inr, ⊎_elim, ◌≤◌, ◌<◌, drop, List, [], ◌∷◌, map, length, take, refl, sym, ap, ap₂, ◌∙◌, arith, Bool, true, false, ℕ, Option, None, Some, subst}
 use Rattle.std.specs.Prelude.{IsSomeAnd, MatchOption, slice_get, unwrap_or}
 use Rattle.std.specs.List.{All, AllByRecursion, filter}
-use Rattle.std.proofs.lemmas.List.{length-take}
-use Rattle.std.proofs.lemmas.List.Elements.{All-filter, All-from_recursion, All-take}
+use Rattle.std.proofs.lemmas.List.{length-take, take-append-drop, take-append-le, take_all}
+use Rattle.std.proofs.lemmas.List.Sorted.{length_permutation}
+use Rattle.std.proofs.lemmas.List.Elements.{All-filter, All-from_recursion, All-take, filter-append}
 use Rattle.fx_data.specs.Values.{Data, blank, boolean, fault}
 use Rattle.fx_data.specs.declared.faults.Fault.{Fault}
 use Rattle.fx_data.specs.declared.aggregates.Totals.{Totals}
 use Rattle.fx_tables.specs.Aggregates.{SumsUp, numbers_in}
 use Rattle.fx_trees.specs.declared.schema.TableShape.{TableShape}
 use Rattle.row_queries.specs.Conditions.{Condition, ConditionList, all_of, also, always, any_of, compares, constant, contains, flag, is_blank, no_conditions, opposite, starts}
-use Rattle.row_queries.specs.Queries.{AreAsked, IsQuery, IsTotalled, first_fault, first_of, given_of, outcome_on, rows_or_fault}
+use Rattle.row_queries.specs.Queries.{AreAsked, IsQuery, IsScanned, IsTotalled, lies, first_fault, first_of, given_of, outcome_on, rows_or_fault}
 use Rattle.row_queries.specs.RowTests.{CanAsk, CanAskAll, HasNoFaults, HaveNoFaults, IsFaultOr, IsNoFault, IsTruth, Outcome, all_outcome, and_then, any_outcome, decided, decided_by, failed, fault_in, is_met, met, or_else, outcome, reversed, unless_fault, unmet}
 use Rattle.row_queries.specs.TableRows.{IsRowOf, value_at, values_of}
 use Rattle.row_queries.specs.declared.queries.Query.{Query}
 use Rattle.row_queries.specs.declared.rows.Row.{Row}
+use Rattle.row_keeper.specs.Pages.{AreFirst, IsGiven, IsPage}
 use Rattle.row_keeper.proofs.StoreLemmas.{shorter}
 
 -- ---- a test without errors as constants is no error on a row that it can be asked of
@@ -132,3 +134,60 @@ answer_short q asked (Some x) = omega arith
 pub totalled : (q : Query) (rows asked given : List Row) (column : ℕ) (values : List Data) (totals : Totals) → AreAsked q rows asked → given ≡ given_of q asked → values ≡ map (λ (r : Row). value_at (values_of r) column) given
     → SumsUp (numbers_in values) totals → IsTotalled q rows column totals
 totalled q rows asked given column values totals is e f h = (asked, is, subst (λ (vs : List Data). SumsUp (numbers_in vs) totals) (f ∙ ap (map (λ (r : Row). value_at (values_of r) column)) e) h)
+
+-- ---- a query that takes the first rows
+enough_met : (p : Row → Bool) (asked : List Row) (most size : ℕ) → (most ≤ length (filter p (take size asked))) ⊎ (length (take size asked) < size) → take most (filter p (take size asked)) ≡ take most (filter p asked)
+enough_met p asked most size (inl h) =
+    sym (take-append-le most (filter p (take size asked)) (filter p (drop size asked)) h)
+    ∙ ap (take most) (sym (filter-append p (take size asked) (drop size asked)) ∙ ap (filter p) (take-append-drop size asked))
+enough_met p asked most size (inr h) =
+    let e = length-take size asked in
+    ap (λ l. take most (filter p l)) (take_all size asked (omega (arith, e, h)))
+
+pub page_is : (q : Query) (rows first judged : List Row) (most size count found : ℕ) → IsPage q most → AreFirst q rows size first → ((asked : List Row) → AreAsked q rows asked → AllByRecursion (λ (r : Row). CanAsk (values_of r) q.test) asked)
+    → judged ≡ filter (λ r. is_met (outcome_on q r)) first → count ≡ length first → found ≡ length judged → (most ≤ found) ⊎ (count < size) → IsGiven q rows (first_of q.take judged) count
+page_is q rows first judged most size count found is (asked, are, e) able j c m enough = record {
+  asked = asked;
+  are = are;
+  sound = no_faults q asked (able asked are) is.sound;
+  are_given =
+      ap (λ o. first_of o judged) is.take ∙ ap (take most) (j ∙ ap (filter passes) e)
+      ∙ enough_met passes asked most size (⊎_elim (λ h. inl (let n = ap (λ (l : List Row). length l) (j ∙ ap (filter passes) e) in omega (arith, h, m, n))) (λ h. inr (let n = ap (λ (l : List Row). length l) e in omega (arith, h, c, n))) enough)
+      ∙ ap (λ o. first_of o (filter passes asked)) (sym is.take);
+  least =
+      let n = ap (λ o. length (first_of o judged)) is.take in
+      let l = length-take most judged in
+      let k = ap (λ (l : List Row). length l) j in
+      let s = shorter passes first in
+      omega (arith, n, l, k, s, c);
+  most =
+      let n = ap (λ (l : List Row). length l) e in
+      let l = length-take size asked in
+      let p = length_permutation (filter (lies q) rows) asked are.rearranged in
+      omega (arith, n, l, p, c);
+}
+  where
+    passes : Row → Bool
+    passes r = is_met (outcome_on q r)
+
+pub all_given : (q : Query) (rows asked given : List Row) (most count : ℕ) → IsPage q most → AreAsked q rows asked → AllByRecursion (λ (r : Row). CanAsk (values_of r) q.test) asked → given ≡ given_of q asked → count ≡ length asked → IsGiven q rows given count
+all_given q rows asked given most count is are able e c = record {
+  asked = asked;
+  are = are;
+  sound = no_faults q asked able is.sound;
+  are_given = e;
+  least = let n = ap (λ (l : List Row). length l) e in let s = given_short q asked in omega (arith, n, s, c);
+  most = let p = length_permutation (filter (lies q) rows) asked are.rearranged in omega (arith, p, c);
+}
+
+pub scanned_is : (q : Query) (rows given : List Row) (count : ℕ) → IsGiven q rows given count → IsScanned q rows (record { rows = given; fault = None })
+scanned_is q rows given count h = (h.asked, h.are, ap₂ rows_or_fault h.are_given (sym h.sound))
+
+pub first_fits : (o : Option TableShape) (q : Query) (first judged : List Row) → IsSomeAnd o (λ (t : TableShape). AllByRecursion (IsRowOf t) first) → judged ≡ filter (λ r. is_met (outcome_on q r)) first
+    → IsSomeAnd o (λ (t : TableShape). All (IsRowOf t) (first_of q.take judged))
+first_fits None q first judged h e = absurd h
+first_fits (Some t) q first judged h e = subst (λ (l : List Row). All (IsRowOf t) (first_of q.take l)) (sym e) (given_fits (IsRowOf t) q first (All-from_recursion (IsRowOf t) first h))
+
+pub all_fits : (o : Option TableShape) (q : Query) (asked given : List Row) → IsSomeAnd o (λ (t : TableShape). AllByRecursion (IsRowOf t) asked) → given ≡ given_of q asked → IsSomeAnd o (λ (t : TableShape). All (IsRowOf t) given)
+all_fits None q asked given h e = absurd h
+all_fits (Some t) q asked given h e = subst (All (IsRowOf t)) (sym e) (given_fits (IsRowOf t) q asked (All-from_recursion (IsRowOf t) asked h))

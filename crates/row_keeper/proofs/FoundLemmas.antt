@@ -12,6 +12,7 @@ use Rattle.std.specs.declared.cmp.Ordering.{Ordering}
 use Rattle.std.specs.declared.cmp.Ordering.TheVariants.{Less, Equal, Greater}
 use Rattle.std.proofs.lemmas.Bool.{eqb-true, eq-eqb}
 use Rattle.std.proofs.lemmas.Cmp.{nat_cmp_total, tied_itself}
+use Rattle.std.proofs.lemmas.List.{append-nil, append_assoc}
 use Rattle.std.proofs.lemmas.List.Kept.{IsStrictlySortedBy-filter}
 use Rattle.std.proofs.lemmas.Map.Keys.{sorted_head, sorted_tail}
 use Rattle.std.proofs.lemmas.Map.Made.{is_some-lookup}
@@ -54,7 +55,7 @@ hit_from column r (e ∷ es) q c h g = go (λ f. hit_from column r es q c f g) (
     go ih false f true u = rest (e.1.is && (e.0.1 == q.1)) (hits column r es q.1) (ih (subst (λ b. is_now (cond b (Some e.1) (lookup (is_at (entry_cmp q)) es)) ≡ true) f h))
     go ih false f false u = ih (subst (λ b. is_now (cond b (Some e.1) (lookup (is_at (entry_cmp q)) es)) ≡ true) f h)
 
-less_not_at : (o : Ordering) → o ≡ Less → is_eq (ordering_reverse o) ≡ false
+pub less_not_at : (o : Ordering) → o ≡ Less → is_eq (ordering_reverse o) ≡ false
 less_not_at Less h = refl
 less_not_at Equal h = absurd cc
 less_not_at Greater h = absurd cc
@@ -110,11 +111,11 @@ abbrev lies_in : ℕ → KeyRange → ℕ → Option (List Data) → Bool
 lies_in column r i None = false
 lies_in column r i (Some cells) = in_range (key_at i cells column) r
 
-both_true : (a b : Bool) → (a && b) ≡ true → (a ≡ true) × (b ≡ true)
+pub both_true : (a b : Bool) → (a && b) ≡ true → (a ≡ true) × (b ≡ true)
 both_true true b h = (refl, h)
 both_true false b h = absurd cc
 
-bytes_same : (xs ys : List ℕ) → bytes_eq xs ys ≡ true → xs ≡ ys
+pub bytes_same : (xs ys : List ℕ) → bytes_eq xs ys ≡ true → xs ≡ ys
 bytes_same xs ys h = exact_bytes xs ys (equal (slice_cmp nat_cmp xs ys) (is_eq-slice_cmp xs ys ∙ h))
   where
     equal : (o : Ordering) → is_eq o ≡ true → o ≡ Equal
@@ -254,3 +255,10 @@ pub rows_found : (P : ℕ → Option (List Data) → Bool) (p : Row → Bool) �
     → ((i : ℕ) → list_any (is_at (nat_cmp i)) ids ≡ P i (now_at rows i)) → rows_of_ids rows ids ≡ filter p (rows_now rows)
 rows_found P p none some rows ids sorted rising has =
     ap (rows_of_ids rows) (ids_are P none rows ids sorted rising has) ∙ picked_part P p none some rows rows (owns_all rows sorted)
+
+-- the rows of one number more
+pub rows_of_more : (rows : List (ℕ × Slot)) (ids : List ℕ) (i : ℕ) → rows_of_ids rows (ids ++ i ∷ []) ≡ rows_of_ids rows ids ++ option_to_list (row_under i (now_at rows i))
+rows_of_more rows [] i = append-nil (option_to_list (row_under i (now_at rows i)))
+rows_of_more rows (k ∷ ids) i =
+    ap (λ l. option_to_list (row_under k (now_at rows k)) ++ l) (rows_of_more rows ids i)
+    ∙ sym (append_assoc (option_to_list (row_under k (now_at rows k))) (rows_of_ids rows ids) (option_to_list (row_under i (now_at rows i))))

@@ -13,7 +13,7 @@ use Rattle.row_queries.specs.declared.ranges.KeyRange.{KeyRange}
 use Rattle.row_queries.specs.Ranges.{in_range, is_before_end}
 use Rattle.row_keeper.specs.Entries.{Entry, Entries, entry_cmp, among, end_key, hits, lies_at}
 
-abbrev R : List ℕ → List ℕ → Ordering
+abbrev pub R : List ℕ → List ℕ → Ordering
 R = slice_cmp nat_cmp
 
 zero_first : (i : ℕ) → is_le (nat_cmp 0 i) ≡ true
@@ -29,7 +29,7 @@ lt_reversed Less = refl
 lt_reversed Equal = refl
 lt_reversed Greater = refl
 
-lt_is : (a b : List ℕ) → is_lt (R a b) ≡ not (is_le (R b a))
+pub lt_is : (a b : List ℕ) → is_lt (R a b) ≡ not (is_le (R b a))
 lt_is a b = ap is_lt (nat_list_cmp_total.antisymm a b) ∙ lt_reversed (R b a)
 
 -- a column's place among two
@@ -105,7 +105,7 @@ kept_is column r (Some to) f e = between_key column r.from to e ∙ ap (λ u. (e
 pub between : (column : ℕ) (r : KeyRange) (es : Entries) → entries_between entry_cmp (Included ((column, r.from), 0)) (Excluded (end_key column r.upto, 0)) es ≡ filter (lies_at column r) es
 between column r es = filter_same _ _ (λ x. kept_is column r r.upto refl x.0) es
 
-none_kept : {X : Type 0} (p : X → Bool) → ((x : X) → p x ≡ false) → (xs : List X) → filter p xs ≡ []
+pub none_kept : {X : Type 0} (p : X → Bool) → ((x : X) → p x ≡ false) → (xs : List X) → filter p xs ≡ []
 none_kept p h [] = refl
 none_kept p h (x ∷ xs) = rw (h x) (none_kept p h xs)
 
@@ -119,12 +119,12 @@ gt_le Less h = refl
 gt_le Equal h = refl
 gt_le Greater h = absurd cc
 
-le_trans : (a b c : List ℕ) → is_le (R a b) ≡ true → is_le (R b c) ≡ true → is_le (R a c) ≡ true
+pub le_trans : (a b c : List ℕ) → is_le (R a b) ≡ true → is_le (R b c) ≡ true → is_le (R a c) ≡ true
 le_trans a b c h k = gt_le _ (upto nat_list_cmp_total a b c (le_gt _ h) (le_gt _ k))
 
 -- a range that ends where it begins, or before, has no entry
-pub none_between : (column : ℕ) (r : KeyRange) → is_lt (entry_cmp ((column, r.from), 0) (end_key column r.upto, 0)) ≡ false → (es : Entries) (i : ℕ) → hits column r es i ≡ false
-none_between column r h es i = ap (λ l. among l i) (none_kept _ (λ x. none x.0) es)
+pub nothing_between : (column : ℕ) (r : KeyRange) → is_lt (entry_cmp ((column, r.from), 0) (end_key column r.upto, 0)) ≡ false → (es : Entries) → filter (lies_at column r) es ≡ []
+nothing_between column r h es = none_kept _ (λ x. none x.0) es
   where
     itself : nat_cmp column column ≡ Equal
     itself = grind (arith, nat_tests)
@@ -159,6 +159,9 @@ none_between column r h es i = ap (λ l. among l i) (none_kept _ (λ x. none x.0
 
     none : (e : Entry) → ((e.0.0 == column) && in_range e.0.1 r) ≡ false
     none e = ap (λ b. (e.0.0 == column) && b) (ends r.upto h e.0.1) ∙ right (e.0.0 == column)
+
+pub none_between : (column : ℕ) (r : KeyRange) → is_lt (entry_cmp ((column, r.from), 0) (end_key column r.upto, 0)) ≡ false → (es : Entries) (i : ℕ) → hits column r es i ≡ false
+none_between column r h es i = ap (λ l. among l i) (nothing_between column r h es)
 
 pub or_none : (a b : Bool) → b ≡ false → a ≡ (a || b)
 or_none true b h = refl

@@ -1,8 +1,10 @@
 pub mod AgreeLemmas
 pub mod AnswerLemmas
+pub mod EndLemmas
 pub mod FoundLemmas
 pub mod HitLemmas
 pub mod MarkLemmas
+pub mod PageLemmas
 pub mod PutLemmas
 pub mod RowLists
 pub mod RuleLemmas

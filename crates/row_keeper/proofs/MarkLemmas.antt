@@ -1,24 +1,19 @@
 -- Entries and their marks.
-use Rattle.std.proofs.Common.{◌≡◌, ℕ, zero, suc, ◌+◌, ◌<◌, length, take, get_or, ◌++◌, List, [], ◌∷◌, map, filter, refl, sym, ap, ap₂, ◌∙◌, arith, Bool, true, false, cond, ◌&&◌, ◌||◌, Option, None, Some, subst}
-use Rattle.std.specs.Cmp.{IsTotalOrder, unsigned_ties, eq_by_cmp_equiv}
+use Rattle.std.proofs.Common.{◌≡◌, ℕ, zero, suc, ◌+◌, ◌<◌, length, take, get_or, ◌++◌, List, [], ◌∷◌, refl, sym, ap, ap₂, ◌∙◌, arith, Bool, true, false, not, cond, ◌&&◌, ◌||◌, Option, None, Some, subst}
+use Rattle.std.specs.Cmp.{IsTotalOrder, unsigned_ties}
 use Rattle.std.specs.Cmp.Lexicographic.{slice_cmp, nat_list_cmp_total}
-use Rattle.std.specs.List.Sorted.{IsStrictlySortedBy}
-use Rattle.std.specs.Map.{lookup, keys_of}
+use Rattle.std.specs.Map.{lookup}
 use Rattle.std.specs.Option.{option_map, is_some}
 use Rattle.std.specs.BTreeMap.{is_at}
 use Rattle.std.specs.Ordering.{nat_cmp, ordering_then, is_eq}
 use Rattle.std.specs.declared.cmp.Ordering.{Ordering}
 use Rattle.std.specs.declared.cmp.Ordering.TheVariants.{Less, Equal, Greater}
 use Rattle.std.proofs.lemmas.Cmp.{on_total, then_total, nat_cmp_total, tied_itself}
-use Rattle.std.proofs.lemmas.List.{take_more}
-use Rattle.std.proofs.lemmas.List.Folds.{list_any-append}
-use Rattle.std.proofs.lemmas.Map.Entries.{lookup-filter-values, option_filter}
-use Rattle.std.proofs.lemmas.Map.Keys.{IsDistinct-from_sorted}
-use Rattle.std.proofs.lemmas.Map.Made.{lookup-map_values}
 use Rattle.std.proofs.lemmas.Map.Lookups.{CmpEqualImpliesEq, exact_pairs, exact_bytes, exact_unsigned}
 use Rattle.std.proofs.lemmas.Map.Text.{is_eq-slice_cmp}
 use Rattle.row_keeper.specs.declared.index.Mark.{Mark}
-use Rattle.row_keeper.specs.Entries.{Entry, Entries, entry_cmp, is_entry, is_one_of, is_now, was_then, now_in, then_in}
+use Rattle.row_keeper.specs.Entries.{Entry, Entries, OthersStand, at_end, ended, entry_cmp, is_entry, is_gone, is_one_of, is_now, mark_at, was_then, now_in, then_in, while_entry}
+use Rattle.row_keeper.proofs.EndLemmas.{any_more, any_one_more, or_last}
 
 abbrev pub key_cmp : ℕ × List ℕ → ℕ × List ℕ → Ordering
 key_cmp a b = ordering_then (nat_cmp a.0 b.0) (slice_cmp nat_cmp a.1 b.1)
@@ -79,50 +74,91 @@ marked_then es fs key old is there q e = ap was_then e ∙ go (is_at (entry_cmp 
     go false h = refl
     go true h = sym (ap was_then (subst (λ p. lookup (is_at (entry_cmp p)) es ≡ Some old) (same_entry key q h) there))
 
-abbrev pub restored : Mark → Mark
-restored m = record { was = m.was; is = m.was }
-
-abbrev pub settled : Mark → Mark
-settled m = record { was = m.is; is = m.is }
-
-kept_restored : (o : Option Mark) → (is_now (option_map restored (option_filter (λ m. m.was) o)) ≡ was_then o) × (was_then (option_map restored (option_filter (λ m. m.was) o)) ≡ was_then o)
-kept_restored None = (refl, refl)
-kept_restored (Some m) = go m.was refl
+-- an entry is the same as itself
+pub entry_itself : (e : Entry) → is_entry e e ≡ true
+entry_itself e = sym (is_entry_is e e) ∙ ap is_eq (equal_itself e)
   where
-    go : (t : Bool) → m.was ≡ t → (is_now (option_map restored (cond t (Some m) None)) ≡ m.was) × (was_then (option_map restored (cond t (Some m) None)) ≡ m.was)
-    go true e = (refl, refl)
-    go false e = (sym e, sym e)
+    equal_itself : (e : Entry) → entry_cmp e e ≡ Equal
+    equal_itself e = tied_itself entry_total e
 
-kept_settled : (o : Option Mark) → (is_now (option_map settled (option_filter (λ m. m.is) o)) ≡ is_now o) × (was_then (option_map settled (option_filter (λ m. m.is) o)) ≡ is_now o)
-kept_settled None = (refl, refl)
-kept_settled (Some m) = go m.is refl
+-- ---- the end of a transaction
+pub void_out : (o : Option Mark) → is_gone o ≡ true → None ≡ while_entry o
+void_out None h = refl
+void_out (Some m) h = go m.was h
   where
-    go : (t : Bool) → m.is ≡ t → (is_now (option_map settled (cond t (Some m) None)) ≡ m.is) × (was_then (option_map settled (cond t (Some m) None)) ≡ m.is)
-    go true e = (refl, refl)
-    go false e = (sym e, sym e)
+    go : (w : Bool) → not w ≡ true → None ≡ cond w (Some m) None
+    go false k = refl
+    go true k = absurd cc
 
-looked_up : (p : Mark → Bool) (g : Mark → Mark) (es : Entries) → IsStrictlySortedBy entry_cmp (keys_of es) → (q : Entry)
-    → lookup (is_at (entry_cmp q)) (map (λ e. (e.0, g e.1)) (filter (λ e. p e.1) es)) ≡ option_map g (option_filter p (lookup (is_at (entry_cmp q)) es))
-looked_up p g es sorted q = lookup-map_values g (is_at (entry_cmp q)) (filter (λ e. p e.1) es)
-    ∙ ap (option_map g) (lookup-filter-values (eq_by_cmp_equiv entry_total) p q es (IsDistinct-from_sorted entry_cmp (keys_of es) sorted))
+pub mark_stays : (o : Option Mark) → is_gone o ≡ false → o ≡ while_entry o
+mark_stays None h = refl
+mark_stays (Some m) h = go m.was h
+  where
+    go : (w : Bool) → not w ≡ false → Some m ≡ cond w (Some m) None
+    go false k = absurd cc
+    go true k = refl
 
--- the way back: what was, is
-pub back : (es fs gs : Entries) → IsStrictlySortedBy entry_cmp (keys_of es) → fs ≡ filter (λ e. e.1.was) es → gs ≡ map (λ e. (e.0, restored e.1)) fs
-    → (q : Entry) → (now_in gs q ≡ then_in es q) × (then_in gs q ≡ then_in es q)
-back es fs gs sorted e f q =
-    let same : lookup (is_at (entry_cmp q)) gs ≡ option_map restored (option_filter (λ m. m.was) (lookup (is_at (entry_cmp q)) es)) =
-    ap (lookup (is_at (entry_cmp q))) (f ∙ ap (map (λ e. (e.0, restored e.1))) e) ∙ looked_up (λ m. m.was) restored es sorted q in
-    let kept = kept_restored (lookup (is_at (entry_cmp q)) es) in
-    (ap is_now same ∙ kept.0, ap was_then same ∙ kept.1)
+pub two_steps : (b : Bool) (o : Option Mark) → while_entry (option_map (at_end b) o) ≡ ended b o
+two_steps b None = refl
+two_steps b (Some m) = refl
+
+-- a second end changes nothing
+twice : (b t : Bool) → ended b (while_entry (Some (record { was = t; is = t }))) ≡ while_entry (Some (record { was = t; is = t }))
+twice true true = refl
+twice false true = refl
+twice true false = refl
+twice false false = refl
+
+pub end_twice : (b : Bool) (o : Option Mark) → ended b (ended b o) ≡ ended b o
+end_twice b None = refl
+end_twice true (Some m) = twice true m.is
+end_twice false (Some m) = twice false m.was
+
+still : (t : Bool) → (is_now (while_entry (Some (record { was = t; is = t }))) ≡ t) × (was_then (while_entry (Some (record { was = t; is = t }))) ≡ t)
+still true = (refl, refl)
+still false = (refl, refl)
+
+settled_is : (o : Option Mark) → (is_now (ended true o) ≡ is_now o) × (was_then (ended true o) ≡ is_now o)
+settled_is None = (refl, refl)
+settled_is (Some m) = still m.is
+
+restored_is : (o : Option Mark) → (is_now (ended false o) ≡ was_then o) × (was_then (ended false o) ≡ was_then o)
+restored_is None = (refl, refl)
+restored_is (Some m) = still m.was
+
+abbrev Ends : Bool → List Entry → Entries → Entries → Type 0
+Ends b touched es es' = (q : Entry) → mark_at es' q ≡ cond (is_one_of touched q) (ended b (mark_at es q)) (mark_at es q)
 
 -- the end with the changes: what is, was
-pub done : (es fs gs : Entries) → IsStrictlySortedBy entry_cmp (keys_of es) → fs ≡ filter (λ e. e.1.is) es → gs ≡ map (λ e. (e.0, settled e.1)) fs
-    → (q : Entry) → (now_in gs q ≡ now_in es q) × (then_in gs q ≡ now_in es q)
-done es fs gs sorted e f q =
-    let same : lookup (is_at (entry_cmp q)) gs ≡ option_map settled (option_filter (λ m. m.is) (lookup (is_at (entry_cmp q)) es)) =
-    ap (lookup (is_at (entry_cmp q))) (f ∙ ap (map (λ e. (e.0, settled e.1))) e) ∙ looked_up (λ m. m.is) settled es sorted q in
-    let kept = kept_settled (lookup (is_at (entry_cmp q)) es) in
-    (ap is_now same ∙ kept.0, ap was_then same ∙ kept.1)
+pub done : (touched : List Entry) (es es' : Entries) → OthersStand touched es → Ends true touched es es' → (q : Entry) → (now_in es' q ≡ now_in es q) × (then_in es' q ≡ now_in es q)
+done touched es es' others e q = by (is_one_of touched q) refl (e q)
+  where
+    by : (b : Bool) → is_one_of touched q ≡ b → mark_at es' q ≡ cond b (ended true (mark_at es q)) (mark_at es q) → (now_in es' q ≡ now_in es q) × (then_in es' q ≡ now_in es q)
+    by true h f = let s = settled_is (mark_at es q) in (ap is_now f ∙ s.0, ap was_then f ∙ s.1)
+    by false h f = (ap is_now f, ap was_then f ∙ sym (others q h))
+
+-- the end without them: what was, is
+pub back : (touched : List Entry) (es es' : Entries) → OthersStand touched es → Ends false touched es es' → (q : Entry) → (now_in es' q ≡ then_in es q) × (then_in es' q ≡ then_in es q)
+back touched es es' others e q = by (is_one_of touched q) refl (e q)
+  where
+    by : (b : Bool) → is_one_of touched q ≡ b → mark_at es' q ≡ cond b (ended false (mark_at es q)) (mark_at es q) → (now_in es' q ≡ then_in es q) × (then_in es' q ≡ then_in es q)
+    by true h f = let s = restored_is (mark_at es q) in (ap is_now f ∙ s.0, ap was_then f ∙ s.1)
+    by false h f = (ap is_now f ∙ others q h, ap was_then f)
+
+pub noted_last : (touched : List Entry) (e : Entry) → is_one_of (touched ++ e ∷ []) e ≡ true
+noted_last touched e = any_one_more (λ x. is_entry x e) touched e ∙ or_last (is_one_of touched e) (is_entry e e) (entry_itself e)
+
+pub one_entry : (e q : Entry) → is_entry e q ≡ true → e ≡ q
+one_entry e q h = same_entry e q (is_entry_is e q ∙ h)
+
+-- one is marked that is noted
+pub stand_marked : (touched : List Entry) (es es' : Entries) (key : Entry) (is : Bool) → is_one_of touched key ≡ true → OthersStand touched es
+    → ((q : Entry) → now_in es' q ≡ cond (is_entry key q) is (now_in es q)) → ((q : Entry) → then_in es' q ≡ then_in es q) → OthersStand touched es'
+stand_marked touched es es' key is noted others now then q h = now q ∙ go (is_entry key q) refl ∙ sym (then q)
+  where
+    go : (b : Bool) → is_entry key q ≡ b → cond b is (now_in es q) ≡ then_in es q
+    go false f = others q h
+    go true f = absurd (let g : is_one_of touched q ≡ true = subst (λ p. is_one_of touched p ≡ true) (same_entry key q (is_entry_is key q ∙ f)) noted in cc)
 
 pub some_stays : {X : Type 0} (b : Bool) (w : X) (o p : Option X) → p ≡ cond b (Some w) o → is_some o ≡ true → is_some p ≡ true
 some_stays true w o p e h = ap is_some e
@@ -131,13 +167,6 @@ some_stays false w o p e h = ap is_some e ∙ h
 pub none_there : {X : Type 0} (o : Option X) → false ≡ is_some o → o ≡ None
 none_there None h = refl
 none_there (Some x) h = absurd cc
-
--- an entry is the same as itself
-pub entry_itself : (e : Entry) → is_entry e e ≡ true
-entry_itself e = sym (is_entry_is e e) ∙ ap is_eq (equal_itself e)
-  where
-    equal_itself : (e : Entry) → entry_cmp e e ≡ Equal
-    equal_itself e = tied_itself entry_total e
 
 pub in_front : (e : Entry) (es : List Entry) → is_one_of (e ∷ es) e ≡ true
 in_front e es = ap (λ b. b || is_one_of es e) (entry_itself e)
@@ -156,11 +185,11 @@ at_place (x ∷ es) zero e l h = ap (λ y. is_entry y e || is_one_of es e) (sym 
 at_place (x ∷ es) (suc i) e l h = further x e es (at_place es i e (omega (arith, l)) h)
 
 -- what holds of the first elements, and of the next one, holds of one element more
-pub one_more : (es : List Entry) (i : ℕ) (e : Entry) (f : Entry → Bool) → i < length es → e ≡ get_or es i e → ((q : Entry) → is_one_of (take i es) q ≡ true → f q ≡ true) → f e ≡ true
-    → (q : Entry) → is_one_of (take (i + 1) es) q ≡ true → f q ≡ true
-one_more es i e f l is before here q h = by (is_one_of (take i es) q) refl (is_entry e q) refl (sym (ap (λ xs. is_one_of xs q) (take_more es i e l ∙ ap (λ y. take i es ++ y ∷ []) (sym is)) ∙ list_any-append (λ x. is_entry x q) (take i es) (e ∷ [])) ∙ h)
+pub one_more : (es : List Entry) (i : ℕ) (e : Entry) (P : Entry → Type 0) → i < length es → e ≡ get_or es i e → ((q : Entry) → is_one_of (take i es) q ≡ true → P q) → P e
+    → (q : Entry) → is_one_of (take (i + 1) es) q ≡ true → P q
+one_more es i e P l is before here q h = by (is_one_of (take i es) q) refl (is_entry e q) refl (sym (any_more (λ x. is_entry x q) es i e e l is) ∙ h)
   where
-    by : (a : Bool) → is_one_of (take i es) q ≡ a → (b : Bool) → is_entry e q ≡ b → (a || (b || false)) ≡ true → f q ≡ true
+    by : (a : Bool) → is_one_of (take i es) q ≡ a → (b : Bool) → is_entry e q ≡ b → (a || (b || false)) ≡ true → P q
     by true x b y z = before q x
-    by false x true y z = subst (λ p. f p ≡ true) (same_entry e q (is_entry_is e q ∙ y)) here
+    by false x true y z = subst P (same_entry e q (is_entry_is e q ∙ y)) here
     by false x false y z = absurd cc

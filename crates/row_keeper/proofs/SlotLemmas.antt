@@ -1,56 +1,102 @@
--- Rows by their ids, after the end of a transaction.
-use Rattle.std.proofs.Common.{◌≡◌, ℕ, List, map, filter, refl, ap, ◌∙◌, Bool, Option, None, Some}
-use Rattle.std.specs.Cmp.{eq_by_cmp_equiv}
-use Rattle.std.specs.List.Sorted.{IsStrictlySortedBy}
-use Rattle.std.specs.Map.{lookup, keys_of}
+-- Slots by their numbers, as they change and at the end of a transaction.
+use Rattle.std.proofs.Common.{◌≡◌, ℕ, ◌==◌, List, refl, sym, ap, ◌∙◌, Bool, true, false, cond, Option, None, Some}
+use Rattle.std.specs.Prelude.{is_none}
+use Rattle.std.specs.Cmp.{unsigned_ties}
 use Rattle.std.specs.Option.{option_map, is_some}
 use Rattle.std.specs.BTreeMap.{is_at}
 use Rattle.std.specs.Ordering.{nat_cmp}
-use Rattle.std.proofs.lemmas.Cmp.{nat_cmp_total}
-use Rattle.std.proofs.lemmas.Map.Entries.{lookup-filter-values, option_filter}
-use Rattle.std.proofs.lemmas.Map.Keys.{IsDistinct-from_sorted}
-use Rattle.std.proofs.lemmas.Map.Made.{lookup-map_values}
-use Rattle.row_keeper.specs.declared.slots.Made.{Made}
-use Rattle.row_keeper.specs.declared.slots.Made.TheVariants.{Same}
-use Rattle.row_keeper.specs.declared.slots.Slot.{Slot}
+use Rattle.std.proofs.lemmas.Bool.{eqb-true}
 use Rattle.fx_data.specs.Values.{Data}
-use Rattle.row_keeper.specs.Slots.{now_of, now_at, then_at, now_in_slot, then_in_slot, settled, restored}
+use Rattle.row_keeper.specs.declared.slots.Made.{Made}
+use Rattle.row_keeper.specs.declared.slots.Made.TheVariants.{Same, Gone, New}
+use Rattle.row_keeper.specs.declared.slots.Slot.{Slot}
+use Rattle.row_keeper.specs.Slots.{OthersStand, at_end, ended, is_gone, is_named, is_unchanged, now_of, now_at, now_in_slot, slot_at, then_at, then_in_slot, while_row}
 
-abbrev was_some : Slot → Bool
-was_some s = is_some s.was
+pub same_number : (id i : ℕ) → is_at (nat_cmp id) i ≡ (id == i)
+same_number id i = sym (unsigned_ties id i)
 
-kept_restored : (o : Option Slot) → (now_in_slot (option_map restored (option_filter was_some o)) ≡ then_in_slot o) × (then_in_slot (option_map restored (option_filter was_some o)) ≡ then_in_slot o)
-kept_restored None = (refl, refl)
-kept_restored (Some s) = go s.was s.made
+pub is_number : (id q : ℕ) → (id == q) ≡ true → id ≡ q
+is_number id q h = eqb-true id q h
+
+-- a change at a number, told by the test of numbers
+pub told_at : (id i : ℕ) (w old new : Option Slot) → new ≡ cond (is_at (nat_cmp id) i) w old → new ≡ cond (id == i) w old
+told_at id i w old new e = e ∙ ap (λ b. cond b w old) (same_number id i)
+
+-- ---- a slot of no row is taken out
+pub void_out : (o : Option Slot) → is_gone o ≡ true → None ≡ while_row o
+void_out None h = refl
+void_out (Some s) h = go s.was h
   where
-    go : (w : Option (List Data)) (m : Made) → (now_in_slot (option_map restored (option_filter was_some (Some (record { was = w; made = m })))) ≡ w) × (then_in_slot (option_map restored (option_filter was_some (Some (record { was = w; made = m })))) ≡ w)
-    go None m = (refl, refl)
-    go (Some cs) m = (refl, refl)
+    go : (w : Option (List Data)) → is_none w ≡ true → None ≡ cond (is_some w) (Some s) None
+    go None k = refl
+    go (Some cs) k = absurd cc
 
-kept_settled : (o : Option Slot) → (now_in_slot (option_filter was_some (option_map settled o)) ≡ now_in_slot o) × (then_in_slot (option_filter was_some (option_map settled o)) ≡ now_in_slot o)
-kept_settled None = (refl, refl)
-kept_settled (Some s) = go (now_of s.was s.made)
+pub row_stays : (o : Option Slot) → is_gone o ≡ false → o ≡ while_row o
+row_stays None h = refl
+row_stays (Some s) h = go s.was h
   where
-    go : (w : Option (List Data)) → (now_in_slot (option_filter was_some (Some (record { was = w; made = Same }))) ≡ w) × (then_in_slot (option_filter was_some (Some (record { was = w; made = Same }))) ≡ w)
-    go None = (refl, refl)
-    go (Some cs) = (refl, refl)
+    go : (w : Option (List Data)) → is_none w ≡ false → Some s ≡ cond (is_some w) (Some s) None
+    go None k = absurd cc
+    go (Some cs) k = refl
 
-pub back : (es fs gs : List (ℕ × Slot)) → IsStrictlySortedBy nat_cmp (keys_of es) → fs ≡ filter (λ e. is_some e.1.was) es → gs ≡ map (λ e. (e.0, restored e.1)) fs
-    → (i : ℕ) → (now_at gs i ≡ then_at es i) × (then_at gs i ≡ then_at es i)
-back es fs gs sorted e f i =
-    let same : lookup (is_at (nat_cmp i)) gs ≡ option_map restored (option_filter was_some (lookup (is_at (nat_cmp i)) es)) =
-    ap (lookup (is_at (nat_cmp i))) (f ∙ ap (map (λ x. (x.0, restored x.1))) e)
-    ∙ lookup-map_values restored (is_at (nat_cmp i)) (filter (λ x. is_some x.1.was) es)
-    ∙ ap (option_map restored) (lookup-filter-values (eq_by_cmp_equiv nat_cmp_total) was_some i es (IsDistinct-from_sorted nat_cmp (keys_of es) sorted)) in
-    let kept = kept_restored (lookup (is_at (nat_cmp i)) es) in
-    (ap now_in_slot same ∙ kept.0, ap then_in_slot same ∙ kept.1)
+pub two_steps : (b : Bool) (o : Option Slot) → while_row (option_map (at_end b) o) ≡ ended b o
+two_steps b None = refl
+two_steps b (Some s) = refl
 
-pub done : (es fs gs : List (ℕ × Slot)) → IsStrictlySortedBy nat_cmp (keys_of fs) → fs ≡ map (λ e. (e.0, settled e.1)) es → gs ≡ filter (λ e. is_some e.1.was) fs
-    → (i : ℕ) → (now_at gs i ≡ now_at es i) × (then_at gs i ≡ now_at es i)
-done es fs gs sorted f e i =
-    let same : lookup (is_at (nat_cmp i)) gs ≡ option_filter was_some (option_map settled (lookup (is_at (nat_cmp i)) es)) =
-    ap (lookup (is_at (nat_cmp i))) e
-    ∙ lookup-filter-values (eq_by_cmp_equiv nat_cmp_total) was_some i fs (IsDistinct-from_sorted nat_cmp (keys_of fs) sorted)
-    ∙ ap (option_filter was_some) (ap (lookup (is_at (nat_cmp i))) f ∙ lookup-map_values settled (is_at (nat_cmp i)) es) in
-    let kept = kept_settled (lookup (is_at (nat_cmp i)) es) in
-    (ap now_in_slot same ∙ kept.0, ap then_in_slot same ∙ kept.1)
+-- ---- a second end changes nothing
+pub end_twice : (b : Bool) (o : Option Slot) → ended b (ended b o) ≡ ended b o
+end_twice b None = refl
+end_twice true (Some s) = go (now_of s.was s.made)
+  where
+    go : (w : Option (List Data)) → ended true (while_row (Some (record { was = w; made = Same }))) ≡ while_row (Some (record { was = w; made = Same }))
+    go None = refl
+    go (Some cs) = refl
+end_twice false (Some s) = go s.was
+  where
+    go : (w : Option (List Data)) → ended false (while_row (Some (record { was = w; made = Same }))) ≡ while_row (Some (record { was = w; made = Same }))
+    go None = refl
+    go (Some cs) = refl
+
+-- ---- what a slot tells after the end
+still : (w : Option (List Data)) → (now_in_slot (while_row (Some (record { was = w; made = Same }))) ≡ w) × (then_in_slot (while_row (Some (record { was = w; made = Same }))) ≡ w) × (is_unchanged (while_row (Some (record { was = w; made = Same }))) ≡ true)
+still None = (refl, refl, refl)
+still (Some cs) = (refl, refl, refl)
+
+settled_is : (o : Option Slot) → (now_in_slot (ended true o) ≡ now_in_slot o) × (then_in_slot (ended true o) ≡ now_in_slot o) × (is_unchanged (ended true o) ≡ true)
+settled_is None = (refl, refl, refl)
+settled_is (Some s) = still (now_of s.was s.made)
+
+restored_is : (o : Option Slot) → (now_in_slot (ended false o) ≡ then_in_slot o) × (then_in_slot (ended false o) ≡ then_in_slot o) × (is_unchanged (ended false o) ≡ true)
+restored_is None = (refl, refl, refl)
+restored_is (Some s) = still s.was
+
+-- an unchanged slot has now what it had then
+unchanged : (o : Option Slot) → is_unchanged o ≡ true → then_in_slot o ≡ now_in_slot o
+unchanged None h = refl
+unchanged (Some s) h = go s.made h
+  where
+    go : (m : Made) → is_unchanged (Some (record { was = s.was; made = m })) ≡ true → s.was ≡ now_of s.was m
+    go Same k = refl
+    go Gone k = absurd cc
+    go (New cs) k = absurd cc
+
+abbrev Ends : Bool → List ℕ → List (ℕ × Slot) → List (ℕ × Slot) → Type 0
+Ends b touched rows rows' = (i : ℕ) → slot_at rows' i ≡ cond (is_named touched i) (ended b (slot_at rows i)) (slot_at rows i)
+
+-- the end with the changes, at all numbers
+pub done : (touched : List ℕ) (rows rows' : List (ℕ × Slot)) → OthersStand touched rows → Ends true touched rows rows'
+    → (i : ℕ) → (now_at rows' i ≡ now_at rows i) × (then_at rows' i ≡ now_at rows i) × (is_unchanged (slot_at rows' i) ≡ true)
+done touched rows rows' others e i = by (is_named touched i) refl (e i)
+  where
+    by : (b : Bool) → is_named touched i ≡ b → slot_at rows' i ≡ cond b (ended true (slot_at rows i)) (slot_at rows i) → (now_at rows' i ≡ now_at rows i) × (then_at rows' i ≡ now_at rows i) × (is_unchanged (slot_at rows' i) ≡ true)
+    by true h f = let s = settled_is (slot_at rows i) in (ap now_in_slot f ∙ s.0, ap then_in_slot f ∙ s.1, ap is_unchanged f ∙ s.2)
+    by false h f = (ap now_in_slot f, ap then_in_slot f ∙ unchanged (slot_at rows i) (others i h), ap is_unchanged f ∙ others i h)
+
+-- the end without them
+pub back : (touched : List ℕ) (rows rows' : List (ℕ × Slot)) → OthersStand touched rows → Ends false touched rows rows'
+    → (i : ℕ) → (now_at rows' i ≡ then_at rows i) × (then_at rows' i ≡ then_at rows i) × (is_unchanged (slot_at rows' i) ≡ true)
+back touched rows rows' others e i = by (is_named touched i) refl (e i)
+  where
+    by : (b : Bool) → is_named touched i ≡ b → slot_at rows' i ≡ cond b (ended false (slot_at rows i)) (slot_at rows i) → (now_at rows' i ≡ then_at rows i) × (then_at rows' i ≡ then_at rows i) × (is_unchanged (slot_at rows' i) ≡ true)
+    by true h f = let s = restored_is (slot_at rows i) in (ap now_in_slot f ∙ s.0, ap then_in_slot f ∙ s.1, ap is_unchanged f ∙ s.2)
+    by false h f = (ap now_in_slot f ∙ sym (unchanged (slot_at rows i) (others i h)), ap then_in_slot f, ap is_unchanged f ∙ others i h)

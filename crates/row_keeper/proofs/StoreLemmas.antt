@@ -1,11 +1,13 @@
 -- The tables of a store against its schema, and what calls make of them.
-use Rattle.std.proofs.Common.{◌≡◌, ◌⊎◌, inl, inr, ⊎_elim, ℕ, zero, suc, ◌+◌, ◌==◌, ◌<◌, ◌≤◌, List, [], ◌∷◌, map, length, refl, sym, ap, ap₂, ◌∙◌, arith, Bool, true, false, cond, ◌||◌, Option, None, Some, Result, Ok, Err, subst}
-use Rattle.std.specs.Prelude.{IsSome, IsSomeAnd, IfOk, OnErr, set, slice_get, unwrap_or}
+use Rattle.std.proofs.Common.{◌≡◌, ◌⊎◌, inl, inr, ⊎_elim, ℕ, zero, suc, ◌+◌, ◌==◌, ◌<◌, ◌≤◌, List, [], ◌∷◌, map, length, take, refl, sym, ap, ap₂, ◌∙◌, arith, Bool, true, false, cond, ◌||◌, Option, None, Some, Result, Ok, Err, subst}
+use Rattle.std.specs.Prelude.{slice_index_or, IsSome, IsSomeAnd, IfOk, OnErr, set, slice_get, unwrap_or}
 use Rattle.std.specs.List.{AllByRecursion, filter, list_any}
 use Rattle.std.specs.List.Sorted.{IsPermutation, IsSorted}
+use Rattle.std.specs.Ordering.{is_lt, nat_cmp}
+use Rattle.std.proofs.lemmas.Bool.Decides.{nat_tests}
 use Rattle.std.proofs.lemmas.List.{map-set, set-get_or}
-use Rattle.std.proofs.lemmas.List.Elements.{All-filter, All-from_recursion, recursion_from_All}
-use Rattle.std.proofs.lemmas.List.Sorted.{All-permutation, length_permutation}
+use Rattle.std.proofs.lemmas.List.Elements.{All-filter, All-from_recursion, All-take, recursion_from_All}
+use Rattle.std.proofs.lemmas.List.Sorted.{All-permutation, IsPermutation-refl, length_permutation}
 use Rattle.std.proofs.lemmas.Option.{get_or_from_slice_get}
 use Rattle.std.proofs.Math.Seq.{map-set_same}
 use Rattle.fx_data.specs.Values.{Data}
@@ -15,21 +17,23 @@ use Rattle.fx_trees.specs.declared.schema.Schema.{Schema}
 use Rattle.fx_trees.specs.declared.schema.TableShape.{TableShape}
 use Rattle.row_queries.specs.Queries.{AreAsked, IsIndexed, IsQuery, lies, row_order}
 use Rattle.row_queries.specs.Ranges.{HoldEveryKey}
-use Rattle.row_queries.specs.TableRows.{AreCellsOf, IsRowOf, rows_at}
+use Rattle.row_queries.specs.TableRows.{AreCellsOf, AreInIdOrder, IsRowOf, rows_at}
 use Rattle.row_queries.specs.declared.queries.Query.{Query}
 use Rattle.row_queries.specs.declared.rows.Row.{Row}
 use Rattle.row_keeper.specs.Changes.{Inserts, IsInserted, IsReplaced, Removes, Replaces, Shapes}
 use Rattle.row_keeper.specs.Covered.{covered_of, covers, indexed_from}
 use Rattle.row_keeper.specs.Kept.{IsKept, columns_kept, columns_shaped, empty_table}
 use Rattle.row_keeper.specs.OneTable.{ChangesAt, PutsNew, PutsOver, TakesOut, restored, settled, with_now}
+use Rattle.row_keeper.specs.Pages.{AreFirst}
 use Rattle.row_keeper.specs.RowRules.{rule_in}
 use Rattle.row_keeper.specs.Sameness.{HasColumnTypes}
-use Rattle.row_keeper.specs.Sound.{IsSound, IsSoundRow, IsSoundState}
+use Rattle.row_keeper.specs.Sound.{IsSound, IsSoundRow, IsSoundState, lies_among}
 use Rattle.row_keeper.specs.TableView.{TableView, states_now, states_then}
 use Rattle.row_keeper.specs.Tables.{AreStatesOf, IsStateOf, TableState, Tables, all_rows, columns_at, columns_in, filled, has_id, no_rows, rows_of, shapes_of, state_at, with_cells, with_row, with_state, without_row}
 use Rattle.row_keeper.specs.declared.rows.Put.{Put}
 use Rattle.row_keeper.specs.declared.rows.Put.TheVariants.{Id, NoRow, Refused}
 use Rattle.row_keeper.proofs.PutLemmas.{names}
+use Rattle.row_keeper.proofs.RowLists.{order_less}
 use Rattle.row_keeper.proofs.RuleLemmas.{indexed_covered, or_true}
 
 -- ---- what stands at a place
@@ -336,6 +340,9 @@ module _ (shapes : List TableShape) (q : Query) (is : IsQuery shapes q) (tables 
   pub asked_is : (sorted : List Row) → IsPermutation (filter (lies q) t.now.rows) sorted → IsSorted (row_order q.order) sorted → AreAsked q (rows_at (rows_of (states_now tables)) q.table) sorted
   asked_is sorted p o = record { rearranged = subst (λ rows. IsPermutation (filter (lies q) rows) sorted) (sym rows_there) p; sorted = o }
 
+  pub asked_within : (sorted : List Row) → AreAsked q (rows_at (rows_of (states_now tables)) q.table) sorted → IsPermutation (filter (lies q) t.now.rows) sorted
+  asked_within sorted are = subst (λ rows. IsPermutation (filter (lies q) rows) sorted) rows_there are.rearranged
+
   pub asked_fit : (sorted : List Row) → IsSound t → IsPermutation (filter (lies q) t.now.rows) sorted → IsSomeAnd (slice_get shapes q.table) (λ (s : TableShape). AllByRecursion (IsRowOf s) sorted)
   asked_fit sorted sound p =
       subst (λ o. IsSomeAnd o (λ (s : TableShape). AllByRecursion (IsRowOf s) sorted)) (sym is.is_table)
@@ -348,3 +355,28 @@ module _ (shapes : List TableShape) (q : Query) (is : IsQuery shapes q) (tables 
       let m = shorter (lies q) t.now.rows in
       let few = sound.now.few in
       omega (arith, n, m, few)
+
+  -- ---- what is asked by numbers goes as the rows do
+  ids_ascend : (rows : List Row) → AreInIdOrder rows → (k : ℕ) (d : Row) → suc k < length rows → is_lt (nat_cmp (slice_index_or rows (suc k) d).id (slice_index_or rows k d).id) ≡ false
+  ids_ascend [] h k d l = absurd (omega (arith, l))
+  ids_ascend (r ∷ []) h k d l = absurd (omega (arith, l))
+  ids_ascend (r ∷ x ∷ rows) h zero d l = let b : r.id < x.id = h.0.0 in grind (arith, nat_tests, b)
+  ids_ascend (r ∷ x ∷ rows) h (suc k) d l = ids_ascend (x ∷ rows) h.1 k d (omega (arith, l))
+
+  ascend : (rows : List Row) → AreInIdOrder rows → IsSorted (row_order None) rows
+  ascend rows h k d low high = subst (λ n. is_lt (nat_cmp (slice_index_or rows n d).id (slice_index_or rows k d).id) ≡ false) (let e : suc k ≡ k + 1 = omega arith in e) (ids_ascend rows h k d (omega (arith, high)))
+
+  pub first_is : q.column ≡ 0 → q.order ≡ None → IsSound t → (most : ℕ) (first : List Row) → first ≡ take most (filter (lies_among 0 q.ranges) t.now.rows) → AreFirst q (rows_at (rows_of (states_now tables)) q.table) most first
+  first_is column order sound most first e =
+      let asked = filter (lies q) t.now.rows in (
+        asked,
+        asked_is asked (IsPermutation-refl asked) (subst (λ o. IsSorted (row_order o) asked) (sym order) (ascend asked (order_less (lies q) t.now.rows sound.now.rising))),
+        e ∙ ap (λ k. take most (filter (lies_among k q.ranges) t.now.rows)) (sym column),
+      )
+
+  pub first_fit : q.column ≡ 0 → IsSound t → (most : ℕ) (first : List Row) → first ≡ take most (filter (lies_among 0 q.ranges) t.now.rows) → IsSomeAnd (slice_get shapes q.table) (λ (s : TableShape). AllByRecursion (IsRowOf s) first)
+  first_fit column sound most first e =
+      subst (λ o. IsSomeAnd o (λ (s : TableShape). AllByRecursion (IsRowOf s) first)) (sym is.is_table)
+      (subst (λ (rows : List Row). AllByRecursion (IsRowOf is.table) rows) (sym (e ∙ ap (λ k. take most (filter (lies_among k q.ranges) t.now.rows)) (sym column)))
+      (recursion_from_All (IsRowOf is.table) (take most (filter (lies q) t.now.rows)) (All-take (IsRowOf is.table) most (filter (lies q) t.now.rows)
+      (All-filter (lies q) (IsRowOf is.table) t.now.rows (state_of is.table t (sym shaped) sound.now).fit))))

@@ -182,6 +182,19 @@ removed columns covered rows rows' es es' last count first first_count id old w 
       good_then = good_kept columns rows rows' w.good_then then;
     }
 
+-- ---- nothing changes that is told
+pub same_whole : (columns : List Column) (covered : List ℕ) (rows rows' : List (ℕ × Slot)) (es es' : Entries) (last count first first_count : ℕ)
+    → IsWhole columns covered rows es last count first first_count → rows' ≡ rows → ((q : Entry) → now_in es' q ≡ now_in es q) → ((q : Entry) → then_in es' q ≡ then_in es q)
+    → IsWhole columns covered rows' es' last count first first_count
+same_whole columns covered rows rows' es es' last count first first_count w e now then = subst (λ r. IsWhole columns covered r es' last count first first_count) (sym e) (record {
+  narrow = w.narrow;
+  covered_is = w.covered_is;
+  agrees = (λ q. now q ∙ w.agrees.0 q, λ q. then q ∙ w.agrees.1 q);
+  tallied = w.tallied;
+  good = w.good;
+  good_then = w.good_then;
+})
+
 -- ---- the ends of a transaction
 pub taken_back : (columns : List Column) (covered : List ℕ) (rows rows' : List (ℕ × Slot)) (es es' : Entries) (last count first first_count : ℕ)
     → IsWhole columns covered rows es last count first first_count → Sorted rows → Sorted rows'

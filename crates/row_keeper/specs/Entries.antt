@@ -1,5 +1,5 @@
 -- What an index tells: for the keys of a column, the numbers of the rows that have them.
-use Rattle.std.specs.Prelude.{ℕ, ◌+◌, ◌==◌, ◌&&◌, Bool, false, bytes_eq, List, [], filter, Option, None, Some}
+use Rattle.std.specs.Prelude.{◌≡◌, ℕ, ◌+◌, ◌==◌, ◌&&◌, Bool, true, false, bytes_eq, cond, not, List, [], ◌∷◌, ◌++◌, filter, map, Option, None, Some}
 use Rattle.std.specs.List.{list_any}
 use Rattle.std.specs.Map.{lookup}
 use Rattle.std.specs.BTreeMap.{is_at}
@@ -44,9 +44,35 @@ now_in es q = is_now (lookup (is_at (entry_cmp q)) es)
 abbrev pub then_in : List (((ℕ × List ℕ) × ℕ) × Mark) → (ℕ × List ℕ) × ℕ → Bool
 then_in es q = was_then (lookup (is_at (entry_cmp q)) es)
 
--- whether an entry has a mark, so that it can be marked without memory
-abbrev pub has_room : List (((ℕ × List ℕ) × ℕ) × Mark) → (ℕ × List ℕ) × ℕ → Bool
-has_room es q = is_some (lookup (is_at (entry_cmp q)) es)
+abbrev pub mark_at : List (((ℕ × List ℕ) × ℕ) × Mark) → (ℕ × List ℕ) × ℕ → Option Mark
+mark_at es q = lookup (is_at (entry_cmp q)) es
+
+-- an entry has a mark and is noted as touched, so that it can be marked without memory
+abbrev pub HasRoom : List ((ℕ × List ℕ) × ℕ) → List (((ℕ × List ℕ) × ℕ) × Mark) → (ℕ × List ℕ) × ℕ → Type 0
+HasRoom touched es q = (is_one_of touched q ≡ true) × (is_some (mark_at es q) ≡ true)
+
+-- entries other than these are as they were as the transaction began
+abbrev pub OthersStand : List ((ℕ × List ℕ) × ℕ) → List (((ℕ × List ℕ) × ℕ) × Mark) → Type 0
+OthersStand touched es = (q : (ℕ × List ℕ) × ℕ) → is_one_of touched q ≡ false → now_in es q ≡ then_in es q
+
+-- a mark after the end of a transaction, with its change or without
+abbrev pub at_end : Bool → Mark → Mark
+at_end with_changes m = cond with_changes (record { was = m.is; is = m.is }) (record { was = m.was; is = m.was })
+
+-- a mark of no entry
+abbrev pub is_gone : Option Mark → Bool
+is_gone None = false
+is_gone (Some m) = not m.was
+
+-- a mark that still is one of an entry
+abbrev pub while_entry : Option Mark → Option Mark
+while_entry None = None
+while_entry (Some m) = cond m.was (Some m) None
+
+-- what stands there after the end of a transaction
+abbrev pub ended : Bool → Option Mark → Option Mark
+ended with_changes None = None
+ended with_changes (Some m) = while_entry (Some (at_end with_changes m))
 
 -- whether one of the entries is that of a row of this number
 abbrev pub among : List (((ℕ × List ℕ) × ℕ) × Mark) → ℕ → Bool
@@ -67,3 +93,12 @@ hits_in column rs es i = list_any (λ r. hits column r es i) rs
 abbrev pub end_key : ℕ → Option (List ℕ) → ℕ × List ℕ
 end_key column None = (column + 1, [])
 end_key column (Some upto) = (column, upto)
+
+-- the numbers of the rows that entries are of now, in the order of the entries
+abbrev pub ids_of : List (((ℕ × List ℕ) × ℕ) × Mark) → List ℕ
+ids_of es = map (λ e. e.0.1) (filter (λ e. e.1.is) es)
+
+-- the numbers of the rows with an entry of a column in ranges, range by range
+abbrev pub ids_in : ℕ → List KeyRange → List (((ℕ × List ℕ) × ℕ) × Mark) → List ℕ
+ids_in column [] es = []
+ids_in column (r ∷ rs) es = ids_of (filter (lies_at column r) es) ++ ids_in column rs es

@@ -6,6 +6,7 @@ pub mod Found
 pub mod InMemory
 pub mod Kept
 pub mod OneTable
+pub mod Pages
 pub mod RowRules
 pub mod Rules
 pub mod Sameness

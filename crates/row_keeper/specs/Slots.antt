@@ -1,6 +1,8 @@
 -- Rows by their numbers, now and as the transaction began.
-use Rattle.std.specs.Prelude.{ℕ, List, [], ◌∷◌, Option, None, Some}
+use Rattle.std.specs.Prelude.{◌≡◌, ℕ, ◌==◌, Bool, true, false, cond, is_none, List, [], ◌∷◌, Option, None, Some}
+use Rattle.std.specs.List.{list_any}
 use Rattle.std.specs.Map.{lookup}
+use Rattle.std.specs.Option.{is_some}
 use Rattle.std.specs.BTreeMap.{is_at}
 use Rattle.std.specs.Ordering.{nat_cmp}
 use Rattle.fx_data.specs.Values.{Data}
@@ -61,3 +63,44 @@ rows_now es = rows_by cells_now es
 
 abbrev pub rows_then : List (ℕ × Slot) → List Row
 rows_then es = rows_by cells_then es
+
+-- ---- what a transaction touched
+
+abbrev pub slot_at : List (ℕ × Slot) → ℕ → Option Slot
+slot_at rows i = lookup (is_at (nat_cmp i)) rows
+
+-- a number is among others
+abbrev pub is_named : List ℕ → ℕ → Bool
+is_named ids i = list_any (λ n. n == i) ids
+
+-- a transaction has made nothing of a row
+abbrev pub is_unmade : Made → Bool
+is_unmade Same = true
+is_unmade m = false
+
+abbrev pub is_unchanged : Option Slot → Bool
+is_unchanged None = true
+is_unchanged (Some s) = is_unmade s.made
+
+-- slots of other numbers than these are as they were
+abbrev pub OthersStand : List ℕ → List (ℕ × Slot) → Type 0
+OthersStand touched rows = (i : ℕ) → is_named touched i ≡ false → is_unchanged (slot_at rows i) ≡ true
+
+-- a slot after the end of a transaction, with its change or without
+abbrev pub at_end : Bool → Slot → Slot
+at_end with_changes s = cond with_changes (settled s) (restored s)
+
+-- a slot of no row
+abbrev pub is_gone : Option Slot → Bool
+is_gone None = false
+is_gone (Some s) = is_none s.was
+
+-- a slot that still is one of a row
+abbrev pub while_row : Option Slot → Option Slot
+while_row None = None
+while_row (Some s) = cond (is_some s.was) (Some s) None
+
+-- what stands there after the end of a transaction
+abbrev pub ended : Bool → Option Slot → Option Slot
+ended with_changes None = None
+ended with_changes (Some s) = while_row (Some (at_end with_changes s))

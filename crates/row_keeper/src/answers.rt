@@ -6,21 +6,21 @@ ghost use Rattle.row_queries.specs.Queries.{first_fault, given_of, outcome_on, r
 ghost use Rattle.row_queries.specs.RowTests.{CanAsk, HasNoFaults};
 ghost use Rattle.row_queries.specs.TableRows.{value_at, values_of};
 
-use crate::scans::{Judged, first_rows, judge, listed, value_in};
+use crate::scans::{Judged, first_rows, judge, list, value_in};
 use fx_base::{InOrder, Memory};
 use fx_data::Value;
 use row_queries::{Query, Row, RowList};
 use std::alloc::Global;
 
 /// What a query answers of the rows that it asks: those that it gives, or the first error of its test.
-pub fn answered(alloc: Global, asked: Vec<Row>, query: &Query) -> Result<RowList, Memory>
+pub fn answer(alloc: Global, asked: Vec<Row>, query: &Query) -> Result<RowList, Memory>
     requires { AllByRecursion (λ (r : Row). CanAsk (values_of r) query.now.test) asked.items }
     ensures { IfOk result (λ a. a ≡ rows_or_fault (given_of query.now asked.items) (first_fault (map (outcome_on query.now) asked.items))) }
 {
     let Judged { rows, fault } = judge(alloc, asked, query)?;
     match fault {
         None => Ok(RowList {
-            rows: listed(alloc, first_rows(rows, query.take))?,
+            rows: list(alloc, first_rows(rows, query.take))?,
             fault: None,
         }),
         Some(fault) => Ok(RowList {
@@ -31,7 +31,7 @@ pub fn answered(alloc: Global, asked: Vec<Row>, query: &Query) -> Result<RowList
 }
 
 /// The rows that a query gives of those that it asks, where no constant of its test is an error.
-pub fn given(alloc: Global, asked: Vec<Row>, query: &Query) -> Result<Vec<Row>, Memory>
+pub fn give_rows(alloc: Global, asked: Vec<Row>, query: &Query) -> Result<Vec<Row>, Memory>
     requires asks { AllByRecursion (λ (r : Row). CanAsk (values_of r) query.now.test) asked.items }
     requires sound { HasNoFaults query.now.test }
     ensures { IfOk result (λ rows. rows.items ≡ given_of query.now asked.items) }

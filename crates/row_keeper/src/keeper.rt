@@ -83,6 +83,9 @@ pub trait Keeper {
     /// How many rows have been visited. The count stands still at the greatest `u64`.
     ghost visited: { Self → ℕ };
 
+    /// The loan through which it is used, where it is a lent keeper. No call changes it.
+    ghost loan: { Self → Option ℕ };
+
     /// What it promises besides of attaching a name.
     ghost attaches: { Self → List ℕ → Self → Type 0 };
 
@@ -105,6 +108,7 @@ pub trait Keeper {
         ensures idle { in_transaction self.new ≡ false }
         ensures cause { HasCause (marks self.old) (marks self.new) result }
         ensures visited { visited self.old ≤ visited self.new }
+        ensures loan { loan self.new ≡ loan self.old }
         ensures ends { ends self.old self.new (end_of result) };
 
     /// Makes the tables those of a schema, with the rows that are there. Where another schema is kept it answers that one
@@ -123,6 +127,7 @@ pub trait Keeper {
         ensures idle { in_transaction self.new ≡ false }
         ensures cause { HasCause (marks self.old) (marks self.new) result }
         ensures visited { visited self.old ≤ visited self.new }
+        ensures loan { loan self.new ≡ loan self.old }
         ensures ends { ends self.old self.new (end_of result) };
 
     /// Begins a transaction.
@@ -135,6 +140,7 @@ pub trait Keeper {
         ensures shaped { shaped self.new ≡ shaped self.old }
         ensures cause { HasCause (marks self.old) (marks self.new) result }
         ensures visited { visited self.old ≤ visited self.new }
+        ensures loan { loan self.new ≡ loan self.old }
         ensures ends { ends self.old self.new (end_of result) };
 
     /// Puts a new row, or says which rule it breaks first.
@@ -150,6 +156,7 @@ pub trait Keeper {
         ensures mode { in_transaction self.new ≡ in_transaction self.old }
         ensures cause { HasCause (marks self.old) (marks self.new) result }
         ensures visited { visited self.old ≤ visited self.new }
+        ensures loan { loan self.new ≡ loan self.old }
         ensures ends { ends self.old self.new (end_of result) };
 
     /// Puts other cells into a row, or says that there is none of this number, or which rule it would break first.
@@ -165,6 +172,7 @@ pub trait Keeper {
         ensures mode { in_transaction self.new ≡ in_transaction self.old }
         ensures cause { HasCause (marks self.old) (marks self.new) result }
         ensures visited { visited self.old ≤ visited self.new }
+        ensures loan { loan self.new ≡ loan self.old }
         ensures ends { ends self.old self.new (end_of result) };
 
     /// Takes a row out, and says whether it was there.
@@ -179,6 +187,7 @@ pub trait Keeper {
         ensures mode { in_transaction self.new ≡ in_transaction self.old }
         ensures cause { HasCause (marks self.old) (marks self.new) result }
         ensures visited { visited self.old ≤ visited self.new }
+        ensures loan { loan self.new ≡ loan self.old }
         ensures ends { ends self.old self.new (end_of result) };
 
     /// Ends the transaction with its changes. Where it gives no answer the transaction is ended too, and the tables are
@@ -192,6 +201,7 @@ pub trait Keeper {
         ensures idle { in_transaction self.new ≡ false }
         ensures cause { HasCause (marks self.old) (marks self.new) result }
         ensures visited { visited self.old ≤ visited self.new }
+        ensures loan { loan self.new ≡ loan self.old }
         ensures ends { commits self.old self.new (end_of result) };
 
     /// Ends the transaction, and the tables are those as it began. Where it fails it counts a fault.
@@ -203,6 +213,7 @@ pub trait Keeper {
         ensures idle { in_transaction self.new ≡ false }
         ensures later { IsLater (marks self.old) (marks self.new) }
         ensures visited { visited self.old ≤ visited self.new }
+        ensures loan { loan self.new ≡ loan self.old }
         ensures ends { backs self.old self.new };
 
     /// The rows that a query gives, or the first error of its test in the query's order.
@@ -219,6 +230,7 @@ pub trait Keeper {
         ensures mode { in_transaction self.new ≡ in_transaction self.old }
         ensures cause { HasCause (marks self.old) (marks self.new) result }
         ensures visited { visited self.old ≤ visited self.new }
+        ensures loan { loan self.new ≡ loan self.old }
         ensures ends { ends self.old self.new (end_of result) };
 
     /// How many rows a query gives, whose test has no errors as constants.
@@ -234,6 +246,7 @@ pub trait Keeper {
         ensures mode { in_transaction self.new ≡ in_transaction self.old }
         ensures cause { HasCause (marks self.old) (marks self.new) result }
         ensures visited { visited self.old ≤ visited self.new }
+        ensures loan { loan self.new ≡ loan self.old }
         ensures ends { ends self.old self.new (end_of result) };
 
     /// What the values of a column of numbers that aren't blank come to, in the rows that a query gives, whose test has no
@@ -251,6 +264,7 @@ pub trait Keeper {
         ensures mode { in_transaction self.new ≡ in_transaction self.old }
         ensures cause { HasCause (marks self.old) (marks self.new) result }
         ensures visited { visited self.old ≤ visited self.new }
+        ensures loan { loan self.new ≡ loan self.old }
         ensures ends { ends self.old self.new (end_of result) };
 
     /// A law: where it doesn't tell its tables, it doesn't tell those either that it had as the transaction began.
@@ -271,6 +285,8 @@ impl<K: Keeper> Keeper for &mut K {
     ghost marks = { λ k. K.marks k.now };
 
     ghost visited = { λ k. K.visited k.now };
+
+    ghost loan = { λ k. Some k.ghost_name };
 
     ghost attaches = { λ k name l. K.attaches k.now name l.now };
 

@@ -2,9 +2,11 @@
 #![tactic(auto)]
 
 mod answers;
+mod constants;
 mod index;
 pub mod keeper;
 pub mod memory;
+mod pages;
 mod picked;
 mod puts;
 pub mod rows;

@@ -1,15 +1,18 @@
 //! Rows in memory.
 ghost use Rattle.std.specs.Prelude.{◌≡◌, ◌≤◌, ◌+◌, length, slice_get, IfOk, IsSomeAnd};
-ghost use Rattle.std.specs.List.{AllByRecursion};
-ghost use Rattle.row_queries.specs.Queries.{AreAsked, IsQuery};
+ghost use Rattle.std.specs.List.{All, AllByRecursion};
+ghost use Rattle.row_queries.specs.Queries.{AreAsked, IsQuery, IsScanned};
 ghost use Rattle.row_queries.specs.TableRows.{IsRowOf, rows_at};
 ghost use Rattle.row_queries.specs.Visits.{VisitsAtLeast, VisitsItsRanges};
 ghost use Rattle.row_keeper.specs.InMemory.{unused};
+ghost use Rattle.row_keeper.specs.Pages.{IsPage};
 ghost use Rattle.row_keeper.specs.Tables.{rows_of, shapes_of};
 
-use crate::answers::{answered, given, values_in};
+use crate::answers::{answer, give_rows, values_in};
 use crate::keeper::{Keeper, KeeperEnd};
+use crate::pages::{give_page, page_size};
 use crate::rows::Put;
+use crate::scans::list;
 use crate::store::Store;
 use fx_base::Memory;
 use fx_base::plan::FaultPlan;
@@ -72,14 +75,63 @@ impl MemoryKeeper {
         self.plan.count()
     }
 
-    /// Counts rows as visited.
-    fn visit(&mut self, rows: &[Row])
-        ensures least { VisitsAtLeast (length rows.now) self.old.visited self.new.visited }
-        ensures most { self.new.visited ≤ self.old.visited + length rows.now }
+    /// Counts so many rows as visited.
+    fn visit(&mut self, rows: usize)
+        ensures least { VisitsAtLeast rows self.old.visited self.new.visited }
+        ensures most { self.new.visited ≤ self.old.visited + rows }
         ensures later { self.old.visited ≤ self.new.visited }
         ensures same { self.new ≡ record self.old { visited = self.new.visited } }
     {
-        self.visited = self.visited.saturating_add(rows.len() as u64);
+        self.visited = self.visited.saturating_add(rows as u64);
+    }
+
+    /// What a query answers that takes the first rows by their numbers.
+    fn page(&mut self, query: &Query, most: u32) -> Result<RowList, Memory>
+        requires query { IsQuery (shapes_of self.old.store.schema) query.now }
+        requires page { IsPage query.now most }
+        ensures rows { IfOk result (λ a. IsScanned query.now (rows_at (rows_of self.old.store.now) query.now.table) a) }
+        ensures fit { IfOk result (λ a. IsSomeAnd (slice_get (shapes_of self.old.store.schema) query.now.table) (λ t. All (IsRowOf t) a.rows)) }
+        ensures least { IfOk result (λ a. VisitsAtLeast (length a.rows) self.old.visited self.new.visited) }
+        ensures most { VisitsItsRanges query.now (rows_at (rows_of self.old.store.now) query.now.table) self.old.visited self.new.visited }
+        ensures later { self.old.visited ≤ self.new.visited }
+        ensures same { self.new ≡ record self.old { visited = self.new.visited } }
+    {
+        let page = give_page(self.alloc, &self.store, query, most)?;
+        self.visit(page.asked);
+        Ok(RowList {
+            rows: list(self.alloc, page.rows)?,
+            fault: None,
+        })
+    }
+
+    /// What a query answers, over all rows that it asks.
+    fn answer_all(&mut self, query: &Query) -> Result<RowList, Memory>
+        requires { IsQuery (shapes_of self.old.store.schema) query.now }
+        ensures rows { IfOk result (λ a. IsScanned query.now (rows_at (rows_of self.old.store.now) query.now.table) a) }
+        ensures fit { IfOk result (λ a. IsSomeAnd (slice_get (shapes_of self.old.store.schema) query.now.table) (λ t. All (IsRowOf t) a.rows)) }
+        ensures least { IfOk result (λ a. VisitsAtLeast (length a.rows) self.old.visited self.new.visited) }
+        ensures most { VisitsItsRanges query.now (rows_at (rows_of self.old.store.now) query.now.table) self.old.visited self.new.visited }
+        ensures later { self.old.visited ≤ self.new.visited }
+        ensures same { self.new ≡ record self.old { visited = self.new.visited } }
+    {
+        let asked = self.ask(query)?;
+        Ok(answer(self.alloc, asked, query)?)
+    }
+
+    /// What a query answers.
+    fn answer(&mut self, query: &Query) -> Result<RowList, Memory>
+        requires { IsQuery (shapes_of self.old.store.schema) query.now }
+        ensures rows { IfOk result (λ a. IsScanned query.now (rows_at (rows_of self.old.store.now) query.now.table) a) }
+        ensures fit { IfOk result (λ a. IsSomeAnd (slice_get (shapes_of self.old.store.schema) query.now.table) (λ t. All (IsRowOf t) a.rows)) }
+        ensures least { IfOk result (λ a. VisitsAtLeast (length a.rows) self.old.visited self.new.visited) }
+        ensures most { VisitsItsRanges query.now (rows_at (rows_of self.old.store.now) query.now.table) self.old.visited self.new.visited }
+        ensures later { self.old.visited ≤ self.new.visited }
+        ensures same { self.new ≡ record self.old { visited = self.new.visited } }
+    {
+        match page_size(query) {
+            Some(most) => self.page(query, most),
+            None => self.answer_all(query),
+        }
     }
 
     /// The rows that a query asks, in its order. They are counted as visited.
@@ -93,14 +145,14 @@ impl MemoryKeeper {
         ensures later { self.old.visited ≤ self.new.visited }
         ensures same { self.new ≡ record self.old { visited = self.new.visited } }
     {
-        let rows = self.store.asked(query)?;
-        self.visit(&rows);
+        let rows = self.store.ask(query)?;
+        self.visit(rows.len());
         Ok(rows)
     }
 }
 
 impl Keeper for MemoryKeeper {
-    ghost use Rattle.std.specs.Prelude.{Some};
+    ghost use Rattle.std.specs.Prelude.{None, Some};
     ghost use Rattle.std.proofs.Common.{sym};
     ghost use Rattle.std.proofs.lemmas.Option.{none-some};
     ghost use Rattle.row_keeper.specs.InMemory.{EndsAsPlanned, EndsWithoutMemory, IsPlanned, marks_of};
@@ -119,6 +171,8 @@ impl Keeper for MemoryKeeper {
     ghost marks = { marks_of };
 
     ghost visited = { λ k. k.visited };
+
+    ghost loan = { λ _. None };
 
     ghost attaches = { λ k name l. l.store ≡ k.store };
 
@@ -191,8 +245,7 @@ impl Keeper for MemoryKeeper {
         if self.plan.next_fails() {
             return Err(KeeperEnd::Failed);
         }
-        let asked = self.ask(query)?;
-        Ok(answered(self.alloc, asked, query)?)
+        Ok(self.answer(query)?)
     }
 
     fn count(&mut self, query: &Query) -> Result<u32, KeeperEnd> {
@@ -200,7 +253,7 @@ impl Keeper for MemoryKeeper {
             return Err(KeeperEnd::Failed);
         }
         let asked = self.ask(query)?;
-        let rows = given(self.alloc, asked, query)?;
+        let rows = give_rows(self.alloc, asked, query)?;
         Ok(rows.len() as u32)
     }
 
@@ -209,7 +262,7 @@ impl Keeper for MemoryKeeper {
             return Err(KeeperEnd::Failed);
         }
         let asked = self.ask(query)?;
-        let rows = given(self.alloc, asked, query)?;
+        let rows = give_rows(self.alloc, asked, query)?;
         let values = values_in(self.alloc, rows.as_slice(), column)?;
         Ok(totals(values.as_slice()))
     }

@@ -54,6 +54,21 @@ pub fn rows_at(
     Ok(found)
 }
 
+/// The rows of the numbers of a list, in its order.
+pub fn rows_of(alloc: Global, rows: &BTreeMap<u32, Slot>, ids: &[u32]) -> Result<Vec<Row>, Memory>
+    ensures found { IfOk result (λ found. found.items ≡ rows_of_ids rows.now.entries ids.now) }
+    ensures rows { IsOrdered nat_cmp rows.now }
+{
+    let _len = rows.len();
+    let mut found = Vec::with_capacity(alloc, ids.len())?;
+    for id in ids {
+        if let Some(row) = row_of(alloc, rows, *id)? {
+            found.push(row)?;
+        }
+    }
+    Ok(found)
+}
+
 /// All rows, by rising numbers.
 pub fn all_rows(alloc: Global, rows: &BTreeMap<u32, Slot>) -> Result<Vec<Row>, Memory>
     ensures found { IfOk result (λ found. found.items ≡ rows_now rows.now.entries) }

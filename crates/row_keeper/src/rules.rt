@@ -90,11 +90,12 @@ fn is_repeated(
     requires covered { covers (covered_of table.now.columns) (place + 1) ≡ true }
     ensures { IfOk result (λ b. b ≡ list_any (has_value (place + 1) (view cell.now)) (others id table.now.now.rows)) }
 {
+    // These are called for what they say: values that count as one have one key, and the table is sound.
     keys_order();
     value_is_proper(cell);
     table.is_sound();
     let range = only(alloc, cell)?;
-    let rows = table.asked(place + 1, std::slice::from_ref(&range))?;
+    let rows = table.ask(place + 1, std::slice::from_ref(&range))?;
     Ok(has_other(id, rows.as_slice()))
 }
 
@@ -128,7 +129,7 @@ fn breaks(
 }
 
 /// The number of the first column whose cell breaks a rule of columns.
-pub fn first_broken(
+pub fn first_broken_column(
     alloc: Global,
     table: &Table,
     rule: RowRule,
@@ -175,7 +176,7 @@ pub fn all_rows(tables: &[Table]) -> u64
 }
 
 /// The rule, where a column breaks it.
-fn refused_at(rule: RowRule, column: Option<u16>) -> Option<RowRefusal>
+fn refuse_at(rule: RowRule, column: Option<u16>) -> Option<RowRefusal>
     ensures { result ≡ in_column rule column }
 {
     match column {
@@ -188,6 +189,7 @@ fn refused_at(rule: RowRule, column: Option<u16>) -> Option<RowRefusal>
 }
 
 /// Whether a table takes no new row, where all tables have so many rows.
+// The numbers are those of `RowRule::Full`; the tests are grouped as in the definition.
 fn is_full(table: &Table, all: u64) -> bool
     ensures { result ≡ is_full_state table.now.now all }
 {
@@ -224,12 +226,12 @@ pub fn broken_rule(
     requires { AreCellsOf table.now.columns cells.now }
     ensures { IfOk result (λ r. r ≡ rule_in table.now.columns table.now.now all id cells.now) }
 {
-    let lacking = first_broken(alloc, table, RowRule::Required, id, cells)?;
-    if let Some(refusal) = refused_at(RowRule::Required, lacking) {
+    let lacking = first_broken_column(alloc, table, RowRule::Required, id, cells)?;
+    if let Some(refusal) = refuse_at(RowRule::Required, lacking) {
         return Ok(Some(refusal));
     }
-    let repeated = first_broken(alloc, table, RowRule::Unique, id, cells)?;
-    if let Some(refusal) = refused_at(RowRule::Unique, repeated) {
+    let repeated = first_broken_column(alloc, table, RowRule::Unique, id, cells)?;
+    if let Some(refusal) = refuse_at(RowRule::Unique, repeated) {
         return Ok(Some(refusal));
     }
     Ok(broken_whole(table, all, id, cells))

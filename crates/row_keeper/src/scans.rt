@@ -89,8 +89,9 @@ pub struct Judged {
     pub fault: Option<Fault>,
 }
 
-// Whether a row meets a query's test, or that the test is an error there.
-fn held_by(alloc: Global, query: &Query, row: &Row) -> Result<Held, Memory>
+// Whether a row meets a query's test, or that the test is an error there. Apart, so that it is told by what the query
+// comes to on the row.
+fn test_row(alloc: Global, query: &Query, row: &Row) -> Result<Held, Memory>
     requires { CanAsk (values_of row.now) query.now.test }
     ensures { IfOk result (λ h. h ≡ held_of (outcome_on query.now row.now)) }
 {
@@ -106,10 +107,11 @@ pub fn judge(alloc: Global, asked: Vec<Row>, query: &Query) -> Result<Judged, Me
 {
     let mut rows = Vec::new(alloc);
     for row in asked {
-        match held_by(alloc, query, &row)? {
+        match test_row(alloc, query, &row)? {
             Held::Yes => rows.push(row)?,
             Held::No => {}
             Held::Error => {
+                // The error is made here alone, since it takes memory.
                 let fault = fault_of(alloc, &query.test, &row)?;
                 return Ok(Judged {
                     rows: Vec::new(alloc),
@@ -132,7 +134,7 @@ pub fn first_rows(mut rows: Vec<Row>, most: Option<u32>) -> Vec<Row>
 }
 
 /// Rows as a list.
-pub fn listed(alloc: Global, rows: Vec<Row>) -> Result<InOrder<Row>, Memory>
+pub fn list(alloc: Global, rows: Vec<Row>) -> Result<InOrder<Row>, Memory>
     ensures { IfOk result (λ l. l ≡ rows.items) }
 {
     let mut list = InOrder::new(alloc);

@@ -1,12 +1,15 @@
 // The tables of a schema, with a transaction.
-ghost use Rattle.std.specs.Prelude.{◌≡◌, ◌≢◌, ◌≤◌, true, false, length, map, slice_get, IfNone, IfOk, IfSome, IsSome, IsSomeAnd, OnErr};
+ghost use Rattle.std.specs.Prelude.{◌≡◌, ◌≢◌, ◌≤◌, true, false, List, length, map, slice_get, None, IfNone, IfOk, IfSome, IsSome, IsSomeAnd, OnErr, OnOk};
 ghost use Rattle.std.specs.List.{AllByRecursion};
 ghost use Rattle.fx_trees.specs.Lawful.{IsLawfulSchema};
 ghost use Rattle.fx_trees.specs.declared.schema.TableShape.{TableShape as Shape};
 ghost use Rattle.row_queries.specs.Queries.{AreAsked, IsQuery};
-ghost use Rattle.row_queries.specs.TableRows.{AreCellsOf, IsRowOf, rows_at};
+ghost use Rattle.row_queries.specs.RowTests.{CanAsk};
+ghost use Rattle.row_queries.specs.TableRows.{AreCellsOf, IsRowOf, rows_at, values_of};
+ghost use Rattle.row_queries.specs.declared.rows.Row.{Row as RowValue};
 ghost use Rattle.row_keeper.specs.Changes.{Inserts, IsInserted, IsReplaced, Removes, Replaces, Shapes};
 ghost use Rattle.row_keeper.specs.Kept.{empty_table};
+ghost use Rattle.row_keeper.specs.Pages.{AreFirst};
 ghost use Rattle.row_keeper.specs.StoreView.{no_store, tables_now, tables_then};
 ghost use Rattle.row_keeper.specs.Tables.{AreStatesOf, columns_at, rows_of, shapes_of};
 
@@ -167,8 +170,22 @@ impl Store {
         self.is_begun = false;
     }
 
+    /// The first rows, at most so many, that a query asks which goes by the numbers of rows.
+    pub fn first(&self, query: &Query, most: u32) -> Result<Vec<Row>, Memory>
+        requires query { IsQuery (shapes_of self.now.schema) query.now }
+        requires column { query.now.column ≡ 0 }
+        requires order { query.now.order ≡ None }
+        ensures first { IfOk result (λ rows. AreFirst query.now (rows_at (rows_of self.now.now) query.now.table) most rows.items) }
+        ensures fit { IfOk result (λ rows. IsSomeAnd (slice_get (shapes_of self.now.schema) query.now.table) (λ t. AllByRecursion (IsRowOf t) rows.items)) }
+        ensures able { OnOk result ((asked : List RowValue) → AreAsked query.now (rows_at (rows_of self.now.now) query.now.table) asked → AllByRecursion (λ (r : RowValue). CanAsk (values_of r) query.now.test) asked) }
+    {
+        let table = &self.tables[query.table as usize];
+        table.is_sound();
+        Ok(table.first(query.ranges.as_slice(), most as usize)?)
+    }
+
     /// The rows that a query asks, in its order.
-    pub fn asked(&self, query: &Query) -> Result<Vec<Row>, Memory>
+    pub fn ask(&self, query: &Query) -> Result<Vec<Row>, Memory>
         requires { IsQuery (shapes_of self.now.schema) query.now }
         ensures asked { IfOk result (λ rows. AreAsked query.now (rows_at (rows_of self.now.now) query.now.table) rows.items) }
         ensures fit { IfOk result (λ rows. IsSomeAnd (slice_get (shapes_of self.now.schema) query.now.table) (λ t. AllByRecursion (IsRowOf t) rows.items)) }
@@ -176,7 +193,7 @@ impl Store {
     {
         let table = &self.tables[query.table as usize];
         table.is_sound();
-        let mut rows = table.asked(query.column, query.ranges.as_slice())?;
+        let mut rows = table.ask(query.column, query.ranges.as_slice())?;
         sort_rows(&mut rows, query.order)?;
         Ok(rows)
     }

@@ -1,5 +1,5 @@
 // A table: its rows by their numbers, an index of their keys, and what a transaction has made of them.
-ghost use Rattle.std.specs.Prelude.{◌≡◌, ◌⊎◌, filter, ℕ, ◌-◌, ◌+◌, ◌<◌, ◌≤◌, ◌^◌, ◌++◌, ◌∷◌, [], cond, length, map, true, false, IfOk, IfSome, OnErr, OnOk, MatchOption, Some, None, option_map, slice_get};
+ghost use Rattle.std.specs.Prelude.{◌≡◌, ◌⊎◌, filter, ℕ, ◌-◌, ◌+◌, ◌<◌, ◌≤◌, ◌^◌, ◌++◌, ◌∷◌, [], cond, length, map, take, true, false, IfOk, IfSome, OnErr, OnOk, MatchOption, Some, None, option_map, slice_get};
 ghost use Rattle.std.specs.BTreeMap.{IsOrdered};
 ghost use Rattle.std.specs.Ordering.{nat_cmp};
 ghost use Rattle.std.specs.List.{AllByRecursion, list_any};
@@ -9,21 +9,20 @@ ghost use Rattle.fx_value.specs.Order.{IsScalar};
 ghost use Rattle.row_queries.specs.TableRows.{AreCellsOf, value_at};
 ghost use Rattle.row_keeper.specs.Covered.{covered_of, covers, entries_of, key_at};
 ghost use Rattle.row_keeper.specs.Slots.{now_at, rows_now, rows_then};
-ghost use Rattle.row_queries.specs.Ranges.{HoldEveryKey};
+ghost use Rattle.row_queries.specs.Ranges.{AreRising, HoldEveryKey};
 ghost use Rattle.row_keeper.specs.Sound.{IsSound, lies_among};
 ghost use Rattle.row_keeper.specs.Tables.{has_id, no_rows, with_cells, with_row, without_row};
 
 use crate::index::{Entry, Index};
-use crate::picked::{all_rows, rows_at};
+use crate::picked::{all_rows, rows_at, rows_of};
 use crate::scans::number_of;
-use crate::slots::{Made, Slot, put_new, put_over, restore, settle};
+use crate::slots::{Made, Slots};
 use fx_base::Memory;
 use fx_data::Value;
 use fx_trees::ColumnList;
-use fx_value::value_is_proper;
+use fx_value::{keys_order, value_is_proper};
 use row_queries::{Cells, Key, KeyRange, Row};
 use std::alloc::Global;
-use std::collections::BTreeMap;
 use std::marker::Model;
 
 #[derive(Drop)]
@@ -32,10 +31,11 @@ pub struct Table {
     columns: ColumnList,
     /// The numbers of the columns that the index covers.
     covered: Vec<u16>,
-    rows: BTreeMap<u32, Slot>,
+    slots: Slots,
     index: Index,
     /// The last number that was given, and how many rows there are.
     last: u32,
+    // Counted, so that the limits are asked without a pass over the rows.
     count: u32,
     /// The same as the transaction began.
     first: u32,
@@ -56,11 +56,11 @@ impl Model for Table {
 
     ghost view = { λ t. record {
       columns = t.columns;
-      now = record { rows = rows_now t.rows.entries; last = t.last };
-      then = record { rows = rows_then t.rows.entries; last = t.first };
+      now = record { rows = rows_now t.slots.by_id.entries; last = t.last };
+      then = record { rows = rows_then t.slots.by_id.entries; last = t.first };
     } };
 
-    ghost invariant = { λ t. IsWhole t.columns t.covered.items t.rows.entries t.index.entries.entries t.last t.count t.first t.first_count };
+    ghost invariant = { λ t. IsWhole t.columns t.covered.items t.slots.by_id.entries t.index.entries.entries t.last t.count t.first t.first_count };
 }
 
 /// The columns that are indexed: `ID`, and each that is indexed or unique.
@@ -109,15 +109,15 @@ fn entries_for(alloc: Global, covered: &[u16], id: u32, cells: &Cells) -> Result
 fn entries_at(
     alloc: Global,
     covered: &[u16],
-    rows: &BTreeMap<u32, Slot>,
+    slots: &Slots,
     id: u32,
 ) -> Result<Option<Vec<Entry>>, Memory>
-    requires { (i k : ℕ) → IfSome (now_at rows.now.entries i) (λ cells. IsScalar (value_at cells k)) }
-    ensures entries { IfOk result (λ es. option_map (λ v. v.items) es ≡ option_map (entries_of covered.now id) (now_at rows.now.entries id)) }
-    ensures ordered { IsOrdered nat_cmp rows.now }
+    requires { (i k : ℕ) → IfSome (now_at slots.now.by_id.entries i) (λ cells. IsScalar (value_at cells k)) }
+    ensures entries { IfOk result (λ es. option_map (λ v. v.items) es ≡ option_map (entries_of covered.now id) (now_at slots.now.by_id.entries id)) }
+    ensures ordered { IsOrdered nat_cmp slots.now.by_id }
 {
-    let _len = rows.len();
-    let Some(slot) = rows.get(&id) else {
+    let _len = slots.by_id.len();
+    let Some(slot) = slots.by_id.get(&id) else {
         return Ok(None);
     };
     let Some(cells) = slot.cells() else {
@@ -147,7 +147,7 @@ impl Table {
             alloc,
             columns,
             covered,
-            rows: BTreeMap::new(alloc),
+            slots: Slots::new(alloc),
             index: Index::new(alloc),
             last: 0,
             count: 0,
@@ -166,11 +166,12 @@ impl Table {
         ensures err { OnErr result (self.new ≡ self.old) }
     {
         let id = self.last + 1;
+        // All that takes memory comes first, so that a call that fails changes nothing.
         let entries = entries_for(self.alloc, &self.covered, id, cells)?;
         let copy = cells.copy(self.alloc)?;
         cells_are_proper(cells);
         self.index.make_rooms(self.alloc, &entries)?;
-        put_new(&mut self.rows, id, copy)?;
+        self.slots.put_new(id, copy)?;
         self.index.mark_all(&entries, true);
         self.last = id;
         self.count += 1;
@@ -184,14 +185,15 @@ impl Table {
         ensures ok { IfOk result (λ was. self.new ≡ record self.old { now = cond was (with_cells id cells.now self.old.now) self.old.now }) }
         ensures err { OnErr result (self.new ≡ self.old) }
     {
-        let Some(out) = entries_at(self.alloc, &self.covered, &self.rows, id)? else {
+        let Some(out) = entries_at(self.alloc, &self.covered, &self.slots, id)? else {
             return Ok(false);
         };
         let entries = entries_for(self.alloc, &self.covered, id, cells)?;
         let copy = cells.copy(self.alloc)?;
         cells_are_proper(cells);
+        self.index.make_rooms(self.alloc, &out)?;
         self.index.make_rooms(self.alloc, &entries)?;
-        put_over(&mut self.rows, id, Made::New(copy));
+        self.slots.put_over(id, Made::New(copy))?;
         self.index.mark_all(&out, false);
         self.index.mark_all(&entries, true);
         Ok(true)
@@ -203,10 +205,11 @@ impl Table {
         ensures ok { IfOk result (λ was. self.new ≡ record self.old { now = cond was (without_row id self.old.now) self.old.now }) }
         ensures err { OnErr result (self.new ≡ self.old) }
     {
-        let Some(out) = entries_at(self.alloc, &self.covered, &self.rows, id)? else {
+        let Some(out) = entries_at(self.alloc, &self.covered, &self.slots, id)? else {
             return Ok(false);
         };
-        put_over(&mut self.rows, id, Made::Gone);
+        self.index.make_rooms(self.alloc, &out)?;
+        self.slots.put_over(id, Made::Gone)?;
         self.index.mark_all(&out, false);
         self.count -= 1;
         Ok(true)
@@ -216,8 +219,8 @@ impl Table {
     pub fn has(&self, id: u32) -> bool
         ensures { result ≡ list_any (has_id id) self.now.now.rows }
     {
-        let _len = self.rows.len();
-        match self.rows.get(&id) {
+        let _len = self.slots.by_id.len();
+        match self.slots.by_id.get(&id) {
             Some(slot) => slot.cells().is_some(),
             None => false,
         }
@@ -227,21 +230,33 @@ impl Table {
     pub fn is_sound(&self)
         ensures { IsSound self.now }
     {
-        let _len = self.rows.len();
+        let _len = self.slots.by_id.len();
     }
 
     /// The rows whose keys in a column lie in ranges, by rising numbers.
-    pub fn asked(&self, column: u16, ranges: &[KeyRange]) -> Result<Vec<Row>, Memory>
+    pub fn ask(&self, column: u16, ranges: &[KeyRange]) -> Result<Vec<Row>, Memory>
         requires column { column ≤ length self.now.columns }
         requires reaches { (covers (covered_of self.now.columns) column ≡ true) ⊎ HoldEveryKey ranges.now }
         ensures { IfOk result (λ rows. rows.items ≡ filter (lies_among column ranges.now) self.now.now.rows) }
     {
         if self.covered.contains(&column) {
             let ids = self.index.hits(self.alloc, column, ranges)?;
-            rows_at(self.alloc, &self.rows, &ids)
+            rows_at(self.alloc, &self.slots.by_id, &ids)
         } else {
-            all_rows(self.alloc, &self.rows)
+            all_rows(self.alloc, &self.slots.by_id)
         }
+    }
+
+    /// The first rows, at most so many, by rising numbers, of those whose numbers have keys in ranges.
+    pub fn first(&self, ranges: &[KeyRange], most: usize) -> Result<Vec<Row>, Memory>
+        requires { AreRising ranges.now }
+        ensures { IfOk result (λ rows. rows.items ≡ take most (filter (lies_among 0 ranges.now) self.now.now.rows)) }
+    {
+        // It is called for what it says: keys of numbers go as the numbers do, which the last of them bounds.
+        keys_order();
+        let _last = self.last;
+        let ids = self.index.first_hits(self.alloc, 0, ranges, most)?;
+        rows_of(self.alloc, &self.slots.by_id, &ids)
     }
 
     /// How many rows there are.
@@ -269,7 +284,7 @@ impl Table {
     pub fn restore(&mut self)
         ensures { self.new ≡ record self.old { now = self.old.then } }
     {
-        restore(&mut self.rows);
+        self.slots.restore();
         self.index.restore();
         self.last = self.first;
         self.count = self.first_count;
@@ -279,7 +294,7 @@ impl Table {
     pub fn settle(&mut self)
         ensures { self.new ≡ record self.old { then = self.old.now } }
     {
-        settle(&mut self.rows);
+        self.slots.settle();
         self.index.settle();
         self.first = self.last;
         self.first_count = self.count;

@@ -1,15 +1,25 @@
 use Rattle.std.proofs.Common.{sym}
-use Rattle.row_keeper.proofs.MarkLemmas.{marked_now, marked_then, some_stays}
+use Rattle.row_keeper.specs.Entries.{Entry}
+use Rattle.row_keeper.proofs.MarkLemmas.{marked_now, marked_then, some_stays, stand_marked}
 use Rattle.row_keeper.proofs.index.Index.mark.Goals as goal
 
 pub returns-in-Some-clause-now : goal.returns-in-Some-clause-now
 returns-in-Some-clause-now c q =
-    marked_now _ _ c.args.entry.now c.in-Some.mark.now c.args.is q (((c.get_mut.follows.holds (record { was = c.in-Some.mark.now.was; is = c.args.is })).3 c.requires).0 q)
+    marked_now _ _ c.args.entry.now c.in-Some.mark.now c.args.is q (((c.get_mut.follows.holds (record { was = c.in-Some.mark.now.was; is = c.args.is })).3 c.requires.1).0 q)
 
 pub returns-in-Some-clause-then : goal.returns-in-Some-clause-then
 returns-in-Some-clause-then c q =
-    marked_then _ _ c.args.entry.now c.in-Some.mark.now c.args.is (sym c.in-Some.ensures.value) q (((c.get_mut.follows.holds (record { was = c.in-Some.mark.now.was; is = c.args.is })).3 c.requires).0 q)
+    marked_then _ _ c.args.entry.now c.in-Some.mark.now c.args.is (sym c.in-Some.ensures.value) q (((c.get_mut.follows.holds (record { was = c.in-Some.mark.now.was; is = c.args.is })).3 c.requires.1).0 q)
 
 pub returns-in-Some-clause-room : goal.returns-in-Some-clause-room
 returns-in-Some-clause-room c q there =
-    some_stays _ _ _ _ (((c.get_mut.follows.holds (record { was = c.in-Some.mark.now.was; is = c.args.is })).3 c.requires).0 q) there
+    (there.0, some_stays _ _ _ _ (((c.get_mut.follows.holds (record { was = c.in-Some.mark.now.was; is = c.args.is })).3 c.requires.1).0 q) there.1)
+
+pub invariant_of-self : goal.invariant_of-self
+invariant_of-self c =
+    let there = λ (q : Entry). ((c.get_mut.follows.holds (record { was = c.in-Some.mark.now.was; is = c.args.is })).3 c.requires.1).0 q in
+    record {
+      kept = stand_marked c.args.self.now.touched.items c.args.self.now.entries.entries _ c.args.entry.now c.args.is c.requires.0 c.args.self.now.kept
+          (λ q. marked_now _ _ c.args.entry.now c.in-Some.mark.now c.args.is q (there q))
+          (λ q. marked_then _ _ c.args.entry.now c.in-Some.mark.now c.args.is (sym c.in-Some.ensures.value) q (there q));
+    }

@@ -1,9 +1,8 @@
-use Rattle.std.proofs.Common.{◌≤◌, ◌+◌, List, length, filter, ap, arith, subst}
+use Rattle.std.proofs.Common.{◌≤◌, ◌+◌, length, filter, ap, arith, subst}
 use Rattle.std.proofs.lemmas.List.Sorted.{length_permutation}
 use Rattle.row_queries.specs.Queries.{lies}
 use Rattle.row_queries.specs.TableRows.{rows_at}
 use Rattle.row_queries.specs.Visits.{VisitsItsRanges}
-use Rattle.row_queries.specs.declared.rows.Row.{Row}
 use Rattle.row_keeper.specs.InMemory.{InMemory}
 use Rattle.row_keeper.specs.Tables.{rows_of}
 use Rattle.row_keeper.proofs.memory.MemoryKeeper.ask.Goals as goal
@@ -13,7 +12,7 @@ returns-clause-most c =
     let q = c.args.query.now in
     let rows = rows_at (rows_of c.self.inside.store.now) q.table in
     let most = c.visit.ensures.most in
-    let seen = ap (λ (l : List Row). length l) c.deref.ensures.value in
+    let seen = c.len.ensures in
     let moved = length_permutation (filter (lies q) rows) c.in_ok-rows.rows.items c.in_ok-rows.ensures.asked.rearranged in
     let before = ap (λ (w : InMemory). w.visited) c.self.view_is in
     let here : c.visit.new.self.visited ≤ c.self.inside.visited + length (filter (lies q) rows) = omega (arith, most, seen, moved, before) in

@@ -16,10 +16,10 @@ pub returns-in-Some : goal.returns-in-Some
 returns-in-Some c =
     c.is_some.ensures ∙ same_some c.cells.result _ _ c.cells.ensures
     ∙ subst (λ (w : TableView). is_some (cells_now c.in-Some.slot.now) ≡ list_any (has_id c.args.id) w.now.rows) c.self.view_is
-    (is_row c.self.inside.rows.entries c.args.id (cells_now c.in-Some.slot.now) c.len-len.ensures.ordered (ap now_in_slot (sym c.in-Some.ensures.value)))
+    (is_row c.self.inside.slots.by_id.entries c.args.id (cells_now c.in-Some.slot.now) c.len-len.ensures.ordered (ap now_in_slot (sym c.in-Some.ensures.value)))
 
 pub returns-in-None : goal.returns-in-None
 returns-in-None c =
     let none : Option (List Data) = None in
     subst (λ (w : TableView). false ≡ list_any (has_id c.args.id) w.now.rows) c.self.view_is
-    (is_row c.self.inside.rows.entries c.args.id none c.len-len.ensures.ordered (ap now_in_slot (sym c.in-None.ensures.value)))
+    (is_row c.self.inside.slots.by_id.entries c.args.id none c.len-len.ensures.ordered (ap now_in_slot (sym c.in-None.ensures.value)))

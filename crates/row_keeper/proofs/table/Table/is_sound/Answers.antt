@@ -4,4 +4,4 @@ use Rattle.row_keeper.proofs.SoundLemmas.{sound}
 use Rattle.row_keeper.proofs.table.Table.is_sound.Goals as goal
 
 pub returns : goal.returns
-returns c = subst IsSound c.self.view_is (sound c.self.inside.columns c.self.inside.covered.items c.self.inside.rows.entries c.self.inside.index.entries.entries c.self.inside.last c.self.inside.count c.self.inside.first c.self.inside.first_count c.self.invariant c.len-len.ensures.ordered)
+returns c = subst IsSound c.self.view_is (sound c.self.inside.columns c.self.inside.covered.items c.self.inside.slots.by_id.entries c.self.inside.index.entries.entries c.self.inside.last c.self.inside.count c.self.inside.first c.self.inside.first_count c.self.invariant c.len-len.ensures.ordered)

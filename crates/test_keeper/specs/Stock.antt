@@ -1,0 +1,26 @@
+-- The table that the cases are about, and what is known of a keeper between them.
+use Rattle.std.specs.Prelude.{◌≡◌, Bool, true, List, [], ◌∷◌, Option, Some, None}
+use Rattle.fx_data.specs.declared.types.Ty.TheVariants.{Number, Text}
+use Rattle.fx_trees.specs.declared.schema.Column.{Column}
+use Rattle.fx_trees.specs.declared.schema.Schema.{Schema}
+use Rattle.fx_trees.specs.declared.schema.TableShape.{TableShape}
+use Rattle.row_keeper.specs.InMemory.{InMemory}
+
+-- a column of texts, and an indexed one of numbers
+abbrev pub AreStockColumns : List Column → Type 0
+AreStockColumns (n ∷ q ∷ []) = (n.ty ≡ Text) × (q.ty ≡ Number) × (q.indexed ≡ true)
+AreStockColumns cs = ⊥
+
+-- one table, of such columns
+abbrev pub AreStockTables : List TableShape → Type 0
+AreStockTables (t ∷ []) = AreStockColumns t.columns
+AreStockTables ts = ⊥
+
+abbrev pub IsStock : Option Schema → Type 0
+IsStock None = ⊥
+IsStock (Some s) = AreStockTables s.tables
+
+-- the keeper stands where the cases say: whether it has the table, and whether a transaction is begun
+pub record IsInStep (is_shaped is_begun : Bool) (k : InMemory) : Type 0 where
+  pub stocked : is_shaped ≡ true → IsStock k.store.schema
+  pub begun : k.store.is_begun ≡ is_begun
