@@ -1,11 +1,12 @@
 pub mod Blanks
 pub mod Bodies
-pub mod Callers
 pub mod Doorways
 pub mod Heads
 pub mod ListsInMemory
 pub mod Nexts
 pub mod OneThing
+pub mod RouteParts
 pub mod RoutePaths
+pub mod RoutePlaces
 pub mod RouteSteps
 pub mod Stands

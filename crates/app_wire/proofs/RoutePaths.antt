@@ -1,15 +1,10 @@
--- The router's rule over the table, both ways.
-use Rattle.std.proofs.Common.{◌≡◌, ℕ, ◌<◌, ◌⊎◌, inl, inr, List, [], ◌∷◌, ◌++◌, Option, Some, None, Bool, true, false, cond, get_or, suc, refl, sym, ap, ◌∙◌, subst, arith, nat_eq, ◌==◌, codes}
+-- What the router finds: a row whose pattern the path matches, or none.
+use Rattle.std.proofs.Common.{◌≡◌, ℕ, zero, suc, ◌<◌, ◌≤◌, List, [], ◌∷◌, ◌++◌, length, get_or, Option, Some, None, Bool, true, false, refl, ap, sym, ◌∙◌, subst, arith, ◌⊎◌, inl, inr, append-nil, lit<}
 use Rattle.std.proofs.lemmas.Bool.Decides.{nat_tests}
-use Rattle.std.proofs.lemmas.Slice.Eq.{bytes_eq-Decides}
-use Rattle.std.specs.Cmp.Lexicographic.{pointwise}
-use Rattle.matchit.specs.Router.{RouteOf}
-use Rattle.matchit.specs.Seek.{first, has_slash, seek}
-use Rattle.app_wire.specs.Routing.{path_at}
-use Rattle.app_wire.specs.RouteTable.{table, place_in, named_route, session_route, IsPart, Placed}
-use Rattle.app_wire.specs.declared.route.Place.{Place}
-use Rattle.app_wire.specs.declared.route.Place.TheVariants.{Session, Named}
-use Rattle.app_wire.proofs.RouteSteps.{after_text, lead, second, third, table_is, session_found, named_found, nameless, split}
+use Rattle.std.proofs.lemmas.List.{length-append}
+use Rattle.matchit.specs.Rows.{RowsOf}
+use Rattle.matchit.specs.Seek.{has_slash, or_else, seek, step, with_suffix}
+use Rattle.app_wire.proofs.RouteSteps.{Has, all_good, any_goes_on, by_param, found_end, found_off, found_on, found_zero, goes_on, good_step, good_suffix, opens, open_of, open_step, own_from, own_none, seek_byte, seek_end, split, step_from, step_to, suffix_from, suffix_to}
 
 abbrev pub AreBytes : List ℕ → Type 0
 AreBytes [] = Unit {0}
@@ -19,81 +14,136 @@ pub are_bytes : (bytes : List ℕ) → ((i : ℕ) → get_or bytes i 0 < 256) �
 are_bytes [] h = tt
 are_bytes (b ∷ bs) h = (h 0, are_bytes bs (λ i. h (suc i)))
 
-session_at : (path part : List ℕ) → AreBytes path → IsPart part → path ≡ path_at Session part → first table path ≡ Some session_route
-session_at path [] bytes s e = absurd (omega (arith, s.some))
-session_at path (x ∷ xs) bytes s e =
-    let small = subst AreBytes e bytes in
-    subst (λ q. first table q ≡ Some session_route) (sym e) (table_is (codes "/s/" ++ x ∷ xs) ∙ session_found x xs small.1.1.1.0 s.whole)
+-- what a parameter takes: at least one byte, and no slash
+pub record IsPlain (part : List ℕ) : Type 0 where
+  pub some : 1 ≤ length part
+  pub whole : has_slash part ≡ false
 
-named_at : (path part : List ℕ) → AreBytes path → IsPart part → path ≡ path_at Named part → first table path ≡ Some named_route
-named_at path [] bytes s e = absurd (omega (arith, s.some))
-named_at path (x ∷ xs) bytes s e =
-    let small = subst AreBytes e bytes in
-    subst (λ q. first table q ≡ Some named_route) (sym e) (table_is (codes "/s/" ++ ((x ∷ xs) ++ codes "/named")) ∙ named_found x xs (codes "named") small.1.1.1.0 s.whole)
+-- the path matches the pattern
+abbrev pub Matches : List ℕ → List ℕ → Type 0
+Matches [] path = path ≡ []
+Matches (x ∷ t) path =
+    ((rest : List ℕ) × (x < 256) × (path ≡ x ∷ rest) × Matches t rest)
+    ⊎ ((part : List ℕ) × (rest : List ℕ) × (x ≡ 256) × IsPlain part × (path ≡ part ++ rest) × Matches t rest)
 
-opened : {K : Type 0} (v : Bool) (x : Option K) (r : K) → cond v x None ≡ Some r → (v ≡ true) × (x ≡ Some r)
-opened true x r e = (refl, e)
-opened false x r e = cc
+bytes_behind : (a b : List ℕ) → AreBytes (a ++ b) → AreBytes b
+bytes_behind [] b h = h
+bytes_behind (x ∷ a) b h = bytes_behind a b h.1
 
-third_some : (p : List ℕ) (r : RouteOf Place) → third p ≡ Some r → (q : List ℕ) × (p ≡ 47 ∷ q) × (first after_text q ≡ Some r)
-third_some [] r e = cc
-third_some (c ∷ p) r e =
-    let o = opened (47 == c) (first after_text p) r e in
-    let same : c ≡ 47 = grind (arith, nat_tests, o.0) in
-    (p, ap (λ z. z ∷ p) same, o.1)
+shorter : (part rest : List ℕ) (n : ℕ) → 1 ≤ length part → length (part ++ rest) ≤ suc n → length rest ≤ n
+shorter part rest n some h = omega (arith, length-append part rest)
 
-second_some : (p : List ℕ) (r : RouteOf Place) → second p ≡ Some r → (q : List ℕ) × (p ≡ 115 ∷ 47 ∷ q) × (first after_text q ≡ Some r)
-second_some [] r e = cc
-second_some (c ∷ p) r e =
-    let o = opened (115 == c) (third p) r e in
-    let same : c ≡ 115 = grind (arith, nat_tests, o.0) in
-    let t = third_some p r o.1 in
-    (t.0, ap (λ z. z ∷ p) same ∙ ap (λ z. 115 ∷ z) t.1, t.2)
+module _ {K : Type 0} where
+  first_of_two : (a b : Option K) (k : K) → or_else a b ≡ Some k → (a ≡ Some k) ⊎ (b ≡ Some k)
+  first_of_two None b k e = inr e
+  first_of_two (Some x) b k e = inl e
 
-lead_some : (p : List ℕ) (r : RouteOf Place) → lead p ≡ Some r → (q : List ℕ) × (p ≡ codes "/s/" ++ q) × (first after_text q ≡ Some r)
-lead_some [] r e = cc
-lead_some (c ∷ p) r e =
-    let o = opened (47 == c) (second p) r e in
-    let same : c ≡ 47 = grind (arith, nat_tests, o.0) in
-    let t = second_some p r o.1 in
-    (t.0, ap (λ z. z ∷ p) same ∙ ap (λ z. 47 ∷ z) t.1, t.2)
+  none_of_two : (a b : Option K) → or_else a b ≡ None → (a ≡ None) × (b ≡ None)
+  none_of_two None b e = (refl, e)
+  none_of_two (Some x) b e = cc
 
-cut_some : (name rest : List ℕ) → AreBytes (name ++ 47 ∷ rest) → has_slash name ≡ false → (r : RouteOf Place) → first after_text (name ++ 47 ∷ rest) ≡ Some r
-    → (r ≡ named_route) × IsPart name × (47 ∷ rest ≡ codes "/named")
-cut_some [] rest bytes h r e = let no : None ≡ Some r = sym (nameless rest) ∙ e in cc
-cut_some (y ∷ ys) rest bytes h r e =
-    let o = opened (pointwise nat_eq (codes "/named") (47 ∷ rest)) (Some named_route) r (sym (named_found y ys rest bytes.0 h) ∙ e) in
-    let same : Some named_route ≡ Some r = o.1 in
-    ((cc), record { some = omega arith; whole = h }, sym ((bytes_eq-Decides (codes "/named") (47 ∷ rest)).0 o.0))
+  -- a row that was found has a pattern that the path matches
+  abbrev pub Found : RowsOf K → List ℕ → K → Type 0
+  Found rs path k = (t : List ℕ) × Has rs t k × Matches t path
 
-text_some : (q : List ℕ) → AreBytes q → (r : RouteOf Place) → first after_text q ≡ Some r
-    → ((r ≡ session_route) × IsPart q) ⊎ ((name : List ℕ) × (r ≡ named_route) × IsPart name × (q ≡ name ++ codes "/named"))
-unfolding seek
-text_some [] bytes r e = cc
-text_some (x ∷ xs) bytes r e = by (split (x ∷ xs))
-  where
-    by : ((has_slash (x ∷ xs) ≡ false) ⊎ ((name : List ℕ) × (rest : List ℕ) × (x ∷ xs ≡ name ++ 47 ∷ rest) × (has_slash name ≡ false)))
-        → ((r ≡ session_route) × IsPart (x ∷ xs)) ⊎ ((name : List ℕ) × (r ≡ named_route) × IsPart name × (x ∷ xs ≡ name ++ codes "/named"))
-    by (inl h) = let same : Some session_route ≡ Some r = sym (session_found x xs bytes.0 h) ∙ e in inl ((cc), record { some = omega arith; whole = h })
-    by (inr s) =
-        let c = cut_some s.0 s.1 (subst AreBytes s.2 bytes) s.3 r (subst (λ z. first after_text z ≡ Some r) s.2 e) in
-        inr (s.0, c.0, c.1, s.2 ∙ ap (λ z. s.0 ++ z) c.2)
+  abbrev pub FindsWithin : ℕ → K → Type 0
+  FindsWithin n k = (rs : RowsOf K) (path : List ℕ) → length path ≤ n → all_good rs ≡ true → AreBytes path → seek 0 rs path ≡ Some k → Found rs path k
 
-some_placed : (path : List ℕ) → AreBytes path → (r : RouteOf Place) → first table path ≡ Some r → Placed path (Some r.value)
-some_placed path bytes r e = by (text_some l.0 (subst AreBytes l.1 bytes).1.1.1 r l.2)
-  where
-    l : (q : List ℕ) × (path ≡ codes "/s/" ++ q) × (first after_text q ≡ Some r)
-    l = lead_some path r (sym (table_is path) ∙ e)
+  module _ (n : ℕ) (k : K) (again : FindsWithin n k) (rs : RowsOf K) (b : ℕ) (p : List ℕ) (fits : length (b ∷ p) ≤ suc n) (g : all_good rs ≡ true) (bytes : AreBytes (b ∷ p)) where
+    found_behind : (name rest : List ℕ) → b ∷ p ≡ name ++ 47 ∷ rest → has_slash name ≡ false → 1 ≤ length name
+        → seek 0 (with_suffix (47 ∷ []) (step 256 rs)) (47 ∷ rest) ≡ Some k → Found rs (b ∷ p) k
+    found_behind name rest same plain some f =
+        let q = with_suffix (47 ∷ []) (step 256 rs) in
+        let r = again q (47 ∷ rest) (shorter name (47 ∷ rest) n some (subst (λ z. length z ≤ suc n) same fits))
+        (good_suffix (47 ∷ []) (step 256 rs) (good_step 256 rs g)) (bytes_behind name (47 ∷ rest) (subst AreBytes same bytes)) f in (
+          256 ∷ r.0,
+          step_from 256 rs r.0 k (suffix_from (47 ∷ []) (step 256 rs) r.0 k r.1),
+          inr (name, 47 ∷ rest, refl, record { some = some; whole = plain }, same, r.2),
+        )
 
-    by : (((r ≡ session_route) × IsPart l.0) ⊎ ((name : List ℕ) × (r ≡ named_route) × IsPart name × (l.0 ≡ name ++ codes "/named"))) → Placed path (Some r.value)
-    by (inl h) = subst (λ k. Placed path (Some k.value)) (sym h.0) (l.0, h.1, l.1)
-    by (inr h) = subst (λ k. Placed path (Some k.value)) (sym h.1) (h.0, h.2, l.1 ∙ ap (λ z. codes "/s/" ++ z) h.3)
+    found_slash : (name rest : List ℕ) → b ∷ p ≡ name ++ 47 ∷ rest → has_slash name ≡ false → (v : Bool) → any_goes_on (step 256 rs) ≡ v → by_param rs b p ≡ Some k
+        → Found rs (b ∷ p) k
+    found_slash [] rest same plain v q f =
+        let head : b ≡ 47 = cc in
+        let tail : p ≡ rest = cc in
+        let no : None ≡ Some k = sym (found_zero rs rest g) ∙ sym (ap (λ z. by_param rs z rest) head) ∙ sym (ap (λ z. by_param rs b z) tail) ∙ f in
+        cc
+    found_slash (x ∷ xs) rest same plain true q f =
+        let head : b ≡ x = cc in
+        let tail : p ≡ xs ++ 47 ∷ rest = cc in
+        found_behind (x ∷ xs) rest same plain (omega arith)
+        (sym (found_on rs x xs rest g q plain) ∙ sym (ap (λ z. by_param rs z (xs ++ 47 ∷ rest)) head) ∙ sym (ap (λ z. by_param rs b z) tail) ∙ f)
+    found_slash (x ∷ xs) rest same plain false q f =
+        let head : b ≡ x = cc in
+        let tail : p ≡ xs ++ 47 ∷ rest = cc in
+        let no : None ≡ Some k = sym (found_off rs x xs rest q) ∙ sym (ap (λ z. by_param rs z (xs ++ 47 ∷ rest)) head) ∙ sym (ap (λ z. by_param rs b z) tail) ∙ f in
+        cc
 
-none_placed : (path : List ℕ) → AreBytes path → first table path ≡ None → Placed path None
-none_placed path bytes e Session part is same = let no : None ≡ Some session_route = sym e ∙ session_at path part bytes is same in cc
-none_placed path bytes e Named part is same = let no : None ≡ Some named_route = sym e ∙ named_at path part bytes is same in cc
+    found_param : (has_slash (b ∷ p) ≡ false) ⊎ ((name : List ℕ) × (rest : List ℕ) × (b ∷ p ≡ name ++ 47 ∷ rest) × (has_slash name ≡ false)) → by_param rs b p ≡ Some k
+        → Found rs (b ∷ p) k
+    found_param (inl plain) f = (
+      256 ∷ [],
+      step_from 256 rs [] k (own_from (step 256 rs) k (sym (found_end rs b p g plain) ∙ f)),
+      inr (b ∷ p, [], refl, record { some = omega arith; whole = plain }, sym (append-nil (b ∷ p)), refl),
+    )
+    found_param (inr s) f = found_slash s.0 s.1 s.2 s.3 (any_goes_on (step 256 rs)) refl f
 
--- what the router finds is the place of the path
-pub placed : (path : List ℕ) → AreBytes path → (found : Option (RouteOf Place)) → first table path ≡ found → Placed path (place_in found)
-placed path bytes None e = none_placed path bytes e
-placed path bytes (Some r) e = some_placed path bytes r e
+    found_at : (seek 0 (step b rs) p ≡ Some k) ⊎ (by_param rs b p ≡ Some k) → Found rs (b ∷ p) k
+    found_at (inl f) =
+        let r = again (step b rs) p (omega (arith, fits)) (good_step b rs g) bytes.1 f in
+        (b ∷ r.0, step_from b rs r.0 k r.1, inl (p, bytes.0, refl, r.2))
+    found_at (inr f) = found_param (split (b ∷ p)) f
+
+  pub found_matches : (n : ℕ) (k : K) → FindsWithin n k
+  found_matches n k rs [] fits g bytes e = ([], own_from rs k (sym (seek_end rs) ∙ e), refl)
+  found_matches zero k rs (b ∷ p) fits g bytes e = absurd (omega (arith, fits))
+  found_matches (suc n) k rs (b ∷ p) fits g bytes e =
+      found_at n k (λ q u. found_matches n k q u) rs b p fits g bytes (first_of_two (seek 0 (step b rs) p) (by_param rs b p) k (sym (seek_byte rs b p g) ∙ e))
+
+  -- where none was found there is no such row
+  abbrev pub MissesWithin : ℕ → K → Type 0
+  MissesWithin n k =
+      (rs : RowsOf K) (path t : List ℕ) → length path ≤ n → all_good rs ≡ true → AreBytes path → seek 0 rs path ≡ None → Has rs t k → Matches t path → ⊥
+
+  module _ (n : ℕ) (k : K) (again : MissesWithin n k) (rs : RowsOf K) (b : ℕ) (p : List ℕ) (fits : length (b ∷ p) ≤ suc n) (g : all_good rs ≡ true) (bytes : AreBytes (b ∷ p))
+      (no_text : seek 0 (step b rs) p ≡ None) (no_param : by_param rs b p ≡ None) where
+    missed_behind : (u part rest : List ℕ) → IsPlain part → b ∷ p ≡ part ++ rest → Has (step 256 rs) u k → opens u ≡ true → Matches u rest → ⊥
+    missed_behind [] part rest plain same has o ends =
+        let whole : b ∷ p ≡ part = same ∙ ap (λ z. part ++ z) ends ∙ append-nil part in
+        own_none (step 256 rs) k (sym (found_end rs b p g (ap has_slash whole ∙ plain.whole)) ∙ no_param) has
+    missed_behind (y ∷ u) part rest plain same has o (inr m) = let no = m.2 in let q = o in absurd (grind (arith, nat_tests))
+    missed_behind (y ∷ u) [] rest plain same has o (inl m) = omega (arith, plain.some)
+    missed_behind (y ∷ u) (z ∷ zs) rest plain same has o (inl m) =
+        let q = o in
+        let slash : y ≡ 47 = grind (arith, nat_tests) in
+        let rest_is : rest ≡ 47 ∷ m.0 = m.2 ∙ ap (λ w. w ∷ m.0) slash in
+        let whole : b ∷ p ≡ (z ∷ zs) ++ 47 ∷ m.0 = same ∙ ap (λ w. (z ∷ zs) ++ w) rest_is in
+        let head : b ≡ z = cc in
+        let tail : p ≡ zs ++ 47 ∷ m.0 = cc in
+        let q = with_suffix (47 ∷ []) (step 256 rs) in
+        let none : seek 0 q (47 ∷ m.0) ≡ None =
+        sym (found_on rs z zs m.0 g (goes_on (step 256 rs) y u k has) plain.whole) ∙ sym (ap (λ w. by_param rs w (zs ++ 47 ∷ m.0)) head) ∙ sym (ap (λ w. by_param rs b w) tail) ∙ no_param in
+        again q (47 ∷ m.0) (47 ∷ u) (shorter (z ∷ zs) (47 ∷ m.0) n plain.some (subst (λ w. length w ≤ suc n) whole fits))
+        (good_suffix (47 ∷ []) (step 256 rs) (good_step 256 rs g)) (bytes_behind (z ∷ zs) (47 ∷ m.0) (subst AreBytes whole bytes)) none
+        (suffix_to (47 ∷ []) (step 256 rs) (47 ∷ u) k refl (subst (λ w. Has (step 256 rs) (w ∷ u) k) slash has)) (inl (m.0, lit< tt, refl, m.3))
+
+    missed_at : (x : ℕ) (t : List ℕ) → Has rs (x ∷ t) k → Matches (x ∷ t) (b ∷ p) → ⊥
+    missed_at x t h (inl m) =
+        let same = m.2 in
+        let head : b ≡ x = cc in
+        let tail : p ≡ m.0 = cc in
+        again (step b rs) p t (omega (arith, fits)) (good_step b rs g) bytes.1 no_text
+        (step_to b rs t k (subst (λ z. Has rs (z ∷ t) k) (sym head) h)) (subst (Matches t) (sym tail) m.3)
+    missed_at x t h (inr m) =
+        let has : Has (step 256 rs) t k = step_to 256 rs t k (subst (λ z. Has rs (z ∷ t) k) m.2 h) in
+        missed_behind t m.0 m.1 m.3 m.4 has (open_of (step 256 rs) t k (open_step rs g) has) m.5
+
+  pub none_matches : (n : ℕ) (k : K) → MissesWithin n k
+  none_matches n k rs [] [] fits g bytes e h m = own_none rs k (sym (seek_end rs) ∙ e) h
+  none_matches n k rs [] (x ∷ t) fits g bytes e h (inl m) = let no = m.2 in cc
+  none_matches n k rs [] (x ∷ t) fits g bytes e h (inr m) = omega (arith, m.3.some, ap length m.4, length-append m.0 m.1)
+  none_matches n k rs (b ∷ p) [] fits g bytes e h m = cc
+  none_matches zero k rs (b ∷ p) (x ∷ t) fits g bytes e h m = omega (arith, fits)
+  none_matches (suc n) k rs (b ∷ p) (x ∷ t) fits g bytes e h m =
+      let two = none_of_two (seek 0 (step b rs) p) (by_param rs b p) (sym (seek_byte rs b p g) ∙ e) in
+      missed_at n k (λ q u s. none_matches n k q u s) rs b p fits g bytes two.0 two.1 x t h m

@@ -1,15 +1,26 @@
 -- Which route a request has.
-use Rattle.std.specs.Prelude.{◌≡◌, ℕ, ◌≤◌, ◌==◌, ◌||◌, ◌⊎◌, Bool, true, List, ◌++◌, length, codes, Result, Ok, Err}
-use Rattle.std.specs.List.{list_all}
-use Rattle.std.specs.Char.{is_ascii_alphanumeric}
+use Rattle.std.specs.Prelude.{◌≡◌, ◌≢◌, ℕ, ◌<◌, ◌≤◌, ◌+◌, ◌==◌, ◌||◌, Bool, true, List, [], ◌∷◌, length, slice_index, codes, if◌then◌else◌, Result, Ok, Err}
+use Rattle.std.specs.List.{AllZip, list_all}
+use Rattle.std.specs.Char.{is_ascii_alphanumeric, is_ascii_digit, is_digit}
+use Rattle.std.specs.Str.{IsUtf8}
+use Rattle.std.specs.Str.Parse.{digits_value}
+use Rattle.percent_encoding.specs.Percent.{percent_decode}
+use Rattle.fx_data.specs.Words.{scalars_of}
 use Rattle.app_wire.specs.declared.head.Method.{Method}
-use Rattle.app_wire.specs.declared.head.Method.TheVariants as method
-use Rattle.app_wire.specs.declared.route.Place.{Place}
-use Rattle.app_wire.specs.declared.route.Place.TheVariants as place
+use Rattle.app_wire.specs.declared.head.Method.TheVariants.{Get, Put, Post, Delete}
 use Rattle.app_wire.specs.declared.route.Route.{Route}
-use Rattle.app_wire.specs.declared.route.Route.TheVariants as route
+use Rattle.app_wire.specs.declared.route.Route.TheVariants.{Begin, End, View, Named, Items, Event, Input, Rows, Edit, Page, Plan, Graph}
 use Rattle.app_wire.specs.declared.route.RouteEnd.{RouteEnd}
 use Rattle.app_wire.specs.declared.route.RouteEnd.TheVariants.{NoRoute, WrongMethod, Memory}
+
+-- The parts of a path: what stands between its slashes. The part before the first slash is one too.
+abbrev pub with_byte : ℕ → List (List ℕ) → List (List ℕ)
+with_byte b [] = (b ∷ []) ∷ []
+with_byte b (part ∷ parts) = (b ∷ part) ∷ parts
+
+abbrev pub parts_of : List ℕ → List (List ℕ)
+parts_of [] = [] ∷ []
+parts_of (b ∷ path) = if b == 47 then [] ∷ parts_of path else with_byte b (parts_of path)
 
 -- A to Z, a to z, 0 to 9, `_` or `-`
 abbrev pub is_name_byte : ℕ → Bool
@@ -21,36 +32,84 @@ pub record IsCallerName (name : List ℕ) : Type 0 where
   pub few : length name ≤ 32
   pub bytes : list_all is_name_byte name ≡ true
 
--- the path of a place, for the caller of this name
-abbrev pub path_at : Place → List ℕ → List ℕ
-path_at place.Session name = codes "/s/" ++ name
-path_at place.Named name = codes "/s/" ++ (name ++ codes "/named")
+-- each `%` has two hexadecimal digits behind it
+abbrev pub HasWholeEscapes : List ℕ → Type 0
+HasWholeEscapes bytes =
+    (i : ℕ) → i < length bytes → slice_index bytes i ≡ 37
+    → (i + 2 < length bytes) × (is_digit (slice_index bytes (i + 1)) 16 ≡ true) × (is_digit (slice_index bytes (i + 2)) 16 ≡ true)
 
--- what a method gets at a place; a session's DELETE is not built yet, and has no route until it is
-abbrev pub route_at : Place → Method → List ℕ → Result Route RouteEnd
-route_at place.Session method.Put name = Ok (route.Begin name)
-route_at place.Session method.Delete name = Err NoRoute
-route_at place.Session _ name = Err WrongMethod
-route_at place.Named method.Get name = Ok (route.Named name)
-route_at place.Named _ name = Err WrongMethod
+-- The name of a gallery or a table, percent-encoded: at least one byte. It is UTF-8 as it stands, and once it is decoded.
+pub record IsTitle (bytes : List ℕ) : Type 0 where
+  pub some : 1 ≤ length bytes
+  pub escapes : HasWholeEscapes bytes
+  pub text : IsUtf8 bytes
+  pub decoded : IsUtf8 (percent_decode bytes)
 
--- the path is that of a place, for a caller
-pub record IsPathOf (path : List ℕ) (place : Place) (name : List ℕ) : Type 0 where
-  pub name_is : IsCallerName name
-  pub path_is : path ≡ path_at place name
+-- a number: 1 to 10 digits, of 32 bits
+pub record IsNumber (bytes : List ℕ) : Type 0 where
+  pub some : 1 ≤ length bytes
+  pub few : length bytes ≤ 10
+  pub digits : list_all is_ascii_digit bytes ≡ true
+  pub within : digits_value 10 bytes ≤ 4294967295
 
--- the answer is what the method gets at this place, or memory ran out
-abbrev pub Gets : Place → Method → List ℕ → Result Route RouteEnd → Type 0
-Gets place method name answer = (answer ≡ Err Memory) ⊎ (answer ≡ route_at place method name)
+-- what a part of a path may say: a word of the route, the name of a caller, that of a gallery or a table, or a number
+pub data Part : Type 0 where
+  word : List ℕ → Part
+  caller : List ℕ → Part
+  title : List ℕ → Part
+  number : ℕ → Part
 
--- the answer to a method and a path: what the method gets at the path's place, or no route where it is the path of none
+-- These bytes say it. A caller's name is taken as it stands, and a title is decoded once.
+abbrev pub Says : List ℕ → Part → Type 0
+Says bytes (word text) = bytes ≡ text
+Says bytes (caller name) = IsCallerName bytes × (name ≡ bytes)
+Says bytes (title name) = IsTitle bytes × (name ≡ scalars_of (percent_decode bytes))
+Says bytes (number n) = IsNumber bytes × (n ≡ digits_value 10 bytes)
+
+-- THE routes: what their paths say, part by part behind the first slash
+abbrev pub path_of : Route → List Part
+path_of (Begin name) = word (codes "s") ∷ caller name ∷ []
+path_of (End name) = word (codes "s") ∷ caller name ∷ []
+path_of (View name) = word (codes "s") ∷ caller name ∷ word (codes "view") ∷ []
+path_of (Named name) = word (codes "s") ∷ caller name ∷ word (codes "named") ∷ []
+path_of (Items name gallery from) = word (codes "s") ∷ caller name ∷ word (codes "items") ∷ title gallery ∷ number from ∷ []
+path_of (Event name) = word (codes "s") ∷ caller name ∷ word (codes "event") ∷ []
+path_of (Input name) = word (codes "s") ∷ caller name ∷ word (codes "input") ∷ []
+path_of (Rows name) = word (codes "desk") ∷ caller name ∷ word (codes "rows") ∷ []
+path_of (Edit name) = word (codes "desk") ∷ caller name ∷ word (codes "edit") ∷ []
+path_of (Page name after) = word (codes "rows") ∷ title name ∷ number after ∷ []
+path_of Plan = word (codes "plan") ∷ []
+path_of Graph = word (codes "graph") ∷ []
+
+-- the route is one of this path, whatever the method
+abbrev pub HasPath : List ℕ → Route → Type 0
+HasPath path route = AllZip Says (parts_of path) (word [] ∷ path_of route)
+
+-- and their methods
+abbrev pub method_of : Route → Method
+method_of (Begin name) = Put
+method_of (End name) = Delete
+method_of (View name) = Get
+method_of (Named name) = Get
+method_of (Items name gallery from) = Get
+method_of (Event name) = Post
+method_of (Input name) = Post
+method_of (Rows name) = Post
+method_of (Edit name) = Post
+method_of (Page name after) = Get
+method_of Plan = Get
+method_of Graph = Get
+
+-- The answer to a method and a path: the route that has both; WrongMethod exactly where the path has routes, none of them with
+-- this method; NoRoute exactly where it has none. Want of memory may stand anywhere.
 abbrev pub Routing : Method → List ℕ → Result Route RouteEnd → Type 0
-Routing method path answer =
-    (answer ≡ Err Memory)
-    ⊎ ((place : Place) × (name : List ℕ) × IsPathOf path place name × (answer ≡ route_at place method name))
-    ⊎ ((answer ≡ Err NoRoute) × ((place : Place) (name : List ℕ) → IsPathOf path place name → ⊥))
+Routing method path (Ok route) = HasPath path route × (method_of route ≡ method)
+Routing method path (Err WrongMethod) = ((route : Route) × HasPath path route) × ((route : Route) → HasPath path route → method_of route ≢ method)
+Routing method path (Err NoRoute) = (route : Route) → HasPath path route → ⊥
+Routing method path (Err Memory) = Unit {0}
 
--- a path is that of one place, for one caller
-abbrev pub IsOnePlace : Type 0
-IsOnePlace =
-    (path : List ℕ) (a b : Place) (x y : List ℕ) → IsPathOf path a x → IsPathOf path b y → (a ≡ b) × (x ≡ y)
+-- want of memory aside, a method and a path have one answer
+abbrev pub IsOneRoute : Type 0
+IsOneRoute =
+    (method : Method) (path : List ℕ) (a b : Result Route RouteEnd)
+    → a ≢ Err Memory → b ≢ Err Memory → Routing method path a → Routing method path b → a ≡ b

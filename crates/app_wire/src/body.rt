@@ -75,7 +75,7 @@ fn is_length(value: &[u8]) -> bool
 }
 
 /// The number that 1 to 19 digits write.
-fn number_of(value: &[u8]) -> Option<usize>
+pub(crate) fn number_of(value: &[u8]) -> Option<usize>
     ensures { result ≡ (if is_length value.now then Some (digits_value 10 value.now) else None) }
 {
     if !is_length(value) {

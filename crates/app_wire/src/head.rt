@@ -28,7 +28,7 @@ pub(crate) enum Head<'a> {
     Whole(Method, &'a [u8], BodyLength),
 }
 
-fn method_named(name: &[u8]) -> Method
+fn method_of(name: &[u8]) -> Method
     ensures { result ≡ method_of name.now }
 {
     if name == b"GET".as_slice() {
@@ -66,7 +66,7 @@ pub(crate) fn read_head(front: &[u8]) -> Head<'_>
     let mut headers = [EMPTY_HEADER_SPAN; FIELD_ROOM];
     match parse_request(front, &mut headers) {
         Ok(Status::Complete(head)) if head.len == front.len() => Head::Whole(
-            method_named(head.method.of(front)),
+            method_of(head.method.of(front)),
             path_within(head.path.of(front)),
             body_length(front, &headers[..head.headers]),
         ),

@@ -10,6 +10,7 @@ pub mod head;
 pub mod laws;
 pub mod memory;
 pub mod next;
+mod parts;
 pub mod reply;
 pub mod route;
 pub mod routes;

@@ -69,7 +69,7 @@ impl MemoryDoors {
         ensures { option_map (λ bytes. bytes.now) result ≡ written_to conversation self.now.way }
     {
         match self.talks.get(conversation) {
-            Some(talk) => Some(talk.written()),
+            Some(talk) => Some(talk.output()),
             None => None,
         }
     }

@@ -42,10 +42,12 @@ pub fn next_request<D: Doors>(framer: &mut Framer, doors: &mut D) -> Found
     ensures later { D.faults doors.old ≤ D.faults doors.new }
     ensures failed { result ≡ Found.Failed → Rose (D.faults doors.old) (D.faults doors.new) }
 {
+    // No more than this is read ahead of a request.
     let mut room = [0; 512];
     if let Some(found) = found_of(framer.more()) {
         return found;
     }
+    // It ends: each turn holds a byte more, and of 8,192 bytes a head is found or refused.
     'reading: loop {
         match doors.read(&mut room) {
             Err(Failed) => return Found::Failed,

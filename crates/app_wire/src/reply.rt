@@ -7,6 +7,7 @@ use fx_base::Memory;
 use std::alloc::{AllocError, Global};
 use view_text::reason;
 
+// The reason is a parameter, since a call within the text would leave its proof open.
 fn head_text(alloc: Global, status: u16, reason: &str, len: usize) -> Result<String, AllocError>
     ensures { IfOk result (λ s. string_bytes s ≡ reply_head status reason.now len) }
 {

@@ -1,10 +1,12 @@
 //! The routes of requests.
-ghost use Rattle.std.specs.Prelude.{◌≡◌, IfOk};
+ghost use Rattle.std.specs.Prelude.{◌≡◌, IfOk, Some};
 ghost use Rattle.app_wire.specs.Routing.{Routing};
-ghost use Rattle.app_wire.specs.RouteTable.{Placed, table};
+ghost use Rattle.app_wire.specs.RouteTable.{Finds, Placed, table};
 
 use crate::framer::Request;
-use crate::route::{Place, Route, RouteEnd, caller_in, routed};
+use crate::head::Method;
+use crate::parts::{caller_at, number_at, title_at};
+use crate::route::{Place, Route, RouteEnd};
 use fx_base::Memory;
 use matchit::{InsertError, Router};
 use std::alloc::Global;
@@ -14,7 +16,16 @@ fn make(alloc: Global) -> Result<Router<Place>, InsertError>
 {
     let mut router = Router::new(alloc);
     router.insert("/s/{name}", Place::Session)?;
+    router.insert("/s/{name}/view", Place::View)?;
     router.insert("/s/{name}/named", Place::Named)?;
+    router.insert("/s/{name}/items/{gallery}/{from}", Place::Items)?;
+    router.insert("/s/{name}/event", Place::Event)?;
+    router.insert("/s/{name}/input", Place::Input)?;
+    router.insert("/desk/{name}/rows", Place::Rows)?;
+    router.insert("/desk/{name}/edit", Place::Edit)?;
+    router.insert("/rows/{table}/{after}", Place::Page)?;
+    router.insert("/plan", Place::Plan)?;
+    router.insert("/graph", Place::Graph)?;
     Ok(router)
 }
 
@@ -25,6 +36,41 @@ fn place_of(router: &Router<Place>, path: &str) -> Option<Place>
     match router.at(path) {
         Ok(found) => Some(*found.value),
         Err(_) => None,
+    }
+}
+
+/// The route of a path at its place: of the two of a session the one with this method, if one has it.
+fn route_at(alloc: Global, place: Place, method: Method, path: &str) -> Result<Route, RouteEnd>
+    requires { Placed path.now (Some place) }
+    ensures { Finds place method path.now result }
+{
+    match place {
+        Place::Session => session_at(alloc, method, path),
+        Place::View => Ok(Route::View(caller_at(alloc, path, 2)?)),
+        Place::Named => Ok(Route::Named(caller_at(alloc, path, 2)?)),
+        Place::Items => Ok(Route::Items(
+            caller_at(alloc, path, 2)?,
+            title_at(alloc, path, 4)?,
+            number_at(path, 5)?,
+        )),
+        Place::Event => Ok(Route::Event(caller_at(alloc, path, 2)?)),
+        Place::Input => Ok(Route::Input(caller_at(alloc, path, 2)?)),
+        Place::Rows => Ok(Route::Rows(caller_at(alloc, path, 2)?)),
+        Place::Edit => Ok(Route::Edit(caller_at(alloc, path, 2)?)),
+        Place::Page => Ok(Route::Page(title_at(alloc, path, 2)?, number_at(path, 3)?)),
+        Place::Plan => Ok(Route::Plan),
+        Place::Graph => Ok(Route::Graph),
+    }
+}
+
+fn session_at(alloc: Global, method: Method, path: &str) -> Result<Route, RouteEnd>
+    requires { Placed path.now (Some Place.Session) }
+    ensures { Finds Place.Session method path.now result }
+{
+    let name = caller_at(alloc, path, 2)?;
+    match method {
+        Method::Delete => Ok(Route::End(name)),
+        _ => Ok(Route::Begin(name)),
     }
 }
 
@@ -44,7 +90,7 @@ impl Routes {
         }
     }
 
-    /// The route of a request. Names of callers are taken as they stand and never decoded.
+    /// The route of a request, with the parts of its path. A caller's name is never decoded.
     pub fn route(&self, alloc: Global, request: &Request) -> Result<Route, RouteEnd>
         ensures { Routing request.now.method request.now.path.items result }
     {
@@ -54,9 +100,10 @@ impl Routes {
         let Some(place) = place_of(&self.router, path) else {
             return Err(RouteEnd::NoRoute);
         };
-        match caller_in(path.as_bytes()) {
-            Some(name) => routed(alloc, place, request.method, name),
-            None => Err(RouteEnd::NoRoute),
+        let route = route_at(alloc, place, request.method, path)?;
+        if route.method() != request.method {
+            return Err(RouteEnd::WrongMethod);
         }
+        Ok(route)
     }
 }

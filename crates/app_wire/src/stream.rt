@@ -67,6 +67,7 @@ impl<R: Read, W: Write> Doors for StreamDoors<R, W> {
 
     fn write(&mut self, piece: &[u8]) -> Result<usize, Failed> {
         match self.output.write(piece) {
+            // A write of nothing counts as a fault, so that `write_all` ends.
             Ok(n) if n > 0 || piece.is_empty() => Ok(n),
             _ => {
                 self.faults = self.faults.saturating_add(1);

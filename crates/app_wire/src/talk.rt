@@ -36,7 +36,7 @@ impl MemoryTalk {
     }
 
     /// What was written to it.
-    pub(crate) fn written(&self) -> &[u8]
+    pub(crate) fn output(&self) -> &[u8]
         ensures { result.now ≡ self.now.written }
     {
         &self.written

@@ -1,5 +1,6 @@
 use Rattle.std.proofs.Common.{arith}
-use Rattle.app_wire.proofs.RoutePaths.{placed, are_bytes}
+use Rattle.app_wire.proofs.RoutePaths.{are_bytes}
+use Rattle.app_wire.proofs.RoutePlaces.{placed}
 use Rattle.app_wire.proofs.routes.place_of.Goals as goal
 
 pub returns-in-Ok : goal.returns-in-Ok

@@ -1,6 +1,6 @@
 use Rattle.std.proofs.Common.{◌∙◌, ◌≤◌, length, sym, arith}
 use Rattle.std.proofs.lemmas.Bool.Decides.{nat_tests}
-use Rattle.app_wire.proofs.route.is_caller_name.Goals as goal
+use Rattle.app_wire.proofs.parts.is_caller_name.Goals as goal
 
 pub returns : goal.returns
 returns c =
