@@ -1,0 +1,7 @@
+use Rattle.serde_json.specs.View.{view}
+use Rattle.app_file.specs.FormOfApp.{filled_text}
+use Rattle.app_file.proofs.Fine.{told_leaf}
+use Rattle.app_file.proofs.leaves.NamePart.read.Goals as goal
+
+pub returns-in-None-clause-bad : goal.returns-in-None-clause-bad
+returns-in-None-clause-bad c = told_leaf filled_text (view c.args.part.now) c.in-None.ensures c.unread.result c.unread.ensures
