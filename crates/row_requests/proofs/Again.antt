@@ -1,0 +1,83 @@
+-- Requests that come again.
+use Rattle.std.proofs.Common.{◌≡◌, ◌≢◌, ℕ, ◌==◌, ◌+◌, Bool, true, false, if◌then◌else◌, bytes_eq, unwrap_or, List, [], ◌∷◌, Option, Some, Result, Ok, Err, refl, ap, ◌∙◌, subst, eq-eqb, arith}
+use Rattle.fx_base.specs.Silence.{IsLost, Marks}
+use Rattle.fx_trees.specs.declared.schema.TableShape.{TableShape}
+use Rattle.row_keeper.specs.Tables.{Tables}
+use Rattle.session_state.specs.Once.{Kept, nobody, turn_of}
+use Rattle.session_state.specs.declared.turn.Turn.TheVariants.{New, Again, Reused, OutOfStep}
+use Rattle.row_requests.specs.Checks.{desk_checks, is_full, kept_of, number_reply, numbered, shaped, turn_reply, unless_said, worded}
+use Rattle.row_requests.specs.DeskRows.{Outcome, PostsChecked, PostsRows, accepted_reply, desks_after}
+use Rattle.row_requests.specs.Directory.{find}
+use Rattle.row_requests.specs.Laws.{AreOfOthers, IsLast, Post}
+use Rattle.row_requests.specs.declared.bodies.Posted.{Posted}
+use Rattle.row_requests.specs.declared.directory.Named.{Named}
+use Rattle.row_requests.proofs.Directories.{find_other, found_among, itself}
+
+-- the number of the last request, with its body
+picked : (a b c : Bool) (last : ℕ) → a ≡ false → b ≡ true → c ≡ true → (if a then New else (if b then (if c then Again else Reused) else OutOfStep last)) ≡ Again
+picked true b c last e f g = absurd cc
+picked false false c last e f g = absurd cc
+picked false true false last e f g = absurd cc
+picked false true true last e f g = refl
+
+not_next : (n : ℕ) → (n == n + 1) ≡ false
+not_next n = by (n == n + 1) refl
+  where
+    by : (b : Bool) → (n == n + 1) ≡ b → b ≡ false
+    by true e = absurd (grind (arith, e))
+    by false e = refl
+
+again : (k : Kept) → turn_of k k.last k.body ≡ Again
+again k = picked (k.last == k.last + 1) (k.last == k.last) (bytes_eq k.body k.body) k.last (not_next k.last) (eq-eqb k.last k.last refl) (itself k.body)
+
+has_room : (name : List ℕ) (k : Kept) (desks : List (Named Kept)) → find name desks ≡ Some k → is_full name desks ≡ false
+has_room name k desks e = rw (found_among Kept name k desks e) refl
+
+pub checks_again : (desks : List (Named Kept)) (name : List ℕ) (k : Kept) → IsLast desks name k → desk_checks desks name k.body ≡ Err k.reply
+checks_again desks name k last =
+    ap (λ o. worded o desks name k.body) last.is_json
+    ∙ ap (λ o. shaped o desks name k.body) last.shape
+    ∙ ap (λ b. numbered b (number_reply (kept_of name desks) last.posted.seq k.body) last.posted) (has_room name k desks last.found)
+    ∙ ap (λ o. numbered false (number_reply (unwrap_or o nobody) last.posted.seq k.body) last.posted) last.found
+    ∙ ap (λ n. numbered false (number_reply k n k.body) last.posted) last.number
+    ∙ ap (λ t. unless_said (turn_reply t k.reply) last.posted) (again k)
+
+kept_others : (name other : List ℕ) (body : List ℕ) (seq : ℕ) (o : Outcome) (desks : List (Named Kept)) → name ≢ other → find other (desks_after name body seq o desks) ≡ find other desks
+kept_others name other body seq (Ok ids) desks differ = find_other Kept name other (record { last = seq; body = body; reply = accepted_reply seq ids }) desks differ
+kept_others name other body seq (Err r) desks differ = refl
+
+pub posts_others : (lost : Type 0) (shapes : List TableShape) (name other body : List ℕ) (r : Result Posted (List ℕ)) (tables tables' : Option Tables) (desks desks' : List (Named Kept)) (said : List ℕ) → name ≢ other
+    → PostsChecked lost shapes name body r tables desks said tables' desks' → find other desks' ≡ find other desks
+posts_others lost shapes name other body (Err words) tables tables' desks desks' said differ h = ap (λ (d : List (Named Kept)). find other d) h.2
+posts_others lost shapes name other body (Ok p) tables tables' desks desks' said differ h =
+    ap (λ (d : List (Named Kept)). find other d) h.keeps ∙ kept_others name other body p.seq h.outcome desks differ
+
+pub leaves_others : (shapes : List TableShape) (name other body said : List ℕ) (before now : Marks) (tables tables' : Option Tables) (desks desks' : List (Named Kept))
+    → PostsRows (IsLost before now) shapes name body tables desks said tables' desks' → name ≢ other → find other desks' ≡ find other desks
+leaves_others shapes name other body said before now tables tables' desks desks' h differ =
+    posts_others (IsLost before now) shapes name other body (desk_checks desks name body) tables tables' desks desks' said differ h
+
+run_leaves : (shapes : List TableShape) (name : List ℕ) (posts : List Post) (tables tables' : Option Tables) (desks desks' : List (Named Kept))
+    → AreOfOthers shapes name tables desks posts tables' desks' → find name desks' ≡ find name desks
+run_leaves shapes name [] tables tables' desks desks' h = ap (λ (d : List (Named Kept)). find name d) h.1
+run_leaves shapes name (p ∷ ps) tables tables' desks desks' h =
+    run_leaves shapes name ps p.tables tables' p.desks desks' h.2
+    ∙ leaves_others shapes p.name name p.body p.said p.before p.now tables p.tables desks p.desks h.1 h.0
+
+pub acts_once : (shapes : List TableShape) (name : List ℕ) (k : Kept) (said : List ℕ) (before now : Marks) (posts : List Post)
+    (tables tables' tables'' : Option Tables) (desks desks' desks'' : List (Named Kept))
+    → IsLast desks name k → AreOfOthers shapes name tables desks posts tables' desks'
+    → PostsRows (IsLost before now) shapes name k.body tables' desks' said tables'' desks''
+    → (said ≡ k.reply) × (tables'' ≡ tables') × (desks'' ≡ desks')
+acts_once shapes name k said before now posts tables tables' tables'' desks desks' desks'' last others h =
+    subst (λ r. PostsChecked (IsLost before now) shapes name k.body r tables' desks' said tables'' desks'') (checks_again desks' name k still) h
+  where
+    still : IsLast desks' name k
+    still = record {
+      found = run_leaves shapes name posts tables tables' desks desks' others ∙ last.found;
+      value = last.value;
+      is_json = last.is_json;
+      posted = last.posted;
+      shape = last.shape;
+      number = last.number;
+    }

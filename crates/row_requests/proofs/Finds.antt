@@ -1,0 +1,256 @@
+-- The rows that are found.
+use Rattle.std.proofs.Common.{◌≡◌, ℕ, zero, suc, ◌+◌, ◌*◌, ◌<◌, ◌==◌, ◌&&◌, ◌||◌, Bool, true, false, cond, List, [], ◌∷◌, ◌++◌, map, filter, take, length, Option, Some, None, refl, ap, ap₂, sym, ◌∙◌, subst, arith, add-one}
+use Rattle.std.specs.Prelude.{IfSome, IsSomeAnd, MatchOption, nat_lt, option_to_list, pos, slice_index_or}
+use Rattle.std.specs.List.{All, AllByRecursion}
+use Rattle.std.specs.List.Sorted.{IsSorted}
+use Rattle.std.specs.Ordering.{int_cmp, is_eq, is_gt, is_le, is_lt, nat_cmp}
+use Rattle.std.specs.Cmp.Lexicographic.{slice_cmp}
+use Rattle.std.specs.declared.cmp.Ordering.{Ordering}
+use Rattle.std.specs.declared.cmp.Ordering.TheVariants.{Less, Equal, Greater}
+use Rattle.std.proofs.lemmas.Bool.Decides.{nat_tests}
+use Rattle.std.proofs.lemmas.List.Sorted.{IsPermutation-refl}
+use Rattle.std.proofs.lemmas.List.Elements.{recursion_from_All}
+use Rattle.fx_trees.specs.declared.schema.TableShape.{TableShape}
+use Rattle.fx_value.specs.Keys.{key_bytes}
+use Rattle.row_queries.specs.Laws.{AskedOnce}
+use Rattle.row_queries.specs.Queries.{AreAsked, IsScanned, first_fault, given_of, lies, outcome_on, row_order, rows_or_fault}
+use Rattle.row_queries.specs.Ranges.{in_ranges}
+use Rattle.row_queries.specs.RowTests.{decided, is_met}
+use Rattle.row_queries.specs.TableRows.{AreInIdOrder, IsBelowAll, IsRowOf, id_value, rows_at}
+use Rattle.row_queries.specs.declared.queries.Query.{Query}
+use Rattle.row_queries.specs.declared.rows.Row.{Row}
+use Rattle.row_queries.specs.declared.rows.RowList.{RowList}
+use Rattle.row_keeper.specs.Changes.{Scans}
+use Rattle.row_keeper.specs.Tables.{TableState, Tables, has_id, rows_of, state_at}
+use Rattle.row_keeper.proofs.RowLists.{order_less}
+use Rattle.row_requests.specs.Changes.{row_of}
+use Rattle.row_requests.specs.Page.{past}
+use Rattle.row_requests.specs.Queries.{FindsRow, FindsRows, every, next_rows, one_row, only}
+
+-- ---- lists
+
+filter_same : {X : Type 0} (p q : X → Bool) → ((x : X) → p x ≡ q x) → (xs : List X) → filter p xs ≡ filter q xs
+filter_same p q h [] = refl
+filter_same p q h (x ∷ xs) = ap₂ (λ b l. cond b (x ∷ l) l) (h x) (filter_same p q h xs)
+
+-- what a test lets through goes through a wider one
+filter_wider : (p q : Row → Bool) → ((r : Row) → p r ≡ true → q r ≡ true) → (rows : List Row) → filter p (filter q rows) ≡ filter p rows
+filter_wider p q h [] = refl
+filter_wider p q h (r ∷ rows) = by (p r) refl (q r) refl (filter_wider p q h rows)
+  where
+    kept : List Row
+    kept = filter q rows
+
+    by : (b : Bool) → p r ≡ b → (c : Bool) → q r ≡ c → filter p kept ≡ filter p rows → filter p (cond c (r ∷ kept) kept) ≡ cond b (r ∷ filter p rows) (filter p rows)
+    by true e true f ih = ap₂ (λ t l. cond t (r ∷ l) l) e ih
+    by true e false f ih = absurd (let g : true ≡ false = sym (h r e) ∙ f in cc)
+    by false e true f ih = ap₂ (λ t l. cond t (r ∷ l) l) e ih
+    by false e false f ih = ih
+
+all_pass : (q : Row → Bool) → ((r : Row) → q r ≡ true) → (rows : List Row) → filter q rows ≡ rows
+all_pass q h [] = refl
+all_pass q h (r ∷ rows) = ap₂ (λ t l. cond t (r ∷ l) l) (h r) (all_pass q h rows)
+
+none_pass : (id : ℕ) (rows : List Row) → IsBelowAll id rows → filter (has_id id) rows ≡ []
+none_pass id [] h = refl
+none_pass id (r ∷ rows) h = ap₂ (λ t l. cond t (r ∷ l) l) (differ (r.id == id) refl) (none_pass id rows h.1)
+  where
+    differ : (b : Bool) → (r.id == id) ≡ b → b ≡ false
+    differ true e = absurd (let k : id < r.id = h.0 in grind (arith, e, k))
+    differ false e = refl
+
+-- a list of at most one
+abbrev pub one : Option Row → List Row
+one None = []
+one (Some r) = r ∷ []
+
+-- rows by rising numbers have one of a number at most
+pub at_most_one : (id : ℕ) (rows : List Row) → AreInIdOrder rows → filter (has_id id) rows ≡ one (row_of id rows)
+at_most_one id [] h = refl
+at_most_one id (r ∷ rows) h = by (r.id == id) refl (at_most_one id rows h.1)
+  where
+    by : (b : Bool) → (r.id == id) ≡ b → filter (has_id id) rows ≡ one (row_of id rows) → cond b (r ∷ filter (has_id id) rows) (filter (has_id id) rows) ≡ one (cond b (Some r) (row_of id rows))
+    by true e ih = ap (λ (l : List Row). r ∷ l) (none_pass id rows (subst (λ n. IsBelowAll n rows) (same r.id id e) h.0))
+      where
+        same : (a b : ℕ) → (a == b) ≡ true → a ≡ b
+        same a b e = grind (arith, e)
+    by false e ih = ih
+
+-- ---- order
+
+not_less : (a b : ℕ) → a < b → is_lt (nat_cmp b a) ≡ false
+not_less a b h = by (nat_cmp b a) refl
+  where
+    by : (o : Ordering) → nat_cmp b a ≡ o → is_lt o ≡ false
+    by Less e = absurd (let l : b < a = grind (arith, nat_tests, e) in omega (arith, l, h))
+    by Equal e = refl
+    by Greater e = refl
+
+sorted_rows : (rows : List Row) → AreInIdOrder rows → IsSorted (row_order None) rows
+sorted_rows [] h k d low l = absurd (omega (arith, l))
+sorted_rows (r ∷ []) h zero d low l = absurd (omega (arith, l))
+sorted_rows (r ∷ (s ∷ rows)) h zero d low l = not_less r.id s.id h.0.0
+sorted_rows (r ∷ rows) h (suc k) d low l =
+    subst (λ n. is_lt (row_order None (slice_index_or (r ∷ rows) n d) (slice_index_or rows k d)) ≡ false) (sym (add-one (suc k)))
+    (subst (λ n. is_lt (row_order None (slice_index_or rows n d) (slice_index_or rows k d)) ≡ false) (add-one k) (sorted_rows rows h.1 k d (omega arith) (omega (arith, l))))
+
+-- rows that stand by rising numbers are asked in that order
+asked_is : AskedOnce → (q : Query) → q.order ≡ None → (rows asked : List Row) → AreInIdOrder rows → AreAsked q rows asked → asked ≡ filter (lies q) rows
+asked_is law q unordered rows asked h is =
+    law q rows asked (filter (lies q) rows) h is
+    (record {
+      rearranged = IsPermutation-refl (filter (lies q) rows);
+      sorted = subst (λ o. IsSorted (row_order o) (filter (lies q) rows)) (sym unordered) (sorted_rows (filter (lies q) rows) (order_less (lies q) rows h));
+    })
+
+-- ---- tests of numbers
+
+numbers_order : (a b : ℕ) → int_cmp (pos (a * 10000)) (pos (b * 10000)) ≡ nat_cmp a b
+numbers_order a b = by (nat_cmp a b) refl
+  where
+    by : (o : Ordering) → nat_cmp a b ≡ o → int_cmp (pos (a * 10000)) (pos (b * 10000)) ≡ o
+    by Less e = grind (arith, nat_tests, e)
+    by Equal e = grind (arith, nat_tests, e)
+    by Greater e = grind (arith, nat_tests, e)
+
+is_same : (a b : ℕ) → is_eq (nat_cmp a b) ≡ (a == b)
+is_same a b = by (nat_cmp a b) refl
+  where
+    by : (o : Ordering) → nat_cmp a b ≡ o → is_eq o ≡ (a == b)
+    by Less e = grind (arith, nat_tests, e)
+    by Equal e = grind (arith, nat_tests, e)
+    by Greater e = grind (arith, nat_tests, e)
+
+is_above : (a b : ℕ) → is_gt (nat_cmp a b) ≡ nat_lt b a
+is_above a b = by (nat_cmp a b) refl
+  where
+    by : (o : Ordering) → nat_cmp a b ≡ o → is_gt o ≡ nat_lt b a
+    by Less e = grind (arith, nat_tests, e)
+    by Equal e = grind (arith, nat_tests, e)
+    by Greater e = grind (arith, nat_tests, e)
+
+met_one : (table id : ℕ) (r : Row) → is_met (outcome_on (one_row table id) r) ≡ has_id id r
+met_one table id r = met (is_eq (int_cmp (pos (r.id * 10000)) (pos (id * 10000)))) ∙ ap is_eq (numbers_order r.id id) ∙ is_same r.id id
+  where
+    met : (b : Bool) → is_met (decided b) ≡ b
+    met true = refl
+    met false = refl
+
+met_next : (table after : ℕ) (r : Row) → is_met (outcome_on (next_rows table after) r) ≡ nat_lt after r.id
+met_next table after r = met (is_gt (int_cmp (pos (r.id * 10000)) (pos (after * 10000)))) ∙ ap is_gt (numbers_order r.id after) ∙ is_above r.id after
+  where
+    met : (b : Bool) → is_met (decided b) ≡ b
+    met true = refl
+    met false = refl
+
+-- ---- ranges
+
+above_itself : (xs : List ℕ) (n : ℕ) → is_lt (slice_cmp nat_cmp xs (xs ++ n ∷ [])) ≡ true
+above_itself [] n = refl
+above_itself (x ∷ xs) n = rw (equal x) (above_itself xs n)
+  where
+    equal : (x : ℕ) → nat_cmp x x ≡ Equal
+    equal x = grind (arith, nat_tests)
+
+from_itself : (xs : List ℕ) → is_le (slice_cmp nat_cmp xs xs) ≡ true
+from_itself [] = refl
+from_itself (x ∷ xs) = rw (equal x) (from_itself xs)
+  where
+    equal : (x : ℕ) → nat_cmp x x ≡ Equal
+    equal x = grind (arith, nat_tests)
+
+in_only : (key : List ℕ) → in_ranges (only key ∷ []) key ≡ true
+in_only key = ap₂ (λ a b. (a && b) || false) (from_itself key) (above_itself key 0)
+
+lies_one : (table id : ℕ) (r : Row) → has_id id r ≡ true → lies (one_row table id) r ≡ true
+lies_one table id r e = subst (λ n. in_ranges (only (key_bytes (id_value id)) ∷ []) (key_bytes (id_value n)) ≡ true) (sym (same r.id id e)) (in_only (key_bytes (id_value id)))
+  where
+    same : (a b : ℕ) → (a == b) ≡ true → a ≡ b
+    same a b e = grind (arith, e)
+
+lies_next : (table after : ℕ) (r : Row) → lies (next_rows table after) r ≡ true
+lies_next table after r = by (key_bytes (id_value r.id))
+  where
+    by : (key : List ℕ) → in_ranges (every ∷ []) key ≡ true
+    by [] = refl
+    by (x ∷ xs) = refl
+
+-- ---- no error in a test of numbers
+
+clear_one : (table id : ℕ) (rows : List Row) → first_fault (map (outcome_on (one_row table id)) rows) ≡ None
+clear_one table id [] = refl
+clear_one table id (r ∷ rows) = by (is_eq (int_cmp (pos (r.id * 10000)) (pos (id * 10000)))) (clear_one table id rows)
+  where
+    by : (b : Bool) → first_fault (map (outcome_on (one_row table id)) rows) ≡ None → first_fault (decided b ∷ map (outcome_on (one_row table id)) rows) ≡ None
+    by true ih = ih
+    by false ih = ih
+
+clear_next : (table after : ℕ) (rows : List Row) → first_fault (map (outcome_on (next_rows table after)) rows) ≡ None
+clear_next table after [] = refl
+clear_next table after (r ∷ rows) = by (is_gt (int_cmp (pos (r.id * 10000)) (pos (after * 10000)))) (clear_next table after rows)
+  where
+    by : (b : Bool) → first_fault (map (outcome_on (next_rows table after)) rows) ≡ None → first_fault (decided b ∷ map (outcome_on (next_rows table after)) rows) ≡ None
+    by true ih = ih
+    by false ih = ih
+
+-- ---- what a scan gives
+
+rows_are : (ss : List TableState) (k : ℕ) → rows_at (rows_of ss) k ≡ (state_at ss k).rows
+rows_are [] k = refl
+rows_are (s ∷ ss) zero = refl
+rows_are (s ∷ ss) (suc k) = rows_are ss k
+
+given_one : AskedOnce → (table id : ℕ) (rows : List Row) (answer : RowList) → AreInIdOrder rows → IsScanned (one_row table id) rows answer → answer.rows ≡ one (row_of id rows)
+given_one law table id rows answer h (asked, is, answered) =
+    ap (λ (a : RowList). a.rows) answered
+    ∙ ap (λ o. (rows_or_fault (given_of (one_row table id) asked) o).rows) (clear_one table id asked)
+    ∙ filter_same (λ r. is_met (outcome_on (one_row table id) r)) (has_id id) (met_one table id) asked
+    ∙ ap (filter (has_id id)) (asked_is law (one_row table id) refl rows asked h is)
+    ∙ filter_wider (has_id id) (lies (one_row table id)) (lies_one table id) rows
+    ∙ at_most_one id rows h
+
+given_next : AskedOnce → (table after : ℕ) (rows : List Row) (answer : RowList) → AreInIdOrder rows → IsScanned (next_rows table after) rows answer → answer.rows ≡ take 101 (past after rows)
+given_next law table after rows answer h (asked, is, answered) =
+    ap (λ (a : RowList). a.rows) answered
+    ∙ ap (λ o. (rows_or_fault (given_of (next_rows table after) asked) o).rows) (clear_next table after asked)
+    ∙ ap (take 101) (filter_same (λ r. is_met (outcome_on (next_rows table after) r)) (λ r. nat_lt after r.id) (met_next table after) asked)
+    ∙ ap (λ l. take 101 (past after l)) (asked_is law (next_rows table after) refl rows asked h is ∙ all_pass (lies (next_rows table after)) (lies_next table after) rows)
+
+-- the last of a list of at most one is that one
+last_of_one : (found : Option Row) (xs left : List Row) (o : Option Row) (n m : ℕ) → n ≡ length xs → m ≡ length left → xs ≡ left ++ option_to_list found
+    → MatchOption found ((n ≡ 0) × (m ≡ 0)) (λ _. m + 1 ≡ n) → xs ≡ one o → found ≡ o
+last_of_one None xs left None n m p q h count e = refl
+last_of_one None xs left (Some r) n m p q h count e = absurd (omega (arith, p, count.0, ap length e))
+last_of_one (Some x) xs left None n m p q h count e = absurd (omega (arith, p, count, ap length e))
+last_of_one (Some x) xs left (Some r) n m p q h count e = by left (sym h ∙ e)
+  where
+    by : (left : List Row) → left ++ x ∷ [] ≡ r ∷ [] → Some x ≡ Some r
+    by [] k = cc
+    by (y ∷ []) k = absurd cc
+    by (y ∷ (z ∷ zs)) k = absurd cc
+
+pub finds_row : AskedOnce → (table id : ℕ) (answer : RowList) (found : Option Row) (left : List Row) (n m : ℕ) → n ≡ length answer.rows → m ≡ length left → answer.rows ≡ left ++ option_to_list found
+    → MatchOption found ((n ≡ 0) × (m ≡ 0)) (λ _. m + 1 ≡ n)
+    → (a b : Tables) → Scans (one_row table id) answer a b → FindsRow table id found a b
+finds_row law table id answer found left n m p q popped count a b h = (
+  λ ordered. last_of_one found answer.rows left (row_of id (state_at a.states table).rows) n m p q popped count
+      (given_one law table id (state_at a.states table).rows answer ordered (subst (λ rs. IsScanned (one_row table id) rs answer) (rows_are a.states table) h.0)),
+  h.1,
+)
+
+pub finds_rows : AskedOnce → (table after : ℕ) (answer : RowList) → (a b : Tables) → Scans (next_rows table after) answer a b → FindsRows table after answer.rows a b
+finds_rows law table after answer a b h = (
+  λ ordered. given_next law table after (state_at a.states table).rows answer ordered (subst (λ rs. IsScanned (next_rows table after) rs answer) (rows_are a.states table) h.0),
+  h.1,
+)
+
+last_fits : (P : Row → Type 0) (left : List Row) (x : Row) → AllByRecursion P (left ++ x ∷ []) → P x
+last_fits P [] x h = h.0
+last_fits P (y ∷ ys) x h = last_fits P ys x h.1
+
+-- the last of rows that fit fits
+pub fits_popped : (o : Option TableShape) (xs left : List Row) (found : Option Row) → xs ≡ left ++ option_to_list found
+    → IsSomeAnd o (λ (t : TableShape). All (IsRowOf t) xs) → IfSome found (λ row. IsSomeAnd o (λ (t : TableShape). IsRowOf t row))
+fits_popped o xs left None e h = tt
+fits_popped None xs left (Some x) e h = absurd h
+fits_popped (Some t) xs left (Some x) e h = last_fits (IsRowOf t) left x (recursion_from_All (IsRowOf t) (left ++ x ∷ []) (subst (λ l. All (IsRowOf t) l) e h))

@@ -1,0 +1,20 @@
+use Rattle.std.proofs.Common.{◌∙◌, None, Some, ap, refl}
+use Rattle.std.proofs.lemmas.Result.{IfOk-weaker}
+use Rattle.fx_base.specs.Silence.{IsLost}
+use Rattle.row_requests.specs.Changes.{place_of}
+use Rattle.row_requests.proofs.Rows.{placed_goes, unplaced_goes}
+use Rattle.row_requests.proofs.changes.change_one.Goals as goal
+
+pub returns-in-Some-clause-done : goal.returns-in-Some-clause-done
+returns-in-Some-clause-done g c =
+    IfOk-weaker c.change_table.result _ _
+    (λ r h. placed_goes c.args.schema.now.tables c.args.at c.args.change.now (Some c.in-Some.table) r
+    (IsLost (g.K.Keeper.marks c.args.keeper.now) (g.K.Keeper.marks c.change_table.new.keeper)) (g.K.Keeper.told c.args.keeper.now) (g.K.Keeper.told c.change_table.new.keeper)
+    (c.in-Some.ensures.place ∙ ap (λ n. place_of n c.args.schema.now.tables) c.table.ensures) h)
+    c.change_table.ensures.done
+
+pub returns-in-None-clause-done : goal.returns-in-None-clause-done
+returns-in-None-clause-done g c =
+    unplaced_goes c.args.schema.now.tables c.args.at c.args.change.now None c.refused.result
+    (IsLost (g.K.Keeper.marks c.args.keeper.now) (g.K.Keeper.marks c.args.keeper.now)) (g.K.Keeper.told c.args.keeper.now)
+    (c.in-None.ensures.place ∙ ap (λ n. place_of n c.args.schema.now.tables) c.table.ensures) refl c.refused.ensures

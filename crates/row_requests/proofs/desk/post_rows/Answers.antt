@@ -1,0 +1,8 @@
+use Rattle.std.proofs.Common.{◌≡◌, Ok, subst}
+use Rattle.row_requests.specs.Checks.{desk_checks}
+use Rattle.row_requests.proofs.desk.post_rows.Goals as goal
+
+pub returns-in-Ok-Acts-clause-reached : goal.returns-in-Ok-Acts-clause-reached
+returns-in-Ok-Acts-clause-reached g c _ =
+    let is = rw c.in-Ok-Acts.field-0-is at c.in-Ok-Acts.ensures.is in
+    (c.in-Ok-Acts.posted, subst (λ ds. desk_checks ds c.args.name.now c.args.body.now ≡ Ok c.in-Ok-Acts.posted) c.deref.ensures.value is)

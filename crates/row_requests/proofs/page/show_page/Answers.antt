@@ -1,0 +1,23 @@
+use Rattle.std.proofs.Common.{◌∙◌, ◌≡◌, ap, subst}
+use Rattle.fx_base.specs.Silence.{IsLost}
+use Rattle.row_keeper.specs.Tables.{columns_at}
+use Rattle.row_requests.specs.Page.{ShowsTable, page_reply}
+use Rattle.row_requests.specs.Replies.{said}
+use Rattle.row_requests.proofs.Pages.{shows}
+use Rattle.row_requests.proofs.Schemas.{rows_in_order}
+use Rattle.row_requests.proofs.page.show_page.Goals as goal
+
+pub returns-in_ok-reply-in-Ok-clause-done : goal.returns-in_ok-reply-in-Ok-clause-done
+returns-in_ok-reply-in-Ok-clause-done g c =
+    let lost = IsLost (g.K.Keeper.marks c.args.keeper.now) (g.K.Keeper.marks c.find_rows.new.keeper) in
+    let before = g.K.Keeper.told c.args.keeper.now in
+    let now = g.K.Keeper.told c.find_rows.new.keeper in
+    let tables = c.args.schema.now.tables in
+    let columns = columns_at tables c.in-Some.place in
+    let is : said c.in_ok-reply-in-Ok.reply ≡ page_reply columns c.in-Ok.rows.items =
+    c.in_ok-reply-in-Ok.ensures.said ∙ ap (λ cs. page_reply cs c.deref.result.now) c.columns_of.ensures ∙ ap (page_reply columns) c.deref.ensures.value in
+    subst (λ o. ShowsTable lost tables o c.args.after before (said c.in_ok-reply-in-Ok.reply) now) c.in-Some.ensures.place (
+      shows lost c.in-Some.place c.args.after c.in-Ok.rows.items columns (said c.in_ok-reply-in-Ok.reply) is before now
+          (rows_in_order c.args.schema.now c.in-Some.place c.in-Some.ensures.within before c.requires.sound) c.in-Ok.ensures.found,
+      (c.in-Ok.rows.items, is),
+    )

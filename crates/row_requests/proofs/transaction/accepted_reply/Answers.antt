@@ -1,0 +1,10 @@
+use Rattle.std.proofs.Common.{ap, ◌∙◌}
+use Rattle.std.proofs.lemmas.Result.{IfOk-weaker}
+use Rattle.app_wire.specs.ReplyBytes.{reply}
+use Rattle.row_requests.proofs.Floats.{accepted_has_none}
+use Rattle.row_requests.proofs.transaction.accepted_reply.Goals as goal
+
+pub returns-clause-said : goal.returns-clause-said
+returns-clause-said c =
+    let text = rw c.in_ok-json.ensures at c.in_ok-body.ensures.text in
+    IfOk-weaker c.accept.result _ _ (λ r h. h ∙ ap (reply 200) (c.deref.ensures ∙ text (accepted_has_none c.args.seq c.args.ids.now))) c.accept.ensures.said

@@ -1,0 +1,124 @@
+//! A desk posts changes of rows.
+ghost use Rattle.std.specs.Prelude.{◌≡◌, ◌<◌, false, IfOk, IsErrOf, OnErr, OnOk, Some, vec_capacity, vec_len};
+ghost use Rattle.fx_base.specs.Silence.{Goes, IsLost};
+ghost use Rattle.fx_base.specs.Telling.{Stays};
+ghost use Rattle.fx_trees.specs.Lawful.{IsLawfulSchema};
+ghost use Rattle.row_keeper.specs.Causes.{HasCause};
+ghost use Rattle.row_keeper.specs.declared.keeper.KeeperEnd.TheVariants.{Failed};
+ghost use Rattle.row_requests.specs.Checked.{IsSoundPost};
+ghost use Rattle.row_requests.specs.DeskRows.{KeepsRows, PostsRows, ReachesRows};
+ghost use Rattle.row_requests.specs.Replies.{IsReply, KeepReplies, said};
+ghost use Rattle.row_requests.specs.Sound.{AreSound};
+
+use crate::bodies::Posted;
+pub use crate::checks::MOST_DESKS;
+use crate::checks::{Checked, check_desk};
+use crate::directory::{Named, put};
+use crate::reply::Reply;
+use crate::transaction::{Prepared, act_rows};
+use fx_base::Memory;
+use fx_data::Words;
+use fx_trees::Schema;
+use row_keeper::{Keeper, KeeperEnd};
+use session_state::Desk;
+use std::alloc::Global;
+
+/// A desk posts changes of rows, under a number. All of them act in one transaction, and the reply is kept; or nothing
+/// changes and the reply is a refusal: no JSON (9), another shape (10), a desk too many (12), another number (13, 14), no
+/// table (21), no row (22), or a rule that breaks (23). The last request once more gets the kept reply. Nothing but the
+/// rows and this desk's record can change.
+pub fn post_rows<K: Keeper>(
+    alloc: Global,
+    keeper: &mut K,
+    desks: &mut Vec<Named<Desk>>,
+    schema: &Schema,
+    name: &Words,
+    body: &[u8],
+) -> Result<Reply, KeeperEnd>
+    requires idle { K.in_transaction keeper.old ≡ false }
+    requires shaped { K.shaped keeper.old ≡ Some schema.now }
+    requires lawful { IsLawfulSchema schema.now }
+    requires sound { AreSound schema.now (K.told keeper.old) }
+    requires kept { KeepReplies desks.old.items }
+    ensures done { IfOk result (λ r. PostsRows (IsLost (K.marks keeper.old) (K.marks keeper.new)) schema.now.tables name.now body.now (K.told keeper.old) desks.old.items (said r) (K.told keeper.new) desks.new.items) }
+    ensures whole { IfOk result IsReply }
+    ensures stopped { OnErr result (Goes (IsLost (K.marks keeper.old) (K.marks keeper.new)) Stays (K.told keeper.old) (K.told keeper.new)) }
+    ensures same { OnErr result (desks.new.items ≡ desks.old.items) }
+    ensures reached { IsErrOf result Failed → ReachesRows name.now body.now desks.old.items }
+    ensures cause { HasCause (K.marks keeper.old) (K.marks keeper.new) result }
+    ensures idle { K.in_transaction keeper.new ≡ false }
+    ensures shaped { K.shaped keeper.new ≡ K.shaped keeper.old }
+    ensures loan { K.loan keeper.new ≡ K.loan keeper.old }
+    ensures sound { AreSound schema.now (K.told keeper.new) }
+    ensures kept { KeepReplies desks.new.items }
+{
+    match check_desk(alloc, desks, name, body) {
+        Ok(Checked::Says(reply)) => Ok(reply),
+        Ok(Checked::Acts(posted)) => keep_rows(alloc, keeper, desks, schema, name, body, &posted),
+        Err(Memory) => Err(KeeperEnd::Memory),
+    }
+}
+
+/// Room for one more, and copies of its name and its body.
+fn make_room(
+    alloc: Global,
+    desks: &mut Vec<Named<Desk>>,
+    name: &Words,
+    body: &[u8],
+) -> Result<(Words, Vec<u8>), Memory>
+    ensures name { IfOk result (λ c. c.0 ≡ name.now) }
+    ensures body { IfOk result (λ c. c.1.items ≡ body.now) }
+    ensures room { OnOk result (vec_len desks.new < vec_capacity desks.new) }
+    ensures same { desks.new.items ≡ desks.old.items }
+{
+    desks.reserve(1)?;
+    let name = name.copy(alloc)?;
+    let body = Vec::from_slice(alloc, body)?;
+    Ok((name, body))
+}
+
+/// Changes rows, and keeps what an accepted request leaves of its desk.
+fn keep_rows<K: Keeper>(
+    alloc: Global,
+    keeper: &mut K,
+    desks: &mut Vec<Named<Desk>>,
+    schema: &Schema,
+    name: &Words,
+    body: &[u8],
+    posted: &Posted,
+) -> Result<Reply, KeeperEnd>
+    requires idle { K.in_transaction keeper.old ≡ false }
+    requires shaped { K.shaped keeper.old ≡ Some schema.now }
+    requires lawful { IsLawfulSchema schema.now }
+    requires sound { AreSound schema.now (K.told keeper.old) }
+    requires kept { KeepReplies desks.old.items }
+    requires posted { IsSoundPost posted.now }
+    ensures done { IfOk result (λ r. KeepsRows (IsLost (K.marks keeper.old) (K.marks keeper.new)) schema.now.tables name.now body.now posted.now (K.told keeper.old) desks.old.items (said r) (K.told keeper.new) desks.new.items) }
+    ensures whole { IfOk result IsReply }
+    ensures stopped { OnErr result (Goes (IsLost (K.marks keeper.old) (K.marks keeper.new)) Stays (K.told keeper.old) (K.told keeper.new)) }
+    ensures same { OnErr result (desks.new.items ≡ desks.old.items) }
+    ensures cause { HasCause (K.marks keeper.old) (K.marks keeper.new) result }
+    ensures idle { K.in_transaction keeper.new ≡ false }
+    ensures shaped { K.shaped keeper.new ≡ K.shaped keeper.old }
+    ensures loan { K.loan keeper.new ≡ K.loan keeper.old }
+    ensures sound { AreSound schema.now (K.told keeper.new) }
+    ensures kept { KeepReplies desks.new.items }
+{
+    let (copied_name, copied_body) = match make_room(alloc, desks, name, body) {
+        Ok(copies) => copies,
+        Err(Memory) => return Err(KeeperEnd::Memory),
+    };
+    match act_rows(alloc, keeper, schema, posted) {
+        Ok(prepared) => {
+            if prepared.outcome.is_ok() {
+                let Prepared { reply, kept, .. } = prepared;
+                let mut desk = Desk::new(alloc);
+                desk.keep(posted.seq, copied_body, kept);
+                put(desks, copied_name, desk);
+                return Ok(reply);
+            }
+            Ok(prepared.reply)
+        }
+        Err(end) => Err(end),
+    }
+}

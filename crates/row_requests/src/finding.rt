@@ -1,0 +1,146 @@
+// The rows that requests ask for.
+ghost use Rattle.std.specs.Prelude.{◌≡◌, ◌<◌, ◌∷◌, [], IfOk, IfSome, IsSome, IsSomeAnd, OnErr, length, slice_get};
+ghost use Rattle.std.specs.List.{All};
+ghost use Rattle.fx_base.specs.Silence.{Goes, IsLost};
+ghost use Rattle.fx_base.specs.Telling.{Stays};
+ghost use Rattle.fx_data.specs.ValueView.{view};
+ghost use Rattle.fx_value.specs.Keys.{key_bytes};
+ghost use Rattle.fx_value.specs.Order.{IsScalar};
+ghost use Rattle.row_queries.specs.TableRows.{IsRowOf, id_value as id_value_of};
+ghost use Rattle.row_keeper.specs.Causes.{HasCause};
+ghost use Rattle.row_keeper.specs.Tables.{shapes_of};
+ghost use Rattle.row_requests.specs.Queries.{FindsRow, FindsRows, every as every_key, next_rows as next_rows_query, one_row as one_row_query, only as only_key};
+
+use fx_base::{InOrder, Memory};
+use fx_data::{Cmp, Value};
+use fx_number::Num;
+use row_keeper::{Keeper, KeeperEnd};
+use row_queries::{Key, KeyRange, Query, Row, Test, TestNode, asked_once};
+use std::alloc::Global;
+
+/// The ten-thousandths of 1.
+const ONE: i64 = 10_000;
+
+/// A row's number, as a value of the column `ID`.
+fn id_value(id: u32) -> Value
+    ensures { view result ≡ id_value_of id }
+{
+    match Num::from_units(i64::from(id) * ONE) {
+        Some(number) => Value::Number(number),
+        None => unreachable!(),
+    }
+}
+
+/// The range of a value's key alone.
+fn only(alloc: Global, value: &Value) -> Result<KeyRange, Memory>
+    requires { IsScalar (view value.now) }
+    ensures { IfOk result (λ r. r ≡ only_key (key_bytes (view value.now))) }
+{
+    let from = Key::of(alloc, value)?;
+    let mut bytes = Vec::from_slice(alloc, from.as_bytes())?;
+    bytes.push(0)?;
+    Ok(KeyRange {
+        from,
+        upto: Some(Key::from_bytes(bytes)),
+    })
+}
+
+/// A range as the only one.
+fn alone(alloc: Global, range: KeyRange) -> Result<InOrder<KeyRange>, Memory>
+    ensures { IfOk result (λ rs. rs ≡ range ∷ []) }
+{
+    let mut ranges = InOrder::new(alloc);
+    ranges.push(range)?;
+    Ok(ranges)
+}
+
+/// Asks for the row of a number.
+fn one_row(alloc: Global, table: u16, id: u32) -> Result<Query, Memory>
+    ensures { IfOk result (λ q. q ≡ one_row_query table id) }
+{
+    let value = id_value(id);
+    let ranges = alone(alloc, only(alloc, &value)?)?;
+    Ok(Query {
+        table,
+        column: 0,
+        ranges,
+        // Beside the range, by which a keeper finds the row: the test decides by the number itself.
+        test: Test {
+            node: TestNode::Compare(Cmp::Eq, 0, value),
+        },
+        order: None,
+        take: None,
+    })
+}
+
+/// Asks for the rows of greater numbers, one more than a page shows.
+fn next_rows(alloc: Global, table: u16, after: u32) -> Result<Query, Memory>
+    ensures { IfOk result (λ q. q ≡ next_rows_query table after) }
+{
+    let every = KeyRange {
+        from: Key::from_bytes(Vec::new(alloc)),
+        upto: None,
+    };
+    Ok(Query {
+        table,
+        column: 0,
+        ranges: alone(alloc, every)?,
+        test: Test {
+            node: TestNode::Compare(Cmp::Gt, 0, id_value(after)),
+        },
+        order: None,
+        take: Some(101),
+    })
+}
+
+/// The row of a number, if there is one.
+pub(crate) fn find_row<K: Keeper>(
+    alloc: Global,
+    keeper: &mut K,
+    table: u16,
+    id: u32,
+) -> Result<Option<Row>, KeeperEnd>
+    requires { IsSome (slice_get (shapes_of (K.shaped keeper.old)) table) }
+    ensures found { IfOk result (λ r. Goes (IsLost (K.marks keeper.old) (K.marks keeper.new)) (FindsRow table id r) (K.told keeper.old) (K.told keeper.new)) }
+    ensures fit { IfOk result (λ r. IfSome r (λ row. IsSomeAnd (slice_get (shapes_of (K.shaped keeper.old)) table) (λ t. IsRowOf t row))) }
+    ensures began { Goes (IsLost (K.marks keeper.old) (K.marks keeper.new)) Stays (K.began keeper.old) (K.began keeper.new) }
+    ensures cause { HasCause (K.marks keeper.old) (K.marks keeper.new) result }
+    ensures mode { K.in_transaction keeper.new ≡ K.in_transaction keeper.old }
+    ensures shaped { K.shaped keeper.new ≡ K.shaped keeper.old }
+    ensures loan { K.loan keeper.new ≡ K.loan keeper.old }
+{
+    // Called for what it says: rows that stand by rising numbers are asked in that order.
+    asked_once();
+    let query = one_row(alloc, table, id)?;
+    match keeper.scan(&query) {
+        Ok(answer) => {
+            let mut rows = answer.rows.into_items();
+            Ok(rows.pop())
+        }
+        Err(end) => Err(end),
+    }
+}
+
+/// The rows of greater numbers, one more than a page shows.
+pub(crate) fn find_rows<K: Keeper>(
+    alloc: Global,
+    keeper: &mut K,
+    table: u16,
+    after: u32,
+) -> Result<Vec<Row>, KeeperEnd>
+    requires { IsSome (slice_get (shapes_of (K.shaped keeper.old)) table) }
+    ensures found { IfOk result (λ rows. Goes (IsLost (K.marks keeper.old) (K.marks keeper.new)) (FindsRows table after rows.items) (K.told keeper.old) (K.told keeper.new)) }
+    ensures fit { IfOk result (λ rows. IsSomeAnd (slice_get (shapes_of (K.shaped keeper.old)) table) (λ t. All (IsRowOf t) rows.items)) }
+    ensures err { OnErr result (Goes (IsLost (K.marks keeper.old) (K.marks keeper.new)) Stays (K.told keeper.old) (K.told keeper.new)) }
+    ensures cause { HasCause (K.marks keeper.old) (K.marks keeper.new) result }
+    ensures mode { K.in_transaction keeper.new ≡ K.in_transaction keeper.old }
+    ensures shaped { K.shaped keeper.new ≡ K.shaped keeper.old }
+    ensures loan { K.loan keeper.new ≡ K.loan keeper.old }
+{
+    asked_once();
+    let query = next_rows(alloc, table, after)?;
+    match keeper.scan(&query) {
+        Ok(answer) => Ok(answer.rows.into_items()),
+        Err(end) => Err(end),
+    }
+}

@@ -1,0 +1,191 @@
+// Posted changes in one transaction.
+ghost use Rattle.std.specs.Prelude.{◌≡◌, ◌≤◌, true, false, IfOk, OnErr, length, string_bytes, map, Some};
+ghost use Rattle.serde_json.specs.View.{items_view, view as json_view};
+ghost use Rattle.fx_base.specs.Silence.{Goes, IsLost};
+ghost use Rattle.fx_base.specs.Telling.{Stays};
+ghost use Rattle.fx_trees.specs.Lawful.{IsLawfulSchema};
+ghost use Rattle.row_keeper.specs.Causes.{HasCause};
+ghost use Rattle.row_requests.specs.DeskRows.{Acts, accepted_data, accepted_reply as accepted_bytes, id_data, outcome_reply};
+ghost use Rattle.row_requests.specs.Prepared.{IsPrepared};
+ghost use Rattle.row_requests.specs.Replies.{IsReply, said};
+ghost use Rattle.row_requests.specs.Sound.{AreSound};
+ghost use Rattle.row_requests.specs.Steps.{Performs, HaveDetail};
+
+use crate::bodies::{Change, Posted};
+use crate::changes::{Changed, change_one};
+use crate::end::settle;
+use crate::reply::Reply;
+use fx_base::{InOrder, Memory};
+use fx_trees::Schema;
+use row_keeper::{Keeper, KeeperEnd};
+use serde_json::{Value as Json, json};
+use std::alloc::Global;
+use view_text::Refusal;
+
+/// What becomes of changes: the numbers of their rows, or why the first that is refused is.
+pub(crate) type Outcome = Result<InOrder<u32>, Refusal>;
+
+/// What became of posted changes, with its reply and a copy of it to keep.
+#[derive(Drop)]
+pub(crate) struct Prepared {
+    pub(crate) outcome: Outcome,
+    pub(crate) reply: Reply,
+    pub(crate) kept: Vec<u8>,
+}
+
+/// Makes changes one after another, up to the first that is refused.
+fn change_rows<K: Keeper>(
+    alloc: Global,
+    keeper: &mut K,
+    schema: &Schema,
+    changes: &[Change],
+) -> Result<Outcome, KeeperEnd>
+    requires begun { K.in_transaction keeper.old ≡ true }
+    requires shaped { K.shaped keeper.old ≡ Some schema.now }
+    requires lawful { IsLawfulSchema schema.now }
+    requires sound { AreSound schema.now (K.told keeper.old) }
+    requires few { length changes.now ≤ 1000 }
+    ensures done { IfOk result (λ o. Goes (IsLost (K.marks keeper.old) (K.marks keeper.new)) (Performs schema.now.tables changes.now o) (K.told keeper.old) (K.told keeper.new)) }
+    ensures sound { IfOk result (λ o. AreSound schema.now (K.told keeper.new)) }
+    ensures detail { IfOk result HaveDetail }
+    ensures began { Goes (IsLost (K.marks keeper.old) (K.marks keeper.new)) Stays (K.began keeper.old) (K.began keeper.new) }
+    ensures cause { HasCause (K.marks keeper.old) (K.marks keeper.new) result }
+    ensures open { K.in_transaction keeper.new ≡ true }
+    ensures shaped { K.shaped keeper.new ≡ K.shaped keeper.old }
+    ensures loan { K.loan keeper.new ≡ K.loan keeper.old }
+{
+    let mut ids = InOrder::new(alloc);
+    let mut at = 0;
+    for change in changes {
+        match change_one(alloc, keeper, schema, at, change) {
+            Ok(Changed::Id(id)) => match ids.push(id) {
+                Ok(()) => {}
+                Err(Memory) => return Err(KeeperEnd::Memory),
+            },
+            Ok(Changed::Refused(refusal)) => return Ok(Err(refusal)),
+            Err(end) => return Err(end),
+        }
+        at += 1;
+    }
+    Ok(Ok(ids))
+}
+
+fn ids_json(alloc: Global, ids: &[u32]) -> Result<Vec<Json>, Memory>
+    ensures { IfOk result (λ v. map json_view v.items ≡ map id_data ids.now) }
+{
+    let mut all = Vec::new(alloc);
+    for id in ids {
+        serde_json::push(&mut all, Json::from(*id))?;
+    }
+    Ok(all)
+}
+
+fn accepted_json(alloc: Global, seq: u32, ids: &[u32]) -> Result<Json, Memory>
+    ensures { IfOk result (λ v. json_view v ≡ accepted_data seq ids.now) }
+{
+    let ids = Json::from(ids_json(alloc, ids)?);
+    Ok(json!(in alloc; {"ids": ids, "seq": seq})?)
+}
+
+/// The reply to accepted changes.
+fn accepted_reply(alloc: Global, seq: u32, ids: &[u32]) -> Result<Reply, Memory>
+    ensures said { IfOk result (λ r. said r ≡ accepted_bytes seq ids.now) }
+    ensures whole { IfOk result IsReply }
+{
+    let json = accepted_json(alloc, seq, ids)?;
+    let body = json.to_string(alloc)?;
+    Reply::accept(alloc, &body)
+}
+
+fn outcome_reply(alloc: Global, seq: u32, outcome: &Outcome) -> Result<Reply, Memory>
+    requires { HaveDetail outcome.now }
+    ensures said { IfOk result (λ r. said r ≡ outcome_reply seq outcome.now) }
+    ensures whole { IfOk result IsReply }
+{
+    match outcome {
+        Ok(ids) => accepted_reply(alloc, seq, ids.as_slice()),
+        Err(refusal) => Reply::refuse(alloc, refusal),
+    }
+}
+
+/// The reply to an outcome, and a copy of it to keep.
+fn replied(alloc: Global, seq: u32, outcome: Outcome) -> Result<Prepared, Memory>
+    requires { HaveDetail outcome }
+    ensures is { IfOk result (λ p. p.outcome ≡ outcome) }
+    ensures prepared { IfOk result (IsPrepared seq) }
+{
+    let reply = outcome_reply(alloc, seq, &outcome)?;
+    let kept = Vec::from_slice(alloc, reply.whole())?;
+    Ok(Prepared {
+        outcome,
+        reply,
+        kept,
+    })
+}
+
+/// Makes the changes, the reply, and the copy of it that is to be kept, before anything is settled.
+fn prepare_rows<K: Keeper>(
+    alloc: Global,
+    keeper: &mut K,
+    schema: &Schema,
+    posted: &Posted,
+) -> Result<Prepared, KeeperEnd>
+    requires begun { K.in_transaction keeper.old ≡ true }
+    requires shaped { K.shaped keeper.old ≡ Some schema.now }
+    requires lawful { IsLawfulSchema schema.now }
+    requires sound { AreSound schema.now (K.told keeper.old) }
+    requires few { length posted.now.changes ≤ 1000 }
+    ensures done { IfOk result (λ p. Goes (IsLost (K.marks keeper.old) (K.marks keeper.new)) (Performs schema.now.tables posted.now.changes p.outcome) (K.told keeper.old) (K.told keeper.new)) }
+    ensures sound { IfOk result (λ p. AreSound schema.now (K.told keeper.new)) }
+    ensures prepared { IfOk result (IsPrepared posted.now.seq) }
+    ensures began { Goes (IsLost (K.marks keeper.old) (K.marks keeper.new)) Stays (K.began keeper.old) (K.began keeper.new) }
+    ensures cause { HasCause (K.marks keeper.old) (K.marks keeper.new) result }
+    ensures open { K.in_transaction keeper.new ≡ true }
+    ensures shaped { K.shaped keeper.new ≡ K.shaped keeper.old }
+    ensures loan { K.loan keeper.new ≡ K.loan keeper.old }
+{
+    match change_rows(alloc, keeper, schema, posted.changes.as_slice()) {
+        Ok(outcome) => match replied(alloc, posted.seq, outcome) {
+            Ok(prepared) => Ok(prepared),
+            Err(Memory) => Err(KeeperEnd::Memory),
+        },
+        Err(end) => Err(end),
+    }
+}
+
+/// Makes posted changes in one transaction. What is refused, and what stops, leaves the tables.
+pub(crate) fn act_rows<K: Keeper>(
+    alloc: Global,
+    keeper: &mut K,
+    schema: &Schema,
+    posted: &Posted,
+) -> Result<Prepared, KeeperEnd>
+    requires idle { K.in_transaction keeper.old ≡ false }
+    requires shaped { K.shaped keeper.old ≡ Some schema.now }
+    requires lawful { IsLawfulSchema schema.now }
+    requires sound { AreSound schema.now (K.told keeper.old) }
+    requires few { length posted.now.changes ≤ 1000 }
+    ensures done { IfOk result (λ p. Goes (IsLost (K.marks keeper.old) (K.marks keeper.new)) (Acts schema.now.tables posted.now.changes p.outcome) (K.told keeper.old) (K.told keeper.new)) }
+    ensures prepared { IfOk result (IsPrepared posted.now.seq) }
+    ensures stopped { OnErr result (Goes (IsLost (K.marks keeper.old) (K.marks keeper.new)) Stays (K.told keeper.old) (K.told keeper.new)) }
+    ensures cause { HasCause (K.marks keeper.old) (K.marks keeper.new) result }
+    ensures idle { K.in_transaction keeper.new ≡ false }
+    ensures shaped { K.shaped keeper.new ≡ K.shaped keeper.old }
+    ensures loan { K.loan keeper.new ≡ K.loan keeper.old }
+    ensures sound { AreSound schema.now (K.told keeper.new) }
+{
+    match keeper.begin() {
+        Ok(()) => {}
+        Err(end) => return Err(end),
+    }
+    match prepare_rows(alloc, keeper, schema, posted) {
+        Ok(prepared) => match settle(keeper, prepared.outcome.is_ok()) {
+            Ok(()) => Ok(prepared),
+            Err(end) => Err(end),
+        },
+        Err(end) => {
+            keeper.back();
+            Err(end)
+        }
+    }
+}
