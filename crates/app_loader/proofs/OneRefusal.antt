@@ -197,23 +197,23 @@ lines_refused (misnamed lines f b bs g e) (misnamed _ k d ds j q) = sym e ∙ br
 lines_refused (misnamed lines f b bs g e) (unsettling _ k h still) = absurd (unbroken lines f b bs k g e h)
 lines_refused (misnamed lines f b bs g e) (refused _ k d ds u y) = absurd (unbroken lines f b bs u.first g e u.named)
 lines_refused (misnamed lines f b bs g e) (unordered _ k d ds u fine y) = absurd (unbroken lines f b bs u.first g e u.named)
-lines_refused (misnamed lines f b bs g e) (loaded _ a u y) = tt
+lines_refused (misnamed lines f b bs g e) (loaded _ a u y w) = tt
 lines_refused (unsettling lines n h still) (misnamed _ k d ds j q) = absurd (unbroken lines k d ds n j q h)
 lines_refused (unsettling lines n h still) (unsettling _ k g also) = refl
 lines_refused (unsettling lines n h still) (refused _ k d ds u y) = absurd (settles lines n k h still u)
 lines_refused (unsettling lines n h still) (unordered _ k d ds u fine y) = absurd (settles lines n k h still u)
-lines_refused (unsettling lines n h still) (loaded _ a u y) = tt
+lines_refused (unsettling lines n h still) (loaded _ a u y w) = tt
 lines_refused (refused lines m b bs t x) (misnamed _ k d ds j q) = absurd (unbroken lines k d ds t.first j q t.named)
 lines_refused (refused lines m b bs t x) (unsettling _ k h still) = absurd (settles lines k m h still t)
 lines_refused (refused lines m b bs t x) (refused _ k d ds u y) = both_refused lines m k (b ∷ bs) (d ∷ ds) t u x y
 lines_refused (refused lines m b bs t x) (unordered _ k d ds u fine y) = absurd (not_some b bs (b ∷ bs) (both_refused lines m k (b ∷ bs) [] t u x fine) refl)
-lines_refused (refused lines m b bs t x) (loaded _ a u y) = tt
+lines_refused (refused lines m b bs t x) (loaded _ a u y w) = tt
 lines_refused (unordered lines m b bs t fine x) (misnamed _ k d ds j q) = absurd (unbroken lines k d ds t.first j q t.named)
 lines_refused (unordered lines m b bs t fine x) (unsettling _ k h still) = absurd (settles lines k m h still t)
 lines_refused (unordered lines m b bs t fine x) (refused _ k d ds u y) = absurd (not_some d ds (d ∷ ds) (both_refused lines k m (d ∷ ds) [] u t y fine) refl)
 lines_refused (unordered lines m b bs t fine x) (unordered _ k d ds u also y) = both_unordered lines m k (b ∷ bs) (d ∷ ds) t u x y
-lines_refused (unordered lines m b bs t fine x) (loaded _ a u y) = tt
-lines_refused (loaded lines a t l) q = tt
+lines_refused (unordered lines m b bs t fine x) (loaded _ a u y w) = tt
+lines_refused (loaded lines a t l w) q = tt
 
 -- ---- texts and bytes
 abbrev AlikeRefusal : Result App (List Broken) → Result App (List Broken) → Type 0

@@ -4,7 +4,7 @@ use Rattle.std.specs.Str.{IsUtf8}
 use Rattle.app_names.specs.declared.formula.Formula.{Formula}
 use Rattle.app_loader.specs.Admitted.{AreBreaks, AreLoaded, AreLoadedFrom, AreRefused, AreUnordered, Breaks, IsAdmitted, IsLoaded, UsesLater, judged, names_before}
 use Rattle.app_loader.specs.Cells.{cell_of}
-use Rattle.app_loader.specs.Judged.{AreTypedLines, Judged, JudgedLines, JudgedText, loaded, longest, misnamed, no_text, read, refused, text, too_long, unordered, unread, unsettling}
+use Rattle.app_loader.specs.Judged.{AreTypedLines, IsWithoutTables, Judged, JudgedLines, JudgedText, loaded, longest, misnamed, no_text, read, refused, text, too_long, unordered, unread, unsettling}
 use Rattle.app_loader.specs.declared.app.App.{App}
 use Rattle.app_names.specs.NameRules.{name_breaks}
 use Rattle.app_loader.specs.Verdicts.{IsOneAppOfAText, IsOneVerdict, IsSameApp}
@@ -79,13 +79,16 @@ same_from m b k (n ∷ ns) (f ∷ fs) [] e alike x y = absurd y
 same_from m b k (n ∷ ns) (f ∷ fs) (g ∷ gs) e alike x y =
     λ i. same_formula m b k n f g e alike x.0 y.0 i ∷ same_from m b (suc k) ns fs gs e alike x.1 y.1 i
 
-same_app : (lines : List Named) (a b : App) → AreTypedLines lines a.names → AreLoaded a.names lines a.lines → AreTypedLines lines b.names → AreLoaded b.names lines b.lines → IsSameApp b a
-same_app lines a b t l u k =
+same_app : (lines : List Named) (a b : App) → AreTypedLines lines a.names → AreLoaded a.names lines a.lines → AreTypedLines lines b.names → AreLoaded b.names lines b.lines
+    → IsWithoutTables a → IsWithoutTables b → IsSameApp b a
+same_app lines a b t l u k w x =
     let same = same_names lines a.names b.names t u in
     record {
       lines = sym (same_from a.names b.names 0 lines a.lines b.lines same.0 same.1 l k);
       names = same.0;
       functions = same.1;
+      schema = ap (λ ts. record { tables = ts }) (x.tables ∙ sym w.tables);
+      limit = x.limit ∙ sym w.limit;
     }
 
 -- ---- verdicts
@@ -95,13 +98,13 @@ Agree a (Ok b) = IsSameApp b a
 Agree a (Err bs) = ⊥
 
 -- lines that are loaded are refused by no stage
-not_broken : {lines : List Named} {v : Result App (List Broken)} → JudgedLines lines v → (a : App) → AreTypedLines lines a.names → AreLoaded a.names lines a.lines → Agree a v
-not_broken (misnamed lines functions b bs f e) a t l =
+not_broken : {lines : List Named} {v : Result App (List Broken)} → JudgedLines lines v → (a : App) → AreTypedLines lines a.names → AreLoaded a.names lines a.lines → IsWithoutTables a → Agree a v
+not_broken (misnamed lines functions b bs f e) a t l w =
     not_some b bs (name_breaks functions lines) (breaks_alike functions t.first.signatures.now (f ∙ sym t.named.named.signatures) lines ∙ t.named.unbroken) e
-not_broken (unsettling lines n named still) a t l = settles_alike (map cell_of lines) lines t.first n a.names t.named.named named.named t.final still
-not_broken (refused lines m b bs u h) a t l = not_refused lines a m b bs t l u h
-not_broken (unordered lines m b bs u fine h) a t l = not_unordered lines a m b bs t l u h
-not_broken (loaded lines b u k) a t l = same_app lines a b t l u k
+not_broken (unsettling lines n named still) a t l w = settles_alike (map cell_of lines) lines t.first n a.names t.named.named named.named t.final still
+not_broken (refused lines m b bs u h) a t l w = not_refused lines a m b bs t l u h
+not_broken (unordered lines m b bs u fine h) a t l w = not_unordered lines a m b bs t l u h
+not_broken (loaded lines b u k x) a t l w = same_app lines a b t l u k w x
 
 -- bytes that are accepted as an app
 record IsAccepted (bytes : List ℕ) (a : App) : Type 0 where
@@ -111,13 +114,14 @@ record IsAccepted (bytes : List ℕ) (a : App) : Type 0 where
   named : IsNamedText 64 bytes lines
   typed : AreTypedLines lines a.names
   are_loaded : AreLoaded a.names lines a.lines
+  without_tables : IsWithoutTables a
 
 abbrev IfAccepted : List ℕ → Result App (List Broken) → Type 0
 IfAccepted bytes (Ok a) = IsAccepted bytes a
 IfAccepted bytes (Err bs) = Unit {0}
 
 lines_accepted : {lines : List Named} {v : Result App (List Broken)} → JudgedLines lines v → (bytes : List ℕ) → length bytes ≤ longest → IsUtf8 bytes → IsNamedText 64 bytes lines → IfAccepted bytes v
-lines_accepted (loaded lines a t l) bytes s u n = record { short = s; utf8 = u; lines = lines; named = n; typed = t; are_loaded = l }
+lines_accepted (loaded lines a t l w) bytes s u n = record { short = s; utf8 = u; lines = lines; named = n; typed = t; are_loaded = l; without_tables = w }
 lines_accepted (misnamed lines functions b bs f e) bytes s u n = tt
 lines_accepted (unsettling lines m h k) bytes s u n = tt
 lines_accepted (refused lines m b bs t h) bytes s u n = tt
@@ -136,7 +140,7 @@ accepted (text bytes v s u j) = text_accepted j s u
 text_agrees : {source : List ℕ} {v : Result App (List Broken)} → JudgedText source v → (a : App) → IsAccepted source a → Agree a v
 text_agrees (unread source b h) a x = absurd (not_unread h x.lines x.named)
 text_agrees (read source others v n j) a x =
-    not_broken (subst (λ (ls : List Named). JudgedLines ls v) (one_text source others x.lines n x.named) j) a x.typed x.are_loaded
+    not_broken (subst (λ (ls : List Named). JudgedLines ls v) (one_text source others x.lines n x.named) j) a x.typed x.are_loaded x.without_tables
 
 agrees : {bytes : List ℕ} {v : Result App (List Broken)} → Judged bytes v → (a : App) → IsAccepted bytes a → Agree a v
 agrees (too_long bytes l) a x = let s : length bytes ≤ longest = x.short in absurd (omega (arith, l, s))

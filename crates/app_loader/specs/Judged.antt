@@ -56,6 +56,11 @@ pub record AreTypedLines (lines : List Named) (m : Names) : Type 0 where
   pub named : AreNamedLines lines first
   pub final : IsFinal (map cell_of lines) first m
 
+-- an app that has no tables, and the row limit of one of which nothing else is said
+pub record IsWithoutTables (a : App) : Type 0 where
+  pub tables : a.schema.tables ≡ []
+  pub limit : a.limit ≡ 500
+
 -- Lines of named formulas, judged: something is broken among their names; their types don't settle; some aren't
 -- admitted; some use a name that no line before them gives; or they are loaded.
 pub data JudgedLines : List Named → Result App (List Broken) → Type 0 where
@@ -65,7 +70,7 @@ pub data JudgedLines : List Named → Result App (List Broken) → Type 0 where
   refused : (lines : List Named) (m : Names) (b : Broken) (bs : List Broken) → AreTypedLines lines m → AreRefused m lines (b ∷ bs) → JudgedLines lines (Err (b ∷ bs))
   unordered : (lines : List Named) (m : Names) (b : Broken) (bs : List Broken) → AreTypedLines lines m → AreRefused m lines [] → AreUnordered m lines (b ∷ bs)
       → JudgedLines lines (Err (b ∷ bs))
-  loaded : (lines : List Named) (a : App) → AreTypedLines lines a.names → AreLoaded a.names lines a.lines → JudgedLines lines (Ok a)
+  loaded : (lines : List Named) (a : App) → AreTypedLines lines a.names → AreLoaded a.names lines a.lines → IsWithoutTables a → JudgedLines lines (Ok a)
 
 -- The same of a text, which is parsed before.
 pub data JudgedText : List ℕ → Result App (List Broken) → Type 0 where

@@ -10,12 +10,14 @@ use Rattle.fx_sig.specs.Entries.{entry}
 abbrev pub IsOneVerdict : Type 0
 IsOneVerdict = (bytes : List ℕ) (a : App) (bs : List Broken) → Judged bytes (Ok a) → Judged bytes (Err bs) → ⊥
 
--- The same formulas, and the same names with their types; the tables of functions have the same entries, and
+-- The same formulas, the same names with their types, the same tables and the same row limit; the tables of functions have the same entries, and
 -- may stand at two places in memory.
 pub record IsSameApp (a b : App) : Type 0 where
   pub lines : a.lines ≡ b.lines
   pub names : a.names ≡ record b.names { signatures = a.names.signatures }
   pub functions : map entry a.names.signatures.now ≡ map entry b.names.signatures.now
+  pub schema : a.schema ≡ b.schema
+  pub limit : a.limit ≡ b.limit
 
 -- bytes that are accepted are one app
 abbrev pub IsOneAppOfAText : Type 0

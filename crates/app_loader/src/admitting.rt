@@ -5,7 +5,7 @@ ghost use Rattle.fx_infer.specs.Below.{tree_depth};
 ghost use Rattle.fx_typing.specs.TypedView.{typed};
 ghost use Rattle.fx_trees.specs.Lawful.{IsLawful};
 
-use crate::writing::written;
+use crate::writing::written_formula;
 use app_names::broken::put_break;
 use fx_base::Memory;
 use fx_infer::{InferEnd, elaborate};
@@ -15,16 +15,12 @@ use fx_typing::Typed;
 use std::alloc::Global;
 
 /// A formula under names: its tree and its type, or what is broken of it.
-pub fn judged(
-    alloc: Global,
-    names: &Names,
-    formula: &Named,
-) -> Result<Result<Typed, Broken>, Memory>
+pub fn judge(alloc: Global, names: &Names, formula: &Named) -> Result<Result<Typed, Broken>, Memory>
     requires lawful { IsLawful names.now }
     requires shallow { tree_depth formula.now.expr ≤ 256 }
     ensures { IfOk result (λ r. MatchResult r (λ t. judged names.now formula.now ≡ Ok (typed t)) (Breaks names.now formula.now)) }
 {
-    let cell = written(alloc, formula)?;
+    let cell = written_formula(alloc, formula)?;
     match elaborate(alloc, names, &cell) {
         Ok(value) => Ok(Ok(value)),
         Err(InferEnd::Broken(broken)) => Ok(Err(Broken {
@@ -43,7 +39,7 @@ fn rule_break(alloc: Global, names: &Names, formula: &Named) -> Result<Option<Br
     requires shallow { tree_depth formula.now.expr ≤ 256 }
     ensures { IfOk result (λ o. MatchOption o (IsAdmitted names.now formula.now) (Breaks names.now formula.now)) }
 {
-    match judged(alloc, names, formula)? {
+    match judge(alloc, names, formula)? {
         Ok(_) => Ok(None),
         Err(broken) => Ok(Some(broken)),
     }

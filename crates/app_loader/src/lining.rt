@@ -7,7 +7,7 @@ ghost use Rattle.fx_infer.specs.Below.{tree_depth};
 ghost use Rattle.fx_typing.specs.TypedView.{typed};
 ghost use Rattle.fx_trees.specs.Lawful.{IsLawful};
 
-use crate::admitting::judged;
+use crate::admitting::judge;
 use crate::{admitted_declares_nothing, admitted_is_lawful, more_names_same_tree};
 use app_names::broken::word;
 use app_names::{Formula, Lines};
@@ -68,7 +68,12 @@ fn later(alloc: Global, broken: Broken) -> Result<Broken, Memory>
 }
 
 // A line's formula with its typed tree.
-fn loaded(alloc: Global, known: &FormulaName, line: &Named, value: Typed) -> Result<Formula, Memory>
+fn load_line(
+    alloc: Global,
+    known: &FormulaName,
+    line: &Named,
+    value: Typed,
+) -> Result<Formula, Memory>
     ensures { IfOk result (IsNamedSo known.now line.now (typed value)) }
 {
     Ok(Formula {
@@ -90,8 +95,8 @@ fn line_formula(
     requires shallow { tree_depth line.now.expr ≤ 256 }
     ensures { IfOk result (λ r. MatchResult r (IsFormulaOf found.now known.now line.now) (UsesMissing found.now line.now)) }
 {
-    match judged(alloc, found, line)? {
-        Ok(value) => Ok(Ok(loaded(alloc, known, line, value)?)),
+    match judge(alloc, found, line)? {
+        Ok(value) => Ok(Ok(load_line(alloc, known, line, value)?)),
         Err(broken) => Ok(Err(later(alloc, broken)?)),
     }
 }
@@ -123,6 +128,7 @@ pub fn load_lines(alloc: Global, names: &Names, lines: &[Named]) -> Result<Lines
     ensures loaded { IfOk result (AreLoaded names.now lines.now) }
     ensures refused { IfErr result (Tells (λ bs. JudgedLines lines.now (Err bs))) }
 {
+    // The laws are called for what they say of the trees that are loaded.
     admitted_declares_nothing();
     more_names_same_tree();
     admitted_is_lawful();

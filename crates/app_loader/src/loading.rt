@@ -7,19 +7,22 @@ ghost use Rattle.fx_trees.specs.Lawful.{IsLawful};
 use crate::admitting::rule_breaks;
 use crate::app::App;
 use crate::lining::load_lines;
-use crate::refusing::{in_app, only, unread};
-use crate::writing::all_written;
+use crate::refusing::{in_app, only, unread_text};
+use crate::writing::written_formulas;
 use app_names::{name_breaks, names_of};
-use fx_base::Memory;
+use fx_base::{InOrder, Memory};
 use fx_infer::{InferEnd, no_deeper, type_rounds};
 use fx_parser::{Named, parse_named};
-use fx_trees::{AppEnd, Names, Rule};
+use fx_trees::{AppEnd, Names, Rule, Schema};
 use std::alloc::Global;
 
 /// The most bytes of a text of named formulas.
 const LONGEST: usize = 262_144;
 
-/// The app of a text of named formulas, `A = 1; B = A + 1;`. A text that breaks a rule is refused with the
+/// The most rows of a query that isn't delegated, where nothing else is said.
+const ROW_LIMIT: u32 = 500;
+
+/// The app of a text of named formulas, `A = 1; B = A + 1;`, which has no tables. A text that breaks a rule is refused with the
 /// breaks of the first stage that has any: its length, its bytes, its tokens and trees, its names, the
 /// rounds of its types, its formulas, and their order.
 pub fn load_named(alloc: Global, bytes: &[u8]) -> Result<App, AppEnd>
@@ -27,6 +30,7 @@ pub fn load_named(alloc: Global, bytes: &[u8]) -> Result<App, AppEnd>
     ensures refused { IfErr result (Tells (λ bs. Judged bytes.now (Err bs))) }
 {
     if bytes.len() > LONGEST {
+        // This number is told however long the text is, since a run reads no more of a file.
         return Err(in_app(alloc, Rule::LimitPassed, "named 262145"));
     }
     match std::str::from_utf8(bytes) {
@@ -44,7 +48,7 @@ fn load_text(alloc: Global, source: &str) -> Result<App, AppEnd>
     no_deeper();
     match parse_named(alloc, source) {
         Ok(lines) => named_app(alloc, &lines),
-        Err(end) => Err(unread(alloc, source, end)),
+        Err(end) => Err(unread_text(alloc, source, end)),
     }
 }
 
@@ -71,7 +75,7 @@ fn typed_app(alloc: Global, lines: &[Named], first: Names) -> Result<App, AppEnd
     ensures app { IfOk result (λ a. JudgedLines lines.now (Ok a)) }
     ensures refused { IfErr result (Tells (λ bs. JudgedLines lines.now (Err bs))) }
 {
-    let written = all_written(alloc, lines)?;
+    let written = written_formulas(alloc, lines)?;
     match type_rounds(alloc, first, &written) {
         Ok(names) => judged_app(alloc, lines, names),
         Err(InferEnd::Broken(broken)) => Err(only(alloc, broken)),
@@ -87,10 +91,18 @@ fn judged_app(alloc: Global, lines: &[Named], names: Names) -> Result<App, AppEn
     ensures app { IfOk result (λ a. JudgedLines lines.now (Ok a)) }
     ensures refused { IfErr result (Tells (λ bs. JudgedLines lines.now (Err bs))) }
 {
+    // Only the breaks are kept: `load_lines` makes the trees anew, each under the names before it alone.
     let breaks = rule_breaks(alloc, &names, lines)?;
     if !breaks.is_empty() {
         return Err(AppEnd::Refused(breaks));
     }
     let lines = load_lines(alloc, &names, lines)?;
-    Ok(App { lines, names })
+    Ok(App {
+        lines,
+        names,
+        schema: Schema {
+            tables: InOrder::new(alloc),
+        },
+        limit: ROW_LIMIT,
+    })
 }

@@ -8,7 +8,7 @@ ghost use Rattle.fx_parser.specs.Texts.{AreNamedEnd};
 use app_names::broken;
 use fx_base::Memory;
 use fx_data::Words;
-use fx_parser::{ParseEnd, bad_token, unexpected};
+use fx_parser::{ParseEnd, bad_token, syntax_detail};
 use fx_trees::{AppEnd, Broken, Rule};
 use std::alloc::Global;
 
@@ -68,14 +68,14 @@ fn in_formulas(alloc: Global, rule: Rule, at: u32, detail: &str) -> AppEnd
 }
 
 /// Why a text is no named formulas.
-pub fn unread(alloc: Global, source: &str, end: ParseEnd) -> AppEnd
+pub fn unread_text(alloc: Global, source: &str, end: ParseEnd) -> AppEnd
     requires long { length source.now ≤ longest }
     requires end { AreNamedEnd source.now end }
     ensures { Tells (AreUnread source.now) result }
 {
     match end {
         ParseEnd::Lex(bad) => in_formulas(alloc, Rule::BadToken, bad.at, bad_token(bad.what)),
-        ParseEnd::Syntax(at) => match unexpected(alloc, source, at) {
+        ParseEnd::Syntax(at) => match syntax_detail(alloc, source, at) {
             Ok(detail) => at_formulas(alloc, Rule::Syntax, at, detail),
             Err(Memory) => AppEnd::Memory,
         },

@@ -12,7 +12,7 @@ use fx_trees::address;
 use std::alloc::Global;
 
 /// A named formula as it is written.
-pub fn written(alloc: Global, formula: &Named) -> Result<Written, Memory>
+pub fn written_formula(alloc: Global, formula: &Named) -> Result<Written, Memory>
     ensures { IfOk result (IsWritten formula.now) }
 {
     Ok(Written {
@@ -26,14 +26,14 @@ pub fn written(alloc: Global, formula: &Named) -> Result<Written, Memory>
 }
 
 /// Named formulas as they are written.
-pub fn all_written(alloc: Global, formulas: &[Named]) -> Result<Vec<Written>, Memory>
+pub fn written_formulas(alloc: Global, formulas: &[Named]) -> Result<Vec<Written>, Memory>
     requires { All (λ n. tree_depth n.expr ≤ 256) formulas.now }
     ensures cells { IfOk result (λ v. map cell v.items ≡ map cell_of formulas.now) }
     ensures shallow { IfOk result (λ v. All (λ w. tree_depth w.expr ≤ 256) v.items) }
 {
     let mut all = Vec::with_capacity(alloc, formulas.len())?;
     for formula in formulas {
-        all.push(written(alloc, formula)?)?;
+        all.push(written_formula(alloc, formula)?)?;
     }
     Ok(all)
 }

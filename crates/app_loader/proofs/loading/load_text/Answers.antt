@@ -17,4 +17,4 @@ returns-in-Ok-clause-refused c =
     read_err c.args.source.now c.deref.result.now (subst (IsNamedText 64 c.args.source.now) (sym c.deref.ensures.value) c.in-Ok.ensures.named) c.named_app.result c.named_app.ensures.refused
 
 pub returns-in-Err-clause-refused : goal.returns-in-Err-clause-refused
-returns-in-Err-clause-refused c = unread_end c.args.source.now c.unread.result c.unread.ensures
+returns-in-Err-clause-refused c = unread_end c.args.source.now c.unread_text.result c.unread_text.ensures

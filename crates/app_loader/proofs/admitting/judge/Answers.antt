@@ -1,6 +1,6 @@
 use Rattle.std.proofs.Common.{Err, ap}
 use Rattle.app_loader.proofs.Writes.{told}
-use Rattle.app_loader.proofs.admitting.judged.Goals as goal
+use Rattle.app_loader.proofs.admitting.judge.Goals as goal
 
 pub returns-in-Err-Broken : goal.returns-in-Err-Broken
 returns-in-Err-Broken c =

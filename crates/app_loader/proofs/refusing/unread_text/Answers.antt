@@ -1,7 +1,7 @@
 use Rattle.std.proofs.Common.{subst}
 use Rattle.fx_parser.specs.Texts.{AreNamedEnd}
 use Rattle.app_loader.proofs.Tellings.{tells_bad, tells_deep, tells_syntax}
-use Rattle.app_loader.proofs.refusing.unread.Goals as goal
+use Rattle.app_loader.proofs.refusing.unread_text.Goals as goal
 
 pub returns-in-Lex : goal.returns-in-Lex
 returns-in-Lex c =

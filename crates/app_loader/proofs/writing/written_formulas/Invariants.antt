@@ -3,7 +3,7 @@ use Rattle.app_loader.specs.Cells.{cell_of}
 use Rattle.fx_infer.specs.Below.{tree_depth}
 use Rattle.fx_infer.specs.declared.elaboration.Written.{Written}
 use Rattle.fx_infer.specs.CellView.{cell}
-use Rattle.app_loader.proofs.writing.all_written.Given as goal
+use Rattle.app_loader.proofs.writing.written_formulas.Given as goal
 
 abbrev pub invariant-loop-formula : goal.invariant-loop-formula
 invariant-loop-formula l = record {
