@@ -1,100 +1,118 @@
--- The JSON of app files.
-use Rattle.std.proofs.Common.{◌≡◌, ◌⊎◌, inl, inr, ℕ, suc, ◌==◌, false, List, [], ◌∷◌, length, Some, None, Result, Err, String, refl, ap, sym, ◌∙◌, subst, arith}
+-- Files of apps.
+use Rattle.std.proofs.Common.{◌≡◌, ◌⊎◌, inl, inr, ℕ, suc, ◌==◌, Bool, true, false, List, [], ◌∷◌, length, arith, Result, Ok, Err, refl, ap, sym, ◌∙◌, subst}
+use Rattle.std.specs.Prelude.{encode_utf8_all}
 use Rattle.std.proofs.lemmas.Bool.Decides.{nat_tests}
-use Rattle.std.specs.declared.alloc.Global.{Global}
-use Rattle.serde_json.specs.Data.{Data, Members, array, boolean, null, number, object, string}
-use Rattle.serde_json.specs.Events.{members_len}
-use Rattle.serde_json.specs.Find.{as_object}
-use Rattle.serde_json.specs.View.{items_view, members_view}
-use Rattle.serde_json.specs.declared.value.Value.{Value}
+use Rattle.std.specs.List.{list_any}
+use Rattle.app_file.specs.Files.{IsBadPart, IsOneBreak, IsOneReading, IsRead}
+use Rattle.app_file.specs.declared.breaks.FileBreak.{FileBreak}
+use Rattle.app_file.specs.declared.breaks.FileBreak.TheVariants as broken
+use Rattle.app_file.specs.declared.file.AppFile.{AppFile}
 use Rattle.app_loader.proofs.Tellings.{tells_weaker}
-use Rattle.app_loader.specs.Judged.{Judged, Tells}
+use Rattle.app_loader.specs.Judged.{Tells}
+use Rattle.app_loader.specs.Verdicts.{AreSameBreaks, IsOneAppOfAText, IsOneRefusalOfAText, IsOneVerdict, IsSameApp}
 use Rattle.app_loader.specs.declared.app.App.{App}
-use Rattle.app_loader.specs.Verdicts.{IsOneAppOfAText, IsOneRefusalOfAText, IsOneVerdict}
-use Rattle.fx_trees.specs.declared.broken.Broken.{Broken}
+use Rattle.app_names.specs.declared.formula.Formula.{Formula}
 use Rattle.fx_trees.specs.declared.app_end.AppEnd.{AppEnd}
-use Rattle.office.specs.AppFile.{HasJson, IsOneApp, IsOneAppOfAFile, IsOneRefusalOfAFile, JudgedApp, JudgedData, app_form, formulas_text, is_empty_list, is_json, is_one_screen, member_count, no_app, no_json, other_form}
+use Rattle.fx_trees.specs.declared.broken.Broken.{Broken}
+use Rattle.office.specs.AppFile.{IsOneApp, IsOneAppOfAFile, IsOneRefusalOfAFile, JudgedApp, JudgedFile, StandBeside, app, broken_beside, broken_formulas, is_none, is_table, other_form, read, taken, told, unread}
+
+pub tells_this : (P : List Broken → Type 0) (all : List Broken) → P all → (e : AppEnd) → Tells (λ bs. bs ≡ all) e → Tells P e
+tells_this P all h = tells_weaker (λ bs. bs ≡ all) P (λ bs is. subst P (sym is) h)
+
+pub tells_file : (file : List ℕ) (f : AppFile) → IsRead file (Ok f) → (e : AppEnd) → Tells (λ bs. JudgedFile f (Err bs)) e → Tells (λ bs. JudgedApp file (Err bs)) e
+tells_file file f is = tells_weaker (λ bs. JudgedFile f (Err bs)) (λ bs. JudgedApp file (Err bs)) (λ bs h. read file f (Err bs) is h)
+
+-- ---- lists without elements
+pub none_of : {A : Type 0} (xs : List A) → length xs ≡ 0 → is_none xs ≡ true
+none_of [] e = refl
+none_of (x ∷ xs) e = absurd (omega (arith, e))
+
+pub some_of : {A : Type 0} (xs : List A) → (length xs ≡ 0 → ⊥) → is_none xs ≡ false
+some_of [] h = absurd (h refl)
+some_of (x ∷ xs) h = refl
 
 nonzero : (n : ℕ) → (suc n == 0) ≡ false
 nonzero n = grind (arith, nat_tests)
 
--- no elements
-pub empty_view : (vs : List Value) → (length vs == 0) ≡ is_empty_list (Some (items_view vs))
-empty_view [] = refl
-empty_view (x ∷ xs) = nonzero (length xs)
+pub none_left : {A : Type 0} (xs : List A) → (length xs == 0) ≡ is_none xs
+none_left [] = refl
+none_left (x ∷ xs) = nonzero (length xs)
 
-more_than_one : (n : ℕ) → (suc (suc n) == 1) ≡ false
-more_than_one n = grind (arith, nat_tests)
+-- ---- one verdict
+not_true : {b : Bool} → b ≡ true → b ≡ false → ⊥
+not_true p q = let e : true ≡ false = sym p ∙ q in cc
 
--- not one element
-pub not_one : (vs : List Value) → (length vs ≡ 1 → ⊥) → (length vs == 1) ≡ is_one_screen (Some (items_view vs))
-not_one [] h = refl
-not_one (x ∷ []) h = absurd (h refl)
-not_one (x ∷ y ∷ zs) h = more_than_one (length zs)
+-- the same app, with other tables and another row limit
+with_same : (f : AppFile) (a b : App) → IsSameApp a b → IsSameApp (record a { schema = f.schema; limit = f.row_limit }) (record b { schema = f.schema; limit = f.row_limit })
+with_same f a b s = record { lines = s.lines; names = s.names; functions = s.functions; schema = refl; limit = refl }
 
-length_view : (ms : List (String Global × Value)) → members_len (members_view ms) ≡ length ms
-length_view [] = refl
-length_view (m ∷ ms) = ap suc (length_view ms)
+-- what stands beside an app stands beside the same one
+beside_same : (f : AppFile) (a b : App) → IsSameApp a b → StandBeside f.schema a → StandBeside f.schema b
+beside_same f a b s h = record { lawful = h.lawful; free = h.free; apart = subst (λ (fs : List Formula). list_any (is_table f.schema.tables) fs ≡ false) s.lines h.apart }
 
-count_view : (ms : Members) (d : Data) → Some ms ≡ as_object d → members_len ms ≡ member_count d
-count_view ms null e = absurd (cc)
-count_view ms (boolean b) e = absurd (cc)
-count_view ms (number n) e = absurd (cc)
-count_view ms (string s) e = absurd (cc)
-count_view ms (array ds) e = absurd (cc)
-count_view ms (object other) e = let same : ms ≡ other = cc in ap members_len same
+abbrev Agree : Result App (List Broken) → Result App (List Broken) → Type 0
+Agree (Ok a) (Ok b) = IsSameApp a b
+Agree (Ok a) (Err cs) = ⊥
+Agree (Err bs) (Ok b) = ⊥
+Agree (Err bs) (Err cs) = AreSameBreaks bs cs
 
--- how many members there are
-pub count_is : (ms : List (String Global × Value)) (d : Data) → Some (members_view ms) ≡ as_object d → length ms ≡ member_count d
-count_is ms d e = sym (length_view ms) ∙ count_view (members_view ms) d e
+module _ (once : IsOneVerdict) (same : IsOneAppOfAText) (alike : IsOneRefusalOfAText) where
+  file_agrees : (f : AppFile) (v w : Result App (List Broken)) → JudgedFile f v → JudgedFile f w → Agree v w
+  file_agrees f _ _ (other_form _ p) (other_form _ q) = inl refl
+  file_agrees f _ _ (other_form _ p) (broken_formulas _ bs q n j) = absurd (not_true q p)
+  file_agrees f _ _ (other_form _ p) (broken_beside _ bs q n j) = inl refl
+  file_agrees f _ _ (other_form _ p) (taken _ a q j h) = inl refl
+  file_agrees f _ _ (other_form _ p) (app _ a q j h) = absurd (not_true q p)
+  file_agrees f _ _ (broken_formulas _ bs p n i) (other_form _ q) = absurd (not_true p q)
+  file_agrees f _ _ (broken_formulas _ bs p n i) (broken_formulas _ cs q m j) = alike (encode_utf8_all f.formulas) bs cs i j
+  file_agrees f _ _ (broken_formulas _ bs p n i) (broken_beside _ cs q m j) = absurd (not_true n m)
+  file_agrees f _ _ (broken_formulas _ bs p n i) (taken _ a q j h) = absurd (once (encode_utf8_all f.formulas) a bs j i)
+  file_agrees f _ _ (broken_formulas _ bs p n i) (app _ a q j h) = absurd (once (encode_utf8_all f.formulas) a bs j i)
+  file_agrees f _ _ (broken_beside _ bs p n i) (other_form _ q) = inl refl
+  file_agrees f _ _ (broken_beside _ bs p n i) (broken_formulas _ cs q m j) = absurd (not_true m n)
+  file_agrees f _ _ (broken_beside _ bs p n i) (broken_beside _ cs q m j) = inl refl
+  file_agrees f _ _ (broken_beside _ bs p n i) (taken _ a q j h) = inl refl
+  file_agrees f _ _ (broken_beside _ bs p n i) (app _ a q j h) = absurd (once (encode_utf8_all f.formulas) a bs j i)
+  file_agrees f _ _ (taken _ a p i g) (other_form _ q) = inl refl
+  file_agrees f _ _ (taken _ a p i g) (broken_formulas _ cs q m j) = absurd (once (encode_utf8_all f.formulas) a cs i j)
+  file_agrees f _ _ (taken _ a p i g) (broken_beside _ cs q m j) = inl refl
+  file_agrees f _ _ (taken _ a p i g) (taken _ b q j h) = inl refl
+  file_agrees f _ _ (taken _ a p i g) (app _ b q j h) = absurd (g (beside_same f b a (same (encode_utf8_all f.formulas) b a j i) h))
+  file_agrees f _ _ (app _ a p i g) (other_form _ q) = absurd (not_true p q)
+  file_agrees f _ _ (app _ a p i g) (broken_formulas _ cs q m j) = absurd (once (encode_utf8_all f.formulas) a cs i j)
+  file_agrees f _ _ (app _ a p i g) (broken_beside _ cs q m j) = absurd (once (encode_utf8_all f.formulas) a cs i j)
+  file_agrees f _ _ (app _ a p i g) (taken _ b q j h) = absurd (h (beside_same f a b (same (encode_utf8_all f.formulas) a b i j) g))
+  file_agrees f _ _ (app _ a p i g) (app _ b q j h) = with_same f a b (same (encode_utf8_all f.formulas) a b i j)
 
--- what ends tell of the JSON, and of the file
-pub tells_form : (root : Data) (text : List ℕ) → Some text ≡ formulas_text root → (e : AppEnd) → Tells (λ bs. Judged text (Err bs)) e → Tells (λ bs. JudgedData root (Err bs)) e
-tells_form root text form = tells_weaker (λ bs. Judged text (Err bs)) (λ bs. JudgedData root (Err bs)) (λ bs h. app_form root text (Err bs) (sym form) h)
+told_alike : (b c : FileBreak) → (b ≡ c) ⊎ (IsBadPart b × IsBadPart c) → told b ≡ told c
+told_alike b c (inl e) = ap told e
+told_alike (broken.BadPart p) (broken.BadPart q) (inr h) = refl
+told_alike (broken.BadPart p) broken.TooLong (inr h) = absurd h.1
+told_alike (broken.BadPart p) broken.NoJson (inr h) = absurd h.1
+told_alike (broken.BadPart p) (broken.Passed l n) (inr h) = absurd h.1
+told_alike broken.TooLong c (inr h) = absurd h.0
+told_alike broken.NoJson c (inr h) = absurd h.0
+told_alike (broken.Passed l n) c (inr h) = absurd h.0
 
-tells_this : (P : List Broken → Type 0) (all : List Broken) → P all → (e : AppEnd) → Tells (λ bs. bs ≡ all) e → Tells P e
-tells_this P all h = tells_weaker (λ bs. bs ≡ all) P (λ bs is. subst P (sym is) h)
+not_read : (f : AppFile) (b : FileBreak) → ◌≡◌ {A = Result AppFile FileBreak} (Err b) (Ok f) → ⊥
+not_read f b e = cc
 
-pub tells_other : (root : Data) → None ≡ formulas_text root → (e : AppEnd) → Tells (λ bs. bs ≡ no_app) e → Tells (λ bs. JudgedData root (Err bs)) e
-tells_other root none e h = tells_this (λ bs. JudgedData root (Err bs)) no_app (other_form root (sym none)) e h
+one_file : (f g : AppFile) → ◌≡◌ {A = Result AppFile FileBreak} (Ok g) (Ok f) → f ≡ g
+one_file f g e = cc
 
-pub tells_json : (file : List ℕ) (root : Data) → HasJson file root → (e : AppEnd) → Tells (λ bs. JudgedData root (Err bs)) e → Tells (λ bs. JudgedApp file (Err bs)) e
-tells_json file root json = tells_weaker (λ bs. JudgedData root (Err bs)) (λ bs. JudgedApp file (Err bs)) (λ bs h. is_json file root (Err bs) json h)
+module _ (once : IsOneVerdict) (same : IsOneAppOfAText) (alike : IsOneRefusalOfAText) (reading : IsOneReading) (breaks : IsOneBreak) where
+  app_agrees : (file : List ℕ) (v w : Result App (List Broken)) → JudgedApp file v → JudgedApp file w → Agree v w
+  app_agrees file _ _ (unread _ b r) (unread _ c s) = inl (told_alike b c (breaks file b c r s))
+  app_agrees file _ w (unread _ b r) (read _ f _ s j) = absurd (not_read f b (reading file f (Err b) s r))
+  app_agrees file v _ (read _ f _ r i) (unread _ c s) = absurd (not_read f c (reading file f (Err c) r s))
+  app_agrees file v w (read _ f _ r i) (read _ g _ s j) =
+      file_agrees once same alike g v w (subst (λ x. JudgedFile x v) (one_file f g (reading file f (Ok g) r s)) i) j
 
-pub tells_none : (file : List ℕ) → ((root : Data) → HasJson file root → ⊥) → (e : AppEnd) → Tells (λ bs. bs ≡ no_app) e → Tells (λ bs. JudgedApp file (Err bs)) e
-tells_none file none e h = tells_this (λ bs. JudgedApp file (Err bs)) no_app (no_json file none) e h
+  pub one_app : IsOneApp
+  one_app file a bs p q = app_agrees file (Ok a) (Err bs) p q
 
--- two verdicts are both that of what is no app, or those of one text
-abbrev AreOfOne : Result App (List Broken) → Result App (List Broken) → Type 0
-AreOfOne v w = ((v ≡ Err no_app) × (w ≡ Err no_app)) ⊎ ((text : List ℕ) × Judged text v × Judged text w)
+  pub one_app_of_a_file : IsOneAppOfAFile
+  one_app_of_a_file file a b p q = app_agrees file (Ok a) (Ok b) p q
 
-data_one : {root : Data} {v w : Result App (List Broken)} → JudgedData root v → JudgedData root w → AreOfOne v w
-data_one (other_form root p) (other_form _ q) = inl (refl, refl)
-data_one (other_form root p) (app_form _ text w q h) = let e : None ≡ Some text = sym p ∙ q in cc
-data_one (app_form root text v p h) (other_form _ q) = let e : Some text ≡ None = sym p ∙ q in cc
-data_one (app_form root text v p h) (app_form _ words w q k) =
-    let e : Some text ≡ Some words = sym p ∙ q in
-    let same : text ≡ words = cc in
-    inr (words, subst (λ t. Judged t v) same h, k)
-
-file_one : {file : List ℕ} {v w : Result App (List Broken)} → JudgedApp file v → JudgedApp file w → AreOfOne v w
-file_one (no_json file p) (no_json _ q) = inl (refl, refl)
-file_one (no_json file p) (is_json _ root w q h) = absurd (p root q)
-file_one (is_json file root v p h) (no_json _ q) = absurd (q root p)
-file_one (is_json file root v p h) (is_json _ other w q k) =
-    let e : Some root ≡ Some other = sym p.json ∙ q.json in
-    let same : root ≡ other = cc in
-    data_one (subst (λ d. JudgedData d v) same h) k
-
--- a file has one verdict where a text has
-pub one_app : IsOneVerdict → IsOneApp
-one_app once file a bs p q =
-    elim (file_one p q) [ inl h ↦ (let e = h.0 in cc) | inr h ↦ once h.0 a bs h.1 h.2 ]
-
-pub one_app_of_a_file : IsOneAppOfAText → IsOneAppOfAFile
-one_app_of_a_file once file a b p q =
-    elim (file_one p q) [ inl h ↦ (let e = h.0 in cc) | inr h ↦ once h.0 a b h.1 h.2 ]
-
-pub one_refusal_of_a_file : IsOneRefusalOfAText → IsOneRefusalOfAFile
-one_refusal_of_a_file once file bs cs p q =
-    elim (file_one p q) [ inl h ↦ inl (let e = h.0 in let f = h.1 in cc) | inr h ↦ once h.0 bs cs h.1 h.2 ]
+  pub one_refusal_of_a_file : IsOneRefusalOfAFile
+  one_refusal_of_a_file file bs cs p q = app_agrees file (Err bs) (Err cs) p q

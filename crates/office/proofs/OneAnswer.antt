@@ -1,28 +1,134 @@
 -- A request has one answer.
-use Rattle.std.proofs.Common.{◌≡◌, ◌≢◌, ℕ, inl, inr, List, Result, Err, ap, sym, ◌∙◌, subst}
+use Rattle.std.proofs.Common.{◌≡◌, ℕ, List, Option, Some, None, Result, Ok, Err, refl, ap, sym, ◌∙◌, subst}
+use Rattle.fx_base.specs.Silence.{IsLost, Marks}
 use Rattle.app_wire.specs.Framing.{Asked}
-use Rattle.app_wire.specs.Routing.{Routing}
-use Rattle.app_wire.specs.declared.head.Method.{Method}
+use Rattle.app_wire.specs.Routing.{IsOneRoute}
 use Rattle.app_wire.specs.declared.route.Route.{Route}
+use Rattle.app_wire.specs.declared.route.Route.TheVariants.{Begin, End, View, Named as Shown, Items, Event, Input, Rows, Edit, Page, Plan, Graph}
 use Rattle.app_wire.specs.declared.route.RouteEnd.{RouteEnd}
-use Rattle.app_wire.specs.declared.route.RouteEnd.TheVariants.{Memory}
+use Rattle.app_wire.specs.declared.route.RouteEnd.TheVariants.{NoRoute, WrongMethod, Memory}
 use Rattle.fx_semantics.specs.Unique.{OneNaming}
-use Rattle.office.specs.State.{State}
-use Rattle.office.specs.Step.{IsReplyTo, Step, state_after}
-use Rattle.office.proofs.Isolation.{one_reply, route_is}
+use Rattle.fx_trees.specs.declared.schema.TableShape.{TableShape}
+use Rattle.row_keeper.specs.Tables.{Tables}
+use Rattle.session_state.specs.Once.{Kept}
+use Rattle.session_state.specs.Sessions.{SessionState}
+use Rattle.view_text.specs.declared.refused.Refusal.{Refusal}
+use Rattle.row_requests.specs.Changes.{perform, place_of}
+use Rattle.row_requests.specs.Checks.{desk_checks}
+use Rattle.row_requests.specs.DeskRows.{Acts, Outcome, PostsChecked, PostsRows, desks_after, outcome_reply}
+use Rattle.row_requests.specs.Page.{ShowsPage, ShowsTable}
+use Rattle.row_requests.specs.declared.bodies.Change.{Change}
+use Rattle.row_requests.specs.declared.bodies.Posted.{Posted}
+use Rattle.row_requests.specs.declared.directory.Named.{Named}
+use Rattle.office.specs.State.{State, formulas_of, schema_of}
+use Rattle.office.specs.Step.{Does, DoesAt, Step}
+use Rattle.office.proofs.Isolation.{is_known, shows_alike}
 
--- want of memory aside, a method has one route at a path
-one_route : (method : Method) (path : List ℕ) (r s : Result Route RouteEnd) → r ≢ Err Memory → s ≢ Err Memory → Routing method path r → Routing method path s → r ≡ s
-one_route method path r s known known' (inl m) h = absurd (known m)
-one_route method path r s known known' (inr (inl k)) h = k.3 ∙ sym (route_is method path s k.0 k.1 k.2 known' h)
-one_route method path r s known known' (inr (inr none)) (inl m) = absurd (known' m)
-one_route method path r s known known' (inr (inr none)) (inr (inl k)) = absurd (none.1 k.0 k.1 k.2)
-one_route method path r s known known' (inr (inr none)) (inr (inr other)) = none.0 ∙ sym other.0
+one_ok : (x y : List ℕ × Tables) (r : Result (List ℕ × Tables) Refusal) → r ≡ Ok x → r ≡ Ok y → x ≡ y
+one_ok x y r h k = cc
 
-pub one_answer : OneNaming → (old new new' : State) (moment : ℕ) (request : Asked) (said said' : List ℕ)
-    → Step old moment request said new → Step old moment request said' new' → (new ≡ new') × (said ≡ said')
-one_answer once old new new' moment request said said' a b =
-    let same = one_route request.method request.path a.route b.route a.known b.known a.routed b.routed in (
-      a.left ∙ ap (λ r. state_after r old) same ∙ sym b.left,
-      one_reply once b.route moment old said said' (subst (λ r. IsReplyTo r moment old said) same a.replied) b.replied,
+one_err : (x y : Refusal) (r : Result (List ℕ × Tables) Refusal) → r ≡ Err x → r ≡ Err y → x ≡ y
+one_err x y r h k = cc
+
+not_both : (x : List ℕ × Tables) (y : Refusal) (r : Result (List ℕ × Tables) Refusal) → r ≡ Ok x → r ≡ Err y → ⊥
+not_both x y r h k = cc
+
+abbrev accepts : List ℕ × Tables → Outcome
+accepts x = Ok x.0
+
+abbrev refuses : Refusal → Outcome
+refuses r = Err r
+
+-- changes have one outcome, and leave one state of the tables
+acts_alike : (shapes : List TableShape) (changes : List Change) (o o' : Outcome) (t u u' : Tables) → Acts shapes changes o t u → Acts shapes changes o' t u' → (o ≡ o') × (u ≡ u')
+acts_alike shapes changes (Ok ids) (Ok ids') t u u' h k =
+    let same = one_ok (ids, u) (ids', u') (perform shapes 0 changes t) h k in (ap accepts same, ap (λ (x : List ℕ × Tables). x.1) same)
+acts_alike shapes changes (Err r) (Err r') t u u' h k = (ap refuses (one_err r r' (perform shapes 0 changes t) h.0 k.0), h.1 ∙ sym k.1)
+acts_alike shapes changes (Ok ids) (Err r) t u u' h k = absurd (not_both (ids, u) r (perform shapes 0 changes t) h k.0)
+acts_alike shapes changes (Err r) (Ok ids) t u u' h k = absurd (not_both (ids, u') r (perform shapes 0 changes t) k h.0)
+
+-- the tables, the desks and the reply are the same
+record AreSame (said said' : List ℕ) (tables tables' : Option Tables) (desks desks' : List (Named Kept)) : Type 0 where
+  reply_is : said ≡ said'
+  tables_are : tables ≡ tables'
+  desks_are : desks ≡ desks'
+
+posts_alike : (lost lost' : Type 0) (shapes : List TableShape) (name body : List ℕ) (t u u' : Tables) (desks desks' desks'' : List (Named Kept)) (said said' : List ℕ)
+    → PostsRows lost shapes name body (Some t) desks said (Some u) desks' → PostsRows lost' shapes name body (Some t) desks said' (Some u') desks''
+    → AreSame said said' (Some u) (Some u') desks' desks''
+posts_alike lost lost' shapes name body t u u' desks desks' desks'' said said' = by (desk_checks desks name body)
+  where
+    by : (r : Result Posted (List ℕ)) → PostsChecked lost shapes name body r (Some t) desks said (Some u) desks' → PostsChecked lost' shapes name body r (Some t) desks said' (Some u') desks''
+        → AreSame said said' (Some u) (Some u') desks' desks''
+    by (Err words) h k = record { reply_is = h.0 ∙ sym k.0; tables_are = h.1 ∙ sym k.1; desks_are = h.2 ∙ sym k.2 }
+    by (Ok p) h k =
+        let same = acts_alike shapes p.changes h.outcome k.outcome t u u' h.acts k.acts in
+        record {
+          reply_is = h.replied ∙ ap (outcome_reply p.seq) same.0 ∙ sym k.replied;
+          tables_are = ap (λ (x : Tables). Some x) same.1;
+          desks_are = h.keeps ∙ ap (λ o. desks_after name body p.seq o desks) same.0 ∙ sym k.keeps;
+        }
+
+page_alike : (lost lost' : Type 0) (shapes : List TableShape) (name : List ℕ) (after : ℕ) (t u u' : Tables) (said said' : List ℕ)
+    → ShowsPage lost shapes name after (Some t) said (Some u) → ShowsPage lost' shapes name after (Some t) said' (Some u') → (said ≡ said') × (Some u ≡ Some u')
+page_alike lost lost' shapes name after t u u' said said' = by (place_of name shapes)
+  where
+    by : (o : Option ℕ) → ShowsTable lost shapes o after (Some t) said (Some u) → ShowsTable lost' shapes o after (Some t) said' (Some u') → (said ≡ said') × (Some u ≡ Some u')
+    by None h k = (h.0 ∙ sym k.0, h.1 ∙ sym k.1)
+    by (Some n) h k = (h.0.0 ∙ sym k.0.0, ap (λ (x : Tables). Some x) (h.0.1 ∙ sym k.0.1))
+
+-- a route does one thing
+does_one : OneNaming → (lost lost' : Type 0) (moment : ℕ) (route : Route) (body : List ℕ) (s new new' : State) (said said' : List ℕ) (t u u' : Tables)
+    → s.tables ≡ Some t → new.tables ≡ Some u → new'.tables ≡ Some u'
+    → Does lost moment route body s said new → Does lost' moment route body s said' new' → (new ≡ new') × (said ≡ said')
+unfolding Does
+does_one once lost lost' moment (Begin n) body s new new' said said' t u u' e f g h k =
+    let same : (new.sessions, said) ≡ (new'.sessions, said') = h.0 ∙ sym k.0 in (
+      h.1 ∙ ap (λ (p : List (Named SessionState) × List ℕ). record s { sessions = p.0 }) same ∙ sym k.1,
+      ap (λ (p : List (Named SessionState) × List ℕ). p.1) same,
     )
+does_one once lost lost' moment (End n) body s new new' said said' t u u' e f g h k = (h.1 ∙ sym k.1, h.0 ∙ sym k.0)
+does_one once lost lost' moment (View n) body s new new' said said' t u u' e f g h k = (h.1 ∙ sym k.1, h.0 ∙ sym k.0)
+does_one once lost lost' moment (Shown n) body s new new' said said' t u u' e f g h k =
+    (h.1 ∙ sym k.1, shows_alike once moment (formulas_of s.app) (formulas_of s.app) n s.sessions s.sessions said said' refl refl h.0 k.0)
+does_one once lost lost' moment (Items n gallery from) body s new new' said said' t u u' e f g h k = (h.1 ∙ sym k.1, h.0 ∙ sym k.0)
+does_one once lost lost' moment (Event n) body s new new' said said' t u u' e f g h k = (h.1 ∙ sym k.1, h.0 ∙ sym k.0)
+does_one once lost lost' moment (Input n) body s new new' said said' t u u' e f g h k = (h.1 ∙ sym k.1, h.0 ∙ sym k.0)
+does_one once lost lost' moment (Rows n) body s new new' said said' t u u' e f g h k =
+    let shapes = (schema_of s.app).tables in
+    let same = posts_alike lost lost' shapes n body t u u' s.desks new.desks new'.desks said said'
+    (subst (λ x. PostsRows lost shapes n body x s.desks said (Some u) new.desks) e (subst (λ x. PostsRows lost shapes n body s.tables s.desks said x new.desks) f h.0))
+    (subst (λ x. PostsRows lost' shapes n body x s.desks said' (Some u') new'.desks) e (subst (λ x. PostsRows lost' shapes n body s.tables s.desks said' x new'.desks) g k.0)) in (
+      h.1 ∙ ap (λ (x : Option Tables). record s { tables = x; desks = new.desks }) (f ∙ same.tables_are ∙ sym g)
+          ∙ ap (λ (d : List (Named Kept)). record s { tables = new'.tables; desks = d }) same.desks_are ∙ sym k.1,
+      same.reply_is,
+    )
+does_one once lost lost' moment (Edit n) body s new new' said said' t u u' e f g h k = (h.1 ∙ sym k.1, h.0 ∙ sym k.0)
+does_one once lost lost' moment (Page table after) body s new new' said said' t u u' e f g h k =
+    let shapes = (schema_of s.app).tables in
+    let same = page_alike lost lost' shapes table after t u u' said said'
+    (subst (λ x. ShowsPage lost shapes table after x said (Some u)) e (subst (λ x. ShowsPage lost shapes table after s.tables said x) f h.0))
+    (subst (λ x. ShowsPage lost' shapes table after x said' (Some u')) e (subst (λ x. ShowsPage lost' shapes table after s.tables said' x) g k.0)) in (
+      h.1 ∙ ap (λ (x : Option Tables). record s { tables = x }) (f ∙ same.1 ∙ sym g) ∙ sym k.1,
+      same.0,
+    )
+does_one once lost lost' moment Plan body s new new' said said' t u u' e f g h k = (h.1 ∙ sym k.1, h.0 ∙ sym k.0)
+does_one once lost lost' moment Graph body s new new' said said' t u u' e f g h k = (h.1 ∙ sym k.1, h.0 ∙ sym k.0)
+
+does_one_at : OneNaming → (lost lost' : Type 0) (moment : ℕ) (r : Result Route RouteEnd) (body : List ℕ) (s new new' : State) (said said' : List ℕ) (t u u' : Tables)
+    → s.tables ≡ Some t → new.tables ≡ Some u → new'.tables ≡ Some u'
+    → DoesAt lost moment r body s said new → DoesAt lost' moment r body s said' new' → (new ≡ new') × (said ≡ said')
+unfolding DoesAt
+does_one_at once lost lost' moment (Ok route) body s new new' said said' t u u' e f g h k = does_one once lost lost' moment route body s new new' said said' t u u' e f g h k
+does_one_at once lost lost' moment (Err NoRoute) body s new new' said said' t u u' e f g h k = (h.1 ∙ sym k.1, h.0 ∙ sym k.0)
+does_one_at once lost lost' moment (Err WrongMethod) body s new new' said said' t u u' e f g h k = (h.1 ∙ sym k.1, h.0 ∙ sym k.0)
+does_one_at once lost lost' moment (Err Memory) body s new new' said said' t u u' e f g h k = absurd h
+
+pub one_answer : OneNaming → IsOneRoute → (k l m n : Marks) (old new new' : State) (moment : ℕ) (request : Asked) (said said' : List ℕ) (t u u' : Tables)
+    → old.tables ≡ Some t → new.tables ≡ Some u → new'.tables ≡ Some u'
+    → Step (IsLost k l) old moment request said new → Step (IsLost m n) old moment request said' new' → (new ≡ new') × (said ≡ said')
+one_answer once one k l m n old new new' moment request said said' t u u' e f g a b =
+    let same = one request.method request.path a.route b.route (is_known (IsLost k l) moment a.route request.body said old new a.does)
+    (is_known (IsLost m n) moment b.route request.body said' old new' b.does) a.routed b.routed in
+    does_one_at once (IsLost k l) (IsLost m n) moment b.route request.body old new new' said said' t u u' e f g
+    (subst (λ r. DoesAt (IsLost k l) moment r request.body old said new) same a.does) b.does

@@ -1,6 +1,7 @@
 -- How a conversation goes on by one reply, and how it ends.
 use Rattle.std.proofs.Common.{◌≡◌, ◌≢◌, ℕ, IsTrue, suc, zero, ◌+◌, ◌<◌, ◌≤◌, ◌⊎◌, inl, inr, Bool, true, false, List, [], ◌∷◌, ◌++◌, Option, length, drop, refl, ap, sym, ◌∙◌, subst, append_assoc, arith}
 use Rattle.std.proofs.lemmas.List.{append-nil, drop-append-le, length-append, map-append}
+use Rattle.fx_base.specs.Silence.{IsLater, Marks}
 use Rattle.fx_base.specs.Telling.{Tells}
 use Rattle.app_wire.specs.Doorway.{Doorway, Takes, Talk, Writes, WritesPart, with_last, with_taken, with_written}
 use Rattle.app_wire.specs.Framing.{Framing, asked, whole}
@@ -41,9 +42,15 @@ pub record Goes (xs : List Exchange) (held : List ℕ) (a b : Doorway) : Type 0 
   pub talked : Talked taken (said_in xs) a b
 
 -- one exchange more
-pub plays_more : (old : State) (xs : List Exchange) (mid : State) → Plays old xs mid → (x : Exchange) → Answered mid x.moment x.asked x.said x.state → Plays old (xs ++ x ∷ []) x.state
-plays_more old [] mid h x answered = (subst (λ m. Answered m x.moment x.asked x.said x.state) h answered, refl)
-plays_more old (y ∷ ys) mid h x answered = (h.0, plays_more y.state ys mid h.1 x answered)
+pub plays_more : (old : State) (before : Marks) (xs : List Exchange) (mid : State) (between : Marks) → Plays old before xs mid between
+    → (x : Exchange) → IsLater between x.marks → Answered mid between x.moment x.asked x.said x.marks x.state
+    → Plays old before (xs ++ x ∷ []) x.state x.marks
+plays_more old before [] mid between h x later answered = (
+  subst (λ b. IsLater b x.marks) h.1 later,
+  subst (λ b. Answered old b x.moment x.asked x.said x.marks x.state) h.1 (subst (λ m. Answered m between x.moment x.asked x.said x.marks x.state) h.0 answered),
+  (refl, refl),
+)
+plays_more old before (y ∷ ys) mid between h x later answered = (h.0, h.1, plays_more y.state y.marks ys mid between h.2 x later answered)
 
 frames_more : (bytes : List ℕ) (xs : List Exchange) (left : List ℕ) → Frames bytes xs left → (x : Exchange) (len : ℕ) → Framing left true (whole x.asked len) → Frames bytes (xs ++ x ∷ []) (drop len left)
 frames_more bytes [] left h x len first = (len, subst (λ l. Framing l true (whole x.asked len)) h first, ap (drop len) h)

@@ -1,20 +1,15 @@
 -- The bodies of replies.
-use Rattle.std.proofs.Common.{◌≡◌, ◌⊎◌, ℕ, inl, inr, List, [], ◌∷◌, map, refl, ap, sym, ◌∙◌, subst}
-use Rattle.std.specs.Fmt.{digits}
+use Rattle.std.proofs.Common.{◌≡◌, ℕ, List, [], ◌∷◌, map, refl, ap, sym, ◌∙◌}
 use Rattle.serde_json.specs.Data.{array}
 use Rattle.serde_json.specs.View.{items_of}
 use Rattle.serde_json.specs.Written.{compact_text}
-use Rattle.serde_json.proofs.OnLiterals.{serde_json_on_literals}
-use Rattle.app_wire.specs.ReplyBytes.{refusal_body}
 use Rattle.app_names.specs.ReadyLines.{trees_of}
 use Rattle.app_names.specs.declared.formula.Formula.{Formula}
 use Rattle.fx_data.specs.Values.{Data}
 use Rattle.fx_semantics.specs.Unique.{OneNaming}
 use Rattle.recalc.specs.Valued.{AreValues, by_name}
 use Rattle.view_text.specs.JsonText.{tagged}
-use Rattle.view_text.specs.RefusalText.{refusal_text}
 use Rattle.view_text.specs.ReplyText.{named_data, named_text}
-use Rattle.view_text.specs.declared.refused.Detail.TheVariants as detail
 use Rattle.view_text.specs.declared.replies.Named.{Named}
 use Rattle.office.specs.NamedReply.{IsNamedBody, named_body, pair_data, shown}
 
@@ -34,16 +29,3 @@ one_list once moment app vs ws h k = h.2 ∙ ap (by_name app) (once moment (tree
 -- and one body
 pub one_body : OneNaming → (moment : ℕ) (app : List Formula) (x y : List ℕ) → IsNamedBody moment app x → IsNamedBody moment app y → x ≡ y
 one_body once moment app x y h k = h.2 ∙ ap named_body (one_list once moment app h.0 k.0 h.1 k.1) ∙ sym k.2
-
-plain_11 : refusal_text (record { code = 11; detail = detail.None }) ≡ refusal_body 11
-unfolding serde_json_on_literals digits
-plain_11 = refl
-
-plain_12 : refusal_text (record { code = 12; detail = detail.None }) ≡ refusal_body 12
-unfolding serde_json_on_literals digits
-plain_12 = refl
-
--- the body of a refusal with no detail, as JSON
-pub plain_body : (code : ℕ) → (code ≡ 11) ⊎ (code ≡ 12) → refusal_text (record { code = code; detail = detail.None }) ≡ refusal_body code
-plain_body code (inl e) = subst (λ k. refusal_text (record { code = k; detail = detail.None }) ≡ refusal_body k) (sym e) plain_11
-plain_body code (inr e) = subst (λ k. refusal_text (record { code = k; detail = detail.None }) ≡ refusal_body k) (sym e) plain_12

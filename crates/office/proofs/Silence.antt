@@ -1,6 +1,7 @@
 -- A conversation of no bytes.
 use Rattle.std.proofs.Common.{◌≡◌, ℕ, inl, inr, Bool, true, false, List, [], ◌∷◌, length, refl, ap, ◌∙◌, subst, arith}
 use Rattle.std.proofs.lemmas.List.{length-append}
+use Rattle.fx_base.specs.Silence.{Marks}
 use Rattle.app_wire.specs.Doorway.{IsCutOff}
 use Rattle.app_wire.specs.Framing.{IsBegun, Refuses}
 use Rattle.app_wire.proofs.Blanks.{front_byte}
@@ -49,14 +50,16 @@ ends_silent Faulted one unread written (inl h) = h.written_is
 ends_silent Faulted one unread written (inr (inl h)) = absurd (omega (arith, ap length h.xs_are, length-append h.front (h.last ∷ [])))
 ends_silent Faulted one unread written (inr (inr h)) = absurd (uncut h.part (subst (IsCutOff h.part) (unsaid h.words h.spent) h.cut))
 
-plays_none : (old new : State) (xs : List Exchange) → xs ≡ [] → Plays old xs new → new ≡ old
-plays_none old new xs none plays = subst (λ ys. Plays old ys new) none plays
+plays_none : (old new : State) (before now : Marks) (xs : List Exchange) → xs ≡ [] → Plays old before xs new now → (new ≡ old) × (now ≡ before)
+plays_none old new before now xs none plays = subst (λ ys. Plays old before ys new now) none plays
 
-pub silent : (one : Bool) (end : ConvEnd) (old new : State) (xs : List Exchange) (taken written : List ℕ)
-    → Plays old xs new → IsTalk one end xs [] taken written → (written ≡ []) × (xs ≡ []) × (new ≡ old)
-silent one end old new xs taken written plays talk =
-    let none = unanswered xs talk.left talk.frames in (
+pub silent : (one : Bool) (end : ConvEnd) (old new : State) (before now : Marks) (xs : List Exchange) (taken written : List ℕ)
+    → Plays old before xs new now → IsTalk one end xs [] taken written → (written ≡ []) × (xs ≡ []) × (new ≡ old) × (now ≡ before)
+silent one end old new before now xs taken written plays talk =
+    let none = unanswered xs talk.left talk.frames in
+    let same = plays_none old new before now xs none.0 plays in (
       ends_silent end one talk.unread written (subst (λ ys. EndsSo end one ys [] talk.unread written) none.0 (subst (λ l. EndsSo end one xs l talk.unread written) none.1 talk.ends)),
       none.0,
-      plays_none old new xs none.0 plays,
+      same.0,
+      same.1,
     )

@@ -1,36 +1,52 @@
 -- The steps of the office.
-use Rattle.std.proofs.Common.{◌≡◌, ℕ, List, Ok, Err, refl, ap}
+use Rattle.std.proofs.Common.{◌≡◌, ℕ, List, Option, None, Some, Ok, Err, ap, sym, ◌∙◌, subst}
+use Rattle.fx_base.specs.Silence.{Goes}
+use Rattle.fx_base.specs.Telling.{Stays}
+use Rattle.row_keeper.specs.Tables.{Tables}
 use Rattle.app_wire.specs.Framing.{Asked}
 use Rattle.app_wire.specs.ReplyBytes.{refusal}
 use Rattle.app_wire.specs.Routing.{Routing}
-use Rattle.app_wire.specs.declared.route.Route.TheVariants.{Begin, Named}
+use Rattle.app_wire.specs.declared.route.Route.{Route}
+use Rattle.app_wire.specs.declared.route.Route.TheVariants.{Page}
 use Rattle.app_wire.specs.declared.route.RouteEnd.TheVariants.{NoRoute, WrongMethod}
-use Rattle.office.specs.Carried.{Carries}
-use Rattle.office.specs.State.{State}
-use Rattle.office.specs.Step.{IsReplyTo, Shows, Step, begins, state_after}
+use Rattle.app_loader.specs.declared.app.App.{App}
+use Rattle.fx_trees.specs.declared.schema.Schema.{Schema}
+use Rattle.row_requests.specs.Page.{ReachesPage}
+use Rattle.office.specs.State.{State, schema_of}
+use Rattle.office.specs.Step.{Does, DoesAt, Left, Reaches, Step}
 
-pub begun : (old new : State) (moment : ℕ) (request : Asked) (name said : List ℕ)
-    → Routing request.method request.path (Ok (Begin name)) → Carries (begins old name) said new → Step old moment request said new
-unfolding state_after IsReplyTo
-begun old new moment request name said routed done = record {
-  route = Ok (Begin name);
-  routed = routed;
-  known = λ e. cc;
-  left = ap (λ (p : State × List ℕ). p.0) done;
-  replied = ap (λ (p : State × List ℕ). p.1) done;
+-- a route was taken
+pub routed : (lost : Type 0) (old new : State) (moment : ℕ) (request : Asked) (route : Route) (said : List ℕ)
+    → Routing request.method request.path (Ok route) → Does lost moment route request.body old said new → Step lost old moment request said new
+unfolding DoesAt
+routed lost old new moment request route said is does = record { route = Ok route; routed = is; does = does }
+
+-- there is none
+pub unrouted : (lost : Type 0) (old new : State) (moment : ℕ) (request : Asked) (said : List ℕ)
+    → Routing request.method request.path (Err NoRoute) → said ≡ refusal 7 → new ≡ old → Step lost old moment request said new
+unfolding DoesAt
+unrouted lost old new moment request said is replied same = record { route = Err NoRoute; routed = is; does = (replied, same) }
+
+pub wrong_method : (lost : Type 0) (old new : State) (moment : ℕ) (request : Asked) (said : List ℕ)
+    → Routing request.method request.path (Err WrongMethod) → said ≡ refusal 8 → new ≡ old → Step lost old moment request said new
+unfolding DoesAt
+wrong_method lost old new moment request said is replied same = record { route = Err WrongMethod; routed = is; does = (replied, same) }
+
+still : (lost : Type 0) (x y : Option Tables) → y ≡ x → Goes lost Stays x y
+still lost None y e = e
+still lost (Some t) None e = cc
+still lost (Some t) (Some u) e = cc
+
+-- where all is as before, it is left
+pub left_all : (lost : Type 0) (s new : State) → new ≡ s → Left lost s new
+left_all lost s new e = record {
+  tables = still lost s.tables new.tables (ap (λ (x : State). x.tables) e);
+  others = e ∙ sym (ap (λ (t : Option Tables). record s { tables = t }) (ap (λ (x : State). x.tables) e));
 }
 
-pub shown : (old : State) (moment : ℕ) (request : Asked) (name said : List ℕ)
-    → Routing request.method request.path (Ok (Named name)) → Shows moment old name said → Step old moment request said old
-unfolding state_after IsReplyTo
-shown old moment request name said routed done = record { route = Ok (Named name); routed = routed; known = λ e. cc; left = refl; replied = done }
-
-pub unrouted : (old : State) (moment : ℕ) (request : Asked) (said : List ℕ)
-    → Routing request.method request.path (Err NoRoute) → said ≡ refusal 7 → Step old moment request said old
-unfolding state_after IsReplyTo
-unrouted old moment request said routed is = record { route = Err NoRoute; routed = routed; known = λ e. cc; left = refl; replied = is }
-
-pub wrong_method : (old : State) (moment : ℕ) (request : Asked) (said : List ℕ)
-    → Routing request.method request.path (Err WrongMethod) → said ≡ refusal 8 → Step old moment request said old
-unfolding state_after IsReplyTo
-wrong_method old moment request said routed is = record { route = Err WrongMethod; routed = routed; known = λ e. cc; left = refl; replied = is }
+-- rows of a table are asked of the keeper
+pub reaches_page : (s : State) (app : App) (body : List ℕ) (route : Route) (table : List ℕ) (after : ℕ) (schema : Schema)
+    → route ≡ Page table after → schema ≡ schema_of app → s.app ≡ app → ReachesPage schema.tables table → Reaches route body s
+unfolding Reaches
+reaches_page s app body route table after schema is same of reaches =
+    subst (λ r. Reaches r body s) (sym is) (subst (λ (a : App). ReachesPage (schema_of a).tables table) (sym of) (subst (λ (x : Schema). ReachesPage x.tables table) same reaches))

@@ -1,5 +1,6 @@
 -- Whole conversations: which bytes are answered, and how the office goes on.
 use Rattle.std.specs.Prelude.{◌≡◌, ◌⊎◌, ℕ, ◌<◌, ◌≤◌, Bool, true, false, List, [], ◌∷◌, ◌++◌, length, drop, map, flat_map}
+use Rattle.fx_base.specs.Silence.{IsLater, Marks}
 use Rattle.app_wire.specs.Doorway.{Doorway, IsCutOff, Talk, Writes, WritesPart, with_last, with_taken, with_written}
 use Rattle.app_wire.specs.Framing.{Asked, Framing, IsOpen, nothing, refused, whole}
 use Rattle.app_wire.specs.ReplyBytes.{refusal}
@@ -8,11 +9,12 @@ use Rattle.office.specs.Step.{Answered}
 use Rattle.office.specs.declared.converse.ConvEnd.{ConvEnd}
 use Rattle.office.specs.declared.converse.ConvEnd.TheVariants.{Ended, Faulted, Full}
 
--- a request and the moment at which it was whole, with its reply and the office after it
+-- a request and the moment at which it was whole, with its reply, and the keeper's marks and the office after it
 pub record Exchange : Type 0 where
   pub asked : Asked
   pub moment : ℕ
   pub said : List ℕ
+  pub marks : Marks
   pub state : State
 
 -- their moments, and all of their replies
@@ -22,10 +24,12 @@ moments_of xs = map (λ x. x.moment) xs
 abbrev pub said_in : List Exchange → List ℕ
 said_in xs = flat_map (λ x. x.said) xs
 
--- From old the office answers these, one after another, and is new then.
-abbrev pub Plays : State → List Exchange → State → Type 0
-Plays old [] new = new ≡ old
-Plays old (x ∷ xs) new = Answered old x.moment x.asked x.said x.state × Plays x.state xs new
+-- From old the office answers these, one after another, and is new then. The keeper's marks never fall: the first are those at
+-- entry, the last those at exit.
+abbrev pub Plays : State → Marks → List Exchange → State → Marks → Type 0
+Plays old before [] new now = (new ≡ old) × (now ≡ before)
+Plays old before (x ∷ xs) new now =
+    IsLater before x.marks × Answered old before x.moment x.asked x.said x.marks x.state × Plays x.state x.marks xs new now
 
 -- The bytes begin with the requests of these, one after another, and these bytes are left.
 abbrev pub Frames : List ℕ → List Exchange → List ℕ → Type 0
@@ -138,5 +142,6 @@ Says Full words a b = ⊥
 -- a conversation of no bytes gets none, and changes nothing, also where the doors fail in it
 abbrev pub IsSilent : Type 0
 IsSilent =
-    (one : Bool) (end : ConvEnd) (old new : State) (xs : List Exchange) (taken written : List ℕ)
-    → Plays old xs new → IsTalk one end xs [] taken written → (written ≡ []) × (xs ≡ []) × (new ≡ old)
+    (one : Bool) (end : ConvEnd) (old new : State) (before now : Marks) (xs : List Exchange) (taken written : List ℕ)
+    → Plays old before xs new now → IsTalk one end xs [] taken written
+    → (written ≡ []) × (xs ≡ []) × (new ≡ old) × (now ≡ before)

@@ -1,24 +1,76 @@
--- What sessions have to do with one another.
-use Rattle.std.specs.Prelude.{◌≡◌, ◌≢◌, ℕ, List}
+-- What callers have to do with one another, and with requests that come again.
+use Rattle.std.specs.Prelude.{◌≡◌, ◌≢◌, ◌⊎◌, ℕ, List, [], ◌∷◌, Option, Some, None, Ok}
+use Rattle.fx_base.specs.Silence.{IsLost, Marks}
 use Rattle.app_wire.specs.Framing.{Asked}
-use Rattle.app_wire.specs.Routing.{IsPathOf}
-use Rattle.app_wire.specs.declared.route.Place.{Place}
+use Rattle.app_wire.specs.ReplyBytes.{refusal}
+use Rattle.app_wire.specs.Routing.{Routing}
 use Rattle.app_wire.specs.declared.head.Method.TheVariants.{Put}
-use Rattle.office.specs.State.{State, is_live}
-use Rattle.office.specs.Step.{Step}
+use Rattle.app_wire.specs.declared.route.Route.{Route}
+use Rattle.app_wire.specs.declared.route.Route.TheVariants.{Begin, End, View, Named, Items, Event, Input, Rows, Edit}
+use Rattle.row_requests.specs.Directory.{find}
+use Rattle.office.specs.Answers.{Exchange, Plays}
+use Rattle.office.specs.State.{State, formulas_of}
+use Rattle.office.specs.Step.{Answered, Left, Step}
 
--- a request of one session leaves every other session as it was
-abbrev pub LeavesOthers : Type 0
-LeavesOthers =
-    (old new : State) (moment : ℕ) (request : Asked) (said : List ℕ) (place : Place) (name other : List ℕ)
-    → Step old moment request said new → IsPathOf request.path place name → other ≢ name
-    → is_live new other ≡ is_live old other
+-- who sends requests: a session or a desk, of a name
+pub data Caller : Type 0 where
+  session : List ℕ → Caller
+  desk : List ℕ → Caller
 
--- Offices with the same app in which a session is live, or isn't, answer its requests alike at one moment, PUT aside, which
--- counts sessions.
+-- whose request this is, by its route
+abbrev pub caller_of : Route → Option Caller
+caller_of (Begin name) = Some (session name)
+caller_of (End name) = Some (session name)
+caller_of (View name) = Some (session name)
+caller_of (Named name) = Some (session name)
+caller_of (Items name gallery from) = Some (session name)
+caller_of (Event name) = Some (session name)
+caller_of (Input name) = Some (session name)
+caller_of (Rows name) = Some (desk name)
+caller_of (Edit name) = Some (desk name)
+caller_of _ = None
+
+-- a request of this caller
+pub record IsOf (caller : Caller) (request : Asked) : Type 0 where
+  pub route : Route
+  pub routed : Routing request.method request.path (Ok route)
+  pub caller_is : caller_of route ≡ Some caller
+
+-- any request but those of a session leaves its record as it was
+abbrev pub LeavesSession : Type 0
+LeavesSession =
+    (old new : State) (before now : Marks) (moment : ℕ) (request : Asked) (said name : List ℕ)
+    → Answered old before moment request said now new → (IsOf (session name) request → ⊥)
+    → find name new.sessions ≡ find name old.sessions
+
+-- the same of a desk
+abbrev pub LeavesDesk : Type 0
+LeavesDesk =
+    (old new : State) (before now : Marks) (moment : ℕ) (request : Asked) (said name : List ℕ)
+    → Answered old before moment request said now new → (IsOf (desk name) request → ⊥)
+    → find name new.desks ≡ find name old.desks
+
+-- Offices with the same named formulas, and with the same record of a session or with none, answer its requests alike at one
+-- moment, PUT aside, which counts sessions.
 abbrev pub IsAlone : Type 0
 IsAlone =
-    (a b new new' : State) (moment : ℕ) (request : Asked) (said said' : List ℕ) (place : Place) (name : List ℕ)
-    → IsPathOf request.path place name → request.method ≢ Put
-    → a.app ≡ b.app → is_live a name ≡ is_live b name
-    → Step a moment request said new → Step b moment request said' new' → said ≡ said'
+    (k l m n : Marks) (a b new new' : State) (moment : ℕ) (request : Asked) (said said' name : List ℕ)
+    → IsOf (session name) request → request.method ≢ Put
+    → formulas_of a.app ≡ formulas_of b.app → find name a.sessions ≡ find name b.sessions
+    → Step (IsLost k l) a moment request said new → Step (IsLost m n) b moment request said' new' → said ≡ said'
+
+-- none of these exchanges is one of this caller
+abbrev pub AreOfOthers : Caller → List Exchange → Type 0
+AreOfOthers caller [] = Unit {0}
+AreOfOthers caller (x ∷ xs) = (IsOf caller x.asked → ⊥) × AreOfOthers caller xs
+
+-- A request of a desk that was accepted comes again, after any requests of others: it gets the same reply, or want of memory, and
+-- acts no more.
+abbrev pub ActsOnce : Type 0
+ActsOnce =
+    (s t u v : State) (k l m n : Marks) (moment moment' : ℕ) (request : Asked) (said said' name : List ℕ) (between : List Exchange)
+    → IsOf (desk name) request
+    → Answered s k moment request said l t → find name t.desks ≢ find name s.desks
+    → Plays t l between u m → AreOfOthers (desk name) between
+    → Answered u m moment' request said' n v
+    → ((said' ≡ said) ⊎ (said' ≡ refusal 26)) × Left (IsLost m n) u v

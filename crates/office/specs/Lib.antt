@@ -1,7 +1,8 @@
 pub mod Answers
 pub mod AppFile
-pub mod Carried
 pub mod Isolation
 pub mod NamedReply
+pub mod Ready
+pub mod Sessions
 pub mod State
 pub mod Step

@@ -1,35 +1,35 @@
 -- The office between two requests.
-use Rattle.std.specs.Prelude.{ℕ, Bool, List, [], ◌∷◌, ◌++◌, bytes_eq}
-use Rattle.std.specs.List.{list_any}
+use Rattle.std.specs.Prelude.{ℕ, List, [], Option}
+use Rattle.fx_base.specs.Silence.{Marks}
+use Rattle.fx_trees.specs.declared.schema.Schema.{Schema}
+use Rattle.row_keeper.specs.Tables.{Tables}
+use Rattle.session_state.specs.Once.{Kept}
+use Rattle.session_state.specs.Sessions.{SessionState}
 use Rattle.app_names.specs.declared.formula.Formula.{Formula}
 use Rattle.app_loader.specs.declared.app.App.{App}
-use Rattle.office.specs.declared.machine.Office.{Office}
+use Rattle.row_requests.specs.declared.directory.Named.{Named}
 
 -- the named formulas of an app, in the order of their lines
 abbrev pub formulas_of : App → List Formula
 formulas_of a = a.lines
 
--- the app's named formulas, and the names of the live sessions in the order in which they were opened
+-- its tables
+abbrev pub schema_of : App → Schema
+schema_of a = a.schema
+
+-- The app; the tables, where the keeper tells them; the live sessions; and the desks of which a request was accepted.
 pub record State : Type 0 where
-  pub app : List Formula
-  pub sessions : List (List ℕ)
+  pub app : App
+  pub tables : Option Tables
+  pub sessions : List (Named SessionState)
+  pub desks : List (Named Kept)
 
--- the state of the program's office
-abbrev pub state_of : Office → State
-state_of o = record { app = formulas_of o.app; sessions = o.sessions.items }
+-- an office as contracts see it: its state, the marks of its keeper, and the loan through which it uses a keeper that is lent
+pub record Seen : Type 0 where
+  pub state : State
+  pub marks : Marks
+  pub loan : Option ℕ
 
--- an office that serves this app, with no session
-abbrev pub started : List Formula → State
-started app = record { app = app; sessions = [] }
-
--- the most sessions that live at a time
-abbrev pub most_sessions : ℕ
-most_sessions = 256
-
--- a session of this name is live
-abbrev pub is_live : State → List ℕ → Bool
-is_live s name = list_any (λ other. bytes_eq other name) s.sessions
-
--- with one session more
-abbrev pub opened : State → List ℕ → State
-opened s name = record s { sessions = s.sessions ++ name ∷ [] }
+-- an office that serves this app over these tables, with no session and no desk
+abbrev pub started : App → Option Tables → State
+started app tables = record { app = app; tables = tables; sessions = []; desks = [] }

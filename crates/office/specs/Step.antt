@@ -1,72 +1,78 @@
 -- What one request does.
-use Rattle.std.specs.Prelude.{◌≡◌, ◌≢◌, ◌⊎◌, ℕ, List, Option, Some, None, Result, Ok, Err, IsTrue, IfSome, MatchBool, length, nat_le, if◌then◌else◌}
+use Rattle.std.specs.Prelude.{◌≡◌, ◌⊎◌, ℕ, List, Some, Result, Ok, Err}
+use Rattle.fx_base.specs.Faults.{Rose}
+use Rattle.fx_base.specs.Silence.{Goes, IsLost, Marks}
+use Rattle.fx_base.specs.Telling.{Stays}
+use Rattle.row_keeper.specs.Tables.{Tables}
 use Rattle.app_wire.specs.Framing.{Asked}
-use Rattle.app_wire.specs.ReplyBytes.{is_fixed, refusal, reply}
+use Rattle.app_wire.specs.ReplyBytes.{refusal, reply}
 use Rattle.app_wire.specs.Routing.{Routing}
 use Rattle.app_wire.specs.declared.route.Route.{Route}
-use Rattle.app_wire.specs.declared.route.Route.TheVariants.{Begin, Named}
+use Rattle.app_wire.specs.declared.route.Route.TheVariants.{Begin, End, Named, Rows, Page}
 use Rattle.app_wire.specs.declared.route.RouteEnd.{RouteEnd}
 use Rattle.app_wire.specs.declared.route.RouteEnd.TheVariants.{NoRoute, WrongMethod, Memory}
 use Rattle.view_text.specs.ReplyText.{ok_text}
-use Rattle.office.specs.NamedReply.{IsNamedBody}
-use Rattle.office.specs.State.{State, is_live, most_sessions, opened}
-use Rattle.office.specs.declared.reply.Reply.{Reply}
+use Rattle.row_requests.specs.DeskRows.{PostsRows, ReachesRows}
+use Rattle.row_requests.specs.Page.{ReachesPage, ShowsPage}
+use Rattle.office.specs.Sessions.{ShowsNamed, begins, without}
+use Rattle.office.specs.State.{State, formulas_of, schema_of}
 
--- A session is opened. One that is live stays as it is, and a new one is refused (12) where as many live as may.
-abbrev pub begins : State → List ℕ → State × List ℕ
-begins s name =
-    if is_live s name then (s, reply 200 ok_text)
-    else (if nat_le most_sessions (length s.sessions) then (s, refusal 12)
-    else (opened s name, reply 200 ok_text))
+-- THE step by a route, at a moment: what it says, and which parts of the state may change. All others stay. `lost` is why the
+-- keeper may have fallen silent. Routes that are not built yet are none (7).
+unfoldable pub Does : Type 0 → ℕ → Route → List ℕ → State → List ℕ → State → Type 0
+Does lost moment (Begin name) body s said new =
+    ((new.sessions, said) ≡ begins s.app.names name s.sessions) × (new ≡ record s { sessions = new.sessions })
+Does lost moment (End name) body s said new =
+    (said ≡ reply 200 ok_text) × (new ≡ record s { sessions = without name s.sessions })
+Does lost moment (Named name) body s said new = ShowsNamed moment (formulas_of s.app) name s.sessions said × (new ≡ s)
+Does lost moment (Rows name) body s said new =
+    PostsRows lost (schema_of s.app).tables name body s.tables s.desks said new.tables new.desks
+    × (new ≡ record s { tables = new.tables; desks = new.desks })
+Does lost moment (Page table after) body s said new =
+    ShowsPage lost (schema_of s.app).tables table after s.tables said new.tables × (new ≡ record s { tables = new.tables })
+Does lost moment _ body s said new = (said ≡ refusal 7) × (new ≡ s)
 
--- The named formulas are shown to a live session, as they are at this moment. To no other (11).
-abbrev pub Shows : ℕ → State → List ℕ → List ℕ → Type 0
-Shows moment s name said =
-    MatchBool (is_live s name) ((body : List ℕ) × IsNamedBody moment s.app body × (said ≡ reply 200 body)) (said ≡ refusal 11)
-
--- The state after a request, by its route: only a session's beginning changes it.
-unfoldable pub state_after : Result Route RouteEnd → State → State
-state_after (Ok (Begin name)) s = (begins s name).0
-state_after (Ok (Named name)) s = s
-state_after (Err e) s = s
-
--- The reply to a request, whole at this moment, by its route. No route (7) and another method (8) come first.
-unfoldable pub IsReplyTo : Result Route RouteEnd → ℕ → State → List ℕ → Type 0
-IsReplyTo (Err NoRoute) moment s said = said ≡ refusal 7
-IsReplyTo (Err WrongMethod) moment s said = said ≡ refusal 8
-IsReplyTo (Err Memory) moment s said = said ≡ refusal 26
-IsReplyTo (Ok (Begin name)) moment s said = said ≡ (begins s name).1
-IsReplyTo (Ok (Named name)) moment s said = Shows moment s name said
+-- the same, where there may be no route (7), or one with another method (8)
+unfoldable pub DoesAt : Type 0 → ℕ → Result Route RouteEnd → List ℕ → State → List ℕ → State → Type 0
+DoesAt lost moment (Ok route) body s said new = Does lost moment route body s said new
+DoesAt lost moment (Err NoRoute) body s said new = (said ≡ refusal 7) × (new ≡ s)
+DoesAt lost moment (Err WrongMethod) body s said new = (said ≡ refusal 8) × (new ≡ s)
+DoesAt lost moment (Err Memory) body s said new = ⊥
 
 -- A request, whole at this moment, takes the office from old to new, and these bytes are the reply. After a refusal new is old.
-pub record Step (old : State) (moment : ℕ) (request : Asked) (said : List ℕ) (new : State) : Type 0 where
+pub record Step (lost : Type 0) (old : State) (moment : ℕ) (request : Asked) (said : List ℕ) (new : State) : Type 0 where
   pub route : Result Route RouteEnd
   pub routed : Routing request.method request.path route
-  pub known : route ≢ Err Memory
-  pub left : new ≡ state_after route old
-  pub replied : IsReplyTo route moment old said
+  pub does : DoesAt lost moment route request.body old said new
 
--- a request has one answer: the same state goes to the same state with the same reply
+-- the checks that call no keeper are passed
+unfoldable pub Reaches : Route → List ℕ → State → Type 0
+Reaches (Rows name) body s = ReachesRows name body s.desks
+Reaches (Page table after) body s = ReachesPage (schema_of s.app).tables table
+Reaches _ body s = ⊥
+
+-- the request calls the keeper: its route does, and what comes before is passed
+pub record ReachesKeeper (old : State) (request : Asked) : Type 0 where
+  pub route : Route
+  pub routed : Routing request.method request.path (Ok route)
+  pub reaches : Reaches route request.body old
+
+-- all stays as it was, but that the keeper may have fallen silent
+pub record Left (lost : Type 0) (old new : State) : Type 0 where
+  pub tables : Goes lost Stays old.tables new.tables
+  pub others : new ≡ record old { tables = new.tables }
+
+-- THE answer: the step; or want of memory (26), or a fault of the keeper (25) that it counted in this very request, either of
+-- which leaves the office as it was.
+abbrev pub Answered : State → Marks → ℕ → Asked → List ℕ → Marks → State → Type 0
+Answered old before moment request said now new =
+    Step (IsLost before now) old moment request said new
+    ⊎ ((said ≡ refusal 26) × Left (IsLost before now) old new)
+    ⊎ ((said ≡ refusal 25) × Rose before.faults now.faults × ReachesKeeper old request × Left (IsLost before now) old new)
+
+-- a request has one answer where the tables are told: the same state goes to the same state with the same reply
 abbrev pub IsOneAnswer : Type 0
 IsOneAnswer =
-    (old new new' : State) (moment : ℕ) (request : Asked) (said said' : List ℕ)
-    → Step old moment request said new → Step old moment request said' new' → (new ≡ new') × (said ≡ said')
-
--- the step, or want of memory (26) in its place, which leaves the office as it was
-abbrev pub Answered : State → ℕ → Asked → List ℕ → State → Type 0
-Answered old moment request said new =
-    Step old moment request said new ⊎ ((new ≡ old) × (said ≡ refusal 26))
-
--- the bytes of a reply: those of the refusal that takes no memory, where it is one
-abbrev pub said_of : Option ℕ → List ℕ → List ℕ
-said_of None bytes = bytes
-said_of (Some code) bytes = refusal code
-
-abbrev pub said : Reply → List ℕ
-said r = said_of r.fixed r.bytes.items
-
--- its refusal is one that takes no memory, and its status is that of its first line
-pub record IsReply (r : Reply) : Type 0 where
-  pub fixed : IfSome r.fixed (λ code. IsTrue (is_fixed code))
-  pub body : List ℕ
-  pub whole : said r ≡ reply r.status body
+    (k l m n : Marks) (old new new' : State) (moment : ℕ) (request : Asked) (said said' : List ℕ) (t u u' : Tables)
+    → old.tables ≡ Some t → new.tables ≡ Some u → new'.tables ≡ Some u'
+    → Step (IsLost k l) old moment request said new → Step (IsLost m n) old moment request said' new' → (new ≡ new') × (said ≡ said')

@@ -1,11 +1,11 @@
 //! Whole conversations.
 ghost use Rattle.std.specs.Prelude.{◌≡◌, ◌≢◌, ◌≤◌, IsTrue, List, length};
 ghost use Rattle.fx_base.specs.Faults.{Rose};
+ghost use Rattle.fx_base.specs.Silence.{IsLater};
 ghost use Rattle.fx_base.specs.Telling.{Tells};
 ghost use Rattle.app_wire.specs.Moments.{Ticks};
 ghost use Rattle.app_wire.specs.ReplyBytes.{is_fixed, refusal};
 ghost use Rattle.office.specs.Answers.{Converses, Exchange, IsCount, Plays, Says, moments_of};
-ghost use Rattle.office.specs.State.{state_of};
 
 use crate::machine::Office;
 use app_wire::clock::Clock;
@@ -15,6 +15,7 @@ use app_wire::next::{Found, next_request};
 use app_wire::reply::fixed_reply;
 use fx_base::Failed;
 use fx_eval::Steps;
+use row_keeper::Keeper;
 use std::sync::ledger::Ledger;
 
 /// The most requests that are answered in one conversation.
@@ -32,7 +33,7 @@ pub enum ConvEnd {
     Full,
 }
 
-impl Office {
+impl<K: Keeper + Drop> Office<K> {
     /// Answers the present conversation of the doors. Each whole request is answered before more is read, at one moment of
     /// the clock.
     pub fn converse<D: Doors, C: Clock, L: Ledger>(
@@ -42,10 +43,12 @@ impl Office {
         steps: &mut Steps<L>,
     ) -> ConvEnd
         ensures talked { (exchanges : List Exchange) × Ticks (C.told clock.old) (moments_of exchanges) (C.told clock.new)
-            × Plays (state_of self.old) exchanges (state_of self.new) × IsCount result (D.single doors.old) (length exchanges)
+            × Plays self.old.state self.old.marks exchanges self.new.state self.new.marks × IsCount result (D.single doors.old) (length exchanges)
             × Tells (Converses (D.single doors.old) result exchanges) (D.told doors.old) (D.told doors.new) }
         ensures cause { result ≡ ConvEnd.Faulted → Rose (D.faults doors.old) (D.faults doors.new) }
         ensures later { D.faults doors.old ≤ D.faults doors.new }
+        ensures marks { IsLater self.old.marks self.new.marks }
+        ensures loan { self.new.loan ≡ self.old.loan }
         ensures single { D.single doors.new ≡ D.single doors.old }
     {
         let mut framer = Framer::new(self.alloc);
@@ -54,6 +57,7 @@ impl Office {
                 Found::Whole(request) => {
                     let moment = clock.now();
                     let reply = self.answer(&request, moment, steps);
+                    // By `match`, in whose arms the proof has what the call promises; a test would hide it.
                     match write_all(doors, reply.whole()) {
                         Ok(()) => {}
                         Err(Failed) => return ConvEnd::Faulted,

@@ -1,4 +1,4 @@
-//! The office: an app, its live sessions, and the conversations that it answers.
+//! The office: an app, its live sessions and desks, the keeper of its rows, and the conversations that it answers.
 #![tactic(auto)]
 
 pub mod converse;
@@ -6,11 +6,12 @@ pub mod laws;
 mod loader;
 pub mod machine;
 mod named;
-pub mod reply;
+pub mod sessions;
 
 pub use app_loader::App;
 pub use converse::{ConvEnd, MOST_REQUESTS};
 pub use fx_trees::AppEnd;
 pub use loader::load;
-pub use machine::{MOST_SESSIONS, Office};
-pub use reply::Reply;
+pub use machine::Office;
+pub use row_requests::Reply;
+pub use sessions::MOST_SESSIONS;

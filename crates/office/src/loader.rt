@@ -1,133 +1,177 @@
 //! Apps from their files.
-ghost use Rattle.std.specs.Prelude.{◌≡◌, Err, IfErr, IfOk, Ok, codes, option_map};
-ghost use Rattle.app_loader.specs.Judged.{Tells};
-ghost use Rattle.serde_json.specs.Find.{as_array};
-ghost use Rattle.serde_json.specs.View.{items_view, view};
-ghost use Rattle.office.specs.AppFile.{JudgedApp, JudgedData, formulas_text, is_bare_screen, is_empty_list, is_one_screen, is_text, items_at, member_count, no_app, text_at};
+ghost use Rattle.std.specs.Prelude.{◌≡◌, ◌∷◌, [], Err, IfErr, IfOk, Ok, encode_utf8_all, false, true};
+ghost use Rattle.std.specs.List.{list_any};
+ghost use Rattle.app_file.specs.Files.{broken_of};
+ghost use Rattle.app_loader.specs.Judged.{Judged, Tells};
+ghost use Rattle.app_names.specs.NameRules as rules;
+ghost use Rattle.fx_trees.specs.Lawful.{IsLawfulSchema};
+ghost use Rattle.office.specs.AppFile.{JudgedApp, JudgedFile, StandBeside, has_reserved, is_bare, is_built, is_none, is_table, no_app, told};
 
-use app_loader::refusing::in_app;
+use app_file::{AppFile, FileBreak, ScreenShape};
+use app_loader::refusing::{in_app, only};
 use app_loader::{App, load_named};
-use fx_trees::{AppEnd, Rule};
-use serde_json::Value as Json;
+use app_names::{Formula, is_lawful_schema};
+use fx_base::OrMemory;
+use fx_data::Words;
+use fx_trees::literals::enumeration_of;
+use fx_trees::{AppEnd, Column, Rule, Schema, TableShape};
 use std::alloc::Global;
 
-/// The most bytes of an app file.
-const MOST_BYTES: usize = 4_194_304;
-
-/// The app of a file: JSON with the format `pfx-1`, named formulas, and one screen without controls. Every other file is
-/// refused, and one whose formulas break a rule is refused with the breaks of the first stage that has any.
+/// The app of a file: named formulas beside tables, with one screen without controls. Every other file is refused, and one
+/// without tables whose formulas break a rule is refused with the breaks of the first stage that has any. The formulas of
+/// a file see no tables yet: one that names a table, or has a table's name, is refused with the file.
 pub fn load(alloc: Global, bytes: &[u8]) -> Result<App, AppEnd>
     ensures app { IfOk result (λ a. JudgedApp bytes.now (Ok a)) }
+    ensures lawful { IfOk result (λ a. IsLawfulSchema a.schema) }
     ensures refused { IfErr result (Tells (λ bs. JudgedApp bytes.now (Err bs))) }
 {
-    if bytes.len() > MOST_BYTES {
-        return Err(no_app(alloc));
-    }
-    let Ok(text) = std::str::from_utf8(bytes) else {
-        return Err(no_app(alloc));
-    };
-    match Json::from_str(alloc, text) {
-        Ok(root) => app_in(alloc, &root),
-        Err(error) if error.is_memory() => Err(AppEnd::Memory),
-        Err(_) => Err(no_app(alloc)),
+    match app_file::read(alloc, bytes) {
+        Ok(file) => app_of(alloc, file),
+        Err(OrMemory::Refused(broken)) => Err(unread(alloc, broken)),
+        Err(OrMemory::Memory) => Err(AppEnd::Memory),
     }
 }
 
-/// That a file is no app.
+/// That a file is no app that is built.
 fn no_app(alloc: Global) -> AppEnd
     ensures { Tells (λ bs. bs ≡ no_app) result }
 {
     in_app(alloc, Rule::NotBuilt, "app")
 }
 
-/// The app that a file's JSON is.
-fn app_in(alloc: Global, root: &Json) -> Result<App, AppEnd>
-    ensures app { IfOk result (λ a. JudgedData (view root.now) (Ok a)) }
-    ensures refused { IfErr result (Tells (λ bs. JudgedData (view root.now) (Err bs))) }
+// What is told of a file that isn't read.
+fn unread(alloc: Global, broken: FileBreak) -> AppEnd
+    ensures { Tells (λ bs. bs ≡ told broken) result }
 {
-    match formulas_text(root) {
-        Some(text) => load_named(alloc, text.as_bytes()),
-        None => Err(no_app(alloc)),
+    match broken {
+        FileBreak::Passed(limit, count) => passed(alloc, FileBreak::Passed(limit, count)),
+        _ => no_app(alloc),
     }
 }
 
-/// The text of the named formulas, where the JSON is an app of the form that is built.
-fn formulas_text(root: &Json) -> Option<&str>
-    ensures { option_map (λ s. s.now) result ≡ formulas_text (view root.now) }
+fn passed(alloc: Global, broken: FileBreak) -> AppEnd
+    ensures { Tells (λ bs. bs ≡ broken_of broken ∷ []) result }
 {
-    if member_count(root) == 3 && has_format(root) && has_one_screen(root) {
-        text_at(root, "formulas")
+    match broken.broken(alloc) {
+        Ok(broken) => only(alloc, broken),
+        Err(_) => AppEnd::Memory,
+    }
+}
+
+// The app that a file holds.
+fn app_of(alloc: Global, file: AppFile) -> Result<App, AppEnd>
+    ensures app { IfOk result (λ a. JudgedFile file (Ok a)) }
+    ensures lawful { IfOk result (λ a. IsLawfulSchema a.schema) }
+    ensures refused { IfErr result (Tells (λ bs. JudgedFile file (Err bs))) }
+{
+    if !is_built(&file) {
+        return Err(no_app(alloc));
+    }
+    match load_named(alloc, file.formulas.as_str().as_bytes()) {
+        Ok(app) => beside_tables(alloc, file, app),
+        Err(AppEnd::Refused(breaks)) => {
+            if file.schema.tables.len() == 0 {
+                Err(AppEnd::Refused(breaks))
+            } else {
+                Err(no_app(alloc))
+            }
+        }
+        Err(AppEnd::Memory) => Err(AppEnd::Memory),
+    }
+}
+
+// An app of named formulas, with the tables and the row limit of its file.
+fn beside_tables(alloc: Global, file: AppFile, app: App) -> Result<App, AppEnd>
+    requires built { is_built file ≡ true }
+    requires judged { Judged (encode_utf8_all file.formulas) (Ok app) }
+    ensures app { IfOk result (λ a. JudgedFile file (Ok a)) }
+    ensures lawful { IfOk result (λ a. IsLawfulSchema a.schema) }
+    ensures refused { IfErr result (Tells (λ bs. JudgedFile file (Err bs))) }
+{
+    if stand_beside(&file.schema, &app) {
+        Ok(App {
+            lines: app.lines,
+            names: app.names,
+            schema: file.schema,
+            limit: file.row_limit,
+        })
     } else {
-        None
+        Err(no_app(alloc))
     }
 }
 
-fn has_format(root: &Json) -> bool
-    ensures { result ≡ is_text (codes "pfx-1") (text_at (codes "format") (view root.now)) }
+fn is_built(file: &AppFile) -> bool
+    ensures { result ≡ is_built file.now }
 {
-    match text_at(root, "format") {
-        Some(format) => format == "pfx-1",
-        None => false,
+    is_empty(&file.on_start) && is_bare(file.screens.as_slice())
+}
+
+fn is_empty(text: &Words) -> bool
+    ensures { result ≡ is_none (encode_utf8_all text.now) }
+{
+    text.as_str().is_empty()
+}
+
+fn is_bare(screens: &[ScreenShape]) -> bool
+    ensures { result ≡ is_bare screens.now }
+{
+    match screens {
+        [screen] => is_empty(&screen.on_visible) && screen.controls.as_slice().is_empty(),
+        _ => false,
     }
 }
 
-fn has_one_screen(root: &Json) -> bool
-    ensures { result ≡ is_one_screen (items_at (codes "screens") (view root.now)) }
+// Whether these tables stand beside an app that knows of none.
+fn stand_beside(schema: &Schema, app: &App) -> bool
+    ensures yes { result ≡ true → StandBeside schema.now app.now }
+    ensures no { result ≡ false → StandBeside schema.now app.now → ⊥ }
 {
-    match items_at(root, "screens") {
-        Some(screens) => screens.len() == 1 && is_bare_screen(&screens[0]),
-        None => false,
-    }
+    let tables = schema.tables.as_slice();
+    is_lawful_schema(schema) && !are_reserved(tables) && !are_tables(tables, app.lines.as_slice())
 }
 
-fn is_bare_screen(screen: &Json) -> bool
-    ensures { result ≡ is_bare_screen (view screen.now) }
+// Whether a table or a column has a name that no app declares.
+fn are_reserved(tables: &[TableShape]) -> bool
+    ensures { result ≡ list_any has_reserved tables.now }
 {
-    member_count(screen) == 2 && text_at(screen, "name").is_some() && has_no_controls(screen)
+    tables.iter().any(|table| has_reserved(table))
 }
 
-fn has_no_controls(screen: &Json) -> bool
-    ensures { result ≡ is_empty_list (items_at (codes "controls") (view screen.now)) }
+fn has_reserved(table: &TableShape) -> bool
+    ensures { result ≡ has_reserved table.now }
 {
-    match items_at(screen, "controls") {
-        Some(controls) => controls.is_empty(),
-        None => false,
-    }
+    is_reserved(&table.name) || has_reserved_column(table.columns.as_slice())
 }
 
-/// How many members an object has.
-fn member_count(value: &Json) -> usize
-    ensures { result ≡ member_count (view value.now) }
+fn has_reserved_column(columns: &[Column]) -> bool
+    ensures { result ≡ list_any (λ c. rules.is_reserved c.name) columns.now }
 {
-    match value.as_object() {
-        Some(members) => members.len(),
-        None => 0,
-    }
+    columns.iter().any(|column| is_reserved(&column.name))
 }
 
-/// The text of a member.
-fn text_at<'a>(value: &'a Json, key: &str) -> Option<&'a str>
-    ensures { option_map (λ s. s.now) result ≡ text_at key.now (view value.now) }
+// Whether a text is a word that no app declares.
+fn is_word(text: &str) -> bool
+    ensures { result ≡ rules.is_word text.now }
 {
-    value.get(key).and_then(Json::as_str)
+    // Grouped as in the definition.
+    text == "App" || (text == "ThisRecord" || (text == "ThisItem" || text == "FirstError"))
 }
 
-/// The elements of a member.
-fn items_at<'a>(value: &'a Json, key: &str) -> Option<&'a [Json]>
-    ensures { option_map (λ items. items_view items.now) result ≡ items_at key.now (view value.now) }
+fn is_reserved(name: &Words) -> bool
+    ensures { result ≡ rules.is_reserved name.now }
 {
-    match value.get(key) {
-        Some(member) => elements_of(member),
-        None => None,
-    }
+    is_word(name.as_str()) || enumeration_of(name.as_str()).is_some()
 }
 
-/// The elements of an array.
-fn elements_of(value: &Json) -> Option<&[Json]>
-    ensures { option_map (λ items. items_view items.now) result ≡ as_array (view value.now) }
+// Whether a formula has a table's name.
+fn are_tables(tables: &[TableShape], formulas: &[Formula]) -> bool
+    ensures { result ≡ list_any (is_table tables.now) formulas.now }
 {
-    match value.as_array() {
-        Some(items) => Some(items.as_slice()),
-        None => None,
-    }
+    formulas.iter().any(|formula| is_table(tables, formula))
+}
+
+fn is_table(tables: &[TableShape], formula: &Formula) -> bool
+    ensures { result ≡ is_table tables.now formula.now }
+{
+    tables.iter().any(|table| table.name.is(&formula.name))
 }

@@ -1,47 +1,104 @@
 //! The office, one request at a time.
-ghost use Rattle.std.specs.Prelude.{◌≡◌, ◌≤◌, IfOk, IsTrue, OnErr, vec_len};
+ghost use Rattle.std.specs.Prelude.{◌≡◌, ◌≢◌, Err, IfOk, IsErrOf, Ok, OnErr, Some, false};
+ghost use Rattle.fx_base.specs.Silence.{IsLater, IsLost};
+ghost use Rattle.fx_trees.specs.Lawful.{IsLawfulSchema};
+ghost use Rattle.row_keeper.specs.Causes.{HasCause};
+ghost use Rattle.row_keeper.specs.declared.keeper.KeeperEnd.TheVariants.{Failed};
 ghost use Rattle.app_wire.specs.Framing.{asked};
-ghost use Rattle.office.specs.State.{formulas_of, is_live, most_sessions, started, state_of};
-ghost use Rattle.office.specs.Step.{Answered, IsReply, Shows, Step, begins, said};
-ghost use Rattle.office.specs.Carried.{Carries};
+ghost use Rattle.app_wire.specs.declared.route.RouteEnd.TheVariants.{Memory as NoMemory};
+ghost use Rattle.row_requests.specs.Replies.{IsReply, said};
+ghost use Rattle.row_requests.specs.Sound.{AreSound};
+ghost use Rattle.office.specs.State.{schema_of, started};
+ghost use Rattle.office.specs.Step.{Answered, Does, Left, Reaches, ReachesKeeper, Step};
 
-use crate::named::named_body;
-use crate::reply::Reply;
+use crate::sessions::{begin, end, show_named};
 use app_loader::App;
 use app_wire::framer::Request;
 use app_wire::route::{Route, RouteEnd};
 use app_wire::routes::Routes;
 use fx_base::Memory;
-use fx_data::words::Words;
 use fx_eval::Steps;
+use fx_trees::Schema;
+use row_keeper::{Keeper, KeeperEnd};
+use row_requests::{Named, Reply, post_rows, show_page};
+use session_state::{Desk, Session};
 use std::alloc::Global;
+use std::marker::Model;
 use std::sync::ledger::Ledger;
-use view_text::ok_json;
 
-/// The most sessions that live at a time.
-pub const MOST_SESSIONS: usize = 256;
-
-/// An app in use: its live sessions, and the answers to their requests.
+/// An app in use: its live sessions, its desks, and the keeper of its rows. Between two requests no transaction is begun.
 #[derive(Drop)]
-pub struct Office {
+pub struct Office<K: Keeper + Drop> {
     pub(crate) alloc: Global,
     app: App,
     routes: Routes,
-    sessions: Vec<Words>,
+    keeper: K,
+    sessions: Vec<Named<Session>>,
+    desks: Vec<Named<Desk>>,
 }
 
-impl Office {
-    /// An office that serves this app. No session is live yet.
-    pub fn new(alloc: Global, app: App) -> Result<Office, Memory>
-        ensures { IfOk result (λ o. state_of o ≡ started (formulas_of app)) }
+impl<K: Keeper + Drop> Model for Office<K> {
+    ghost use Rattle.std.specs.Coded.{codes};
+    ghost use Rattle.app_loader.specs.contracts.app.App.{the_row as app_row};
+    ghost use Rattle.fx_data.specs.ValueCode.{data_code};
+    ghost use Rattle.fx_trees.specs.contracts.schema.Schema.{the_row as schema_row};
+    ghost use Rattle.row_queries.specs.contracts.rows.Row.{the_row as row_row};
+    ghost use Rattle.office.specs.Ready.{IsReady};
+    ghost use Rattle.office.specs.State.{Seen, schema_of};
+
+    ghost Value = { Seen };
+
+    ghost coded = { Prim.hlevel (codes, data_code, app_row.coded, schema_row.coded, row_row.coded) };
+
+    ghost view = { λ o. record {
+      state = record { app = o.app; tables = K.told o.keeper; sessions = o.sessions.items; desks = o.desks.items };
+      marks = K.marks o.keeper;
+      loan = K.loan o.keeper;
+    } };
+
+    ghost invariant = { λ o. IsReady (schema_of o.app) (K.in_transaction o.keeper) (K.shaped o.keeper) (K.told o.keeper) o.desks.items };
+}
+
+/// The tables of an app.
+fn schema_of(app: &App) -> &Schema
+    ensures { result.now ≡ schema_of app.now }
+{
+    &app.schema
+}
+
+impl<K: Keeper + Drop> Office<K> {
+    /// An office that serves this app over the keeper's tables. No session is live yet, and no desk has come into being.
+    pub fn new(alloc: Global, app: App, keeper: K) -> Result<Office<K>, Memory>
+        requires idle { K.in_transaction keeper ≡ false }
+        requires shaped { K.shaped keeper ≡ Some (schema_of app) }
+        requires lawful { IsLawfulSchema (schema_of app) }
+        requires sound { AreSound (schema_of app) (K.told keeper) }
+        ensures state { IfOk result (λ o. o.state ≡ started app (K.told keeper)) }
+        ensures marks { IfOk result (λ o. o.marks ≡ K.marks keeper) }
+        ensures loan { IfOk result (λ o. o.loan ≡ K.loan keeper) }
     {
         let routes = Routes::new(alloc)?;
-        Ok(Office {
+        Ok(Office::over(alloc, app, routes, keeper))
+    }
+
+    /// The same, where the routes are made already. It can't be refused, so a keeper that is only lent is never lost.
+    pub fn over(alloc: Global, app: App, routes: Routes, keeper: K) -> Office<K>
+        requires idle { K.in_transaction keeper ≡ false }
+        requires shaped { K.shaped keeper ≡ Some (schema_of app) }
+        requires lawful { IsLawfulSchema (schema_of app) }
+        requires sound { AreSound (schema_of app) (K.told keeper) }
+        ensures state { result.state ≡ started app (K.told keeper) }
+        ensures marks { result.marks ≡ K.marks keeper }
+        ensures loan { result.loan ≡ K.loan keeper }
+    {
+        Office {
             alloc,
             app,
             routes,
+            keeper,
             sessions: Vec::new(alloc),
-        })
+            desks: Vec::new(alloc),
+        }
     }
 
     /// Answers one request, which was whole at this moment, in seconds since 1970-01-01 UTC. After a refusal the office is
@@ -52,73 +109,107 @@ impl Office {
         moment: u64,
         steps: &mut Steps<L>,
     ) -> Reply
-        ensures answered { Answered (state_of self.old) moment (asked request.now) (said result) (state_of self.new) }
+        ensures answered { Answered self.old.state self.old.marks moment (asked request.now) (said result) self.new.marks self.new.state }
+        ensures later { IsLater self.old.marks self.new.marks }
         ensures whole { IsReply result }
+        ensures loan { self.new.loan ≡ self.old.loan }
     {
         match self.carry_out(request, moment, steps) {
             Ok(reply) => reply,
-            Err(Memory) => Reply::fixed(self.alloc, 26, 507),
+            Err(KeeperEnd::Memory) => Reply::fixed_refusal(self.alloc, 26, 507),
+            Err(KeeperEnd::Failed) => Reply::fixed_refusal(self.alloc, 25, 503),
         }
     }
 
-    /// Does what the request asks for. On want of memory nothing changes.
+    /// Does what the request asks for, or stops and leaves the office as it was.
     fn carry_out<L: Ledger>(
         &mut self,
         request: &Request,
         moment: u64,
         steps: &mut Steps<L>,
-    ) -> Result<Reply, Memory>
-        ensures step { IfOk result (λ r. Step (state_of self.old) moment (asked request.now) (said r) (state_of self.new)) }
+    ) -> Result<Reply, KeeperEnd>
+        ensures step { IfOk result (λ r. Step (IsLost self.old.marks self.new.marks) self.old.state moment (asked request.now) (said r) self.new.state) }
         ensures whole { IfOk result IsReply }
-        ensures err { OnErr result (state_of self.new ≡ state_of self.old) }
+        ensures stopped { OnErr result (Left (IsLost self.old.marks self.new.marks) self.old.state self.new.state) }
+        ensures reached { IsErrOf result Failed → ReachesKeeper self.old.state (asked request.now) }
+        ensures cause { HasCause self.old.marks self.new.marks result }
+        ensures loan { self.new.loan ≡ self.old.loan }
     {
         match self.routes.route(self.alloc, request) {
-            Ok(Route::Begin(name)) => self.begin(name),
-            Ok(Route::Named(name)) => self.show(&name, moment, steps),
-            Err(RouteEnd::NoRoute) => Ok(Reply::fixed(self.alloc, 7, 404)),
-            Err(RouteEnd::WrongMethod) => Ok(Reply::fixed(self.alloc, 8, 405)),
-            Err(RouteEnd::Memory) => Err(Memory),
+            Ok(route) => self.take(route, request, moment, steps),
+            Err(RouteEnd::NoRoute) => Ok(Reply::fixed_refusal(self.alloc, 7, 404)),
+            Err(RouteEnd::WrongMethod) => Ok(Reply::fixed_refusal(self.alloc, 8, 405)),
+            Err(RouteEnd::Memory) => Err(KeeperEnd::Memory),
         }
     }
 
-    /// Opens a session, if it isn't live.
-    fn begin(&mut self, name: Words) -> Result<Reply, Memory>
-        ensures done { IfOk result (λ r. Carries (begins (state_of self.old) name) (said r) (state_of self.new)) }
-        ensures whole { IfOk result IsReply }
-        ensures err { OnErr result (state_of self.new ≡ state_of self.old) }
-    {
-        if self.is_live(&name) {
-            return Reply::accepted(self.alloc, ok_json());
-        }
-        if self.sessions.len() >= MOST_SESSIONS {
-            return Reply::refused(self.alloc, 12, 429);
-        }
-        let reply = Reply::accepted(self.alloc, ok_json())?;
-        self.sessions.push(name)?;
-        Ok(reply)
-    }
-
-    /// Shows the named formulas to a live session, evaluated afresh.
-    fn show<L: Ledger>(
-        &self,
-        name: &Words,
+    /// Takes the route of a request.
+    #[tactic(auto, unfolding(crate::specs::Step::Does, crate::specs::Step::Reaches))]
+    fn take<L: Ledger>(
+        &mut self,
+        route: Route,
+        request: &Request,
         moment: u64,
         steps: &mut Steps<L>,
-    ) -> Result<Reply, Memory>
-        ensures done { IfOk result (λ r. Shows moment (state_of self.now) name.now (said r)) }
+    ) -> Result<Reply, KeeperEnd>
+        ensures step { IfOk result (λ r. Does (IsLost self.old.marks self.new.marks) moment route request.now.body.items self.old.state (said r) self.new.state) }
         ensures whole { IfOk result IsReply }
+        ensures stopped { OnErr result (Left (IsLost self.old.marks self.new.marks) self.old.state self.new.state) }
+        ensures reached { IsErrOf result Failed → Reaches route request.now.body.items self.old.state }
+        ensures cause { HasCause self.old.marks self.new.marks result }
+        ensures loan { self.new.loan ≡ self.old.loan }
     {
-        if !self.is_live(name) {
-            return Reply::refused(self.alloc, 11, 404);
+        match route {
+            Route::Begin(name) => {
+                match begin(self.alloc, &self.app.names, &mut self.sessions, name) {
+                    Ok(reply) => Ok(reply),
+                    Err(Memory) => Err(KeeperEnd::Memory),
+                }
+            }
+            Route::End(name) => match end(self.alloc, &mut self.sessions, &name) {
+                Ok(reply) => Ok(reply),
+                Err(Memory) => Err(KeeperEnd::Memory),
+            },
+            Route::Named(name) => {
+                match show_named(self.alloc, &self.app, &self.sessions, &name, moment, steps) {
+                    Ok(reply) => Ok(reply),
+                    Err(Memory) => Err(KeeperEnd::Memory),
+                }
+            }
+            Route::Rows(name) => post_rows(
+                self.alloc,
+                &mut self.keeper,
+                &mut self.desks,
+                schema_of(&self.app),
+                &name,
+                &request.body,
+            ),
+            Route::Page(table, after) => show_page(
+                self.alloc,
+                &mut self.keeper,
+                schema_of(&self.app),
+                &table,
+                after,
+            ),
+            // Not built yet.
+            Route::View(_)
+            | Route::Items(_, _, _)
+            | Route::Event(_)
+            | Route::Input(_)
+            | Route::Edit(_)
+            | Route::Plan
+            | Route::Graph => Ok(Reply::fixed_refusal(self.alloc, 7, 404)),
         }
-        let body = named_body(self.alloc, &self.app, moment, steps)?;
-        Reply::accepted(self.alloc, &body)
     }
 
-    /// Whether a session of this name is live.
-    fn is_live(&self, name: &Words) -> bool
-        ensures { result ≡ is_live (state_of self.now) name.now }
+    /// The keeper.
+    pub fn into_keeper(self) -> K
+        ensures tables { K.told result ≡ self.state.tables }
+        ensures marks { K.marks result ≡ self.marks }
+        ensures loan { K.loan result ≡ self.loan }
+        ensures idle { K.in_transaction result ≡ false }
+        ensures shaped { K.shaped result ≡ Some (schema_of self.state.app) }
     {
-        self.sessions.iter().any(|other| other.is(name))
+        self.keeper
     }
 }

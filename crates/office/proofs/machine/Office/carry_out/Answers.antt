@@ -1,26 +1,26 @@
+use Rattle.std.proofs.Common.{refl}
 use Rattle.std.proofs.lemmas.Result.{IfOk-weaker}
 use Rattle.app_wire.specs.Framing.{asked}
-use Rattle.office.specs.State.{state_of}
-use Rattle.office.specs.Step.{said}
-use Rattle.office.proofs.Steps.{begun, shown, unrouted, wrong_method}
+use Rattle.row_requests.specs.Replies.{said}
+use Rattle.office.proofs.Steps.{left_all, routed, unrouted, wrong_method}
 use Rattle.office.proofs.machine.Office.carry_out.Goals as goal
 
-pub returns-in-Ok-Begin-clause-step : goal.returns-in-Ok-Begin-clause-step
-returns-in-Ok-Begin-clause-step g c =
-    let routed = rw c.in-Ok-Begin.field-0-is at c.in-Ok-Begin.ensures in
-    IfOk-weaker c.begin.result _ _ (λ r done. begun (state_of c.args.self.now) (state_of c.begin.new.self) c.args.moment (asked c.args.request.now) c.in-Ok-Begin.name (said r) routed done) c.begin.ensures.done
+pub returns-in-Ok-clause-step : goal.returns-in-Ok-clause-step
+returns-in-Ok-clause-step g c =
+    IfOk-weaker c.take.result _ _ (λ r does. routed _ c.args.self.now.state _ c.args.moment (asked c.args.request.now) c.in-Ok.route (said r) c.in-Ok.ensures does) c.take.ensures.step
 
-pub returns-in-Ok-Named-clause-step : goal.returns-in-Ok-Named-clause-step
-returns-in-Ok-Named-clause-step g c =
-    let routed = rw c.in-Ok-Named.field-0-is at c.in-Ok-Named.ensures in
-    IfOk-weaker c.show.result _ _ (λ r done. shown (state_of c.args.self.now) c.args.moment (asked c.args.request.now) c.in-Ok-Named.name (said r) routed done) c.show.ensures.done
+pub returns-in-Ok-clause-reached : goal.returns-in-Ok-clause-reached
+returns-in-Ok-clause-reached g c failed = record { route = c.in-Ok.route; routed = c.in-Ok.ensures; reaches = c.take.ensures.reached failed }
 
 pub returns-in-Err-NoRoute-clause-step : goal.returns-in-Err-NoRoute-clause-step
 returns-in-Err-NoRoute-clause-step g c =
-    let routed = rw c.in-Err-NoRoute.field-0-is at c.in-Err-NoRoute.ensures in
-    unrouted (state_of c.args.self.now) c.args.moment (asked c.args.request.now) (said c.fixed.result) routed c.fixed.ensures.said
+    let is = rw c.in-Err-NoRoute.field-0-is at c.in-Err-NoRoute.ensures in
+    unrouted _ _ _ c.args.moment (asked c.args.request.now) _ is c.fixed_refusal.ensures.said refl
 
 pub returns-in-Err-WrongMethod-clause-step : goal.returns-in-Err-WrongMethod-clause-step
 returns-in-Err-WrongMethod-clause-step g c =
-    let routed = rw c.in-Err-WrongMethod.field-0-is at c.in-Err-WrongMethod.ensures in
-    wrong_method (state_of c.args.self.now) c.args.moment (asked c.args.request.now) (said c.fixed-in-Err-WrongMethod.result) routed c.fixed-in-Err-WrongMethod.ensures.said
+    let is = rw c.in-Err-WrongMethod.field-0-is at c.in-Err-WrongMethod.ensures in
+    wrong_method _ _ _ c.args.moment (asked c.args.request.now) _ is c.fixed_refusal-in-Err-WrongMethod.ensures.said refl
+
+pub returns-in-Err-Memory-clause-stopped : goal.returns-in-Err-Memory-clause-stopped
+returns-in-Err-Memory-clause-stopped g c = left_all _ _ _ refl

@@ -1,0 +1,5 @@
+use Rattle.office.proofs.Again.{acts_once}
+use Rattle.office.proofs.laws.acts_once.Goals as goal
+
+pub returns : goal.returns
+returns c = acts_once c.one_route.ensures

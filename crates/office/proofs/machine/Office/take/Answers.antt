@@ -1,0 +1,9 @@
+use Rattle.std.proofs.Common.{ap, sym}
+use Rattle.office.specs.State.{Seen}
+use Rattle.office.proofs.Steps.{reaches_page}
+use Rattle.office.proofs.machine.Office.take.Goals as goal
+
+pub returns-in-Page-clause-reached : goal.returns-in-Page-clause-reached
+returns-in-Page-clause-reached g c failed =
+    reaches_page c.args.self.now.state c.self.inside.app c.args.request.now.body.items c.args.route c.in-Page.table c.in-Page.after c.schema_of-in-Page.result.now
+    c.in-Page.is c.schema_of-in-Page.ensures (sym (ap (λ (s : Seen). s.state.app) c.self.view_is)) (c.show_page.ensures.reached failed)
