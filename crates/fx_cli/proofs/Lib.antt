@@ -1,3 +1,4 @@
+pub mod Opened
 pub mod Replays
 pub mod Reported
 pub mod Said

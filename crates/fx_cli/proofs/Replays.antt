@@ -7,9 +7,8 @@ use Rattle.app_wire.specs.Moments.{Ticks}
 use Rattle.app_wire.proofs.Doorways.{last_at_end}
 use Rattle.office.specs.Answers.{Converses, moments_of, with_bytes}
 use Rattle.office.proofs.Plays.{two}
-use Rattle.office.specs.State.{State}
 use Rattle.office.specs.declared.converse.ConvEnd.{ConvEnd}
-use Rattle.fx_cli.specs.Held.{Conversation, EndsIn, GoesOnAfter, Held, HoldsNext, IsHeld, LeavesNone, Replayed, Sends, SendsOne, all_moments, most_conversations}
+use Rattle.fx_cli.specs.Held.{Conversation, EndsIn, GoesOnAfter, Held, HoldsNext, IsHeld, LeavesNone, Replayed, Sends, SendsOne, Standing, all_moments, most_conversations}
 use Rattle.fx_cli.specs.declared.replay.ReplayEnd.{ReplayEnd}
 use Rattle.fx_cli.specs.declared.replay.ReplayEnd.TheVariants.{Done, Fault, Full}
 
@@ -50,10 +49,10 @@ pub sends_more : (one : Bool) (cs : List Conversation) (c : Conversation) (x y z
 sends_more one [] c x y z h k = (z, subst (λ d. SendsOne one c d z) h k, refl)
 sends_more one (d ∷ ds) c x y z h k = (h.0, h.1, sends_more one ds c h.0 y z h.2 k)
 
-pub held_more : (one : Bool) (old : State) (count : ℕ) (cs : List Conversation) (mid : State) (between : ℕ) → Held one old count cs mid between
-    → (c : Conversation) → IsHeld one mid between c → GoesOnAfter one c.end → Held one old count (cs ++ c ∷ []) c.state c.after
+pub held_more : (one : Bool) (old : Standing) (count : ℕ) (cs : List Conversation) (mid : Standing) (between : ℕ) → Held one old count cs mid between
+    → (c : Conversation) → IsHeld one mid between c → GoesOnAfter one c.end → Held one old count (cs ++ c ∷ []) c.office c.after
 held_more one old count [] mid between h c k on = (subst (λ n. IsHeld one old n c) h.1 (subst (λ s. IsHeld one s between c) h.0 k), on, (refl, refl))
-held_more one old count (d ∷ ds) mid between h c k on = (h.0, h.1, held_more one d.state d.after ds mid between h.2 c k on)
+held_more one old count (d ∷ ds) mid between h c k on = (h.0, h.1, held_more one d.office d.after ds mid between h.2 c k on)
 
 leaves_any : (stop : ReplayEnd) (one : Bool) (end : ConvEnd) → EndsIn stop one end → (b : Doorway) → LeavesNone stop b
 leaves_any Done one end is b = absurd is
@@ -61,23 +60,23 @@ leaves_any Fault one end is b = tt
 leaves_any Full one end is b = tt
 
 -- a conversation that ends a replay
-pub replay_stops : (one : Bool) (old mid new : State) (count between now : ℕ) (clock clock_mid clock_now : Option (List ℕ)) (doors doors_mid doors_now : Option Doorway)
+pub replay_stops : (one : Bool) (old mid new : Standing) (count between now : ℕ) (clock clock_mid clock_now : Option (List ℕ)) (doors doors_mid doors_now : Option Doorway)
     (cs : List Conversation) (end : ConvEnd) (stop : ReplayEnd) → length cs < most_conversations → Ticks clock (all_moments cs) clock_mid → Held one old count cs mid between
     → Tells (Sends one cs) doors doors_mid → HoldsNext one end mid new between now clock_mid clock_now doors_mid doors_now → EndsIn stop one end
-    → Replayed one old count now clock clock_now doors doors_now stop
+    → Replayed one old new count now clock clock_now doors doors_now stop
 replay_stops one old mid new count between now clock clock_mid clock_now doors doors_mid doors_now cs end stop few ticks is_held sends h is = record {
   held = cs;
   last = Some h.conversation;
   mid = mid;
   between = between;
   is_held = is_held;
-  ends = (few, h.held, subst (EndsIn stop one) (sym h.ended) is, sym h.counted);
+  ends = (few, h.held, subst (EndsIn stop one) (sym h.ended) is, sym h.counted, sym h.left);
   ticks = ticks_more clock cs clock_mid h.conversation clock_now ticks h.ticks;
   told = two (λ x y z s k. (sends_more one cs h.conversation x y z s k, leaves_any stop one end is z)) sends h.told;
 }
 
 -- one after which it goes on
-pub held_on : (one : Bool) (old mid new : State) (count between now : ℕ) (clock clock_mid clock_now : Option (List ℕ)) (doors doors_mid doors_now : Option Doorway)
+pub held_on : (one : Bool) (old mid new : Standing) (count between now : ℕ) (clock clock_mid clock_now : Option (List ℕ)) (doors doors_mid doors_now : Option Doorway)
     (cs : List Conversation) (n : ℕ) (end : ConvEnd) → Ticks clock (all_moments cs) clock_mid → Held one old count cs mid between → length cs ≡ n
     → Tells (Sends one cs) doors doors_mid → HoldsNext one end mid new between now clock_mid clock_now doors_mid doors_now → GoesOnAfter one end
     → (cs' : List Conversation) × Ticks clock (all_moments cs') clock_now × Held one old count cs' new now × (length cs' ≡ n + 1) × Tells (Sends one cs') doors doors_now

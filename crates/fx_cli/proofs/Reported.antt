@@ -1,22 +1,25 @@
 -- How a run ends where the first bytes of its file are told.
-use Rattle.std.proofs.Common.{◌≡◌, ℕ, ◌⊎◌, inl, inr, List, [], Option, Some, None, Result, Ok, Err, String, refl, ap, sym, ◌∙◌, subst}
+use Rattle.std.proofs.Common.{◌≡◌, ℕ, inl, inr, List, [], Option, Some, None, Result, Ok, Err, String, refl, ap, sym, ◌∙◌, subst}
 use Rattle.std.specs.declared.alloc.Global.{Global}
 use Rattle.app_loader.specs.declared.app.App.{App}
 use Rattle.app_loader.specs.Judged.{Judged}
 use Rattle.app_loader.specs.Judged as judged
 use Rattle.app_loader.specs.Verdicts.{IsOneVerdict}
 use Rattle.fx_base.specs.Faults.{Rose}
+use Rattle.fx_base.specs.Silence.{Marks}
 use Rattle.fx_trees.specs.declared.broken.Broken.{Broken as Break}
 use Rattle.fx_trees.specs.declared.app_end.AppEnd.{AppEnd}
 use Rattle.fx_trees.specs.declared.app_end.AppEnd.TheVariants as end
+use Rattle.row_keeper.specs.Tables.{Tables}
 use Rattle.office.specs.AppFile.{IsOneApp, JudgedApp}
+use Rattle.fx_cli.specs.Held.{Standing}
 use Rattle.fx_cli.specs.declared.replay.ReplayEnd.{ReplayEnd}
 use Rattle.fx_cli.specs.declared.replay.ReplayEnd.TheVariants as replay
 use Rattle.fx_cli.specs.declared.report.Report.{Report}
-use Rattle.fx_cli.specs.declared.report.Report.TheVariants.{Shown, Broken, Usage, OutOfMemory, Unread, Replayed}
+use Rattle.fx_cli.specs.declared.report.Report.TheVariants.{Shown, Broken, Usage, OutOfMemory, Unread, KeeperFault, OtherSchema, Replayed}
 use Rattle.fx_cli.specs.declared.words.Form.{Form}
 use Rattle.fx_cli.specs.declared.words.Form.TheVariants.{View, Replay}
-use Rattle.fx_cli.specs.Report.{EndsWith, HasFile, IsRefusal, JudgedAs, Reports, Takes, Wanted, no_replay, no_show, status_of}
+use Rattle.fx_cli.specs.Report.{EndsOver, EndsReplay, EndsWith, HasFile, IsRefusal, JudgedAs, Reports, Takes, Wanted, no_replay, no_show, status_of}
 use Rattle.fx_cli.specs.Telling.{Contents}
 
 abbrev form_in : Form → Wanted → Form
@@ -59,7 +62,7 @@ differ texts apps View bytes a bs p q = texts bytes a bs p q
 differ texts apps Replay bytes a bs p q = apps bytes a bs p q
 
 -- formulas end with 0
-pub built_at : IsOneVerdict → IsOneApp → {F : Type 0} (told : F → Option Contents) (asked : F → List (List ℕ)) (faults : F → ℕ) (old new : F) (shows : App → String Global → Type 0) (ends : App → ReplayEnd → Type 0) (wanted : Wanted) (r : Report)
+pub built_at : IsOneVerdict → IsOneApp → {F : Type 0} (told : F → Option Contents) (asked : F → List (List ℕ)) (faults : F → ℕ) (old new : F) (shows : App → String Global → Type 0) (ends : App → Report → Type 0) (wanted : Wanted) (r : Report)
     (sink_rose : Type 0) (bytes : List ℕ) (a : App)
     → Reports told asked faults old new shows ends wanted r → HasFile told old wanted View bytes → Judged bytes (Ok a)
     → EndsWith 0 (status_of r) (Rose (faults old) (faults new)) sink_rose
@@ -69,10 +72,12 @@ built_at texts apps told asked faults old new shows ends wanted (Broken text) s 
 built_at texts apps told asked faults old new shows ends wanted Usage s bytes a h has is = let some = has.is_wanted in cc
 built_at texts apps told asked faults old new shows ends wanted OutOfMemory s bytes a h has is = inr (inl refl)
 built_at texts apps told asked faults old new shows ends wanted (Unread text) s bytes a h has is = inr (inr (inl h.rose))
+built_at texts apps told asked faults old new shows ends wanted KeeperFault s bytes a h has is = absurd (not_both wanted has.name h.takes.name has.is_wanted h.takes.asks.is_wanted)
+built_at texts apps told asked faults old new shows ends wanted OtherSchema s bytes a h has is = absurd (not_both wanted has.name h.takes.name has.is_wanted h.takes.asks.is_wanted)
 built_at texts apps told asked faults old new shows ends wanted (Replayed end) s bytes a h has is = absurd (not_both wanted has.name h.takes.name has.is_wanted h.takes.asks.is_wanted)
 
 -- a file that breaks a rule ends with 1
-pub refused_at : IsOneVerdict → IsOneApp → {F : Type 0} (told : F → Option Contents) (asked : F → List (List ℕ)) (faults : F → ℕ) (old new : F) (shows : App → String Global → Type 0) (ends : App → ReplayEnd → Type 0) (wanted : Wanted) (r : Report)
+pub refused_at : IsOneVerdict → IsOneApp → {F : Type 0} (told : F → Option Contents) (asked : F → List (List ℕ)) (faults : F → ℕ) (old new : F) (shows : App → String Global → Type 0) (ends : App → Report → Type 0) (wanted : Wanted) (r : Report)
     (sink_rose : Type 0) (form : Form) (bytes : List ℕ) (bs : List Break)
     → Reports told asked faults old new shows ends wanted r → HasFile told old wanted form bytes → JudgedAs form bytes (Err bs)
     → EndsWith 1 (status_of r) (Rose (faults old) (faults new)) sink_rose
@@ -82,59 +87,83 @@ refused_at texts apps told asked faults old new shows ends wanted (Broken text) 
 refused_at texts apps told asked faults old new shows ends wanted Usage s form bytes bs h has is = let some = has.is_wanted in cc
 refused_at texts apps told asked faults old new shows ends wanted OutOfMemory s form bytes bs h has is = inr (inl refl)
 refused_at texts apps told asked faults old new shows ends wanted (Unread text) s form bytes bs h has is = inr (inr (inl h.rose))
+refused_at texts apps told asked faults old new shows ends wanted KeeperFault s form bytes bs h has is =
+    absurd (differ texts apps form bytes h.app bs (moved told asked old new wanted form Replay bytes h.bytes (Ok h.app) has h.takes h.judged) is)
+refused_at texts apps told asked faults old new shows ends wanted OtherSchema s form bytes bs h has is =
+    absurd (differ texts apps form bytes h.app bs (moved told asked old new wanted form Replay bytes h.bytes (Ok h.app) has h.takes h.judged) is)
 refused_at texts apps told asked faults old new shows ends wanted (Replayed end) s form bytes bs h has is =
     absurd (differ texts apps form bytes h.app bs (moved told asked old new wanted form Replay bytes h.bytes (Ok h.app) has h.takes h.judged) is)
 
--- an app is replayed up to an end
-ends_at : (end : ReplayEnd) (files_rose sink_rose : Type 0) → (status_of (Replayed end) ≡ 6) ⊎ (status_of (Replayed end) ≡ 9) ⊎ EndsWith 0 (status_of (Replayed end)) files_rose sink_rose
-ends_at replay.Done f s = inr (inr (inl refl))
-ends_at replay.Fault f s = inl refl
-ends_at replay.Full f s = inr (inl refl)
+-- an app is replayed up to an end, but where the keeper can't be opened for it
+ends_at : (end : ReplayEnd) (files_rose sink_rose : Type 0) → EndsReplay (status_of (Replayed end)) files_rose sink_rose
+ends_at replay.Done f s = inr (inr (inr (inr (inl refl))))
+ends_at replay.Fault f s = inr (inl refl)
+ends_at replay.Full f s = inr (inr (inr (inl refl)))
 
-pub replayed_at : IsOneVerdict → IsOneApp → {F : Type 0} (told : F → Option Contents) (asked : F → List (List ℕ)) (faults : F → ℕ) (old new : F) (shows : App → String Global → Type 0) (ends : App → ReplayEnd → Type 0) (wanted : Wanted) (r : Report)
+pub replayed_at : IsOneVerdict → IsOneApp → {F : Type 0} (told : F → Option Contents) (asked : F → List (List ℕ)) (faults : F → ℕ) (old new : F) (shows : App → String Global → Type 0) (ends : App → Report → Type 0) (wanted : Wanted) (r : Report)
     (sink_rose : Type 0) (bytes : List ℕ) (a : App)
     → Reports told asked faults old new shows ends wanted r → HasFile told old wanted Replay bytes → JudgedApp bytes (Ok a)
-    → (status_of r ≡ 6) ⊎ (status_of r ≡ 9) ⊎ EndsWith 0 (status_of r) (Rose (faults old) (faults new)) sink_rose
+    → EndsReplay (status_of r) (Rose (faults old) (faults new)) sink_rose
 replayed_at texts apps told asked faults old new shows ends wanted (Shown text) s bytes a h has is = absurd (not_both wanted h.takes.name has.name h.takes.asks.is_wanted has.is_wanted)
 replayed_at texts apps told asked faults old new shows ends wanted (Broken text) s bytes a h has is =
     absurd (differ texts apps Replay bytes a h.breaks is (moved told asked old new wanted Replay h.form bytes h.bytes (Err h.breaks) has h.takes h.judged))
 replayed_at texts apps told asked faults old new shows ends wanted Usage s bytes a h has is = let some = has.is_wanted in cc
-replayed_at texts apps told asked faults old new shows ends wanted OutOfMemory s bytes a h has is = inr (inr (inr (inl refl)))
-replayed_at texts apps told asked faults old new shows ends wanted (Unread text) s bytes a h has is = inr (inr (inr (inr (inl h.rose))))
+replayed_at texts apps told asked faults old new shows ends wanted OutOfMemory s bytes a h has is = inr (inr (inr (inr (inr (inl refl)))))
+replayed_at texts apps told asked faults old new shows ends wanted (Unread text) s bytes a h has is = inr (inr (inr (inr (inr (inr (inl h.rose))))))
+replayed_at texts apps told asked faults old new shows ends wanted KeeperFault s bytes a h has is = inl refl
+replayed_at texts apps told asked faults old new shows ends wanted OtherSchema s bytes a h has is = inr (inr (inl refl))
 replayed_at texts apps told asked faults old new shows ends wanted (Replayed end) s bytes a h has is = ends_at end (Rose (faults old) (faults new)) s
 
 -- a file was read, and is refused
-pub reports_refused : {F : Type 0} (told : F → Option Contents) (asked : F → List (List ℕ)) (faults : F → ℕ) (old new : F) (shows : App → String Global → Type 0) (ends : App → ReplayEnd → Type 0) (form : Form) (name bytes : List ℕ) (e : AppEnd) (r : Report)
+pub reports_refused : {F : Type 0} (told : F → Option Contents) (asked : F → List (List ℕ)) (faults : F → ℕ) (old new : F) (shows : App → String Global → Type 0) (ends : App → Report → Type 0) (form : Form) (name bytes : List ℕ) (e : AppEnd) (r : Report)
     → Takes told asked old new (Some (form, name)) form bytes → judged.Tells (λ bs. JudgedAs form bytes (Err bs)) e → IsRefusal e r → Reports told asked faults old new shows ends (Some (form, name)) r
 reports_refused told asked faults old new shows ends form name bytes (end.Refused all) (Broken text) takes tells is =
     record { form = form; bytes = bytes; breaks = all.items; takes = takes; judged = tells; lines = is }
 reports_refused told asked faults old new shows ends form name bytes e OutOfMemory takes tells is = refl
 reports_refused told asked faults old new shows ends form name bytes e r takes tells is = absurd is
 
+-- a file was read, and is an app, whose replay came to a report
+pub reports_over : {F K : Type 0} (told : F → Option Contents) (asked : F → List (List ℕ)) (faults : F → ℕ) (old new : F) (tables : K → Option Tables) (attached : K → Option (Option (List ℕ))) (marks : K → Marks) (attaches : K → List ℕ → K → Type 0) (k l : K)
+    (serves : ReplayEnd → Standing → Standing → Type 0) (name bytes : List ℕ) (a : App) (r : Report)
+    → Takes told asked old new (Some (Replay, name)) Replay bytes → JudgedApp bytes (Ok a) → EndsOver tables attached marks attaches k l serves a r
+    → Reports told asked faults old new no_show (EndsOver tables attached marks attaches k l serves) (Some (Replay, name)) r
+reports_over told asked faults old new tables attached marks attaches k l serves name bytes a (Shown text) takes judged h = absurd h
+reports_over told asked faults old new tables attached marks attaches k l serves name bytes a (Broken text) takes judged h = absurd h
+reports_over told asked faults old new tables attached marks attaches k l serves name bytes a Usage takes judged h = absurd h
+reports_over told asked faults old new tables attached marks attaches k l serves name bytes a OutOfMemory takes judged h = refl
+reports_over told asked faults old new tables attached marks attaches k l serves name bytes a (Unread text) takes judged h = absurd h
+reports_over told asked faults old new tables attached marks attaches k l serves name bytes a KeeperFault takes judged h = record { bytes = bytes; app = a; takes = takes; judged = judged; ended = h }
+reports_over told asked faults old new tables attached marks attaches k l serves name bytes a OtherSchema takes judged h = record { bytes = bytes; app = a; takes = takes; judged = judged; ended = h }
+reports_over told asked faults old new tables attached marks attaches k l serves name bytes a (Replayed end) takes judged h = record { bytes = bytes; app = a; takes = takes; judged = judged; ended = h }
+
 -- a view replays nothing
-viewed_by : {F : Type 0} (told : F → Option Contents) (asked : F → List (List ℕ)) (faults : F → ℕ) (old new : F) (shows : App → String Global → Type 0) (ends : App → ReplayEnd → Type 0) (w : Wanted) (r : Report)
+viewed_by : {F : Type 0} (told : F → Option Contents) (asked : F → List (List ℕ)) (faults : F → ℕ) (old new : F) (shows : App → String Global → Type 0) (ends : App → Report → Type 0) (w : Wanted) (r : Report)
     → Reports told asked faults old new shows no_replay w r → Reports told asked faults old new shows ends w r
 viewed_by told asked faults old new shows ends w (Shown text) h = h
 viewed_by told asked faults old new shows ends w (Broken text) h = h
 viewed_by told asked faults old new shows ends w Usage h = h
 viewed_by told asked faults old new shows ends w OutOfMemory h = h
 viewed_by told asked faults old new shows ends w (Unread text) h = h
+viewed_by told asked faults old new shows ends w KeeperFault h = absurd h.ended
+viewed_by told asked faults old new shows ends w OtherSchema h = absurd h.ended
 viewed_by told asked faults old new shows ends w (Replayed end) h = absurd h.ended
 
-pub viewed : {F : Type 0} (told : F → Option Contents) (asked : F → List (List ℕ)) (faults : F → ℕ) (old new : F) (shows : App → String Global → Type 0) (ends : App → ReplayEnd → Type 0) (v w : Wanted) (r : Report)
+pub viewed : {F : Type 0} (told : F → Option Contents) (asked : F → List (List ℕ)) (faults : F → ℕ) (old new : F) (shows : App → String Global → Type 0) (ends : App → Report → Type 0) (v w : Wanted) (r : Report)
     → v ≡ w → Reports told asked faults old new shows no_replay v r → Reports told asked faults old new shows ends w r
 viewed told asked faults old new shows ends v w r e h = subst (λ (x : Wanted). Reports told asked faults old new shows ends x r) e (viewed_by told asked faults old new shows ends v r h)
 
 -- a replay shows nothing
-replayed_by : {F : Type 0} (told : F → Option Contents) (asked : F → List (List ℕ)) (faults : F → ℕ) (old new : F) (shows : App → String Global → Type 0) (ends : App → ReplayEnd → Type 0) (w : Wanted) (r : Report)
+replayed_by : {F : Type 0} (told : F → Option Contents) (asked : F → List (List ℕ)) (faults : F → ℕ) (old new : F) (shows : App → String Global → Type 0) (ends : App → Report → Type 0) (w : Wanted) (r : Report)
     → Reports told asked faults old new no_show ends w r → Reports told asked faults old new shows ends w r
 replayed_by told asked faults old new shows ends w (Shown text) h = absurd h.shown
 replayed_by told asked faults old new shows ends w (Broken text) h = h
 replayed_by told asked faults old new shows ends w Usage h = h
 replayed_by told asked faults old new shows ends w OutOfMemory h = h
 replayed_by told asked faults old new shows ends w (Unread text) h = h
+replayed_by told asked faults old new shows ends w KeeperFault h = h
+replayed_by told asked faults old new shows ends w OtherSchema h = h
 replayed_by told asked faults old new shows ends w (Replayed end) h = h
 
-pub replayed_so : {F : Type 0} (told : F → Option Contents) (asked : F → List (List ℕ)) (faults : F → ℕ) (old new : F) (shows : App → String Global → Type 0) (ends : App → ReplayEnd → Type 0) (v w : Wanted) (r : Report)
+pub replayed_so : {F : Type 0} (told : F → Option Contents) (asked : F → List (List ℕ)) (faults : F → ℕ) (old new : F) (shows : App → String Global → Type 0) (ends : App → Report → Type 0) (v w : Wanted) (r : Report)
     → v ≡ w → Reports told asked faults old new no_show ends v r → Reports told asked faults old new shows ends w r
 replayed_so told asked faults old new shows ends v w r e h = subst (λ (x : Wanted). Reports told asked faults old new shows ends x r) e (replayed_by told asked faults old new shows ends v r h)

@@ -1,29 +1,39 @@
 -- Lists of conversations, and how a replay of them ends.
 use Rattle.std.specs.Prelude.{◌≡◌, ℕ, ◌<◌, ◌≤◌, Bool, true, false, List, [], ◌∷◌, ◌++◌, length, flat_map, Option, Some, None}
 use Rattle.fx_base.specs.Faults.{Rose}
+use Rattle.fx_base.specs.Silence.{Marks}
 use Rattle.fx_base.specs.Telling.{Tells}
 use Rattle.app_wire.specs.Doorway.{Doorway}
 use Rattle.app_wire.specs.Moments.{Ticks}
 use Rattle.office.specs.Answers.{Exchange, IsCount, IsTalk, Plays, moments_of}
-use Rattle.office.specs.State.{State}
+use Rattle.office.specs.State.{Seen, State}
 use Rattle.office.specs.declared.converse.ConvEnd.{ConvEnd}
 use Rattle.office.specs.declared.converse.ConvEnd.TheVariants as conv
 use Rattle.fx_cli.specs.declared.replay.ReplayEnd.{ReplayEnd}
 use Rattle.fx_cli.specs.declared.replay.ReplayEnd.TheVariants.{Done, Fault, Full}
 
--- What was answered in a conversation, how it ended, the office after it, and the doors' count of faults as it came and as
--- it was over.
+-- How an office stands: its state, and the marks of its keeper.
+pub record Standing : Type 0 where
+  pub state : State
+  pub marks : Marks
+
+-- how an office that is seen so stands
+abbrev pub standing : Seen → Standing
+standing office = record { state = office.state; marks = office.marks }
+
+-- What was answered in a conversation, how it ended, how the office stands after it, and the doors' count of faults as it
+-- came and as it was over.
 pub record Conversation : Type 0 where
   pub exchanges : List Exchange
   pub end : ConvEnd
-  pub state : State
+  pub office : Standing
   pub before : ℕ
   pub after : ℕ
 
--- From this state and this count it was held, over doors of one reply or of more. It broke off only by a fault that was
+-- From this office and this count it was held, over doors of one reply or of more. It broke off only by a fault that was
 -- counted in it.
-pub record IsHeld (one : Bool) (old : State) (count : ℕ) (c : Conversation) : Type 0 where
-  pub plays : Plays old c.exchanges c.state
+pub record IsHeld (one : Bool) (old : Standing) (count : ℕ) (c : Conversation) : Type 0 where
+  pub plays : Plays old.state old.marks c.exchanges c.office.state c.office.marks
   pub few : IsCount c.end one (length c.exchanges)
   pub since : count ≤ c.before
   pub later : c.before ≤ c.after
@@ -37,9 +47,9 @@ GoesOnAfter one conv.Full = ⊥
 
 -- They were held one after another, each from where the one before left the office and the count, and after each the
 -- replay went on.
-abbrev pub Held : Bool → State → ℕ → List Conversation → State → ℕ → Type 0
+abbrev pub Held : Bool → Standing → ℕ → List Conversation → Standing → ℕ → Type 0
 Held one old count [] new now = (new ≡ old) × (now ≡ count)
-Held one old count (c ∷ cs) new now = IsHeld one old count c × GoesOnAfter one c.end × Held one c.state c.after cs new now
+Held one old count (c ∷ cs) new now = IsHeld one old count c × GoesOnAfter one c.end × Held one c.office c.after cs new now
 
 -- the moments of all their requests
 abbrev pub all_moments : List Conversation → List ℕ
@@ -80,10 +90,10 @@ EndsIn Fault one end = (end ≡ conv.Faulted) × (one ≡ false)
 EndsIn Full one end = end ≡ conv.Full
 
 -- it ended so, with a last conversation that ended it, or without one
-abbrev pub ReplayEnds : ReplayEnd → Bool → State → ℕ → ℕ → Option Conversation → ℕ → Type 0
-ReplayEnds end one mid count held None now = EndsBetween end held count now
-ReplayEnds end one mid count held (Some c) now =
-    (held < most_conversations) × IsHeld one mid count c × EndsIn end one c.end × (now ≡ c.after)
+abbrev pub ReplayEnds : ReplayEnd → Bool → Standing → ℕ → ℕ → Option Conversation → Standing → ℕ → Type 0
+ReplayEnds end one mid count held None new now = EndsBetween end held count now × (new ≡ mid)
+ReplayEnds end one mid count held (Some c) new now =
+    (held < most_conversations) × IsHeld one mid count c × EndsIn end one c.end × (now ≡ c.after) × (new ≡ c.office)
 
 -- with the last one, if there is one
 abbrev pub and_last : List Conversation → Option Conversation → List Conversation
@@ -96,23 +106,23 @@ LeavesNone Done b = b.coming ≡ []
 LeavesNone Fault b = Unit {0}
 LeavesNone Full b = Unit {0}
 
--- A replay that began in this state and with this count ended so: these conversations were held, with the moments that the
--- clock gave.
-pub record Replayed (one : Bool) (old : State) (count now : ℕ) (clock clock_now : Option (List ℕ)) (doors doors_now : Option Doorway) (end : ReplayEnd) : Type 0 where
+-- A replay that began with this office and with this count ended so: these conversations were held, with the moments that
+-- the clock gave.
+pub record Replayed (one : Bool) (old new : Standing) (count now : ℕ) (clock clock_now : Option (List ℕ)) (doors doors_now : Option Doorway) (end : ReplayEnd) : Type 0 where
   pub held : List Conversation
   pub last : Option Conversation
-  pub mid : State
+  pub mid : Standing
   pub between : ℕ
   pub is_held : Held one old count held mid between
-  pub ends : ReplayEnds end one mid between (length held) last now
+  pub ends : ReplayEnds end one mid between (length held) last new now
   pub ticks : Ticks clock (all_moments (and_last held last)) clock_now
   pub told : Tells (λ a b. Sends one (and_last held last) a b × LeavesNone end b) doors doors_now
 
 -- the next conversation was held, and ended so
-pub record HoldsNext (one : Bool) (end : ConvEnd) (old new : State) (count now : ℕ) (clock clock_now : Option (List ℕ)) (doors doors_now : Option Doorway) : Type 0 where
+pub record HoldsNext (one : Bool) (end : ConvEnd) (old new : Standing) (count now : ℕ) (clock clock_now : Option (List ℕ)) (doors doors_now : Option Doorway) : Type 0 where
   pub conversation : Conversation
   pub ended : conversation.end ≡ end
-  pub left : conversation.state ≡ new
+  pub left : conversation.office ≡ new
   pub counted : conversation.after ≡ now
   pub held : IsHeld one old count conversation
   pub ticks : Ticks clock (moments_of conversation.exchanges) clock_now

@@ -1,5 +1,6 @@
 pub mod Disk
 pub mod Held
+pub mod Opening
 pub mod Plain
 pub mod Report
 pub mod Telling

@@ -2,6 +2,7 @@
 use Rattle.std.specs.Prelude.{◌≡◌, ℕ, ◌+◌, ◌++◌, [], ◌∷◌, ◌⊎◌, List, Option, Some, None, IsSome, Result, Ok, Err, String, codes, flat_map, option_map, string_bytes, take}
 use Rattle.std.specs.declared.alloc.Global.{Global}
 use Rattle.fx_base.specs.Faults.{Rose}
+use Rattle.fx_base.specs.Silence.{Marks}
 use Rattle.fx_base.specs.Telling.{Tells}
 use Rattle.app_loader.specs.declared.app.App.{App}
 use Rattle.app_loader.specs.Judged.{Judged, longest}
@@ -10,11 +11,16 @@ use Rattle.fx_trees.specs.BrokenText.{ended_line}
 use Rattle.fx_trees.specs.declared.broken.Broken.{Broken as Break}
 use Rattle.fx_trees.specs.declared.app_end.AppEnd.{AppEnd}
 use Rattle.fx_trees.specs.declared.app_end.AppEnd.TheVariants as end
+use Rattle.fx_trees.specs.declared.schema.Schema.{Schema}
+use Rattle.row_keeper.specs.Tables.{Tables}
 use Rattle.office.specs.AppFile.{JudgedApp, most_bytes}
+use Rattle.office.specs.State.{schema_of}
+use Rattle.fx_cli.specs.Held.{Standing}
+use Rattle.fx_cli.specs.Opening.{Counted, IsAsked, IsServed, IsStopped}
 use Rattle.fx_cli.specs.declared.replay.ReplayEnd.{ReplayEnd}
 use Rattle.fx_cli.specs.declared.replay.ReplayEnd.TheVariants as replay
 use Rattle.fx_cli.specs.declared.report.Report.{Report}
-use Rattle.fx_cli.specs.declared.report.Report.TheVariants.{Shown, Broken, Usage, OutOfMemory, Unread, Replayed}
+use Rattle.fx_cli.specs.declared.report.Report.TheVariants.{Shown, Broken, Usage, OutOfMemory, Unread, KeeperFault, OtherSchema, Replayed}
 use Rattle.fx_cli.specs.declared.words.Form.{Form}
 use Rattle.fx_cli.specs.declared.words.Form.TheVariants.{View, Replay}
 use Rattle.fx_cli.specs.Telling.{AreFirst, Contents, Grows, GrowsInPart}
@@ -25,8 +31,14 @@ usage_text = codes "usage: pfx view FILE | check APP | replay APP | serve APP DB
 unfoldable pub memory_text : List ℕ
 memory_text = codes "pfx: out of memory\n"
 
+unfoldable pub keeper_text : List ℕ
+keeper_text = codes "pfx: keeper fault\n"
+
 unfoldable pub fault_text : List ℕ
 fault_text = codes "pfx: connection fault\n"
+
+unfoldable pub schema_text : List ℕ
+schema_text = codes "pfx: the database has another schema\n"
 
 unfoldable pub limit_text : List ℕ
 limit_text = codes "pfx: request limit\n"
@@ -79,7 +91,7 @@ pub record IsView {F : Type 0} (told : F → Option Contents) (asked : F → Lis
   pub judged : Judged bytes (Ok app)
   pub shown : shows app
 
--- The file is an app, and a replay of it ended so.
+-- The file is an app, and its replay came to this.
 pub record IsReplay {F : Type 0} (told : F → Option Contents) (asked : F → List (List ℕ)) (old new : F) (wanted : Wanted) (ends : App → Type 0) : Type 0 where
   pub bytes : List ℕ
   pub app : App
@@ -104,23 +116,35 @@ pub record IsMissed {F : Type 0} (asked : F → List (List ℕ)) (faults : F →
   pub rose : Rose (faults old) (faults new)
   pub line : text ≡ unread_text name
 
--- When a run that wants this comes to each report. The values of an app were shown so, as `shows` says, and a replay of
--- an app ended so, as `ends` says.
+-- When the replay of an app comes to each report: a call failed that opens the keeper, the keeper keeps another schema, or
+-- it was served up to an end, as `serves` says.
+abbrev pub EndsOver : {K : Type 0} (told : K → Option Tables) (attached : K → Option (Option (List ℕ))) (marks : K → Marks) (attaches : K → List ℕ → K → Type 0) (old new : K)
+    (serves : ReplayEnd → Standing → Standing → Type 0) → App → Report → Type 0
+EndsOver told attached marks attaches old new serves app KeeperFault = IsStopped told attached marks attaches Counted old new
+EndsOver told attached marks attaches old new serves app OtherSchema = (other : Schema) × IsAsked told attached marks attaches (schema_of app) (Some other) old new
+EndsOver told attached marks attaches old new serves app (Replayed end) = IsServed told attached marks attaches old new app (serves end)
+EndsOver told attached marks attaches old new serves app OutOfMemory = Unit {0}
+EndsOver told attached marks attaches old new serves app r = ⊥
+
+-- When a run that wants this comes to each report. The values of an app were shown so, as `shows` says, and the replay of
+-- an app came to the report, as `ends` says.
 abbrev pub Reports : {F : Type 0} (told : F → Option Contents) (asked : F → List (List ℕ)) (faults : F → ℕ) (old new : F)
-    (shows : App → String Global → Type 0) (ends : App → ReplayEnd → Type 0) → Wanted → Report → Type 0
+    (shows : App → String Global → Type 0) (ends : App → Report → Type 0) → Wanted → Report → Type 0
 Reports told asked faults old new shows ends wanted (Shown text) = IsView told asked old new wanted (λ app. shows app text)
 Reports told asked faults old new shows ends wanted (Broken text) = IsBroken told asked old new wanted (string_bytes text)
 Reports told asked faults old new shows ends wanted Usage = wanted ≡ None
 Reports told asked faults old new shows ends wanted OutOfMemory = IsSome wanted
 Reports told asked faults old new shows ends wanted (Unread text) = IsMissed asked faults old new wanted (string_bytes text)
-Reports told asked faults old new shows ends wanted (Replayed end) = IsReplay told asked old new wanted (λ app. ends app end)
+Reports told asked faults old new shows ends wanted KeeperFault = IsReplay told asked old new wanted (λ app. ends app KeeperFault)
+Reports told asked faults old new shows ends wanted OtherSchema = IsReplay told asked old new wanted (λ app. ends app OtherSchema)
+Reports told asked faults old new shows ends wanted (Replayed end) = IsReplay told asked old new wanted (λ app. ends app (Replayed end))
 
 -- nothing was shown, and nothing was replayed
 abbrev pub no_show : App → String Global → Type 0
 no_show app text = ⊥
 
-abbrev pub no_replay : App → ReplayEnd → Type 0
-no_replay app end = ⊥
+abbrev pub no_replay : App → Report → Type 0
+no_replay app report = ⊥
 
 -- no conversation was begun
 abbrev pub IsIdle : Report → Type 0
@@ -130,6 +154,8 @@ IsIdle (Broken text) = Unit {0}
 IsIdle Usage = Unit {0}
 IsIdle OutOfMemory = Unit {0}
 IsIdle (Unread text) = Unit {0}
+IsIdle KeeperFault = Unit {0}
+IsIdle OtherSchema = Unit {0}
 
 -- nothing was evaluated
 abbrev pub IsTimeless : Report → Type 0
@@ -138,20 +164,38 @@ IsTimeless Usage = Unit {0}
 IsTimeless (Unread text) = Unit {0}
 IsTimeless (Shown text) = ⊥
 IsTimeless OutOfMemory = ⊥
+IsTimeless KeeperFault = Unit {0}
+IsTimeless OtherSchema = Unit {0}
 IsTimeless (Replayed end) = ⊥
 
 -- a clock was left alone, or was read once
 abbrev pub IsReadOnceAtMost : {C : Type 0} → (C → Option (List ℕ)) → C → C → Type 0
 IsReadOnceAtMost told old new = (new ≡ old) ⊎ ((moment : ℕ) × Tick moment (told old) (told new))
 
--- What a run that came to a report left alone: the files, the doors, the clock, or the clock but for one reading.
-abbrev pub Leaves : Wanted → Type 0 → Type 0 → Type 0 → Type 0 → Report → Type 0
-Leaves wanted files doors clock once (Shown text) = doors
-Leaves wanted files doors clock once (Broken text) = doors × clock
-Leaves wanted files doors clock once Usage = files × doors × clock
-Leaves wanted files doors clock once OutOfMemory = doors × (Wants Replay wanted → clock) × (Wants View wanted → once)
-Leaves wanted files doors clock once (Unread text) = doors × clock
-Leaves wanted files doors clock once (Replayed end) = Unit {0}
+-- What a replay that came to a report left alone of the keeper: all, but where it was opened. For want of memory a call may
+-- have stopped that opens it.
+abbrev pub LeavesKeeper : Type 0 → Type 0 → Report → Type 0
+LeavesKeeper keeper stopped (Shown text) = keeper
+LeavesKeeper keeper stopped (Broken text) = keeper
+LeavesKeeper keeper stopped Usage = keeper
+LeavesKeeper keeper stopped OutOfMemory = keeper ⊎ stopped
+LeavesKeeper keeper stopped (Unread text) = keeper
+LeavesKeeper keeper stopped KeeperFault = Unit {0}
+LeavesKeeper keeper stopped OtherSchema = Unit {0}
+LeavesKeeper keeper stopped (Replayed end) = Unit {0}
+
+-- What a run that came to a report left alone: the files, the doors, the clock, or the clock but for one reading, and the
+-- keeper. For want of memory in a replay a call may have stopped that opens the keeper.
+abbrev pub Leaves : Wanted → Type 0 → Type 0 → Type 0 → Type 0 → Type 0 → Type 0 → Report → Type 0
+Leaves wanted files doors clock once keeper stopped (Shown text) = doors × keeper
+Leaves wanted files doors clock once keeper stopped (Broken text) = doors × clock × keeper
+Leaves wanted files doors clock once keeper stopped Usage = files × doors × clock × keeper
+Leaves wanted files doors clock once keeper stopped OutOfMemory =
+    doors × (Wants Replay wanted → clock × (keeper ⊎ stopped)) × (Wants View wanted → once × keeper)
+Leaves wanted files doors clock once keeper stopped (Unread text) = doors × clock × keeper
+Leaves wanted files doors clock once keeper stopped KeeperFault = doors × clock
+Leaves wanted files doors clock once keeper stopped OtherSchema = doors × clock
+Leaves wanted files doors clock once keeper stopped (Replayed end) = Unit {0}
 
 -- it says that a file of this name could not be read, or memory ran out
 abbrev pub IsUnread : List ℕ → Report → Type 0
@@ -160,6 +204,8 @@ IsUnread name OutOfMemory = Unit {0}
 IsUnread name (Shown text) = ⊥
 IsUnread name (Broken text) = ⊥
 IsUnread name Usage = ⊥
+IsUnread name KeeperFault = ⊥
+IsUnread name OtherSchema = ⊥
 IsUnread name (Replayed end) = ⊥
 
 -- it shows a text of which this holds, or memory ran out
@@ -187,6 +233,8 @@ status_of (Broken text) = 1
 status_of Usage = 2
 status_of OutOfMemory = 3
 status_of (Unread text) = 4
+status_of KeeperFault = 5
+status_of OtherSchema = 8
 status_of (Replayed end) = status_of_end end
 
 -- what is said at the end of a replay
@@ -202,6 +250,8 @@ text_of (Broken text) = string_bytes text
 text_of Usage = usage_text
 text_of OutOfMemory = memory_text
 text_of (Unread text) = string_bytes text
+text_of KeeperFault = keeper_text
+text_of OtherSchema = schema_text
 text_of (Replayed end) = text_of_end end
 
 -- a report was said: the run ends with its status and wrote its text, or a fault of the sink was counted, the run ends with
@@ -214,3 +264,7 @@ IsSaid report status sink_rose out out_now =
 -- a run ended with this status, or for want of memory, or by a counted fault
 abbrev pub EndsWith : ℕ → ℕ → Type 0 → Type 0 → Type 0
 EndsWith wanted status files_rose sink_rose = (status ≡ wanted) ⊎ (status ≡ 3) ⊎ files_rose ⊎ sink_rose
+
+-- a replay of an app ended so: its keeper failed or keeps another schema, the doors failed, the most was answered, or all was
+abbrev pub EndsReplay : ℕ → Type 0 → Type 0 → Type 0
+EndsReplay status files_rose sink_rose = (status ≡ 5) ⊎ (status ≡ 6) ⊎ (status ≡ 8) ⊎ (status ≡ 9) ⊎ EndsWith 0 status files_rose sink_rose

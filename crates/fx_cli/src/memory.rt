@@ -55,6 +55,7 @@ impl Files for MemoryFiles {
     ghost faults = { λ m. m.plan.count };
 
     fn read(&mut self, name: &str, most: u32) -> Result<Vec<u8>, FileEnd> {
+        // Taken before the call is counted, so that want of memory changes nothing.
         let bytes = first_bytes(self.alloc, &self.files, name, most)?;
         self.asked.add(self.alloc, name)?;
         if self.plan.next_fails() {
@@ -79,7 +80,7 @@ fn first_bytes(
 ) -> Result<Option<Vec<u8>>, Memory>
     ensures { IfOk result (λ found. option_map (λ v. v.items) found ≡ option_map (take most) (bytes_named (files_of files.now) name.now)) }
 {
-    match file_named(files, name) {
+    match find_file(files, name) {
         Some(bytes) => {
             let count = bytes.len().min(most as usize);
             Ok(Some(Vec::from_slice(alloc, &bytes[..count])?))
@@ -89,7 +90,7 @@ fn first_bytes(
 }
 
 /// The bytes of the first file of this name.
-fn file_named<'a>(files: &'a [(String, Vec<u8>)], name: &str) -> Option<&'a [u8]>
+fn find_file<'a>(files: &'a [(String, Vec<u8>)], name: &str) -> Option<&'a [u8]>
     ensures { option_copied result ≡ bytes_named (files_of files.now) name.now }
 {
     for (other, bytes) in files {

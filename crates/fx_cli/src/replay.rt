@@ -1,16 +1,17 @@
 //! All conversations of doors, one after another.
 ghost use Rattle.std.specs.Prelude.{◌≡◌, ◌≤◌, IfOk, IfSome, None, Ok, OnErr, false};
 ghost use Rattle.fx_base.specs.Faults.{Rose};
+ghost use Rattle.fx_base.specs.Silence.{IsLater};
 ghost use Rattle.fx_base.specs.Telling.{Stays, Tells};
 ghost use Rattle.app_wire.specs.Doorway.{Comes};
-ghost use Rattle.office.specs.State.{state_of};
-ghost use Rattle.fx_cli.specs.Held.{HoldsNext, Replayed, StopsAt};
+ghost use Rattle.fx_cli.specs.Held.{HoldsNext, Replayed, StopsAt, standing};
 
 use app_wire::clock::Clock;
 use app_wire::doors::Doors;
 use fx_base::Failed;
 use fx_eval::Steps;
 use office::{ConvEnd, Office};
+use row_keeper::Keeper;
 use std::sync::ledger::Ledger;
 
 /// The most conversations of a replay.
@@ -28,15 +29,17 @@ pub enum ReplayEnd {
 }
 
 /// Answers all conversations of the doors, and hangs up each.
-pub fn replay<D: Doors, C: Clock, L: Ledger>(
-    office: &mut Office,
+pub fn replay<K: Keeper + Drop, D: Doors, C: Clock, L: Ledger>(
+    office: &mut Office<K>,
     doors: &mut D,
     clock: &mut C,
     steps: &mut Steps<L>,
 ) -> ReplayEnd
-    ensures replayed { Replayed (D.single doors.old) (state_of office.old) (D.faults doors.old) (D.faults doors.new) (C.told clock.old) (C.told clock.new) (D.told doors.old) (D.told doors.new) result }
+    ensures replayed { Replayed (D.single doors.old) (standing office.old) (standing office.new) (D.faults doors.old) (D.faults doors.new) (C.told clock.old) (C.told clock.new) (D.told doors.old) (D.told doors.new) result }
     ensures cause { result ≡ ReplayEnd.Fault → Rose (D.faults doors.old) (D.faults doors.new) }
     ensures later { D.faults doors.old ≤ D.faults doors.new }
+    ensures marks { IsLater office.old.marks office.new.marks }
+    ensures loan { office.new.loan ≡ office.old.loan }
     ensures single { D.single doors.new ≡ D.single doors.old }
 {
     for held in 0..MOST_CONVERSATIONS {
@@ -66,18 +69,20 @@ fn stop_at(end: ConvEnd, one: bool) -> Option<ReplayEnd>
 }
 
 /// Answers the next conversation, if one is left, and hangs up. It says how that one ended.
-fn hold_next<D: Doors, C: Clock, L: Ledger>(
-    office: &mut Office,
+fn hold_next<K: Keeper + Drop, D: Doors, C: Clock, L: Ledger>(
+    office: &mut Office<K>,
     doors: &mut D,
     clock: &mut C,
     steps: &mut Steps<L>,
 ) -> Result<Option<ConvEnd>, Failed>
-    ensures held { IfOk result (λ turn. IfSome turn (λ end. HoldsNext (D.single doors.old) end (state_of office.old) (state_of office.new) (D.faults doors.old) (D.faults doors.new) (C.told clock.old) (C.told clock.new) (D.told doors.old) (D.told doors.new))) }
+    ensures held { IfOk result (λ turn. IfSome turn (λ end. HoldsNext (D.single doors.old) end (standing office.old) (standing office.new) (D.faults doors.old) (D.faults doors.new) (C.told clock.old) (C.told clock.new) (D.told doors.old) (D.told doors.new))) }
     ensures none { result ≡ Ok None → Tells (Comes false) (D.told doors.old) (D.told doors.new) }
     ensures same { result ≡ Ok None → (clock.new ≡ clock.old) × (office.new ≡ office.old) }
     ensures failed { OnErr result (Tells Stays (D.told doors.old) (D.told doors.new) × (clock.new ≡ clock.old) × (office.new ≡ office.old)) }
     ensures cause { OnErr result (Rose (D.faults doors.old) (D.faults doors.new)) }
     ensures later { D.faults doors.old ≤ D.faults doors.new }
+    ensures marks { IsLater office.old.marks office.new.marks }
+    ensures loan { office.new.loan ≡ office.old.loan }
     ensures single { D.single doors.new ≡ D.single doors.old }
 {
     if !doors.next()? {

@@ -1,27 +1,31 @@
 //! What a run says before it ends.
-ghost use Rattle.std.specs.Prelude.{◌≡◌, ◌≤◌, Err, IfErr, IfOk, List, Ok, Some, string_bytes};
-ghost use Rattle.app_loader.specs.Judged.{Tells};
-ghost use Rattle.app_loader.specs.declared.app.App.{App as Loaded};
+ghost use Rattle.std.specs.Prelude.{◌≡◌, ◌≤◌, Some, false, string_bytes};
 ghost use Rattle.fx_base.specs.Faults.{Rose};
-ghost use Rattle.office.specs.AppFile.{JudgedApp};
-ghost use Rattle.office.specs.State.{formulas_of, started, state_of};
+ghost use Rattle.fx_base.specs.Silence.{IsLater};
+ghost use Rattle.fx_trees.specs.Lawful.{IsLawfulSchema};
+ghost use Rattle.office.specs.State.{State, formulas_of, schema_of, started};
+ghost use Rattle.row_requests.specs.Sound.{AreSound};
 ghost use Rattle.fx_cli.specs.Held.{Replayed};
+ghost use Rattle.fx_cli.specs.Opening.{IsStopped, Unsaid};
 ghost use Rattle.fx_cli.specs.Plain.{IsShown, IsShownNow};
-ghost use Rattle.fx_cli.specs.Report.{IsIdle, IsReadOnceAtMost, IsRefusal, IsShowing, IsTimeless, IsUnread, Leaves, Reports, fault_text, limit_text, memory_text, no_replay, no_show, status_of, status_of_end, text_of, text_of_end, unread_text, usage_text};
+ghost use Rattle.fx_cli.specs.Report.{EndsOver, IsIdle, IsReadOnceAtMost, IsRefusal, IsShowing, IsTimeless, IsUnread, Leaves, LeavesKeeper, Reports, fault_text, keeper_text, limit_text, memory_text, no_replay, no_show, schema_text, status_of, status_of_end, text_of, text_of_end, unread_text, usage_text};
 ghost use Rattle.fx_cli.specs.Words.{wanted};
 ghost use Rattle.fx_cli.specs.declared.words.Form.TheVariants.{Replay, View};
 
 use crate::files::{FileEnd, Files};
+use crate::opening::open_keeper;
 use crate::replay::{ReplayEnd, replay};
 use crate::view::view_text;
 use crate::words::{Form, form_of};
 use app_loader::{App, load_named};
 use app_wire::clock::Clock;
 use app_wire::doors::Doors;
+use app_wire::routes::Routes;
 use fx_base::Memory;
 use fx_eval::Steps;
 use fx_trees::{AppEnd, lines};
 use office::{Office, load};
+use row_keeper::{Keeper, KeeperEnd};
 use std::alloc::Global;
 use std::sync::ledger::Ledger;
 
@@ -38,6 +42,10 @@ pub enum Report {
     OutOfMemory,
     /// The file could not be read.
     Unread(String),
+    /// The keeper failed as it was opened.
+    KeeperFault,
+    /// The keeper keeps another schema than that of the app.
+    OtherSchema,
     /// The conversations were answered, up to this end.
     Replayed(ReplayEnd),
 }
@@ -53,6 +61,8 @@ impl Report {
             Report::Usage => 2,
             Report::OutOfMemory => 3,
             Report::Unread(_) => 4,
+            Report::KeeperFault => 5,
+            Report::OtherSchema => 8,
             Report::Replayed(end) => status_of_end(*end),
         }
     }
@@ -67,6 +77,8 @@ impl Report {
             Report::Usage => usage(),
             Report::OutOfMemory => out_of_memory(),
             Report::Unread(text) => text.as_bytes(),
+            Report::KeeperFault => keeper_fault(),
+            Report::OtherSchema => other_schema(),
             Report::Replayed(end) => text_of_end(*end),
         }
     }
@@ -92,6 +104,7 @@ fn text_of_end(end: ReplayEnd) -> &'static [u8]
     }
 }
 
+// A function for each text, so that no other proof reads it letter by letter.
 #[tactic(auto, unfolding(crate::specs::Report::usage_text))]
 fn usage() -> &'static [u8]
     ensures { result.now ≡ usage_text }
@@ -104,6 +117,20 @@ fn out_of_memory() -> &'static [u8]
     ensures { result.now ≡ memory_text }
 {
     b"pfx: out of memory\n"
+}
+
+#[tactic(auto, unfolding(crate::specs::Report::keeper_text))]
+fn keeper_fault() -> &'static [u8]
+    ensures { result.now ≡ keeper_text }
+{
+    b"pfx: keeper fault\n"
+}
+
+#[tactic(auto, unfolding(crate::specs::Report::schema_text))]
+fn other_schema() -> &'static [u8]
+    ensures { result.now ≡ schema_text }
+{
+    b"pfx: the database has another schema\n"
 }
 
 #[tactic(auto, unfolding(crate::specs::Report::fault_text))]
@@ -127,26 +154,32 @@ const MOST_READ: u32 = 262_145;
 const MOST_APP_READ: u32 = 4_194_305;
 
 /// Does what the words ask for, up to the report of it.
-pub fn carry_out<D: Doors, F: Files, C: Clock, L: Ledger>(
+pub fn carry_out<D: Doors, K: Keeper, F: Files, C: Clock, L: Ledger>(
     alloc: Global,
     words: &[String],
     doors: &mut D,
+    keeper: &mut K,
     files: &mut F,
     clock: &mut C,
     steps: &mut Steps<L>,
 ) -> Report
+    requires idle { K.in_transaction keeper.old ≡ false }
     ensures reports { Reports F.told F.asked F.faults files.old files.new
         (λ app text. IsShownNow (C.told clock.old) (C.told clock.new) (formulas_of app) (string_bytes text))
-        (λ app end. Replayed (D.single doors.old) (started (formulas_of app)) (D.faults doors.old) (D.faults doors.new) (C.told clock.old) (C.told clock.new) (D.told doors.old) (D.told doors.new) end) (wanted words.now) result }
+        (EndsOver K.told K.attached K.marks K.attaches keeper.old keeper.new
+        (λ end old new. Replayed (D.single doors.old) old new (D.faults doors.old) (D.faults doors.new) (C.told clock.old) (C.told clock.new) (D.told doors.old) (D.told doors.new) end)) (wanted words.now) result }
     ensures cause { result ≡ Report.Replayed ReplayEnd.Fault → Rose (D.faults doors.old) (D.faults doors.new) }
-    ensures leaves { Leaves (wanted words.now) (files.new ≡ files.old) (doors.new ≡ doors.old) (clock.new ≡ clock.old) (IsReadOnceAtMost C.told clock.old clock.new) result }
+    ensures leaves { Leaves (wanted words.now) (files.new ≡ files.old) (doors.new ≡ doors.old) (clock.new ≡ clock.old) (IsReadOnceAtMost C.told clock.old clock.new)
+        (keeper.new ≡ keeper.old) (IsStopped K.told K.attached K.marks K.attaches Unsaid keeper.old keeper.new) result }
     ensures later { F.faults files.old ≤ F.faults files.new }
     ensures doors_later { D.faults doors.old ≤ D.faults doors.new }
+    ensures keeper_later { IsLater (K.marks keeper.old) (K.marks keeper.new) }
+    ensures idle { K.in_transaction keeper.new ≡ false }
     ensures told { F.told files.new ≡ F.told files.old }
 {
     match form_of(words) {
         Some((Form::View, name)) => view_file(alloc, name, files, clock, steps),
-        Some((Form::Replay, name)) => replay_file(alloc, name, doors, files, clock, steps),
+        Some((Form::Replay, name)) => replay_file(alloc, name, doors, keeper, files, clock, steps),
         None => Report::Usage,
     }
 }
@@ -169,16 +202,16 @@ fn view_file<F: Files, C: Clock, L: Ledger>(
     let source = match files.read(name, MOST_READ) {
         Ok(source) => source,
         Err(FileEnd::Memory) => return Report::OutOfMemory,
-        Err(FileEnd::Failed) => return unread(alloc, name),
+        Err(FileEnd::Failed) => return unread_file(alloc, name),
     };
     match load_named(alloc, &source) {
-        Ok(app) => shown(alloc, &app, clock.now(), steps),
-        Err(end) => refused(alloc, end),
+        Ok(app) => show(alloc, &app, clock.now(), steps),
+        Err(end) => refuse(alloc, end),
     }
 }
 
 /// The values of an app's formulas at a moment.
-fn shown<L: Ledger>(alloc: Global, app: &App, moment: u64, steps: &mut Steps<L>) -> Report
+fn show<L: Ledger>(alloc: Global, app: &App, moment: u64, steps: &mut Steps<L>) -> Report
     ensures { IsShowing (IsShown moment (formulas_of app.now)) result }
 {
     match view_text(alloc, &app.lines, moment, steps) {
@@ -187,48 +220,106 @@ fn shown<L: Ledger>(alloc: Global, app: &App, moment: u64, steps: &mut Steps<L>)
     }
 }
 
-/// Answers the conversations of the doors over the app of a file.
-fn replay_file<D: Doors, F: Files, C: Clock, L: Ledger>(
+/// Answers the conversations of the doors over the app of a file and the rows of a keeper.
+fn replay_file<D: Doors, K: Keeper, F: Files, C: Clock, L: Ledger>(
     alloc: Global,
     name: &str,
     doors: &mut D,
+    keeper: &mut K,
     files: &mut F,
     clock: &mut C,
     steps: &mut Steps<L>,
 ) -> Report
+    requires idle { K.in_transaction keeper.old ≡ false }
     ensures reports { Reports F.told F.asked F.faults files.old files.new no_show
-        (λ app end. Replayed (D.single doors.old) (started (formulas_of app)) (D.faults doors.old) (D.faults doors.new) (C.told clock.old) (C.told clock.new) (D.told doors.old) (D.told doors.new) end) (Some (Replay, name.now)) result }
+        (EndsOver K.told K.attached K.marks K.attaches keeper.old keeper.new
+        (λ end old new. Replayed (D.single doors.old) old new (D.faults doors.old) (D.faults doors.new) (C.told clock.old) (C.told clock.new) (D.told doors.old) (D.told doors.new) end)) (Some (Replay, name.now)) result }
     ensures cause { result ≡ Report.Replayed ReplayEnd.Fault → Rose (D.faults doors.old) (D.faults doors.new) }
-    ensures idle { IsIdle result → (doors.new ≡ doors.old) × (clock.new ≡ clock.old) }
+    ensures unheld { IsIdle result → (doors.new ≡ doors.old) × (clock.new ≡ clock.old) }
+    ensures unopened { LeavesKeeper (keeper.new ≡ keeper.old) (IsStopped K.told K.attached K.marks K.attaches Unsaid keeper.old keeper.new) result }
     ensures later { F.faults files.old ≤ F.faults files.new }
     ensures doors_later { D.faults doors.old ≤ D.faults doors.new }
+    ensures keeper_later { IsLater (K.marks keeper.old) (K.marks keeper.new) }
+    ensures idle { K.in_transaction keeper.new ≡ false }
     ensures told { F.told files.new ≡ F.told files.old }
 {
     let file = match files.read(name, MOST_APP_READ) {
         Ok(file) => file,
         Err(FileEnd::Memory) => return Report::OutOfMemory,
-        Err(FileEnd::Failed) => return unread(alloc, name),
+        Err(FileEnd::Failed) => return unread_file(alloc, name),
     };
-    match office_of(alloc, &file) {
-        Ok(mut office) => Report::Replayed(replay(&mut office, doors, clock, steps)),
-        Err(end) => refused(alloc, end),
+    match load(alloc, &file) {
+        Ok(app) => replay_app(alloc, app, doors, keeper, clock, steps),
+        Err(end) => refuse(alloc, end),
     }
 }
 
-/// An office that serves the app of a file.
-fn office_of(alloc: Global, file: &[u8]) -> Result<Office, AppEnd>
-    ensures office { IfOk result (λ o. (app : Loaded) × JudgedApp file.now (Ok app) × (state_of o ≡ started (formulas_of app))) }
-    ensures refused { IfErr result (Tells (λ bs. JudgedApp file.now (Err bs))) }
+/// Answers the conversations of the doors over an app and the rows of a keeper, where that can be opened for the app.
+fn replay_app<D: Doors, K: Keeper, C: Clock, L: Ledger>(
+    alloc: Global,
+    app: App,
+    doors: &mut D,
+    keeper: &mut K,
+    clock: &mut C,
+    steps: &mut Steps<L>,
+) -> Report
+    requires idle { K.in_transaction keeper.old ≡ false }
+    requires lawful { IsLawfulSchema (schema_of app) }
+    ensures ends { EndsOver K.told K.attached K.marks K.attaches keeper.old keeper.new
+        (λ end old new. Replayed (D.single doors.old) old new (D.faults doors.old) (D.faults doors.new) (C.told clock.old) (C.told clock.new) (D.told doors.old) (D.told doors.new) end) app result }
+    ensures cause { result ≡ Report.Replayed ReplayEnd.Fault → Rose (D.faults doors.old) (D.faults doors.new) }
+    ensures unheld { IsIdle result → (doors.new ≡ doors.old) × (clock.new ≡ clock.old) }
+    ensures unopened { LeavesKeeper (keeper.new ≡ keeper.old) (IsStopped K.told K.attached K.marks K.attaches Unsaid keeper.old keeper.new) result }
+    ensures doors_later { D.faults doors.old ≤ D.faults doors.new }
+    ensures keeper_later { IsLater (K.marks keeper.old) (K.marks keeper.new) }
+    ensures idle { K.in_transaction keeper.new ≡ false }
 {
-    let app = load(alloc, file)?;
-    match Office::new(alloc, app) {
-        Ok(office) => Ok(office),
-        Err(Memory) => Err(AppEnd::Memory),
+    // Made before the keeper is opened: an office is made without memory then, and the keeper is given back by it.
+    let routes = match Routes::new(alloc) {
+        Ok(routes) => routes,
+        Err(Memory) => return Report::OutOfMemory,
+    };
+    match open_keeper(keeper, &app.schema) {
+        Ok(None) => {
+            Report::Replayed(replay_over(alloc, app, routes, doors, keeper, clock, steps))
+        }
+        Ok(Some(_)) => Report::OtherSchema,
+        Err(KeeperEnd::Memory) => Report::OutOfMemory,
+        Err(KeeperEnd::Failed) => Report::KeeperFault,
     }
+}
+
+/// Answers the conversations of the doors over an app and the rows of a keeper that has the shape of its tables.
+fn replay_over<D: Doors, K: Keeper, C: Clock, L: Ledger>(
+    alloc: Global,
+    app: App,
+    routes: Routes,
+    doors: &mut D,
+    keeper: &mut K,
+    clock: &mut C,
+    steps: &mut Steps<L>,
+) -> ReplayEnd
+    requires idle { K.in_transaction keeper.old ≡ false }
+    requires shaped { K.shaped keeper.old ≡ Some (schema_of app) }
+    requires lawful { IsLawfulSchema (schema_of app) }
+    requires sound { AreSound (schema_of app) (K.told keeper.old) }
+    ensures replayed { (state : State) × (state.tables ≡ K.told keeper.new)
+        × Replayed (D.single doors.old) (record { state = started app (K.told keeper.old); marks = K.marks keeper.old }) (record { state = state; marks = K.marks keeper.new })
+        (D.faults doors.old) (D.faults doors.new) (C.told clock.old) (C.told clock.new) (D.told doors.old) (D.told doors.new) result }
+    ensures cause { result ≡ ReplayEnd.Fault → Rose (D.faults doors.old) (D.faults doors.new) }
+    ensures doors_later { D.faults doors.old ≤ D.faults doors.new }
+    ensures keeper_later { IsLater (K.marks keeper.old) (K.marks keeper.new) }
+    ensures idle { K.in_transaction keeper.new ≡ false }
+{
+    let mut office = Office::over(alloc, app, routes, keeper);
+    let end = replay(&mut office, doors, clock, steps);
+    // It is known of a keeper that is given back what it keeps.
+    let _keeper = office.into_keeper();
+    end
 }
 
 /// What breaks rules in a file.
-fn refused(alloc: Global, end: AppEnd) -> Report
+fn refuse(alloc: Global, end: AppEnd) -> Report
     ensures { IsRefusal end result }
 {
     match end {
@@ -241,7 +332,7 @@ fn refused(alloc: Global, end: AppEnd) -> Report
 }
 
 /// That a file could not be read.
-fn unread(alloc: Global, name: &str) -> Report
+fn unread_file(alloc: Global, name: &str) -> Report
     ensures { IsUnread name.now result }
 {
     match format!(in alloc; "pfx: cannot read {name}\n") {

@@ -42,7 +42,7 @@ fn add_marked(
 }
 
 /// A text in one line.
-pub fn escaped(alloc: Global, text: &str) -> Result<String, AllocError> {
+pub fn escape(alloc: Global, text: &str) -> Result<String, AllocError> {
     let mut line = String::new(alloc);
     for char in text.chars() {
         match char {

@@ -17,9 +17,9 @@ mod views;
 
 use crate::print::print_end;
 use crate::row::Row;
-use crate::runs::ran;
+use crate::runs::run_row;
 use crate::sheet::Sheet;
-use crate::views::viewed;
+use crate::views::view;
 use std::{io, str};
 
 fn main(rt: HostRuntime) -> io::Result<()> {
@@ -30,7 +30,7 @@ fn main(rt: HostRuntime) -> io::Result<()> {
         let line = line.as_str();
         if line.starts_with("== ") {
             print_view(&rt, &sheet)?;
-            sheet = Sheet::named(rt.alloc(), line)?;
+            sheet = Sheet::with_name(rt.alloc(), line)?;
         } else if sheet.name.is_empty() {
             obey(&rt, &mut row, line)?;
         } else {
@@ -49,7 +49,7 @@ fn obey(rt: &(impl Print + AllocGlobal), row: &mut Row, line: &str) -> io::Resul
             *row = Row::new(rt.alloc());
             println!(rt; "\n{line}")
         }
-        "run" => print_end(rt, &ran(rt.alloc(), row)?),
+        "run" => print_end(rt, &run_row(rt.alloc(), row)?),
         _ => {
             if row.set(rt.alloc(), key, text)? {
                 return Ok(());
@@ -66,7 +66,7 @@ fn print_view(rt: &(impl Print + AllocGlobal), sheet: &Sheet) -> io::Result<()> 
     }
     let name = sheet.name.as_str();
     println!(rt; "{name}")?;
-    let ended = viewed(rt.alloc(), sheet.bytes.as_slice())?;
+    let ended = view(rt.alloc(), sheet.bytes.as_slice())?;
     let status = ended.status;
     let written = str::from_utf8(&ended.written).unwrap_or("no text\n");
     print!(rt; "status {status}\n{written}")

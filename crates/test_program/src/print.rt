@@ -1,6 +1,6 @@
 //! How a run ended, in lines.
 
-use crate::escapes::escaped;
+use crate::escapes::escape;
 use crate::runs::Ended;
 use std::{io, str};
 
@@ -12,7 +12,7 @@ pub fn print_end(rt: &(impl Print + AllocGlobal), ended: &Ended) -> io::Result<(
     let status = ended.status;
     println!(rt; "status {status}")?;
     if !ended.said.is_empty() {
-        let said = escaped(rt.alloc(), text(&ended.said))?;
+        let said = escape(rt.alloc(), text(&ended.said))?;
         println!(rt; "says {said}")?;
     }
     for (conversation, answered) in ended.answered.iter().enumerate() {
@@ -47,13 +47,13 @@ fn print_first(rt: &(impl Print + AllocGlobal), part: &str) -> io::Result<()> {
     if part.is_empty() {
         return Ok(());
     }
-    let line = escaped(rt.alloc(), part)?;
+    let line = escape(rt.alloc(), part)?;
     println!(rt; "answers {line}")
 }
 
 /// Prints what follows the first bytes of a reply, and how often it came where that isn't once.
 fn print_times(rt: &(impl Print + AllocGlobal), reply: &str, count: u64) -> io::Result<()> {
-    let line = escaped(rt.alloc(), reply)?;
+    let line = escape(rt.alloc(), reply)?;
     match count {
         0 => Ok(()),
         1 => println!(rt; "answers {REPLY}{line}"),

@@ -21,13 +21,17 @@ pub struct Row {
     pub piece: usize,
     /// Whether a conversation ends after one reply.
     pub one: bool,
+    /// The name of a table without columns that the keeper has been shaped by, or nothing.
+    pub kept: String,
     pub file_fails: Vec<u64>,
     pub sink_fails: Vec<u64>,
     pub door_fails: Vec<u64>,
+    pub keeper_fails: Vec<u64>,
 }
 
 impl Row {
-    /// No words, an empty file without a name, one empty conversation, and a clock that gives 0. Nothing fails.
+    /// No words, an empty file without a name, one empty conversation, a clock that gives 0, and a keeper without a schema.
+    /// Nothing fails.
     pub fn new(alloc: Global) -> Row {
         Row {
             words: Vec::new(alloc),
@@ -38,19 +42,21 @@ impl Row {
             moments: Vec::new(alloc),
             piece: 4096,
             one: false,
+            kept: String::new(alloc),
             file_fails: Vec::new(alloc),
             sink_fails: Vec::new(alloc),
             door_fails: Vec::new(alloc),
+            keeper_fails: Vec::new(alloc),
         }
     }
 
     /// Sets what a line says, and answers whether it says anything. `bytes` and `stream` add to what is there, and with
     /// `*N` behind them N times; `next` begins another conversation.
     pub fn set(&mut self, alloc: Global, key: &str, text: &str) -> Result<bool, AllocError> {
-        let (key, count) = counted(key);
+        let (key, count) = key_and_count(key);
         match key {
             "words" => self.words = words(alloc, text)?,
-            "file" => self.file = String::from_str(alloc, text)?,
+            "file" => self.begin_file(alloc, text)?,
             "bytes" => add_times(alloc, &mut self.bytes, text, count)?,
             "stream" => add_times(alloc, &mut self.stream, text, count)?,
             "next" => self.begin_next(alloc)?,
@@ -60,9 +66,18 @@ impl Row {
             "file_fails" => self.file_fails = numbers(alloc, text)?,
             "sink_fails" => self.sink_fails = numbers(alloc, text)?,
             "door_fails" => self.door_fails = numbers(alloc, text)?,
+            "keeper_fails" => self.keeper_fails = numbers(alloc, text)?,
+            "kept" => self.kept = String::from_str(alloc, text)?,
             _ => return Ok(false),
         }
         Ok(true)
+    }
+
+    /// Names the file, which has no bytes yet.
+    fn begin_file(&mut self, alloc: Global, name: &str) -> Result<(), AllocError> {
+        self.file = String::from_str(alloc, name)?;
+        self.bytes.clear();
+        Ok(())
     }
 
     /// Begins another conversation.
@@ -74,7 +89,7 @@ impl Row {
 }
 
 /// A key and how often it counts: `bytes*65`, and `bytes` once.
-fn counted(key: &str) -> (&str, usize) {
+fn key_and_count(key: &str) -> (&str, usize) {
     match key.split_once('*') {
         Some((key, count)) => (key, count.parse::<usize>().unwrap_or(0)),
         None => (key, 1),

@@ -1,13 +1,18 @@
 //! Runs in memory.
-ghost use Rattle.std.specs.Prelude.{◌≡◌, ◌<◌};
+ghost use Rattle.std.specs.Prelude.{◌≡◌, ◌<◌, IfOk, false};
 
 use crate::pieces::PieceSink;
 use crate::row::Row;
 use app_wire::clock::ListClock;
 use app_wire::memory::MemoryDoors;
+use fx_base::InOrder;
+use fx_base::plan::FaultPlan;
 use fx_cli::memory::{MemoryFiles, MemorySink};
 use fx_cli::run;
+use fx_data::Words;
 use fx_eval::Steps;
+use fx_trees::{Schema, TableShape};
+use row_keeper::{Keeper, KeeperEnd, MemoryKeeper};
 use std::alloc::{AllocError, Global};
 use std::marker::Brand;
 use std::sync::ledger::{Blank, Ledger};
@@ -21,17 +26,19 @@ pub struct Ended {
 }
 
 /// A run in memory.
-pub fn ran(alloc: Global, row: &Row) -> Result<Ended, AllocError> {
+pub fn run_row(alloc: Global, row: &Row) -> Result<Ended, AllocError> {
     let mut doors = doors(alloc, row)?;
     let mut out = PieceSink::new(
         MemorySink::new(alloc, Vec::from_slice(alloc, &row.sink_fails)?),
         row.piece,
     );
     let mut files = files(alloc, row)?;
+    let mut keeper = keeper(alloc, row)?;
     let status = status::<Brand>(
         alloc,
         row,
         &mut doors,
+        &mut keeper,
         &mut files,
         &mut out,
         ListClock::new(Vec::from_slice(alloc, &row.moments)?),
@@ -40,12 +47,12 @@ pub fn ran(alloc: Global, row: &Row) -> Result<Ended, AllocError> {
     Ok(Ended {
         status,
         said: Vec::from_slice(alloc, out.written())?,
-        answered: answered(alloc, &doors, row.earlier.len())?,
+        answered: answers(alloc, &doors, row.earlier.len())?,
     })
 }
 
 /// What was written to each conversation that came, up to the one of this number, counted from 0.
-fn answered(alloc: Global, doors: &MemoryDoors, last: usize) -> Result<Vec<Vec<u8>>, AllocError> {
+fn answers(alloc: Global, doors: &MemoryDoors, last: usize) -> Result<Vec<Vec<u8>>, AllocError> {
     let mut answered = Vec::new(alloc);
     for conversation in 0..=last {
         if let Some(bytes) = doors.written(conversation) {
@@ -60,6 +67,7 @@ fn status<L: Ledger>(
     alloc: Global,
     row: &Row,
     doors: &mut MemoryDoors,
+    keeper: &mut MemoryKeeper,
     files: &mut MemoryFiles,
     out: &mut PieceSink,
     mut clock: ListClock,
@@ -68,9 +76,42 @@ fn status<L: Ledger>(
     requires name { blank.name ≡ L.name }
     requires parts { blank.parts ≡ L.parts }
     requires some { 0 < L.parts }
+    requires idle { keeper.old.store.is_begun ≡ false }
 {
     let mut steps = Steps::<L>::new(blank);
-    run(alloc, &row.words, doors, files, out, &mut clock, &mut steps).0
+    run(
+        alloc, &row.words, doors, keeper, files, out, &mut clock, &mut steps,
+    )
+    .0
+}
+
+/// The keeper of a row. Where it has been shaped, that took its first two calls.
+fn keeper(alloc: Global, row: &Row) -> Result<MemoryKeeper, AllocError>
+    ensures { IfOk result (λ keeper. keeper.store.is_begun ≡ false) }
+{
+    let fails = Vec::from_slice(alloc, &row.keeper_fails)?;
+    let mut keeper = MemoryKeeper::new(alloc, FaultPlan::new(fails));
+    if row.kept.is_empty() {
+        return Ok(keeper);
+    }
+    match shape_by(alloc, &mut keeper, &row.kept) {
+        Ok(()) => Ok(keeper),
+        Err(_) => Err(AllocError),
+    }
+}
+
+/// Shapes a keeper by one table of a name, without columns.
+fn shape_by(alloc: Global, keeper: &mut MemoryKeeper, table: &str) -> Result<(), KeeperEnd>
+    requires { keeper.old.store.is_begun ≡ false }
+    ensures { keeper.new.store.is_begun ≡ false }
+{
+    let name = Words::of(alloc, table)?;
+    let columns = InOrder::new(alloc);
+    let mut tables = InOrder::new(alloc);
+    tables.push(TableShape { name, columns })?;
+    keeper.attach("")?;
+    keeper.shape(&Schema { tables })?;
+    Ok(())
 }
 
 /// The one file of a row.

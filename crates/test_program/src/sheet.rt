@@ -23,7 +23,7 @@ impl Sheet {
     }
 
     /// An empty file of this name.
-    pub fn named(alloc: Global, name: &str) -> Result<Sheet, AllocError> {
+    pub fn with_name(alloc: Global, name: &str) -> Result<Sheet, AllocError> {
         let name = String::from_str(alloc, name)?;
         Ok(Sheet {
             name,

@@ -3,9 +3,11 @@ ghost use Rattle.std.specs.Prelude.{◌≡◌, ◌<◌};
 
 use app_wire::clock::ListClock;
 use app_wire::memory::MemoryDoors;
+use fx_base::plan::FaultPlan;
 use fx_cli::memory::{MemoryFiles, MemorySink};
 use fx_cli::run;
 use fx_eval::Steps;
+use row_keeper::MemoryKeeper;
 use std::alloc::{AllocError, Global};
 use std::marker::Brand;
 use std::sync::ledger::{Blank, Ledger};
@@ -24,7 +26,7 @@ pub struct Ended {
 }
 
 /// A run of `view` on a file of these bytes.
-pub fn viewed(alloc: Global, bytes: &[u8]) -> Result<Ended, AllocError> {
+pub fn view(alloc: Global, bytes: &[u8]) -> Result<Ended, AllocError> {
     let words = words(alloc)?;
     let mut files = files(alloc, bytes)?;
     let mut out = MemorySink::new(alloc, Vec::new(alloc));
@@ -43,7 +45,7 @@ pub fn viewed(alloc: Global, bytes: &[u8]) -> Result<Ended, AllocError> {
     })
 }
 
-/// The status that a run ends with. There is no conversation.
+/// The status that a run ends with. There is no conversation, and nothing is kept.
 fn status<L: Ledger>(
     alloc: Global,
     words: &[String],
@@ -57,8 +59,19 @@ fn status<L: Ledger>(
     requires some { 0 < L.parts }
 {
     let mut doors = MemoryDoors::new(alloc, Vec::new(alloc), 1, false, Vec::new(alloc));
+    let mut keeper = MemoryKeeper::new(alloc, FaultPlan::new(Vec::new(alloc)));
     let mut steps = Steps::<L>::new(blank);
-    run(alloc, words, &mut doors, files, out, clock, &mut steps).0
+    run(
+        alloc,
+        words,
+        &mut doors,
+        &mut keeper,
+        files,
+        out,
+        clock,
+        &mut steps,
+    )
+    .0
 }
 
 fn words(alloc: Global) -> Result<Vec<String>, AllocError> {

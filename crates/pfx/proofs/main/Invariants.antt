@@ -1,4 +1,4 @@
 use Rattle.pfx.proofs.main.Given as goal
 
-abbrev pub ghosts-ran : goal.ghosts-ran
-ghosts-ran a = record { name = a.blank.name; parts = a.blank.parts }
+abbrev pub ghosts-run_words : goal.ghosts-run_words
+ghosts-run_words a = record { name = a.blank.name; parts = a.blank.parts }

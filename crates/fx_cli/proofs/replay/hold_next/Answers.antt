@@ -5,8 +5,7 @@ use Rattle.fx_base.proofs.Chains.{told}
 use Rattle.app_wire.specs.Doorway.{Closes, Comes}
 use Rattle.office.proofs.Plays.{three}
 use Rattle.office.specs.Answers.{Converses, IsCount}
-use Rattle.office.specs.State.{state_of}
-use Rattle.fx_cli.specs.Held.{Conversation}
+use Rattle.fx_cli.specs.Held.{Conversation, standing}
 use Rattle.fx_cli.proofs.Replays.{sends_one}
 use Rattle.fx_cli.proofs.replay.hold_next.Goals as goal
 
@@ -21,7 +20,7 @@ returns-clause-held g c =
     let conversation : Conversation = record {
       exchanges = talked.0;
       end = c.converse-end.result;
-      state = state_of c.converse-end.new.self;
+      office = standing c.converse-end.new.self;
       before = g.D.Doors.faults c.next.new.self;
       after = g.D.Doors.faults c.hang_up.new.self;
     } in

@@ -1,10 +1,9 @@
 use Rattle.std.proofs.Common.{Some, Err, refl, subst}
-use Rattle.fx_cli.specs.Report.{JudgedAs, Takes, no_show}
-use Rattle.fx_cli.specs.declared.words.Form.TheVariants.{Replay}
 use Rattle.app_loader.specs.Judged.{Tells}
-use Rattle.office.specs.State.{formulas_of, started}
 use Rattle.fx_cli.specs.Held.{Replayed}
-use Rattle.fx_cli.proofs.Reported.{reports_refused}
+use Rattle.fx_cli.specs.Report.{EndsOver, JudgedAs, Takes, no_show}
+use Rattle.fx_cli.specs.declared.words.Form.TheVariants.{Replay}
+use Rattle.fx_cli.proofs.Reported.{reports_over, reports_refused}
 use Rattle.fx_cli.proofs.report.replay_file.Goals as goal
 
 pub returns-clause-reports : goal.returns-clause-reports
@@ -15,15 +14,17 @@ returns-clause-reports g c =
       first = c.in-Ok.ensures.bytes;
     } in
     let tells = subst (λ bs. Tells (λ breaks. JudgedAs Replay bs (Err breaks)) c.in-Err.end) c.deref.ensures.value c.in-Err.ensures.refused in
-    reports_refused g.F.Files.told g.F.Files.asked g.F.Files.faults c.args.files.now c.read.new.self no_show (λ app end. Replayed (g.D.Doors.single c.args.doors.now) (started (formulas_of app)) (g.D.Doors.faults c.args.doors.now) (g.D.Doors.faults c.args.doors.now) (g.C.Clock.told c.args.clock.now) (g.C.Clock.told c.args.clock.now) (g.D.Doors.told c.args.doors.now) (g.D.Doors.told c.args.doors.now) end) Replay c.args.name.now c.in-Ok.file.items c.in-Err.end c.refused.result
-    taken tells c.refused.ensures
+    reports_refused g.F.Files.told g.F.Files.asked g.F.Files.faults c.args.files.now c.read.new.self no_show
+    (EndsOver g.K.Keeper.told g.K.Keeper.attached g.K.Keeper.marks g.K.Keeper.attaches c.args.keeper.now c.args.keeper.now (λ end old new. Replayed (g.D.Doors.single c.args.doors.now) old new (g.D.Doors.faults c.args.doors.now) (g.D.Doors.faults c.args.doors.now) (g.C.Clock.told c.args.clock.now) (g.C.Clock.told c.args.clock.now) (g.D.Doors.told c.args.doors.now) (g.D.Doors.told c.args.doors.now) end))
+    Replay c.args.name.now c.in-Ok.file.items c.in-Err.end c.refuse.result taken tells c.refuse.ensures
 
-pub returns-in-Ok-office_of-clause-reports : goal.returns-in-Ok-office_of-clause-reports
-returns-in-Ok-office_of-clause-reports g c =
+pub returns-in-Ok-load-clause-reports : goal.returns-in-Ok-load-clause-reports
+returns-in-Ok-load-clause-reports g c =
     let taken : Takes g.F.Files.told g.F.Files.asked c.args.files.now c.read.new.self (Some (Replay, c.args.name.now)) Replay c.in-Ok.file.items = record {
       name = c.args.name.now;
       asks = record { is_wanted = refl; grown = c.in-Ok.ensures.asked };
       first = c.in-Ok.ensures.bytes;
     } in
-    let app = c.in-Ok-office_of.ensures.office in
-    record { bytes = c.in-Ok.file.items; app = app.0; takes = taken; judged = rw c.deref.ensures.value at app.1; ended = rw app.2 at c.replay.ensures.replayed }
+    reports_over g.F.Files.told g.F.Files.asked g.F.Files.faults c.args.files.now c.read.new.self g.K.Keeper.told g.K.Keeper.attached g.K.Keeper.marks g.K.Keeper.attaches c.args.keeper.now c.replay_app.new.keeper
+    (λ end old new. Replayed (g.D.Doors.single c.args.doors.now) old new (g.D.Doors.faults c.args.doors.now) (g.D.Doors.faults c.replay_app.new.doors) (g.C.Clock.told c.args.clock.now) (g.C.Clock.told c.replay_app.new.clock) (g.D.Doors.told c.args.doors.now) (g.D.Doors.told c.replay_app.new.doors) end)
+    c.args.name.now c.in-Ok.file.items c.in-Ok-load.app c.replay_app.result taken (rw c.deref.ensures.value at c.in-Ok-load.ensures.app) c.replay_app.ensures.ends
