@@ -21,7 +21,7 @@ fn least_place(numbers: &[u32]) -> usize
 }
 
 /// The numbers of a circle from the least one on, which stands at the end again.
-pub(crate) fn closed_from_least(alloc: Global, circle: &[u32]) -> Result<Vec<u32>, Memory>
+pub(crate) fn close_from_least(alloc: Global, circle: &[u32]) -> Result<Vec<u32>, Memory>
     requires { 0 < length circle.now }
     ensures { IfOk result (λ path. TurnsToLeast circle.now path.items) }
 {

@@ -27,7 +27,8 @@ pub fn order(alloc: Global, count: u32, edges: &[(u32, u32)]) -> Result<Vec<u32>
     ensures end { IfErr result (HasCause edges.now) }
 {
     let readers = lists::readers(alloc, count, edges)?;
-    let reads = lists::turned(alloc, count, readers.as_slice())?;
+    // Turned twice: what each number reads then rises, whatever the order of the edges, and nothing is sorted.
+    let reads = lists::transpose(alloc, count, readers.as_slice())?;
     let mut search = Search::new(alloc, count)?;
     for number in 0..count {
         search.visit(alloc, reads.as_slice(), number)?;

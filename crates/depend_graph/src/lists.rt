@@ -59,7 +59,7 @@ pub(crate) fn readers(
 }
 
 /// For each number what it reads, from lists of readers. What a number reads rises.
-pub(crate) fn turned(
+pub(crate) fn transpose(
     alloc: Global,
     count: u32,
     readers: &[Vec<u32>],

@@ -1,10 +1,11 @@
-//! The search: down from one number to what it reads, with a stack of its own.
+//! The search: down from one number to what it reads, with a stack of its own. A recursion would go as deep as the
+//! longest path.
 ghost use Rattle.std.specs.Prelude.{◌≡◌, ◌≢◌, ℕ, ◌+◌, ◌<◌, ◌≤◌, ◌-◌, ◌^◌, ◌++◌, ◌∷◌, [], vec_len, Some, slice_set, slice_get, take, drop, length, slice_index, IfOk, IfErr, OnOk};
 ghost use Rattle.std.specs.List.{sum_by, Contains};
 ghost use Rattle.depend_graph.specs.Lists.{at, lists_of, HoldBelow};
 ghost use Rattle.depend_graph.specs.Turning.{TurnsToLeast};
 
-use crate::closed_path::closed_from_least;
+use crate::closed_path::close_from_least;
 use crate::end::OrderEnd;
 use crate::state::State;
 use fx_base::Memory;
@@ -122,7 +123,7 @@ impl Search {
         requires { place < vec_len self.now.path }
         ensures { IfOk result (λ path. TurnsToLeast (drop place self.now.path.items) path.items) }
     {
-        closed_from_least(alloc, &self.path[place..])
+        close_from_least(alloc, &self.path[place..])
     }
 
     /// Puts a number at the end of the path.

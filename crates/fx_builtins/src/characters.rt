@@ -11,6 +11,7 @@ use std::alloc::{AllocError, Global};
 pub(crate) const LONGEST: usize = 65_536;
 
 /// The scalar values of a text.
+// Positions count characters, and a text in UTF-8 has these at no fixed bytes.
 pub(crate) fn characters(alloc: Global, text: &Words) -> Result<Vec<char>, Memory>
     ensures { IfOk result (λ v. v.items ≡ text.now) }
 {

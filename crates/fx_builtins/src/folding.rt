@@ -14,8 +14,8 @@ use std::alloc::{AllocError, Global};
 pub fn starts_with(alloc: Global, text: &Words, part: &Words) -> Result<bool, Memory>
     ensures { IfOk result (λ b. IsTrue b ↔ BeginsWithoutCase text.now part.now) }
 {
-    let part = folded(alloc, part)?;
-    let text = folded(alloc, text)?;
+    let part = fold_case(alloc, part)?;
+    let text = fold_case(alloc, text)?;
     Ok(text.starts_with(&part))
 }
 
@@ -23,8 +23,8 @@ pub fn starts_with(alloc: Global, text: &Words, part: &Words) -> Result<bool, Me
 pub fn ends_with(alloc: Global, text: &Words, part: &Words) -> Result<bool, Memory>
     ensures { IfOk result (λ b. IsTrue b ↔ EndsWithoutCase text.now part.now) }
 {
-    let part = folded(alloc, part)?;
-    let text = folded(alloc, text)?;
+    let part = fold_case(alloc, part)?;
+    let text = fold_case(alloc, text)?;
     Ok(text.ends_with(&part))
 }
 
@@ -32,13 +32,13 @@ pub fn ends_with(alloc: Global, text: &Words, part: &Words) -> Result<bool, Memo
 pub fn contains(alloc: Global, text: &Words, part: &Words) -> Result<bool, Memory>
     ensures { IfOk result (λ b. IsTrue b ↔ HasPartWithoutCase text.now part.now) }
 {
-    let part = folded(alloc, part)?;
-    let text = folded(alloc, text)?;
+    let part = fold_case(alloc, part)?;
+    let text = fold_case(alloc, text)?;
     Ok(find_from(&part, &text, 0).is_some())
 }
 
 // The scalar values of a text with its case folded.
-fn folded(alloc: Global, text: &Words) -> Result<Vec<char>, Memory>
+fn fold_case(alloc: Global, text: &Words) -> Result<Vec<char>, Memory>
     ensures { IfOk result (λ v. v.items ≡ default_case_fold text.now) }
 {
     Ok(fold(alloc, text.as_str())?)

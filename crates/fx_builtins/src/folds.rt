@@ -70,7 +70,7 @@ fn count_and_total(numbers: &[Option<Num>]) -> (u64, i128)
     (count, total)
 }
 
-// The same of one number.
+// The same of one number. A function, so that the loop adds plain numbers on its one way through.
 fn count_and_units(number: Option<Num>) -> (u64, i64)
     ensures value { IsCounted (option_to_list number) result.0 result.1 }
     ensures single { result.0 ≤ 1 }

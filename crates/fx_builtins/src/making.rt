@@ -24,7 +24,7 @@ pub fn lower(alloc: Global, text: &Words) -> Result<Result<Words, Kind>, Memory>
     ensures { IfOk result (λ r. r ≡ lower_of text.now) }
 {
     let text = characters(alloc, text)?;
-    text_of(alloc, &lowered(alloc, &text)?)
+    text_of(alloc, &lower_all(alloc, &text)?)
 }
 
 /// The text with a to z as A to Z. `QuotaExceeded` exactly where it is too long.
@@ -32,10 +32,10 @@ pub fn upper(alloc: Global, text: &Words) -> Result<Result<Words, Kind>, Memory>
     ensures { IfOk result (λ r. r ≡ upper_of text.now) }
 {
     let text = characters(alloc, text)?;
-    text_of(alloc, &raised(alloc, &text)?)
+    text_of(alloc, &raise_all(alloc, &text)?)
 }
 
-fn lowered(alloc: Global, characters: &[char]) -> Result<Vec<char>, AllocError>
+fn lower_all(alloc: Global, characters: &[char]) -> Result<Vec<char>, AllocError>
     ensures { IfOk result (λ v. v.items ≡ map to_ascii_lowercase characters.now) }
 {
     characters
@@ -44,7 +44,7 @@ fn lowered(alloc: Global, characters: &[char]) -> Result<Vec<char>, AllocError>
         .collect(alloc)
 }
 
-fn raised(alloc: Global, characters: &[char]) -> Result<Vec<char>, AllocError>
+fn raise_all(alloc: Global, characters: &[char]) -> Result<Vec<char>, AllocError>
     ensures { IfOk result (λ v. v.items ≡ map to_ascii_uppercase characters.now) }
 {
     characters

@@ -21,6 +21,7 @@ pub(crate) fn first_day(month: i128) -> i128
     ensures value { result ≡ first_of month }
     ensures bound { IsWithin (2 ^ 120) result }
 {
+    // Looked up in the years 0 to 399, since the calendar library has none beyond 9999.
     let cycles = month.div_euclid(CYCLE_MONTHS);
     let first = early_first_day(month.rem_euclid(CYCLE_MONTHS) as u16);
     cycles_later(cycles, first)

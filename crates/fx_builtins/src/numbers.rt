@@ -9,7 +9,7 @@ use fx_number::{Num, NumErr, Way};
 
 /// An answer of arithmetic with the kind of its error: `Numeric` for one out of range, `Div0` for a
 /// divisor 0, `InvalidArgument` for an exponent that is none.
-pub fn kinded(answer: Result<Num, NumErr>) -> Result<Num, Kind>
+pub fn with_kind(answer: Result<Num, NumErr>) -> Result<Num, Kind>
     ensures { result ≡ with_kind answer }
 {
     match answer {
@@ -42,14 +42,14 @@ pub fn abs(a: Num) -> Num
 pub fn int(a: Num) -> Result<Num, Kind>
     ensures { AsKind (Checked (rounded_to a (pos 0) Floor)) result }
 {
-    kinded(fx_number::round(a, 0, Way::Floor))
+    with_kind(fx_number::round(a, 0, Way::Floor))
 }
 
 /// A number rounded towards zero to a whole one.
 pub fn trunc(a: Num) -> Result<Num, Kind>
     ensures { AsKind (Checked (rounded_to a (pos 0) Down)) result }
 {
-    kinded(fx_number::round(a, 0, Way::Down))
+    with_kind(fx_number::round(a, 0, Way::Down))
 }
 
 /// The whole number that is left of a number where its decimals are cut off: a count, a position or
@@ -65,7 +65,7 @@ pub fn whole_part(a: Num) -> i64
 pub fn round(a: Num, digits: Num, way: Way) -> Result<Num, Kind>
     ensures { AsKind (Checked (rounded_to a (whole_part_of digits) way)) result }
 {
-    kinded(fx_number::round(a, whole_part(digits), way))
+    with_kind(fx_number::round(a, whole_part(digits), way))
 }
 
 /// What `a` leaves when divided by `b` with a quotient that is rounded down, so that it has the sign
@@ -73,7 +73,7 @@ pub fn round(a: Num, digits: Num, way: Way) -> Result<Num, Kind>
 pub fn modulo(a: Num, b: Num) -> Result<Num, Kind>
     ensures { AsKind (UnlessZero b (λ r. r ≡ Ok (remainder_of a b))) result }
 {
-    kinded(fx_number::modulo(a, b))
+    with_kind(fx_number::modulo(a, b))
 }
 
 /// `a` to the power `b`, a whole number from -1,000 to 1,000, each product rounded.
@@ -82,5 +82,5 @@ pub fn modulo(a: Num, b: Num) -> Result<Num, Kind>
 pub fn power(a: Num, b: Num) -> Result<Num, Kind>
     ensures { AsKind (IsPower a b) result }
 {
-    kinded(fx_number::power(a, b))
+    with_kind(fx_number::power(a, b))
 }

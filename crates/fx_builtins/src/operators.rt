@@ -14,7 +14,7 @@ const SCALE: i64 = 10_000;
 pub fn add_days(day: Day, days: Num) -> Result<Day, Kind>
     ensures { IsShifted day days result }
 {
-    shifted(day, days.units())
+    shift(day, days.units())
 }
 
 /// The operator `-` of a date and a number of days. `InvalidArgument` exactly where the number is not
@@ -22,7 +22,7 @@ pub fn add_days(day: Day, days: Num) -> Result<Day, Kind>
 pub fn sub_days(day: Day, days: Num) -> Result<Day, Kind>
     ensures { IsShifted day (neg_ℤ days) result }
 {
-    shifted(day, -days.units())
+    shift(day, -days.units())
 }
 
 /// The operator `-` of two dates: the days from the second to the first.
@@ -33,7 +33,7 @@ pub fn days_between(left: Day, right: Day) -> i32
 }
 
 // The day so many ten-thousandths of a day later.
-fn shifted(day: Day, units: i64) -> Result<Day, Kind>
+fn shift(day: Day, units: i64) -> Result<Day, Kind>
     ensures { IsShifted day units result }
 {
     if units % SCALE != 0 {

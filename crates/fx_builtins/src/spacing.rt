@@ -15,7 +15,7 @@ pub fn trim(alloc: Global, text: &Words) -> Result<Result<Words, Kind>, Memory>
     ensures { IfOk result (λ r. r ≡ made (trimmed text.now)) }
 {
     let text = characters(alloc, text)?;
-    text_of(alloc, &single_spaced(alloc, skip_spaces(&text))?)
+    text_of(alloc, &collapse_spaces(alloc, skip_spaces(&text))?)
 }
 
 // What follows the spaces at the front.
@@ -31,7 +31,7 @@ fn skip_spaces(characters: &[char]) -> &[char]
 }
 
 // The characters without the spaces that another space or the end follows.
-fn single_spaced(alloc: Global, characters: &[char]) -> Result<Vec<char>, Memory>
+fn collapse_spaces(alloc: Global, characters: &[char]) -> Result<Vec<char>, Memory>
     ensures { IfOk result (λ v. v.items ≡ single_spaced_of characters.now) }
 {
     let mut kept = Vec::new(alloc);

@@ -5,7 +5,7 @@ ghost use Rattle.fx_builtins.specs.Texts.{longest, made};
 
 use crate::characters::{LONGEST, characters, text_of};
 use crate::search::find_from;
-use crate::text_parts::{place_of, spliced};
+use crate::text_parts::{place_of, splice};
 use fx_base::Memory;
 use fx_data::{Kind, Words};
 use std::alloc::Global;
@@ -45,7 +45,8 @@ fn all_occurrences(alloc: Global, old: &[char], text: &[char]) -> Result<Vec<usi
     }
 }
 
-// The same of an old text that is not empty.
+// The same of an old text that is not empty. Apart, since the loop ends only where each turn goes past a text that
+// isn't empty.
 fn occurrences(alloc: Global, old: &[char], text: &[char]) -> Result<Vec<usize>, Memory>
     requires { 0 < length old.now }
     ensures value { IfOk result (λ v. AreOccurrences old.now text.now 0 v.items) }
@@ -71,14 +72,14 @@ fn replace_all(
     requires { AreSeparate count (length text.now) 0 places.now }
     ensures { IfOk result (λ r. r ≡ substitute_of count new.now text.now places.now None) }
 {
-    match spliced_at(alloc, text, count, new, places)? {
+    match splice_at(alloc, text, count, new, places)? {
         Some(made) => text_of(alloc, &made),
         None => Ok(Err(Kind::QuotaExceeded)),
     }
 }
 
 // The same characters, or none as soon as there are too many for a text.
-fn spliced_at(
+fn splice_at(
     alloc: Global,
     text: &[char],
     count: usize,
@@ -94,6 +95,7 @@ fn spliced_at(
     for place in places {
         made.extend_from_slice(&text[from..*place])?;
         made.extend_from_slice(new)?;
+        // As many characters have at least as many bytes.
         if made.len() > LONGEST {
             return Ok(None);
         }
@@ -118,7 +120,7 @@ fn replace_one(
         return Ok(Err(Kind::InvalidArgument));
     };
     match places.get(index) {
-        Some(place) => text_of(alloc, &spliced(alloc, text, *place, count, new)?),
+        Some(place) => text_of(alloc, &splice(alloc, text, *place, count, new)?),
         None => text_of(alloc, text),
     }
 }

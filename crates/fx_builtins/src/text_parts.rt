@@ -76,11 +76,11 @@ pub fn replace(
     };
     let text = characters(alloc, text)?;
     let new = characters(alloc, new)?;
-    text_of(alloc, &spliced(alloc, &text, place, count, &new)?)
+    text_of(alloc, &splice(alloc, &text, place, count, &new)?)
 }
 
 /// The characters with so many of them from a place on replaced, as far as there are some.
-pub(crate) fn spliced(
+pub(crate) fn splice(
     alloc: Global,
     text: &[char],
     place: usize,
@@ -90,6 +90,7 @@ pub(crate) fn spliced(
     ensures { IfOk result (λ v. v.items ≡ spliced_of text.now place count new.now) }
 {
     let start = place.min(text.len());
+    // Saturates, since a count may be any number.
     let end = place.saturating_add(count).min(text.len());
     let mut made = Vec::from_slice(alloc, &text[..start])?;
     made.extend_from_slice(new)?;

@@ -13,14 +13,14 @@ use fx_value::{CivilDate, civil_date, date_text, day_of_date};
 use std::alloc::Global;
 
 /// The text of a day in a format.
-pub fn formatted(alloc: Global, day: Day, format: DateFormat) -> Result<String, Memory>
+pub fn format_day(alloc: Global, day: Day, format: DateFormat) -> Result<String, Memory>
     ensures { IfOk result (λ s. string_bytes s ≡ text_in format day) }
 {
     let date = civil_date(day);
     match format {
         DateFormat::YearMonthDay => date_text(alloc, day),
-        DateFormat::DayMonthYear => slashed(alloc, date.day, date.month, date.year),
-        DateFormat::MonthDayYear => slashed(alloc, date.month, date.day, date.year),
+        DateFormat::DayMonthYear => join_with_slashes(alloc, date.day, date.month, date.year),
+        DateFormat::MonthDayYear => join_with_slashes(alloc, date.month, date.day, date.year),
     }
 }
 
@@ -69,7 +69,7 @@ fn two_digits(tens: u8, ones: u8) -> Option<u8>
 }
 
 // Two numbers below 100 and one below 10000, with slashes between.
-fn slashed(alloc: Global, first: u8, second: u8, third: u16) -> Result<String, Memory>
+fn join_with_slashes(alloc: Global, first: u8, second: u8, third: u16) -> Result<String, Memory>
     requires first { first < 100 }
     requires second { second < 100 }
     requires third { third < 10000 }

@@ -2,8 +2,7 @@
 use Rattle.std.proofs.Common.{◌≡◌, ℕ, Result, Ok, Err, sym, ap, subst}
 use Rattle.fx_typing.specs.Columns.{and_then}
 use Rattle.fx_operators.proofs.Stops.{stops}
-use Rattle.fx_typing.specs.Answers.{Answers}
-use Rattle.fx_typing.specs.declared.wrong.Wrong.{Wrong}
+use Rattle.fx_typing.specs.Answers.{Answers, Wrong}
 
 -- what stands behind a step that breaks a rule is not reached
 pub first_stops : {A B C D : Type 0} (f : A → B) (g : C → D) (r : Result B ℕ) (go : B → Result D ℕ) (e : Wrong) → Answers f r (Err e) → Answers g (and_then r go) (Err e)

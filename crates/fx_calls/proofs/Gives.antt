@@ -6,8 +6,7 @@ use Rattle.fx_trees.specs.declared.names.Names.{Names}
 use Rattle.fx_trees.specs.Term.{Term}
 use Rattle.fx_typing.specs.Deeds.{give_one, give_all}
 use Rattle.fx_typing.specs.Targets.{screen_variable}
-use Rattle.fx_typing.specs.Answers.{Answers}
-use Rattle.fx_typing.specs.declared.wrong.Wrong.{Wrong}
+use Rattle.fx_typing.specs.Answers.{Answers, Wrong}
 use Rattle.fx_calls.proofs.Kept.{onto, with_last, turned, at_end}
 
 -- what is kept of variables and values: with what is behind it, it is the whole

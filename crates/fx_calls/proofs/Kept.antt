@@ -3,9 +3,8 @@ use Rattle.std.proofs.Common.{◌≡◌, ℕ, List, [], ◌∷◌, ◌++◌, Boo
 use Rattle.std.specs.Prelude.{min, nat_lt}
 use Rattle.fx_typing.specs.Parts.{lowest, all_or_lowest}
 use Rattle.fx_operators.proofs.Stops.{stops}
-use Rattle.fx_typing.specs.Answers.{Answers}
-use Rattle.fx_typing.specs.declared.wrong.Wrong.{Wrong}
-use Rattle.fx_typing.specs.declared.wrong.Wrong.TheVariants.{Breaks, Memory}
+use Rattle.fx_typing.specs.Answers.{Answers, Wrong}
+use Rattle.fx_base.specs.declared.or_memory.OrMemory.TheVariants.{Refused as Breaks, Memory}
 use Rattle.fx_trees.specs.Rules.{number_of}
 use Rattle.fx_trees.specs.declared.rule.Rule.{Rule}
 use Rattle.fx_calls.specs.Lowest.{lower, both}

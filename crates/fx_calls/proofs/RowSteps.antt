@@ -8,8 +8,7 @@ use Rattle.fx_typing.specs.Columns.{and_then}
 use Rattle.fx_typing.specs.Local.{firsts}
 use Rattle.fx_typing.specs.Deeds.{by_rows, row_named, changes_of, patch_to}
 use Rattle.fx_typing.specs.Parts.{lowest}
-use Rattle.fx_typing.specs.Answers.{Answers}
-use Rattle.fx_typing.specs.declared.wrong.Wrong.{Wrong}
+use Rattle.fx_typing.specs.Answers.{Answers, Wrong}
 use Rattle.fx_trees.specs.Rules.{number_of}
 use Rattle.fx_trees.specs.declared.rule.Rule.{Rule}
 use Rattle.fx_calls.specs.Changes.{with_columns, unless_broken, patched}

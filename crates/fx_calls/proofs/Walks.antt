@@ -6,8 +6,7 @@ use Rattle.fx_typing.specs.Columns.{and_then}
 use Rattle.fx_typing.specs.Local.{value, label, put_first}
 use Rattle.fx_typing.specs.Parts.{Part, piece, meant, target, assigned, values, put_value}
 use Rattle.fx_operators.proofs.Stops.{stops}
-use Rattle.fx_typing.specs.Answers.{Answers}
-use Rattle.fx_typing.specs.declared.wrong.Wrong.{Wrong}
+use Rattle.fx_typing.specs.Answers.{Answers, Wrong}
 use Rattle.fx_calls.specs.Lists.{behind, value_of}
 use Rattle.fx_calls.proofs.Kept.{last_then}
 

@@ -1,8 +1,8 @@
 -- Two answers as one.
 use Rattle.std.specs.Prelude.{nat_lt, Result, Ok, Err, if◌then◌else◌}
 use Rattle.fx_trees.specs.Rules.{number_of}
-use Rattle.fx_typing.specs.declared.wrong.Wrong.{Wrong}
-use Rattle.fx_typing.specs.declared.wrong.Wrong.TheVariants.{Breaks, Memory}
+use Rattle.fx_base.specs.declared.or_memory.OrMemory.TheVariants.{Refused as Breaks, Memory}
+use Rattle.fx_typing.specs.Answers.{Wrong}
 
 -- the lower of two rules that are broken; want of memory is told before any
 abbrev pub lower : Wrong → Wrong → Wrong

@@ -18,19 +18,19 @@ ghost use Rattle.fx_scopes.specs.MeaningView.{place};
 ghost use Rattle.fx_scopes.specs.PartView.{part};
 ghost use Rattle.fx_scopes.specs.SettingView.{setting};
 
-use crate::deeds::{acted, until_settled};
+use crate::deeds::{act, until_settled};
 use crate::fitting::{could_act, gives_variables, mistells};
-use crate::large::large_given;
-use crate::limits::bounded;
+use crate::large::first_large_type;
+use crate::limits::check_limits;
 use crate::lists::{table_of, with_of};
 use crate::rows::find_rows;
-use crate::taken::taken_at;
-use crate::values::{named_first, pieces, values};
+use crate::taken::taken_name;
+use crate::values::{pieces, take_name, values};
 use fx_base::Memory;
 use fx_data::types::{Columns, Ty};
 use fx_data::values::{Fields, Value};
 use fx_data::words::Words;
-use fx_operators::local::{formed, made};
+use fx_operators::local::{make, make_form};
 use fx_scopes::{Part, Place, Stand, pick};
 use fx_trees::functions::{Acting, Fun};
 use fx_trees::literals::with_literal;
@@ -64,22 +64,22 @@ fn function_by(fun: Fun, literal: Option<&Words>) -> Option<Fun>
 }
 
 // A function that a literal may change, which is one argument more than its row has.
-fn made_literal(alloc: Global, fun: Fun, arguments: Vec<Piece>) -> Result<Typed, Wrong>
+fn make_with_literal(alloc: Global, fun: Fun, arguments: Vec<Piece>) -> Result<Typed, Wrong>
     ensures { Answers typed (calls.made_literal fun (map piece arguments.items)) result }
 {
     let most = row_of(fun).most as usize;
     if arguments.len() <= most {
-        return made(alloc, fun, arguments);
+        return make(alloc, fun, arguments);
     }
     if arguments.len() != most + 1 {
-        return Err(Wrong::Breaks(Rule::WrongCount));
+        return Err(Wrong::Refused(Rule::WrongCount));
     }
     let Some(chosen) = function_by(fun, literal_in(&arguments[most..])) else {
-        return Err(Wrong::Breaks(Rule::WrongType));
+        return Err(Wrong::Refused(Rule::WrongType));
     };
     let mut others = arguments;
     others.truncate(most);
-    made(alloc, chosen, others)
+    make(alloc, chosen, others)
 }
 
 // A blank for each column.
@@ -109,7 +109,7 @@ fn defaults_of(alloc: Global, names: &Names, all: Vec<Part>) -> Result<Typed, Wr
     requires { IsLawful names.now }
     ensures { Answers typed (by_name (map part all.entry.items) (calls.defaults_of names.now)) result }
 {
-    let (name, _) = named_first(all)?;
+    let (name, _) = take_name(all)?;
     let rows = find_rows(alloc, names, &name)?;
     Ok(blank_record(alloc, rows.columns)?)
 }
@@ -122,16 +122,16 @@ pub fn unless(breaks: bool, rule: Rule, made: Result<Typed, Wrong>) -> Result<Ty
     match made {
         Ok(value) => {
             if breaks {
-                Err(Wrong::Breaks(rule))
+                Err(Wrong::Refused(rule))
             } else {
                 Ok(value)
             }
         }
-        Err(Wrong::Breaks(other)) => {
+        Err(Wrong::Refused(other)) => {
             if breaks && rule.number() < other.number() {
-                Err(Wrong::Breaks(rule))
+                Err(Wrong::Refused(rule))
             } else {
-                Err(Wrong::Breaks(other))
+                Err(Wrong::Refused(other))
             }
         }
         Err(Wrong::Memory) => Err(Wrong::Memory),
@@ -139,12 +139,13 @@ pub fn unless(breaks: bool, rule: Rule, made: Result<Typed, Wrong>) -> Result<Ty
 }
 
 // A call of a function, or the lowest rule that its parts break.
-fn made_or_lowest(alloc: Global, fun: Fun, all: Vec<Part>) -> Result<Typed, Wrong>
+fn make_or_lowest(alloc: Global, fun: Fun, all: Vec<Part>) -> Result<Typed, Wrong>
     ensures { Answers typed (calls.made_or_lowest fun (map part all.entry.items)) result }
 {
-    let is_taken = taken_at(alloc, fun, all.as_slice())?.is_some();
+    // Both are asked first, since the parts go into the tree.
+    let is_taken = taken_name(alloc, fun, all.as_slice())?.is_some();
     let is_mistold = mistells(alloc, fun, all.as_slice())?;
-    let found = made(alloc, fun, pieces(alloc, all)?);
+    let found = make(alloc, fun, pieces(alloc, all)?);
     unless(
         is_taken,
         Rule::NameTwice,
@@ -153,17 +154,12 @@ fn made_or_lowest(alloc: Global, fun: Fun, all: Vec<Part>) -> Result<Typed, Wron
 }
 
 // An acting call that gives values to variables of its screen alone.
-fn acted_on_screen(
-    alloc: Global,
-    at: &Place,
-    acting: Acting,
-    all: Vec<Part>,
-) -> Result<Typed, Wrong>
+fn act_on_screen(alloc: Global, at: &Place, acting: Acting, all: Vec<Part>) -> Result<Typed, Wrong>
     requires { IsLawful at.now.names.now }
     ensures { Answers typed (calls.acted_on_screen (place at.now) acting (map part all.entry.items)) result }
 {
     let known = gives_variables(at.names, at.screen, acting, all.as_slice());
-    let found = acted(alloc, at.names, at.screen, acting, all);
+    let found = act(alloc, at.names, at.screen, acting, all);
     let found = until_settled(alloc, at.settled, found);
     unless(!known, Rule::NotAVariable, found)
 }
@@ -174,22 +170,22 @@ fn is_large(at: &Place, acting: Acting, all: &[Part]) -> bool
     requires { IsLawful at.now.names.now }
     ensures { result ≡ (is_some (large_given at.now.names.now at.now.screen acting (map part all.now)) && at.now.settled) }
 {
-    large_given(at.names, at.screen, acting, all).is_some() && at.settled
+    first_large_type(at.names, at.screen, acting, all).is_some() && at.settled
 }
 
 // An acting call at its place. While types aren't settled no value is of a wrong type for a variable, and no
 // type passes the limits; but what is no variable is none.
-fn acted_by(alloc: Global, at: &Place, acting: Acting, all: Vec<Part>) -> Result<Typed, Wrong>
+fn act_at(alloc: Global, at: &Place, acting: Acting, all: Vec<Part>) -> Result<Typed, Wrong>
     requires { IsLawful at.now.names.now }
     ensures { Answers typed (calls.acted_by (place at.now) acting (map part all.entry.items)) result }
 {
     let large = is_large(at, acting, all.as_slice());
-    let found = acted_on_screen(alloc, at, acting, all);
+    let found = act_on_screen(alloc, at, acting, all);
     unless(large, Rule::LimitPassed, found)
 }
 
 // An acting call, where it stands, or the lowest rule that it breaks.
-fn acted_or_lowest(
+fn act_or_lowest(
     alloc: Global,
     at: &Place,
     stand: Stand,
@@ -201,13 +197,13 @@ fn acted_or_lowest(
         → Answers typed (calls.acted_or_lowest (place at.now) (setting ss stand) acting (map part all.entry.items)) result }
 {
     let fits = could_act(alloc, acting, all.as_slice())?;
-    let found = acted_by(alloc, at, acting, all);
+    let found = act_at(alloc, at, acting, all);
     let found = unless(!fits, Rule::WrongType, found);
     unless(!stand.grant.may_act(), Rule::BehaviourInPure, found)
 }
 
 /// A call of a function of this shape, of these parts, where it stands, or the rule that is broken.
-pub fn called_by(
+pub fn call_by_shape(
     alloc: Global,
     at: &Place,
     stand: Stand,
@@ -219,13 +215,13 @@ pub fn called_by(
         → Answers typed (calls.called_by (place at.now) (setting ss stand) shape (map part all.entry.items)) result }
 {
     match shape {
-        SigShape::One(fun) => made_or_lowest(alloc, fun, all),
+        SigShape::One(fun) => make_or_lowest(alloc, fun, all),
         SigShape::Either(scalars, rows) => {
             let fun = pick(scalars, rows, all.as_slice());
-            made(alloc, fun, pieces(alloc, all)?)
+            make(alloc, fun, pieces(alloc, all)?)
         }
-        SigShape::Literal(fun) => made_literal(alloc, fun, pieces(alloc, all)?),
-        SigShape::Form(form) => formed(alloc, form, pieces(alloc, all)?),
+        SigShape::Literal(fun) => make_with_literal(alloc, fun, pieces(alloc, all)?),
+        SigShape::Form(form) => make_form(alloc, form, pieces(alloc, all)?),
         SigShape::With => with_of(alloc, values(alloc, all)?),
         SigShape::Table => table_of(alloc, values(alloc, all)?),
         SigShape::Today => Ok(Typed {
@@ -233,12 +229,12 @@ pub fn called_by(
             ty: Ty::Date,
         }),
         SigShape::Defaults => defaults_of(alloc, at.names, all),
-        SigShape::Act(acting) => acted_or_lowest(alloc, at, stand, acting, all),
+        SigShape::Act(acting) => act_or_lowest(alloc, at, stand, acting, all),
     }
 }
 
 // A call of a function of this shape, whose type keeps to the limits.
-fn bounded_by(
+fn call_within_limits(
     alloc: Global,
     at: &Place,
     stand: Stand,
@@ -249,12 +245,12 @@ fn bounded_by(
     ensures { (ss : List meaning.Scope) → Answers typed (builds.bounded
         (calls.called_by (place at.now) (setting ss stand) shape (map part all.entry.items))) result }
 {
-    let made = called_by(alloc, at, stand, shape, all)?;
-    bounded(made)
+    let made = call_by_shape(alloc, at, stand, shape, all)?;
+    check_limits(made)
 }
 
 // A call of a function of the table, with as many parts as it takes.
-fn called_with(
+fn call_by_signature(
     alloc: Global,
     at: &Place,
     stand: Stand,
@@ -266,12 +262,12 @@ fn called_with(
         → Answers typed (calls.called_with (place at.now) (setting ss stand) signature (map part all.entry.items)) result }
 {
     let Some(signature) = signature else {
-        return Err(Wrong::Breaks(Rule::NoFunction));
+        return Err(Wrong::Refused(Rule::NoFunction));
     };
     if !is_within(signature.least, signature.most, all.len()) {
-        return Err(Wrong::Breaks(Rule::WrongCount));
+        return Err(Wrong::Refused(Rule::WrongCount));
     }
-    bounded_by(alloc, at, stand, signature.shape, all)
+    call_within_limits(alloc, at, stand, signature.shape, all)
 }
 
 // The function of this name.
@@ -282,7 +278,7 @@ fn signature_of(names: &Names, name: &Words) -> Option<Signature>
 }
 
 /// A call of the function of this name, of these parts, where it stands, or the rule that is broken.
-pub fn called(
+pub fn call(
     alloc: Global,
     at: &Place,
     stand: Stand,
@@ -294,5 +290,5 @@ pub fn called(
         → Answers typed (calls.called (place at.now) (setting ss stand) name.now (map part all.entry.items)) result }
 {
     let signature = signature_of(at.names, name);
-    called_with(alloc, at, stand, signature, all)
+    call_by_signature(alloc, at, stand, signature, all)
 }

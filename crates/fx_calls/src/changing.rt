@@ -22,7 +22,7 @@ use fx_trees::deeds::Target;
 use fx_trees::{Core, Rule, make_core};
 use fx_typing::columns::{field_in, without};
 use fx_typing::typed::Typed;
-use fx_typing::ways::coerced;
+use fx_typing::ways::coerce;
 use fx_typing::wrong::Wrong;
 use std::alloc::Global;
 
@@ -67,7 +67,7 @@ fn are_columns(alloc: Global, columns: &Columns, fields: &Columns) -> Result<boo
 }
 
 // The rule that fields break, if they are not some of the columns.
-fn broken_by_fields(
+fn break_by_fields(
     alloc: Global,
     columns: &Columns,
     fields: &Columns,
@@ -98,7 +98,7 @@ fn id_columns(alloc: Global) -> Result<Columns, Memory>
 }
 
 // The rule that fields break which have no number `ID`: `UnknownColumn` or `WrongType`.
-fn broken_by_id(alloc: Global, fields: &Columns) -> Result<Option<Rule>, Memory>
+fn break_by_id(alloc: Global, fields: &Columns) -> Result<Option<Rule>, Memory>
     ensures { IfOk result (λ o. (c : Term) → deeds.by_id c (column_list fields.now) (field_in (codes "ID") (column_list fields.now))
         ≡ unless_broken o (Ok (c, records (column_list fields.now)))) }
 {
@@ -114,9 +114,9 @@ fn broken_by_id(alloc: Global, fields: &Columns) -> Result<Option<Rule>, Memory>
 fn by_id(alloc: Global, core: Core, fields: Columns) -> Result<Typed, Wrong>
     ensures { Answers typed (deeds.by_id core (column_list fields) (field_in (codes "ID") (column_list fields))) result }
 {
-    let broken = broken_by_id(alloc, &fields)?;
+    let broken = break_by_id(alloc, &fields)?;
     match broken {
-        Some(rule) => Err(Wrong::Breaks(rule)),
+        Some(rule) => Err(Wrong::Refused(rule)),
         None => Ok(Typed {
             core,
             ty: Ty::Rec(fields),
@@ -130,7 +130,7 @@ fn blank_of(alloc: Global, core: Core, columns: Columns) -> Result<Typed, Memory
 {
     let ty = Ty::Rec(columns);
     Ok(Typed {
-        core: coerced(alloc, core, &ty)?,
+        core: coerce(alloc, core, &ty)?,
         ty,
     })
 }
@@ -153,16 +153,16 @@ fn whole_row(alloc: Global, columns: &Columns, core: Core, fields: Columns) -> R
     ensures { Answers typed (deeds.when_columns (column_list columns.now) (column_list fields)
         (local.by_way (way (records (column_list fields)) (records (column_list columns.now))) core (records (column_list columns.now)))) result }
 {
-    let broken = broken_by_fields(alloc, columns, &fields)?;
+    let broken = break_by_fields(alloc, columns, &fields)?;
     match broken {
-        Some(rule) => Err(Wrong::Breaks(rule)),
+        Some(rule) => Err(Wrong::Refused(rule)),
         None => come_whole(alloc, columns, core, fields),
     }
 }
 
 /// A row that is named for a change: in a table by its `ID`, in a collection by all that it has. One
 /// of type Blank is a blank record. The rule is `WrongType` or `UnknownColumn`.
-pub fn row_named(alloc: Global, rows: &Changing, named: Typed) -> Result<Typed, Wrong>
+pub fn identify_row(alloc: Global, rows: &Changing, named: Typed) -> Result<Typed, Wrong>
     ensures { Answers typed (deeds.row_named rows.now.target (column_list rows.now.columns) (typed named)) result }
 {
     let Typed { core, ty } = named;
@@ -170,24 +170,24 @@ pub fn row_named(alloc: Global, rows: &Changing, named: Typed) -> Result<Typed, 
         Target::Table(_) => match ty {
             Ty::Rec(fields) => by_id(alloc, core, fields),
             Ty::Blank => Ok(blank_of(alloc, core, id_columns(alloc)?)?),
-            _ => Err(Wrong::Breaks(Rule::WrongType)),
+            _ => Err(Wrong::Refused(Rule::WrongType)),
         },
         Target::Gathered(_) => match ty {
             Ty::Rec(fields) => whole_row(alloc, &rows.columns, core, fields),
             Ty::Blank => Ok(blank_of(alloc, core, rows.columns.copy(alloc)?)?),
-            _ => Err(Wrong::Breaks(Rule::WrongType)),
+            _ => Err(Wrong::Refused(Rule::WrongType)),
         },
     }
 }
 
 /// Rows that are named for a change, in turn, or the lowest rule that one of them breaks.
-pub fn all_named(alloc: Global, rows: &Changing, named: Vec<Typed>) -> Result<Vec<Typed>, Wrong>
+pub fn identify_rows(alloc: Global, rows: &Changing, named: Vec<Typed>) -> Result<Vec<Typed>, Wrong>
     ensures { Answers (λ xs. map typed xs.items)
         (deeds.rows_named_by rows.now.target (column_list rows.now.columns) (map typed named.items)) result }
 {
     let mut found = Ok(Vec::new(alloc));
     for one in named {
-        found = keep(found, row_named(alloc, rows, one));
+        found = keep(found, identify_row(alloc, rows, one));
     }
     found
 }
@@ -211,7 +211,7 @@ fn row_of_one(alloc: Global, core: Core, fields: Columns) -> Result<Typed, Memor
 {
     let row = Ty::Rec(fields.copy(alloc)?);
     Ok(Typed {
-        core: make_core::listed(row, alone(alloc, core)?),
+        core: make_core::list(row, alone(alloc, core)?),
         ty: Ty::Tab(fields),
     })
 }
@@ -239,11 +239,7 @@ fn is_change(alloc: Global, rows: &Changing, fields: &Columns) -> Result<bool, M
 }
 
 // The rule that a change of these fields breaks, if it breaks one: `UnknownColumn` or `WrongType`.
-fn broken_by_change(
-    alloc: Global,
-    rows: &Changing,
-    fields: &Columns,
-) -> Result<Option<Rule>, Memory>
+fn break_by_change(alloc: Global, rows: &Changing, fields: &Columns) -> Result<Option<Rule>, Memory>
     ensures { IfOk result (λ o. (c : Term)
         → deeds.change_of rows.now.target (column_list rows.now.columns) (c, records (column_list fields.now))
         ≡ unless_broken o (Ok (deeds.row_of_one c (column_list fields.now)))) }
@@ -259,9 +255,9 @@ fn broken_by_change(
 fn change_by(alloc: Global, rows: &Changing, core: Core, fields: Columns) -> Result<Typed, Wrong>
     ensures { Answers typed (deeds.change_of rows.now.target (column_list rows.now.columns) (core, records (column_list fields))) result }
 {
-    let broken = broken_by_change(alloc, rows, &fields)?;
+    let broken = break_by_change(alloc, rows, &fields)?;
     match broken {
-        Some(rule) => Err(Wrong::Breaks(rule)),
+        Some(rule) => Err(Wrong::Refused(rule)),
         None => Ok(row_of_one(alloc, core, fields)?),
     }
 }
@@ -271,7 +267,7 @@ fn no_change(alloc: Global, core: Core) -> Result<Typed, Memory>
     ensures { IfOk result (λ t. typed t ≡ deeds.row_of_one (local.coerced core (records no_columns)) no_columns) }
 {
     let none = Ty::Rec(Columns::new(alloc));
-    let core = coerced(alloc, core, &none)?;
+    let core = coerce(alloc, core, &none)?;
     row_of_one(alloc, core, Columns::new(alloc))
 }
 
@@ -284,7 +280,7 @@ pub fn change_of(alloc: Global, rows: &Changing, change: Typed) -> Result<Typed,
     match ty {
         Ty::Rec(fields) => change_by(alloc, rows, core, fields),
         Ty::Blank => Ok(no_change(alloc, core)?),
-        _ => Err(Wrong::Breaks(Rule::WrongType)),
+        _ => Err(Wrong::Refused(Rule::WrongType)),
     }
 }
 

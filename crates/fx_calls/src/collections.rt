@@ -7,14 +7,14 @@ ghost use Rattle.fx_typing.specs.Answers.{Answers};
 ghost use Rattle.fx_typing.specs.TypedView.{typed};
 ghost use Rattle.fx_scopes.specs.PartView.{part};
 
-use crate::gathering::{collecting, rows_given};
-use crate::given::done_by;
+use crate::gathering::{collect_deed, rows_for};
+use crate::given::perform;
 use crate::lists::cores_of;
 use crate::values::values;
 use fx_data::types::Ty;
 use fx_data::words::Words;
 use fx_scopes::Part;
-use fx_scopes::targets::collection_named;
+use fx_scopes::targets::find_collection;
 use fx_trees::deeds::Deed;
 use fx_trees::names::{Collection, Names};
 use fx_trees::{CoreArgs, Rule};
@@ -34,10 +34,10 @@ fn collect_to(
         (number, collection.now) (map typed values.items)) result }
 {
     if values.is_empty() {
-        return Err(Wrong::Breaks(Rule::WrongCount));
+        return Err(Wrong::Refused(Rule::WrongCount));
     }
-    let rows = rows_given(alloc, &collection.ty, values)?;
-    Ok(done_by(collecting(clears, number), cores_of(alloc, rows)?))
+    let rows = rows_for(alloc, &collection.ty, values)?;
+    Ok(perform(collect_deed(clears, number), cores_of(alloc, rows)?))
 }
 
 /// `Collect`, or `ClearCollect`, which clears: a collection and values.
@@ -53,9 +53,9 @@ pub fn collect_of(
         names.now name.now (map part parts.entry.items)) result }
 {
     let values = values(alloc, parts)?;
-    match collection_named(names, name) {
+    match find_collection(names, name) {
         Some((number, collection)) => collect_to(alloc, clears, number, collection, values),
-        None => Err(Wrong::Breaks(Rule::NotAVariable)),
+        None => Err(Wrong::Refused(Rule::NotAVariable)),
     }
 }
 
@@ -69,11 +69,11 @@ pub fn clear_of(
     requires { IsLawful names.now }
     ensures { Answers typed (deeds.clear_of names.now name.now (map part parts.entry.items)) result }
 {
-    let Some((number, collection)) = collection_named(names, name) else {
-        return Err(Wrong::Breaks(Rule::NotAVariable));
+    let Some((number, collection)) = find_collection(names, name) else {
+        return Err(Wrong::Refused(Rule::NotAVariable));
     };
     match &collection.ty {
-        Ty::Tab(_) => Ok(done_by(Deed::Clear(number), CoreArgs::new(alloc))),
-        _ => Err(Wrong::Breaks(Rule::WrongType)),
+        Ty::Tab(_) => Ok(perform(Deed::Clear(number), CoreArgs::new(alloc))),
+        _ => Err(Wrong::Refused(Rule::WrongType)),
     }
 }

@@ -12,15 +12,15 @@ ghost use Rattle.fx_calls.specs.Acts.{is_by_name, acted_on};
 use crate::collections::{clear_of, collect_of};
 use crate::few::one;
 use crate::filtering::{remove_if, update_if};
-use crate::given::{alone, done_by, nothing_done};
+use crate::given::{alone, do_nothing, perform};
 use crate::lists::come_to;
 use crate::rows::{patch_of, remove_of};
-use crate::values::{named_first, values};
+use crate::values::{take_name, values};
 use crate::variables::{set_of, update_of};
 use fx_data::types::Ty;
 use fx_data::words::Words;
 use fx_scopes::Part;
-use fx_scopes::targets::{control_named, screen_named};
+use fx_scopes::targets::{find_control, find_screen};
 use fx_trees::controls::input_ty;
 use fx_trees::deeds::Deed;
 use fx_trees::functions::Acting;
@@ -35,10 +35,10 @@ fn navigate_of(alloc: Global, names: &Names, name: &Words, parts: Vec<Part>) -> 
     requires { IsLawful names.now }
     ensures { Answers typed (deeds.navigate_of names.now name.now (map part parts.entry.items)) result }
 {
-    let Some((number, _)) = screen_named(names, name) else {
-        return Err(Wrong::Breaks(Rule::NotAVariable));
+    let Some((number, _)) = find_screen(names, name) else {
+        return Err(Wrong::Refused(Rule::NotAVariable));
     };
-    Ok(done_by(Deed::Navigate(number), CoreArgs::new(alloc)))
+    Ok(perform(Deed::Navigate(number), CoreArgs::new(alloc)))
 }
 
 // `Notify`: a text.
@@ -46,10 +46,10 @@ fn notify_of(alloc: Global, values: Vec<Typed>) -> Result<Typed, Wrong>
     ensures { Answers typed (deeds.notify_of (map typed values.items)) result }
 {
     let Some(value) = one(values) else {
-        return Err(Wrong::Breaks(Rule::WrongCount));
+        return Err(Wrong::Refused(Rule::WrongCount));
     };
     let value = come_to(alloc, value, &Ty::Text)?;
-    Ok(done_by(Deed::Notify, alone(alloc, value.core)?))
+    Ok(perform(Deed::Notify, alone(alloc, value.core)?))
 }
 
 // `Reset`: a control that takes input.
@@ -57,13 +57,13 @@ fn reset_of(alloc: Global, names: &Names, name: &Words, parts: Vec<Part>) -> Res
     requires { IsLawful names.now }
     ensures { Answers typed (deeds.reset_of names.now name.now (map part parts.entry.items)) result }
 {
-    let Some((number, control)) = control_named(names, name) else {
-        return Err(Wrong::Breaks(Rule::NotAVariable));
+    let Some((number, control)) = find_control(names, name) else {
+        return Err(Wrong::Refused(Rule::NotAVariable));
     };
     if input_ty(control.kind).is_none() {
-        return Err(Wrong::Breaks(Rule::NotAVariable));
+        return Err(Wrong::Refused(Rule::NotAVariable));
     }
-    Ok(done_by(Deed::Reset(number), CoreArgs::new(alloc)))
+    Ok(perform(Deed::Reset(number), CoreArgs::new(alloc)))
 }
 
 // Whether the first part of an acting call is a name alone.
@@ -77,7 +77,7 @@ fn is_by_name(acting: Acting) -> bool
 }
 
 // An acting call of what has this name.
-fn acted_on(
+fn act_on(
     alloc: Global,
     names: &Names,
     acting: Acting,
@@ -96,12 +96,12 @@ fn acted_on(
         Acting::Remove => remove_of(alloc, names, name, rest),
         Acting::Navigate => navigate_of(alloc, names, name, rest),
         Acting::Reset => reset_of(alloc, names, name, rest),
-        _ => Err(Wrong::Breaks(Rule::NotAVariable)),
+        _ => Err(Wrong::Refused(Rule::NotAVariable)),
     }
 }
 
 // An acting call whose first part is no name alone.
-fn acted_plainly(
+fn act_plainly(
     alloc: Global,
     names: &Names,
     screen: Option<u32>,
@@ -122,7 +122,7 @@ fn acted_plainly(
 }
 
 /// An acting call on this screen, whose parts are as many as it takes, or the rule that is broken.
-pub fn acted(
+pub fn act(
     alloc: Global,
     names: &Names,
     screen: Option<u32>,
@@ -133,10 +133,10 @@ pub fn acted(
     ensures { Answers typed (deeds.acted names.now screen acting (map part parts.entry.items)) result }
 {
     if !is_by_name(acting) {
-        return acted_plainly(alloc, names, screen, acting, parts);
+        return act_plainly(alloc, names, screen, acting, parts);
     }
-    let (name, rest) = named_first(parts)?;
-    acted_on(alloc, names, acting, &name, rest)
+    let (name, rest) = take_name(parts)?;
+    act_on(alloc, names, acting, &name, rest)
 }
 
 /// What an acting call comes to: until the types of variables and collections are settled, one that gives
@@ -151,11 +151,12 @@ pub fn until_settled(
 {
     match made {
         Ok(value) => Ok(value),
-        Err(Wrong::Breaks(rule)) => {
+        Err(Wrong::Refused(rule)) => {
+            // By number, as the definition of typing has rules.
             if !settled && rule.number() == Rule::VariableTypes.number() {
-                Ok(nothing_done(alloc))
+                Ok(do_nothing(alloc))
             } else {
-                Err(Wrong::Breaks(rule))
+                Err(Wrong::Refused(rule))
             }
         }
         Err(Wrong::Memory) => Err(Wrong::Memory),

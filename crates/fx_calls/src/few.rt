@@ -1,4 +1,4 @@
-//! Lists of one or two things.
+//! Lists of one or two things. They are taken out by value, which no pattern of a slice can do.
 ghost use Rattle.std.specs.Prelude.{◌≡◌, ◌≢◌, ◌∷◌, [], MatchOption, length};
 
 /// The one thing of a list, if it is alone.

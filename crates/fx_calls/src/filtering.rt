@@ -1,4 +1,5 @@
-//! Rows that are filtered for a change.
+//! Rows that are filtered for a change. Each function looks at one thing and calls the next, so that no proof has many
+//! ways to follow.
 ghost use Rattle.std.specs.Prelude.{◌≡◌, ◌∷◌, [], IfOk, map};
 ghost use Rattle.fx_data.specs.Types.{column_list, tables};
 ghost use Rattle.fx_typing.specs.Deeds as deeds;
@@ -13,13 +14,13 @@ ghost use Rattle.fx_calls.specs.Changes.{changing_view, removed_from};
 
 use crate::changing::{Changing, change_of};
 use crate::few::{first, one};
-use crate::given::{alone, done_by};
+use crate::given::{alone, perform};
 use crate::rows::find_rows;
 use crate::values::{pieces_behind, values};
 use fx_base::Memory;
 use fx_data::types::Ty;
 use fx_data::words::Words;
-use fx_operators::local::made;
+use fx_operators::local::make;
 use fx_scopes::Part;
 use fx_trees::deeds::{Deed, Target};
 use fx_trees::functions::Fun;
@@ -61,7 +62,7 @@ fn filter_of(
 {
     let table = all_rows(alloc, rows)?;
     let pieces = pieces_behind(alloc, Piece::Value(alias, table), conditions)?;
-    made(alloc, Fun::Filter, pieces)
+    make(alloc, Fun::Filter, pieces)
 }
 
 // `RemoveIf` of these rows.
@@ -75,7 +76,7 @@ fn remove_from(
 {
     let filtered = filter_of(alloc, rows, alias, conditions)?;
     let cores = alone(alloc, filtered.core)?;
-    Ok(done_by(Deed::RemoveIf(rows.target), cores))
+    Ok(perform(Deed::RemoveIf(rows.target), cores))
 }
 
 // `RemoveIf` of the rows of this name.
@@ -107,7 +108,7 @@ fn remove_on(
 {
     match target {
         Part::Target(alias, name) => remove_named(alloc, names, alias, &name, conditions),
-        _ => Err(Wrong::Breaks(Rule::NotAVariable)),
+        _ => Err(Wrong::Refused(Rule::NotAVariable)),
     }
 }
 
@@ -118,7 +119,7 @@ pub fn remove_if(alloc: Global, names: &Names, parts: Vec<Part>) -> Result<Typed
 {
     match first(parts) {
         Some((target, conditions)) => remove_on(alloc, names, target, conditions),
-        None => Err(Wrong::Breaks(Rule::NotAVariable)),
+        None => Err(Wrong::Refused(Rule::NotAVariable)),
     }
 }
 
@@ -147,7 +148,7 @@ fn update_by(
     let change = change_of(alloc, rows, change)?;
     let mut cores = alone(alloc, filtered.core)?;
     cores.push(change.core)?;
-    Ok(done_by(Deed::UpdateIf(rows.target), cores))
+    Ok(perform(Deed::UpdateIf(rows.target), cores))
 }
 
 // `UpdateIf` of these rows: a condition, and what changes.
@@ -163,7 +164,7 @@ fn update_to(
 {
     match one(changes) {
         Some(change) => update_by(alloc, rows, alias, condition, change),
-        None => Err(Wrong::Breaks(Rule::WrongCount)),
+        None => Err(Wrong::Refused(Rule::WrongCount)),
     }
 }
 
@@ -199,7 +200,7 @@ fn update_on(
 {
     match target {
         Part::Target(alias, name) => update_named(alloc, names, alias, &name, condition, changes),
-        _ => Err(Wrong::Breaks(Rule::NotAVariable)),
+        _ => Err(Wrong::Refused(Rule::NotAVariable)),
     }
 }
 
@@ -209,10 +210,10 @@ pub fn update_if(alloc: Global, names: &Names, parts: Vec<Part>) -> Result<Typed
     ensures { Answers typed (deeds.update_if names.now (map part parts.entry.items)) result }
 {
     let Some((target, rest)) = first(parts) else {
-        return Err(Wrong::Breaks(Rule::NotAVariable));
+        return Err(Wrong::Refused(Rule::NotAVariable));
     };
     match first(rest) {
         Some((condition, changes)) => update_on(alloc, names, target, condition, changes),
-        None => Err(Wrong::Breaks(Rule::NotAVariable)),
+        None => Err(Wrong::Refused(Rule::NotAVariable)),
     }
 }

@@ -6,7 +6,7 @@ ghost use Rattle.fx_typing.specs.Deeds as deeds;
 ghost use Rattle.fx_typing.specs.Answers.{Answers};
 ghost use Rattle.fx_typing.specs.TypedView.{typed};
 
-use crate::given::{alone, given};
+use crate::given::{alone, give};
 use fx_base::Memory;
 use fx_data::types::Ty;
 use fx_trees::deeds::Deed;
@@ -29,7 +29,7 @@ fn rows_of(alloc: Global, value: Typed) -> Result<Typed, Memory>
         row => {
             let columns = row_columns(alloc, row.copy(alloc)?)?;
             Ok(Typed {
-                core: make_core::listed(row, alone(alloc, core)?),
+                core: make_core::list(row, alone(alloc, core)?),
                 ty: Ty::Tab(columns),
             })
         }
@@ -41,12 +41,12 @@ fn give_rows(alloc: Global, ty: &Ty, value: Typed) -> Result<Typed, Wrong>
     ensures { Answers typed (deeds.given (shape ty.now) (deeds.rows_of (typed value))) result }
 {
     let rows = rows_of(alloc, value)?;
-    given(alloc, ty, rows)
+    give(alloc, ty, rows)
 }
 
 /// Collected values as rows that are given to a collection of this type, or the rule that the first
 /// wrong one breaks.
-pub fn rows_given(alloc: Global, ty: &Ty, collected: Vec<Typed>) -> Result<Vec<Typed>, Wrong>
+pub fn rows_for(alloc: Global, ty: &Ty, collected: Vec<Typed>) -> Result<Vec<Typed>, Wrong>
     ensures { Answers (λ rs. map typed rs.items) (deeds.rows_given (shape ty.now) (map typed collected.items)) result }
 {
     let mut rows = Vec::new(alloc);
@@ -58,7 +58,7 @@ pub fn rows_given(alloc: Global, ty: &Ty, collected: Vec<Typed>) -> Result<Vec<T
 }
 
 /// The deed of `Collect`, or that of `ClearCollect`, which clears.
-pub fn collecting(clears: bool, collection: u32) -> Deed
+pub fn collect_deed(clears: bool, collection: u32) -> Deed
     ensures { result ≡ (if clears then deed.ClearCollect else deed.Collect) collection }
 {
     if clears {

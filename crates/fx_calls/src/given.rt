@@ -18,20 +18,20 @@ use fx_value::joining::join;
 use std::alloc::Global;
 
 /// A deed, which answers true.
-pub fn done_by(deed: Deed, parts: CoreArgs) -> Typed
+pub fn perform(deed: Deed, parts: CoreArgs) -> Typed
     ensures { typed result ≡ deeds.done_by deed parts }
 {
     Typed {
-        core: make_core::acting(deed, parts),
+        core: make_core::act(deed, parts),
         ty: Ty::Boolean,
     }
 }
 
 /// A deed that changes nothing.
-pub fn nothing_done(alloc: Global) -> Typed
+pub fn do_nothing(alloc: Global) -> Typed
     ensures { typed result ≡ deeds.nothing_done }
 {
-    done_by(
+    perform(
         Deed::UpdateContext(Sources::new(alloc)),
         CoreArgs::new(alloc),
     )
@@ -57,17 +57,17 @@ pub fn joins_to(alloc: Global, ty: &Ty, other: &Ty) -> Result<bool, Memory>
 }
 
 /// A value that is given to a variable of this type, or the rule `VariableTypes`.
-pub fn given(alloc: Global, ty: &Ty, value: Typed) -> Result<Typed, Wrong>
+pub fn give(alloc: Global, ty: &Ty, value: Typed) -> Result<Typed, Wrong>
     ensures { Answers typed (deeds.given (shape ty.now) (typed value)) result }
 {
     if !joins_to(alloc, ty, &value.ty)? {
-        return Err(Wrong::Breaks(Rule::VariableTypes));
+        return Err(Wrong::Refused(Rule::VariableTypes));
     }
     come_to(alloc, value, ty)
 }
 
 /// The deed that gives variables of a screen their values.
-pub fn context_given(alloc: Global, given: Vec<(Source, Core)>) -> Result<Typed, Memory>
+pub fn give_context(alloc: Global, given: Vec<(Source, Core)>) -> Result<Typed, Memory>
     ensures { IfOk result (λ t. typed t
         ≡ deeds.done_by (Deed.UpdateContext (deeds.given_sources given.items)) (deeds.given_terms given.items)) }
 {
@@ -77,5 +77,5 @@ pub fn context_given(alloc: Global, given: Vec<(Source, Core)>) -> Result<Typed,
         sources.push(source)?;
         cores.push(core)?;
     }
-    Ok(done_by(Deed::UpdateContext(sources), cores))
+    Ok(perform(Deed::UpdateContext(sources), cores))
 }

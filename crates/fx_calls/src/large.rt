@@ -9,7 +9,7 @@ use crate::limits::is_bounded;
 use fx_data::types::Ty;
 use fx_data::words::Words;
 use fx_scopes::Part;
-use fx_scopes::targets::{collection_named, global_variable, screen_variable};
+use fx_scopes::targets::{find_collection, global_variable, screen_variable};
 use fx_trees::functions::Acting;
 use fx_trees::names::{Collection, Names, Variable};
 
@@ -61,7 +61,7 @@ fn large_on_screen<'n>(names: &'n Names, screen: Option<u32>, variables: &[Words
 
 /// The first type that passes the limits, of the variables or the collection that an acting call gives a
 /// value.
-pub fn large_given<'n>(
+pub fn first_large_type<'n>(
     names: &'n Names,
     screen: Option<u32>,
     acting: Acting,
@@ -77,7 +77,7 @@ pub fn large_given<'n>(
             large_on_screen(names, screen, variables.as_slice())
         }
         (Acting::Collect | Acting::ClearCollect, Some(Part::Target(_, name))) => {
-            large_collection(collection_named(names, name))
+            large_collection(find_collection(names, name))
         }
         _ => None,
     }

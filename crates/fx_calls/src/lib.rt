@@ -21,6 +21,6 @@ pub mod taken;
 pub mod values;
 pub mod variables;
 
-pub use calls::{called, called_by, unless};
-pub use large::large_given;
-pub use taken::taken_at;
+pub use calls::{call, call_by_shape, unless};
+pub use large::first_large_type;
+pub use taken::taken_name;

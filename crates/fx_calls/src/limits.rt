@@ -66,11 +66,11 @@ pub fn is_bounded(ty: &Ty) -> bool
 }
 
 /// A typed tree whose type keeps to the limits, or the rule `LimitPassed`.
-pub fn bounded(tree: Typed) -> Result<Typed, Wrong>
+pub fn check_limits(tree: Typed) -> Result<Typed, Wrong>
     ensures { Answers typed (limits.bounded_by (typed tree)) result }
 {
     if !is_bounded(&tree.ty) {
-        return Err(Wrong::Breaks(Rule::LimitPassed));
+        return Err(Wrong::Refused(Rule::LimitPassed));
     }
     Ok(tree)
 }

@@ -8,13 +8,13 @@ ghost use Rattle.fx_typing.specs.Answers.{Answers};
 ghost use Rattle.fx_typing.specs.TypedView.{typed};
 
 use crate::few::two;
-use crate::limits::bounded;
+use crate::limits::check_limits;
 use fx_base::Memory;
 use fx_data::types::{Columns, Ty};
 use fx_trees::{Core, CoreArgs, Rule, make_core};
 use fx_typing::columns::row_columns;
 use fx_typing::typed::Typed;
-use fx_typing::ways::{by_way, coerced, way_to};
+use fx_typing::ways::{by_way, coerce, way_to};
 use fx_typing::wrong::Wrong;
 use fx_value::joining::join;
 use std::alloc::Global;
@@ -42,7 +42,7 @@ fn join_next(alloc: Global, joined: Option<Ty>, next: &Ty) -> Result<Option<Ty>,
 }
 
 // The join of a type and those of parts, from the left, if there is one.
-fn joined(alloc: Global, start: Option<Ty>, parts: &[Typed]) -> Result<Option<Ty>, Memory>
+fn join_types(alloc: Global, start: Option<Ty>, parts: &[Typed]) -> Result<Option<Ty>, Memory>
     ensures { IfOk result (λ t. option_map shape t ≡ local.join_all (option_map shape start) (map typed parts.now)) }
 {
     let mut joined = start;
@@ -78,7 +78,7 @@ fn list_by(alloc: Global, row: Ty, parts: Vec<Typed>) -> Result<Typed, Memory>
     let columns = row_columns(alloc, row.copy(alloc)?)?;
     let parts = cores_of(alloc, parts)?;
     Ok(Typed {
-        core: make_core::listed(row, parts),
+        core: make_core::list(row, parts),
         ty: Ty::Tab(columns),
     })
 }
@@ -88,7 +88,7 @@ fn list_as(alloc: Global, row: Option<Ty>, parts: Vec<Typed>) -> Result<Typed, W
     ensures { Answers typed (builds.list_as (option_map shape row) (map typed parts.items)) result }
 {
     match row {
-        None | Some(Ty::Tab(_)) => Err(Wrong::Breaks(Rule::WrongType)),
+        None | Some(Ty::Tab(_)) => Err(Wrong::Refused(Rule::WrongType)),
         Some(row) => {
             let parts = rows_to(alloc, &row, parts)?;
             Ok(list_by(alloc, row, parts)?)
@@ -101,7 +101,7 @@ fn empty_list(alloc: Global) -> Result<Typed, Wrong>
     ensures { Answers typed (builds.list_of []) result }
 {
     let table = list_as(alloc, Some(Ty::Rec(Columns::new(alloc))), Vec::new(alloc))?;
-    bounded(table)
+    check_limits(table)
 }
 
 // `[..]` of one row or more.
@@ -109,9 +109,9 @@ fn full_list(alloc: Global, parts: Vec<Typed>) -> Result<Typed, Wrong>
     requires { 0 < length parts.items }
     ensures { Answers typed (builds.list_of (map typed parts.items)) result }
 {
-    let row = joined(alloc, Some(Ty::Blank), parts.as_slice())?;
+    let row = join_types(alloc, Some(Ty::Blank), parts.as_slice())?;
     let table = list_as(alloc, row, parts)?;
-    bounded(table)
+    check_limits(table)
 }
 
 /// `[..]`: a table of values or of records. Of type Blank alone it has values, and without rows it has
@@ -131,7 +131,7 @@ pub fn table_of(alloc: Global, parts: Vec<Typed>) -> Result<Typed, Wrong>
     ensures { Answers typed (builds.table_of (map typed parts.items)) result }
 {
     let start = Some(Ty::Rec(Columns::new(alloc)));
-    let row = joined(alloc, start, parts.as_slice())?;
+    let row = join_types(alloc, start, parts.as_slice())?;
     list_as(alloc, row, parts)
 }
 
@@ -142,8 +142,8 @@ fn as_record(alloc: Global, part: Typed) -> Result<Core, Wrong>
     let Typed { core, ty } = part;
     match ty {
         Ty::Rec(_) => Ok(core),
-        Ty::Blank => Ok(coerced(alloc, core, &Ty::Rec(Columns::new(alloc)))?),
-        _ => Err(Wrong::Breaks(Rule::WrongType)),
+        Ty::Blank => Ok(coerce(alloc, core, &Ty::Rec(Columns::new(alloc)))?),
+        _ => Err(Wrong::Refused(Rule::WrongType)),
     }
 }
 
@@ -153,7 +153,7 @@ pub fn with_of(alloc: Global, parts: Vec<Typed>) -> Result<Typed, Wrong>
     ensures { Answers typed (builds.with_of (map typed parts.items)) result }
 {
     let Some((record, formula)) = two(parts) else {
-        return Err(Wrong::Breaks(Rule::WrongCount));
+        return Err(Wrong::Refused(Rule::WrongCount));
     };
     let scope = as_record(alloc, record)?;
     Ok(Typed {

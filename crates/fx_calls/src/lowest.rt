@@ -15,11 +15,11 @@ fn lower(one: Wrong, other: Wrong) -> Wrong
     ensures { result ≡ lowest.lower one other }
 {
     match (one, other) {
-        (Wrong::Breaks(one), Wrong::Breaks(other)) => {
+        (Wrong::Refused(one), Wrong::Refused(other)) => {
             if other.number() < one.number() {
-                Wrong::Breaks(other)
+                Wrong::Refused(other)
             } else {
-                Wrong::Breaks(one)
+                Wrong::Refused(one)
             }
         }
         _ => Wrong::Memory,

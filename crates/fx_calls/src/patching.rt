@@ -6,9 +6,9 @@ ghost use Rattle.fx_typing.specs.Answers.{Answers};
 ghost use Rattle.fx_typing.specs.TypedView.{typed};
 ghost use Rattle.fx_calls.specs.Changes.{changing_view, patched, removed};
 
-use crate::changing::{Changing, all_named, changes_of, row_named};
+use crate::changing::{Changing, changes_of, identify_row, identify_rows};
 use crate::few::first;
-use crate::given::done_by;
+use crate::given::perform;
 use crate::lists::cores_of;
 use crate::lowest::both;
 use fx_base::Memory;
@@ -33,7 +33,7 @@ fn cores_behind(alloc: Global, first: Core, parts: Vec<Typed>) -> Result<CoreArg
 }
 
 // The tree of a row that is patched, and those of what changes in it.
-fn patched(
+fn patch(
     alloc: Global,
     rows: &Changing,
     base: Typed,
@@ -41,7 +41,7 @@ fn patched(
 ) -> Result<CoreArgs, Wrong>
     ensures { Answers (λ cs. cs) (patched (changing_view rows.now) (typed base) (map typed changes.items)) result }
 {
-    let base = row_named(alloc, rows, base);
+    let base = identify_row(alloc, rows, base);
     let changes = changes_of(alloc, rows, changes);
     let (base, changes) = both(base, changes)?;
     Ok(cores_behind(alloc, base.core, changes)?)
@@ -51,9 +51,9 @@ fn patched(
 fn patch_by(alloc: Global, rows: Changing, base: Typed, changes: Vec<Typed>) -> Result<Typed, Wrong>
     ensures { Answers typed (deeds.patch_to (changing_view rows) (typed base ∷ map typed changes.items)) result }
 {
-    let cores = patched(alloc, &rows, base, changes)?;
+    let cores = patch(alloc, &rows, base, changes)?;
     Ok(Typed {
-        core: make_core::acting(Deed::Patch(rows.target), cores),
+        core: make_core::act(Deed::Patch(rows.target), cores),
         ty: Ty::Rec(rows.columns),
     })
 }
@@ -65,7 +65,7 @@ pub fn patch_to(alloc: Global, rows: Changing, parts: Vec<Typed>) -> Result<Type
 {
     match first(parts) {
         Some((base, changes)) => patch_by(alloc, rows, base, changes),
-        None => Err(Wrong::Breaks(Rule::WrongCount)),
+        None => Err(Wrong::Refused(Rule::WrongCount)),
     }
 }
 
@@ -73,6 +73,6 @@ pub fn patch_to(alloc: Global, rows: Changing, parts: Vec<Typed>) -> Result<Type
 pub fn remove_to(alloc: Global, rows: &Changing, named: Vec<Typed>) -> Result<Typed, Wrong>
     ensures { Answers typed (removed (changing_view rows.now) (map typed named.items)) result }
 {
-    let found = all_named(alloc, rows, named)?;
-    Ok(done_by(Deed::Remove(rows.target), cores_of(alloc, found)?))
+    let found = identify_rows(alloc, rows, named)?;
+    Ok(perform(Deed::Remove(rows.target), cores_of(alloc, found)?))
 }

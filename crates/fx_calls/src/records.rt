@@ -7,7 +7,7 @@ ghost use Rattle.fx_typing.specs.Answers.{Answers};
 ghost use Rattle.fx_typing.specs.TypedView.{typed};
 ghost use Rattle.fx_calls.specs.Fields.{field_view, place_in};
 
-use crate::limits::bounded;
+use crate::limits::check_limits;
 use fx_base::Memory;
 use fx_data::types::{Columns, Ty};
 use fx_data::words::Words;
@@ -78,6 +78,7 @@ fn put_fields(
 {
     let mut names = names;
     let mut parts = parts;
+    // As many as there are of both, and from the last on, as the definition puts them.
     names.truncate(parts.len());
     parts.truncate(names.len());
     let mut fields = Vec::new(alloc);
@@ -101,7 +102,7 @@ fn record_by(alloc: Global, fields: Vec<(Words, Typed)>) -> Result<Typed, Memory
         parts.push(name, part.core)?;
     }
     Ok(Typed {
-        core: make_core::recorded(parts),
+        core: make_core::record_of(parts),
         ty: Ty::Rec(Columns::from_rising(columns)),
     })
 }
@@ -111,8 +112,8 @@ pub fn record_of(alloc: Global, names: Vec<Words>, parts: Vec<Typed>) -> Result<
     ensures { Answers typed (builds.record_of names.items (map typed parts.items)) result }
 {
     if !are_distinct(names.as_slice()) {
-        return Err(Wrong::Breaks(Rule::NameTwice));
+        return Err(Wrong::Refused(Rule::NameTwice));
     }
     let fields = put_fields(alloc, names, parts)?;
-    bounded(record_by(alloc, fields)?)
+    check_limits(record_by(alloc, fields)?)
 }

@@ -12,7 +12,7 @@ use crate::patching::{patch_to, remove_to};
 use crate::values::values;
 use fx_data::types::Ty;
 use fx_data::words::Words;
-use fx_scopes::targets::rows_named;
+use fx_scopes::targets::find_target;
 use fx_scopes::{Part, RowsNamed};
 use fx_trees::Rule;
 use fx_trees::names::Names;
@@ -26,12 +26,12 @@ pub fn find_rows(alloc: Global, names: &Names, name: &Words) -> Result<Changing,
     requires { IsLawful names.now }
     ensures { Answers changing_view (rows_to_change names.now name.now) result }
 {
-    let Some(RowsNamed { target, ty }) = rows_named(alloc, names, name)? else {
-        return Err(Wrong::Breaks(Rule::NotAVariable));
+    let Some(RowsNamed { target, ty }) = find_target(alloc, names, name)? else {
+        return Err(Wrong::Refused(Rule::NotAVariable));
     };
     match ty {
         Ty::Tab(columns) => Ok(Changing { target, columns }),
-        _ => Err(Wrong::Breaks(Rule::WrongType)),
+        _ => Err(Wrong::Refused(Rule::WrongType)),
     }
 }
 

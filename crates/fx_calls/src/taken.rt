@@ -61,7 +61,7 @@ fn is_one_of(name: &Words, names: &[&Words]) -> bool
 }
 
 // The names with one in the place of another, if that is there.
-fn renamed<'p>(
+fn rename<'p>(
     alloc: Global,
     from: &Words,
     to: &'p Words,
@@ -79,7 +79,7 @@ fn renamed<'p>(
 }
 
 // The names behind a pair of an old name and a new one.
-fn with_renamed<'p>(
+fn rename_next<'p>(
     alloc: Global,
     from: Option<&Words>,
     to: Option<&'p Words>,
@@ -89,7 +89,7 @@ fn with_renamed<'p>(
         (option_map (λ w. w.now) to.entry) (map (λ w. w.now) names.entry.items)) }
 {
     match (from, to) {
-        (Some(from), Some(to)) => renamed(alloc, from, to, names),
+        (Some(from), Some(to)) => rename(alloc, from, to, names),
         _ => Ok(names),
     }
 }
@@ -107,7 +107,7 @@ fn with_name<'p>(name: Option<&'p Words>, names: Vec<&'p Words>) -> Result<Vec<&
 }
 
 // A name that is one of these.
-fn if_taken<'p>(name: Option<&'p Words>, names: &[&Words]) -> Option<&'p Words>
+fn find_name<'p>(name: Option<&'p Words>, names: &[&Words]) -> Option<&'p Words>
     ensures { option_map (λ w. w.now) result
         ≡ breaks.taken_or (option_map (λ w. w.now) name.entry) (map (λ w. w.now) names.now) None }
 {
@@ -118,7 +118,7 @@ fn if_taken<'p>(name: Option<&'p Words>, names: &[&Words]) -> Option<&'p Words>
 }
 
 // The first name of a new column, in turn, that is taken.
-fn taken_added<'p>(all: &'p [Part], names: Vec<&'p Words>) -> Result<Option<&'p Words>, Memory>
+fn taken_added_name<'p>(all: &'p [Part], names: Vec<&'p Words>) -> Result<Option<&'p Words>, Memory>
     ensures { IfOk result (λ o. option_map (λ w. w.now) o
         ≡ breaks.taken_added (map part all.now) (map (λ w. w.now) names.entry.items)) }
 {
@@ -126,7 +126,7 @@ fn taken_added<'p>(all: &'p [Part], names: Vec<&'p Words>) -> Result<Option<&'p 
     let mut more = all;
     while let [new, _, rest @ ..] = more {
         let new = name_of(new);
-        if let Some(taken) = if_taken(new, names.as_slice()) {
+        if let Some(taken) = find_name(new, names.as_slice()) {
             return Ok(Some(taken));
         }
         names = with_name(new, names)?;
@@ -136,7 +136,7 @@ fn taken_added<'p>(all: &'p [Part], names: Vec<&'p Words>) -> Result<Option<&'p 
 }
 
 // The first new name of a column, in turn, that is taken.
-fn taken_renamed<'p>(
+fn taken_renamed_name<'p>(
     alloc: Global,
     all: &'p [Part],
     names: Vec<&'p Words>,
@@ -148,36 +148,40 @@ fn taken_renamed<'p>(
     let mut more = all;
     while let [old, new, rest @ ..] = more {
         let new = name_of(new);
-        if let Some(taken) = if_taken(new, names.as_slice()) {
+        if let Some(taken) = find_name(new, names.as_slice()) {
             return Ok(Some(taken));
         }
-        names = with_renamed(alloc, name_of(old), new, names)?;
+        names = rename_next(alloc, name_of(old), new, names)?;
         more = rest;
     }
     Ok(None)
 }
 
 // The first new name of a column that is taken, in a call with this answer.
-fn taken_by<'p>(alloc: Global, answer: Answer, all: &'p [Part]) -> Result<Option<&'p Words>, Memory>
+fn taken_name_by_answer<'p>(
+    alloc: Global,
+    answer: Answer,
+    all: &'p [Part],
+) -> Result<Option<&'p Words>, Memory>
     ensures { IfOk result (λ o. option_map (λ w. w.now) o ≡ breaks.taken_by answer (map part all.now)) }
 {
     let Some((first, others)) = all.split_first() else {
         return Ok(None);
     };
     match answer {
-        Answer::Added => taken_added(others, names_in(alloc, first)?),
-        Answer::Renamed => taken_renamed(alloc, others, names_in(alloc, first)?),
+        Answer::Added => taken_added_name(others, names_in(alloc, first)?),
+        Answer::Renamed => taken_renamed_name(alloc, others, names_in(alloc, first)?),
         _ => Ok(None),
     }
 }
 
 /// The first new name of a column that is taken, in a call of a function that has as many parts as it takes.
-pub fn taken_at<'p>(alloc: Global, fun: Fun, all: &'p [Part]) -> Result<Option<&'p Words>, Memory>
+pub fn taken_name<'p>(alloc: Global, fun: Fun, all: &'p [Part]) -> Result<Option<&'p Words>, Memory>
     ensures { IfOk result (λ o. option_map (λ w. w.now) o ≡ breaks.taken_at fun (map part all.now)) }
 {
     let row = row_of(fun);
     if row.takes_count(all.len()) {
-        taken_by(alloc, row.answer, all)
+        taken_name_by_answer(alloc, row.answer, all)
     } else {
         Ok(None)
     }

@@ -20,7 +20,7 @@ fn value_of(one: Part) -> Result<Typed, Wrong>
 {
     match one {
         Part::Piece(Piece::Value(_, value)) => Ok(value),
-        _ => Err(Wrong::Breaks(Rule::WrongType)),
+        _ => Err(Wrong::Refused(Rule::WrongType)),
     }
 }
 
@@ -77,16 +77,16 @@ pub fn pieces_behind(alloc: Global, first: Piece, all: Vec<Part>) -> Result<Vec<
 
 /// The name of what changes and the parts behind it, or the rule `WrongType` where its rows have a
 /// name, or `NotAVariable` where there is no such name.
-pub fn named_first<'a>(all: Vec<Part<'a>>) -> Result<(Words, Vec<Part<'a>>), Wrong>
+pub fn take_name<'a>(all: Vec<Part<'a>>) -> Result<(Words, Vec<Part<'a>>), Wrong>
     ensures { Answers (λ p. (p.0, map part p.1.items)) (named_first (map part all.entry.items)) result }
 {
     let mut all = all;
     if all.is_empty() {
-        return Err(Wrong::Breaks(Rule::NotAVariable));
+        return Err(Wrong::Refused(Rule::NotAVariable));
     }
     match all.remove(0) {
         Part::Target(None, name) => Ok((name, all)),
-        Part::Target(Some(_), _) => Err(Wrong::Breaks(Rule::WrongType)),
-        _ => Err(Wrong::Breaks(Rule::NotAVariable)),
+        Part::Target(Some(_), _) => Err(Wrong::Refused(Rule::WrongType)),
+        _ => Err(Wrong::Refused(Rule::NotAVariable)),
     }
 }

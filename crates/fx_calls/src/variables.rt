@@ -11,7 +11,7 @@ ghost use Rattle.fx_typing.specs.TypedView.{typed};
 ghost use Rattle.fx_scopes.specs.PartView.{part};
 
 use crate::few::one;
-use crate::given::{alone, context_given, done_by, given};
+use crate::given::{alone, give, give_context, perform};
 use crate::lowest::both;
 use crate::values::values;
 use fx_data::words::Words;
@@ -35,10 +35,10 @@ fn set_to(
     ensures { Answers typed (deeds.set_to (number, variable.now) (map typed values.items)) result }
 {
     let Some(value) = one(values) else {
-        return Err(Wrong::Breaks(Rule::WrongCount));
+        return Err(Wrong::Refused(Rule::WrongCount));
     };
-    let value = given(alloc, &variable.ty, value)?;
-    Ok(done_by(Deed::Set(number), alone(alloc, value.core)?))
+    let value = give(alloc, &variable.ty, value)?;
+    Ok(perform(Deed::Set(number), alone(alloc, value.core)?))
 }
 
 /// `Set`: a global variable and its value.
@@ -49,7 +49,7 @@ pub fn set_of(alloc: Global, names: &Names, name: &Words, parts: Vec<Part>) -> R
     let values = values(alloc, parts)?;
     match global_variable(names, name) {
         Some((number, variable)) => set_to(alloc, number, variable, values),
-        None => Err(Wrong::Breaks(Rule::NotAVariable)),
+        None => Err(Wrong::Refused(Rule::NotAVariable)),
     }
 }
 
@@ -65,9 +65,9 @@ fn give_one(
     ensures { Answers (λ g. g) (deeds.give_one (screen_variable names.now screen name.now) (typed value)) result }
 {
     let Some((number, variable)) = screen_variable(names, screen, name) else {
-        return Err(Wrong::Breaks(Rule::NotAVariable));
+        return Err(Wrong::Refused(Rule::NotAVariable));
     };
-    let value = given(alloc, &variable.ty, value)?;
+    let value = give(alloc, &variable.ty, value)?;
     Ok((Source::Context(number), value.core))
 }
 
@@ -114,9 +114,9 @@ fn update_by(alloc: Global, names: &Names, screen: u32, assigned: Part) -> Resul
     match assigned {
         Part::Assigned(variables, values) => {
             let given = give_all(alloc, names, Some(screen), variables, values)?;
-            Ok(context_given(alloc, given)?)
+            Ok(give_context(alloc, given)?)
         }
-        _ => Err(Wrong::Breaks(Rule::NotAVariable)),
+        _ => Err(Wrong::Refused(Rule::NotAVariable)),
     }
 }
 
@@ -131,10 +131,10 @@ pub fn update_of(
     ensures { Answers typed (deeds.update_of names.now screen (map part parts.entry.items)) result }
 {
     let Some(screen) = screen else {
-        return Err(Wrong::Breaks(Rule::NotAVariable));
+        return Err(Wrong::Refused(Rule::NotAVariable));
     };
     match one(parts) {
         Some(assigned) => update_by(alloc, names, screen, assigned),
-        None => Err(Wrong::Breaks(Rule::NotAVariable)),
+        None => Err(Wrong::Refused(Rule::NotAVariable)),
     }
 }

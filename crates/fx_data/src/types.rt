@@ -26,6 +26,8 @@ pub enum Ty {
 }
 
 /// The columns of a record or a table, by rising names.
+// No `InOrder`: what holds itself needs a size that falls, so that calls down a type end, and these have rising names
+// as well.
 #[cycle(ty)]
 #[derive(Drop)]
 pub struct Columns {
@@ -58,6 +60,7 @@ impl Model for Columns {
 
 impl Ty {
     /// The same type.
+    // By hand, since a derived `Clone` promises nothing of a type that holds itself.
     #[cycle(copy)]
     pub fn copy(&self, alloc: Global) -> Result<Ty, Memory>
         ensures { IfOk result (λ t. t ≡ self.now) }

@@ -31,6 +31,7 @@ pub enum Value {
 }
 
 /// The fields of a record, by rising names.
+// No `InOrder`, as with the columns of a type: it has a size and an invariant of its own.
 #[cycle(value)]
 #[derive(Drop)]
 pub struct Fields {

@@ -7,6 +7,7 @@ ghost use Rattle.std.specs.Ordering.{nat_cmp};
 use crate::words::Words;
 use std::cmp::Ordering;
 
+// By hand, since a derived comparison needs that what is seen of a text determines it, and its capacity isn't seen.
 impl PartialEq for Words {
     ghost eq = { bytes_eq };
 

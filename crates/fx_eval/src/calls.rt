@@ -8,7 +8,7 @@ ghost use Rattle.fx_eval.specs.TableCalls.{CanMake, IsJoining, IsMadeOf};
 
 use crate::answers::{Answers, count, only, value, values_of};
 use crate::columns::{names, new_columns, renamings};
-use crate::conditions::{found, verdicts};
+use crate::conditions::{find, verdicts};
 use fx_base::Memory;
 use fx_data::values::{Rows, Value};
 use fx_tables::row_calls as calls;
@@ -26,7 +26,7 @@ pub fn over(alloc: Global, fun: Fun, rows: Rows, answers: Vec<Answers>) -> Resul
             let conditions = verdicts(alloc, &rows, answers)?;
             calls::filter(alloc, rows, conditions)
         }
-        Fun::LookUp => found(alloc, rows, answers),
+        Fun::LookUp => find(alloc, rows, answers),
         Fun::Sort(order) => calls::sort(alloc, rows, only(answers), is_falling(order)),
         Fun::First => Ok(calls::first(rows)),
         Fun::Last => Ok(calls::last(rows)),
@@ -47,7 +47,7 @@ pub fn over(alloc: Global, fun: Fun, rows: Rows, answers: Vec<Answers>) -> Resul
         }
         Fun::Distinct => calls::distinct_values(alloc, only(answers)),
         Fun::ForAll => calls::for_all(alloc, only(answers)),
-        Fun::Concat => joined(alloc, answers),
+        Fun::Concat => concatenate(alloc, answers),
         _ => unreachable!(),
     }
 }
@@ -62,7 +62,7 @@ fn is_falling(order: SortOrder) -> bool
 }
 
 // The texts of the formula joined, with the separator between each two.
-fn joined(alloc: Global, answers: Vec<Answers>) -> Result<Value, Memory>
+fn concatenate(alloc: Global, answers: Vec<Answers>) -> Result<Value, Memory>
     requires { IsJoining (map given answers.items) }
     ensures { IfOk result (λ v. view v ≡ concatenated_by (separator_in (map given answers.items)) (values_in (map given answers.items))) }
 {

@@ -88,7 +88,7 @@ fn holds(condition: &Value) -> bool
 }
 
 // The first row whose condition holds, or what the formula gave for it.
-pub(crate) fn found(alloc: Global, rows: Rows, answers: Vec<Answers>) -> Result<Value, Memory>
+pub(crate) fn find(alloc: Global, rows: Rows, answers: Vec<Answers>) -> Result<Value, Memory>
     requires { IsSearch (length rows) (map given answers.items) }
     ensures { IfOk result (λ v. view v ≡ found_in rows (map given answers.items)) }
 {

@@ -5,7 +5,7 @@ ghost use Rattle.fx_eval.specs.Courses.{by_decision, coalesces, end_of, ends_in_
 ghost use Rattle.fx_eval.specs.Kinds.{CanTurn};
 
 use fx_data::{Fault, Value};
-use fx_scalar::{Decision, decide, decide_match, is_blank, none_left};
+use fx_scalar::{Decision, decide, decide_match, exhausted_value, is_blank};
 use fx_trees::Form;
 
 /// Where a form stands before a part.
@@ -55,8 +55,8 @@ impl Course {
         ensures { view result ≡ end_of (going self) }
     {
         match self {
-            Course::All => none_left(Form::All),
-            Course::Any => none_left(Form::Any),
+            Course::All => exhausted_value(Form::All),
+            Course::Any => exhausted_value(Form::Any),
             Course::Recover(value) => value,
             _ => Value::Blank,
         }
@@ -91,7 +91,7 @@ impl Course {
                 Value::Fault(fault) => Turn::Fallback(fault),
                 value => Turn::Beyond(Course::Recover(value)),
             },
-            Course::Coalesce => coalesced(value),
+            Course::Coalesce => coalesce(value),
         }
     }
 }
@@ -108,7 +108,7 @@ fn by_decision(decision: Decision, met: Turn, unmet: Turn) -> Turn
 }
 
 // What `Coalesce` makes of a value: a blank one and an empty text are passed over.
-fn coalesced(value: Value) -> Turn
+fn coalesce(value: Value) -> Turn
     ensures { turning result ≡ turned coalesces (view value) }
 {
     if is_blank(&value) {

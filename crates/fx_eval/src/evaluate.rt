@@ -22,7 +22,7 @@ ghost use Rattle.fx_value.specs.Fits.{fits_in};
 use crate::courses::{Course, Turn};
 use crate::environment::{Env, Stop};
 use crate::scope::Scope;
-use crate::{Answers, Steps, is_formula, listed, over, rows_of};
+use crate::{Answers, Steps, is_formula, list, over, rows_of};
 use fx_base::Memory;
 use fx_data::{Fault, Fields, Value, Words};
 use fx_scalar::{apply, fitting_can_apply, without_error};
@@ -57,7 +57,8 @@ pub fn eval<E: Env, L: Ledger>(
     tree(alloc, env, scope, core, steps)
 }
 
-// The value of a tree, which fits its type.
+// The value of a tree, which fits its type. Apart from `node`, so that it is proved once, and not for each head, that
+// the value fits.
 #[cycle(tree)]
 fn tree<E: Env, L: Ledger>(
     alloc: Global,
@@ -95,6 +96,7 @@ fn node<E: Env, L: Ledger>(
     ensures value { IfOk result (λ v. Heard (values_told (E.told env.new)) (λ told. IsValue (around (E.fixed env.old).types told scope.old) core.now (view v))) }
 {
     values_fit();
+    // This law, like the one before it, is called for what it says.
     fitting_can_apply();
     match &core.node {
         CoreNode::Const(value) => Ok(value.copy(alloc)?),
@@ -104,7 +106,7 @@ fn node<E: Env, L: Ledger>(
         CoreNode::Caught => Ok(scope.caught_error(alloc)?),
         CoreNode::Dot(part, name) => {
             let value = tree(alloc, env, scope, part, steps)?;
-            Ok(dotted(alloc, value, name)?)
+            Ok(dot(alloc, value, name)?)
         }
         CoreNode::With(part, formula) => within(alloc, env, scope, part, formula, steps),
         CoreNode::Coerce(part, ty) => {
@@ -139,14 +141,14 @@ fn node<E: Env, L: Ledger>(
         }
         CoreNode::List(row, parts) => {
             let values = part_values(alloc, env, scope, parts.as_slice(), steps)?;
-            Ok(listed(alloc, row, values)?)
+            Ok(list(alloc, row, values)?)
         }
         CoreNode::Chain(_) | CoreNode::Act(_, _) => unreachable!(),
     }
 }
 
 // A field of a record, which is blank where there is none of the name, and an error as it is.
-fn dotted(alloc: Global, value: Value, name: &Words) -> Result<Value, Memory>
+fn dot(alloc: Global, value: Value, name: &Words) -> Result<Value, Memory>
     ensures { IfOk result (λ v. view v ≡ field_of name.now (view value)) }
 {
     match value {
@@ -201,6 +203,7 @@ fn in_scope<E: Env, L: Ledger>(
     ensures value { IfOk result (λ v. Heard (values_told (E.told env.new)) (λ told. IsValue (around (E.fixed env.old).types told (inner scope.old (view row))) formula.now (view v))) }
 {
     scope.rows.push(row)?;
+    // Without `?`, so that the scope is left also where there is no value.
     let value = tree(alloc, env, scope, formula, steps);
     let _ = scope.rows.pop();
     value
@@ -208,7 +211,7 @@ fn in_scope<E: Env, L: Ledger>(
 
 // The value of a formula where an error was caught.
 #[cycle(tree)]
-fn catching<E: Env, L: Ledger>(
+fn catch_error<E: Env, L: Ledger>(
     alloc: Global,
     env: &mut E,
     scope: &mut Scope,
@@ -248,7 +251,8 @@ fn split(parts: &[Core]) -> (&Core, &[Core])
     }
 }
 
-// The value of a form, part by part.
+// The value of a form, part by part. One loop serves all forms: what each makes of a value is decided outside of the
+// recursion.
 #[cycle(tree)]
 fn go_through<E: Env, L: Ledger>(
     alloc: Global,
@@ -280,7 +284,7 @@ fn go_through<E: Env, L: Ledger>(
             }
             Turn::Fallback(fault) => {
                 let (formula, _) = split(others);
-                return catching(alloc, env, scope, fault, formula, steps);
+                return catch_error(alloc, env, scope, fault, formula, steps);
             }
             Turn::Further(next) => {
                 course = next;
@@ -372,7 +376,8 @@ fn call_over<E: Env, L: Ledger>(
     }
 }
 
-// What the parts of a call over these rows come to.
+// What the parts of a call over these rows come to. All are evaluated before the function is looked at, which so needs
+// no environment.
 #[cycle(tree)]
 fn part_answers<E: Env, L: Ledger>(
     alloc: Global,

@@ -62,6 +62,7 @@ impl Env for Kept<'_> {
         self.limit
     }
 
+    // There are no tables, so that no query can be asked.
     fn scan(&mut self, _query: &Query) -> Result<Value, Stop> {
         unreachable!()
     }

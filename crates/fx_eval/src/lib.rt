@@ -20,6 +20,6 @@ pub use environment::{Env, Stop};
 pub use evaluate::eval;
 pub use kept::{Kept, KeptCell, kept_is_named};
 pub use laws::{made_is_worth, typed_can_make};
-pub use lists::listed;
+pub use lists::list;
 pub use scope::Scope;
 pub use steps::Steps;

@@ -16,7 +16,7 @@ use std::alloc::Global;
 
 /// The table of these values as its rows, which are of this type: records, or scalars in a column
 /// `Value`. Where there is an error among the values, the first one is the answer.
-pub fn listed(alloc: Global, row: &Ty, values: Vec<Value>) -> Result<Value, Memory>
+pub fn list(alloc: Global, row: &Ty, values: Vec<Value>) -> Result<Value, Memory>
     requires { CanList (shape row.now) (map view values.items) }
     ensures { IfOk result (λ v. view v ≡ union_of (tables (row_columns_of (shape row.now))) (map view values.items)) }
 {

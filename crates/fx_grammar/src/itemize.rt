@@ -9,7 +9,7 @@ ghost use Rattle.fx_grammar.specs.Means.{between_quotes, Means, AllMean};
 ghost use Rattle.fx_grammar.specs.Undoubling.{test_of};
 ghost use Rattle.fx_grammar.specs.Meant.{IsValued, in_quotes, IsQuoted, IsSomeDoubled, IsValueOf, IsNameOf, IsMeaning, IsSound};
 
-use crate::marks::{Marks, undoubled};
+use crate::marks::{Marks, undouble};
 use crate::{Item, Meaning};
 use fx_base::Memory;
 use fx_data::words::Words;
@@ -43,12 +43,13 @@ fn single(alloc: Global, marks: Marks, chars: &[char]) -> Result<Words, Memory>
     requires scalars { all_scalars chars.now ≡ true }
     ensures { IfOk result (λ w. chars.now ≡ doubled (test_of marks) w) }
 {
-    let found = undoubled(alloc, marks, chars)?.unwrap();
+    // There is one: each mark in these characters stands doubled.
+    let found = undouble(alloc, marks, chars)?.unwrap();
     words_of(alloc, found.as_slice())
 }
 
 /// The text between the quotes, each quote in it doubled.
-fn quoted(alloc: Global, marks: Marks, chars: &[char]) -> Result<Words, Memory>
+fn unquote(alloc: Global, marks: Marks, chars: &[char]) -> Result<Words, Memory>
     requires quotes { IsQuoted marks chars.now }
     requires scalars { all_scalars chars.now ≡ true }
     ensures { IfOk result (λ w. chars.now ≡ in_quotes marks w) }
@@ -62,6 +63,7 @@ fn number(text: &str) -> Num
     requires value { IsValued TokenKind.Number (chars text.now) }
     ensures { IsValueOf (chars text.now) result }
 {
+    // There is one: a token's number is in range.
     read(text).unwrap()
 }
 
@@ -81,7 +83,7 @@ fn name(alloc: Global, text: &str) -> Result<Words, Memory>
 {
     let chars = chars_of(alloc, text)?;
     if is_quoted(chars.as_slice()) {
-        quoted(alloc, Marks::Apostrophe, chars.as_slice())
+        unquote(alloc, Marks::Apostrophe, chars.as_slice())
     } else {
         Words::of(alloc, text)
     }
@@ -92,7 +94,7 @@ fn text_words(alloc: Global, text: &str) -> Result<Words, Memory>
     ensures { IfOk result (λ w. chars text.now ≡ between_quotes 34 w) }
 {
     let chars = chars_of(alloc, text)?;
-    quoted(alloc, Marks::Quote, chars.as_slice())
+    unquote(alloc, Marks::Quote, chars.as_slice())
 }
 
 fn piece(alloc: Global, text: &str) -> Result<Words, Memory>

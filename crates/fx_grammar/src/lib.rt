@@ -12,5 +12,5 @@ pub use item::{Item, Meaning};
 pub use itemize::items;
 pub use laws::one_formula;
 pub use line::{Join, Left, Line, Mark, Separator};
-pub use marks::{Marks, undoubled};
+pub use marks::{Marks, undouble};
 pub use text_laws::one_tree_of_a_text;

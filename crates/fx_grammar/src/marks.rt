@@ -54,7 +54,7 @@ fn step(marks: Marks, chars: &[char]) -> Option<Option<(char, &[char])>>
 }
 
 /// The text whose marks were doubled, or None where a mark stands alone.
-pub fn undoubled(alloc: Global, marks: Marks, chars: &[char]) -> Result<Option<Vec<char>>, Memory>
+pub fn undouble(alloc: Global, marks: Marks, chars: &[char]) -> Result<Option<Vec<char>>, Memory>
     ensures { IfOk result (λ o. option_map (λ v. v.items) o ≡ undoubled (test_of marks) chars.now) }
 {
     let mut out = Vec::new(alloc);

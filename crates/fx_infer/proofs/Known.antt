@@ -1,10 +1,9 @@
 -- What the others know of a part.
 use Rattle.std.proofs.Common.{◌≡◌, ℕ, List, [], Result, Ok, Err, ap, sym, subst, ◌∙◌}
 use Rattle.fx_infer.specs.declared.flaw.Flaw.{Flaw}
-use Rattle.fx_infer.specs.declared.flaw.Halt.{Halt}
-use Rattle.fx_infer.specs.declared.flaw.Halt.TheVariants.{Flawed}
+use Rattle.fx_base.specs.declared.or_memory.OrMemory.TheVariants.{Refused as Flawed}
 use Rattle.fx_infer.proofs.Breaks.{told_broken}
-use Rattle.fx_infer.specs.Judged.{Judged}
+use Rattle.fx_infer.specs.Judged.{Judged, Halt}
 use Rattle.fx_typing.specs.Details.{IsToldBroken}
 use Rattle.fx_typing.specs.Parts.{Setting, piece}
 use Rattle.fx_typing.specs.Rounds.{or_unknown}

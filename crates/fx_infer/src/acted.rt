@@ -19,7 +19,7 @@ use fx_data::types::{Columns, Ty};
 use fx_data::words::Words;
 use fx_scopes::Part;
 use fx_scopes::tables::item_columns;
-use fx_scopes::targets::rows_named;
+use fx_scopes::targets::find_target;
 use fx_trees::deeds::Target;
 use fx_trees::functions::Acting;
 use fx_trees::names::Names;
@@ -52,7 +52,7 @@ fn missing_id(alloc: Global, fields: &Columns) -> Result<Option<Words>, Memory>
 }
 
 // The column by which a row isn't named.
-fn unnamed_at(alloc: Global, rows: &Changing, ty: &Ty) -> Result<Option<Words>, Memory>
+fn unnamed_column(alloc: Global, rows: &Changing, ty: &Ty) -> Result<Option<Words>, Memory>
     ensures { IfOk result (λ w. w
         ≡ told.unnamed_at rows.now.target (column_list rows.now.columns) (shape ty.now)) }
 {
@@ -66,7 +66,7 @@ fn unnamed_at(alloc: Global, rows: &Changing, ty: &Ty) -> Result<Option<Words>, 
 }
 
 // The column that a change can't set.
-fn unset_at(alloc: Global, rows: &Changing, ty: &Ty) -> Result<Option<Words>, Memory>
+fn unset_column(alloc: Global, rows: &Changing, ty: &Ty) -> Result<Option<Words>, Memory>
     ensures { IfOk result (λ w. w
         ≡ told.unset_at rows.now.target (column_list rows.now.columns) (shape ty.now)) }
 {
@@ -78,12 +78,16 @@ fn unset_at(alloc: Global, rows: &Changing, ty: &Ty) -> Result<Option<Words>, Me
 }
 
 // Of several rows the first column by which one isn't named.
-fn first_unnamed(alloc: Global, rows: &Changing, values: &[&Typed]) -> Result<Option<Words>, Memory>
+fn first_unnamed_column(
+    alloc: Global,
+    rows: &Changing,
+    values: &[&Typed],
+) -> Result<Option<Words>, Memory>
     ensures { IfOk result (λ w. w ≡ told.first_at
         (told.unnamed_at rows.now.target (column_list rows.now.columns)) (map (λ v. typed v.now) values.now)) }
 {
     for value in values {
-        if let Some(said) = unnamed_at(alloc, rows, &value.ty)? {
+        if let Some(said) = unnamed_column(alloc, rows, &value.ty)? {
             return Ok(Some(said));
         }
     }
@@ -91,12 +95,16 @@ fn first_unnamed(alloc: Global, rows: &Changing, values: &[&Typed]) -> Result<Op
 }
 
 // Of several changes the first column that one can't set.
-fn first_unset(alloc: Global, rows: &Changing, values: &[&Typed]) -> Result<Option<Words>, Memory>
+fn first_unset_column(
+    alloc: Global,
+    rows: &Changing,
+    values: &[&Typed],
+) -> Result<Option<Words>, Memory>
     ensures { IfOk result (λ w. w ≡ told.first_at
         (told.unset_at rows.now.target (column_list rows.now.columns)) (map (λ v. typed v.now) values.now)) }
 {
     for value in values {
-        if let Some(said) = unset_at(alloc, rows, &value.ty)? {
+        if let Some(said) = unset_column(alloc, rows, &value.ty)? {
             return Ok(Some(said));
         }
     }
@@ -104,21 +112,25 @@ fn first_unset(alloc: Global, rows: &Changing, values: &[&Typed]) -> Result<Opti
 }
 
 // The column of a row and of changes in it.
-fn patched_at(alloc: Global, rows: &Changing, values: &[&Typed]) -> Result<Option<Words>, Memory>
+fn patched_column(
+    alloc: Global,
+    rows: &Changing,
+    values: &[&Typed],
+) -> Result<Option<Words>, Memory>
     ensures { IfOk result (λ w. w ≡ told.acted_at acts.Patch rows.now.target
         (column_list rows.now.columns) (map (λ v. typed v.now) values.now)) }
 {
     let Some((base, changes)) = values.split_first() else {
         return Ok(None);
     };
-    match unnamed_at(alloc, rows, &base.ty)? {
+    match unnamed_column(alloc, rows, &base.ty)? {
         Some(said) => Ok(Some(said)),
-        None => first_unset(alloc, rows, changes),
+        None => first_unset_column(alloc, rows, changes),
     }
 }
 
 // The column of an acting call on these rows, of its arguments from the left.
-fn acted_at(
+fn changed_column(
     alloc: Global,
     acting: Acting,
     rows: &Changing,
@@ -128,14 +140,14 @@ fn acted_at(
         (column_list rows.now.columns) (map (λ v. typed v.now) values.now)) }
 {
     match acting {
-        Acting::Patch => patched_at(alloc, rows, values),
-        Acting::Remove => first_unnamed(alloc, rows, values),
-        _ => first_unset(alloc, rows, values),
+        Acting::Patch => patched_column(alloc, rows, values),
+        Acting::Remove => first_unnamed_column(alloc, rows, values),
+        _ => first_unset_column(alloc, rows, values),
     }
 }
 
 // The column of an acting call on the rows of this name.
-fn acted_on(
+fn column_by_name(
     alloc: Global,
     names: &Names,
     name: &Words,
@@ -146,7 +158,7 @@ fn acted_on(
     ensures { IfOk result (λ w. w ≡ told.acted_on (targets.rows_named names.now name.now) acting
         (map (λ v. typed v.now) values.now)) }
 {
-    let Some(rows) = rows_named(alloc, names, name)? else {
+    let Some(rows) = find_target(alloc, names, name)? else {
         return Ok(None);
     };
     let columns = item_columns(alloc, &rows.ty)?;
@@ -154,7 +166,7 @@ fn acted_on(
         target: rows.target,
         columns,
     };
-    acted_at(alloc, acting, &rows, values)
+    changed_column(alloc, acting, &rows, values)
 }
 
 // The column of an acting call on what its first part names.
@@ -173,7 +185,7 @@ fn column_behind(
         return nothing(alloc);
     };
     let values = values_or_none(alloc, others)?;
-    match acted_on(alloc, names, name, acting, &values)? {
+    match column_by_name(alloc, names, name, acting, &values)? {
         Some(said) => Ok(said),
         None => nothing(alloc),
     }

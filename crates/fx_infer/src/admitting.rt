@@ -28,13 +28,13 @@ use fx_calls::few::one;
 use fx_calls::lists::{cores_of, list_of};
 use fx_calls::records::{are_distinct, record_of};
 use fx_calls::values::{pieces, values};
-use fx_calls::{called, unless};
+use fx_calls::{call, unless};
 use fx_data::types::Ty;
 use fx_data::values::Value;
 use fx_data::words::Words;
-use fx_operators::local::{formed, made};
+use fx_operators::local::{make, make_form};
 use fx_operators::operators::function_of;
-use fx_scopes::dots::dotted;
+use fx_scopes::dots::dot;
 use fx_scopes::{Grant, Meaning, Part, Place, Scopes, Stand, as_value, in_globals, meaning_of};
 use fx_trees::expr::{Expr, Node, Op};
 use fx_trees::functions::{Form, Fun};
@@ -81,7 +81,7 @@ fn before_dot<'a>(meaning: Option<Meaning<'a>>) -> Result<Part<'a>, Wrong>
         }
         Some(Meaning::Screened) => Ok(Part::Meant(Meaning::Screened)),
         Some(Meaning::Enumerated(enumeration)) => Ok(Part::Meant(Meaning::Enumerated(enumeration))),
-        None => Err(Wrong::Breaks(Rule::UnknownName)),
+        None => Err(Wrong::Refused(Rule::UnknownName)),
     }
 }
 
@@ -132,11 +132,11 @@ fn dot_by(alloc: Global, names: &Names, name: &Words, all: Vec<Part>) -> Result<
 {
     match one(all) {
         Some(Part::Piece(Piece::Value(_, value))) => {
-            dotted(alloc, names, name, Meaning::Valued(value))
+            dot(alloc, names, name, Meaning::Valued(value))
         }
-        Some(Part::Meant(meaning)) => dotted(alloc, names, name, meaning),
+        Some(Part::Meant(meaning)) => dot(alloc, names, name, meaning),
         Some(Part::Piece(Piece::Label(_)) | Part::Target(_, _) | Part::Assigned(_, _)) | None => {
-            Err(Wrong::Breaks(Rule::WrongType))
+            Err(Wrong::Refused(Rule::WrongType))
         }
     }
 }
@@ -159,7 +159,7 @@ fn alias_by<'a>(
             | Part::Target(Some(_), _)
             | Part::Assigned(_, _),
         )
-        | None => Err(Wrong::Breaks(Rule::WrongType)),
+        | None => Err(Wrong::Refused(Rule::WrongType)),
     }
 }
 
@@ -182,7 +182,7 @@ fn alias_value<'a>(
         | Grant::AColumn
         | Grant::ATarget
         | Grant::AMeaning(_)
-        | Grant::OnScreen(_) => Err(Wrong::Breaks(Rule::WrongType)),
+        | Grant::OnScreen(_) => Err(Wrong::Refused(Rule::WrongType)),
     }
 }
 
@@ -203,7 +203,7 @@ fn alias_target<'a>(
         | Grant::AColumn
         | Grant::ATarget
         | Grant::AMeaning(_)
-        | Grant::OnScreen(_) => Err(Wrong::Breaks(Rule::WrongType)),
+        | Grant::OnScreen(_) => Err(Wrong::Refused(Rule::WrongType)),
     }
 }
 
@@ -219,11 +219,11 @@ fn names_in(alloc: Global, fields: &[(Words, Expr)]) -> Result<Vec<Words>, Memor
 }
 
 // Variables of a screen with their values, where none stands twice.
-fn assigned<'a>(names: Vec<Words>, values: Vec<Typed>) -> Result<Part<'a>, Wrong>
+fn assign<'a>(names: Vec<Words>, values: Vec<Typed>) -> Result<Part<'a>, Wrong>
     ensures { Answers part (typing.assigned_of names.items (map typed values.items)) result }
 {
     if !are_distinct(names.as_slice()) {
-        return Err(Wrong::Breaks(Rule::NameTwice));
+        return Err(Wrong::Refused(Rule::NameTwice));
     }
     Ok(Part::Assigned(names, values))
 }
@@ -238,7 +238,7 @@ fn record_as<'a>(
     ensures { Answers part (typing.record_as (grant allowed) names.items (map typed values.items)) result }
 {
     match allowed {
-        Grant::OnScreen(_) => assigned(names, values),
+        Grant::OnScreen(_) => assign(names, values),
         Grant::Nothing
         | Grant::Acting
         | Grant::AnAlias
@@ -288,28 +288,28 @@ fn operator_of(op: Op, all: &[Part]) -> Option<Fun>
 }
 
 // Two operands: their types choose the function.
-fn paired(alloc: Global, op: Op, all: Vec<Part>) -> Result<Typed, Wrong>
+fn pair(alloc: Global, op: Op, all: Vec<Part>) -> Result<Typed, Wrong>
     ensures { Answers typed (and_then (parts.values (map part all.entry.items))
         (λ xs. typing.paired_by op xs (parts.pieces (map part all.entry.items)))) result }
 {
     match operator_of(op, &all) {
-        Some(fun) => made(alloc, fun, pieces(alloc, all)?),
-        None => Err(Wrong::Breaks(Rule::WrongType)),
+        Some(fun) => make(alloc, fun, pieces(alloc, all)?),
+        None => Err(Wrong::Refused(Rule::WrongType)),
     }
 }
 
 // A function of all parts.
-fn made_of(alloc: Global, fun: Fun, all: Vec<Part>) -> Result<Typed, Wrong>
+fn make_of(alloc: Global, fun: Fun, all: Vec<Part>) -> Result<Typed, Wrong>
     ensures { Answers typed (local.made fun (parts.pieces (map part all.entry.items))) result }
 {
-    made(alloc, fun, pieces(alloc, all)?)
+    make(alloc, fun, pieces(alloc, all)?)
 }
 
 // A form of all parts.
-fn formed_of(alloc: Global, form: Form, all: Vec<Part>) -> Result<Typed, Wrong>
+fn make_form_of(alloc: Global, form: Form, all: Vec<Part>) -> Result<Typed, Wrong>
     ensures { Answers typed (local.formed form (parts.pieces (map part all.entry.items))) result }
 {
-    formed(alloc, form, pieces(alloc, all)?)
+    make_form(alloc, form, pieces(alloc, all)?)
 }
 
 // A weave without pieces.
@@ -323,13 +323,13 @@ fn no_pieces(alloc: Global) -> Result<Typed, Memory>
 }
 
 // The pieces of a weave, of which there may be none.
-fn woven_by(alloc: Global, all: Vec<Part>) -> Result<Typed, Wrong>
+fn weave(alloc: Global, all: Vec<Part>) -> Result<Typed, Wrong>
     ensures { Answers typed (typing.woven_by (map part all.entry.items)) result }
 {
     if all.is_empty() {
         return Ok(no_pieces(alloc)?);
     }
-    made_of(alloc, Fun::Concatenation, all)
+    make_of(alloc, Fun::Concatenation, all)
 }
 
 // Formulas in turn, which have the type of the last.
@@ -337,24 +337,24 @@ fn chain_by(alloc: Global, values: Vec<Typed>) -> Result<Typed, Wrong>
     ensures { Answers typed (typing.chain_by (map typed values.items)) result }
 {
     let Some(last) = values.last() else {
-        return Err(Wrong::Breaks(Rule::WrongType));
+        return Err(Wrong::Refused(Rule::WrongType));
     };
     let ty = last.ty.copy(alloc)?;
     Ok(Typed {
-        core: make_core::chained(cores_of(alloc, values)?),
+        core: make_core::chain(cores_of(alloc, values)?),
         ty,
     })
 }
 
 // Formulas in turn, wherever they stand.
-fn chained(alloc: Global, all: Vec<Part>) -> Result<Typed, Wrong>
+fn chain(alloc: Global, all: Vec<Part>) -> Result<Typed, Wrong>
     ensures { Answers typed (and_then (parts.values (map part all.entry.items)) typing.chain_by) result }
 {
     chain_by(alloc, values(alloc, all)?)
 }
 
 // A list of all parts.
-fn listed(alloc: Global, all: Vec<Part>) -> Result<Typed, Wrong>
+fn list(alloc: Global, all: Vec<Part>) -> Result<Typed, Wrong>
     ensures { Answers typed (and_then (parts.values (map part all.entry.items)) builds.list_of) result }
 {
     list_of(alloc, values(alloc, all)?)
@@ -379,7 +379,7 @@ fn call_by(
     unless(
         too_deep,
         Rule::LimitPassed,
-        called(alloc, at, stand, name, all),
+        call(alloc, at, stand, name, all),
     )
 }
 
@@ -391,7 +391,7 @@ fn leaf<'a>(all: Vec<Part>, made: Result<Part<'a>, Wrong>) -> Result<Part<'a>, W
     if all.is_empty() {
         made
     } else {
-        Err(Wrong::Breaks(Rule::WrongType))
+        Err(Wrong::Refused(Rule::WrongType))
     }
 }
 
@@ -426,20 +426,20 @@ pub fn admit<'a>(
         }
         Node::Dot(_, name) => as_part(dot_by(alloc, at.names, name, all)),
         Node::Call(name, _) => as_part(call_by(alloc, at, scopes, stand, whole, name, all)),
-        Node::Neg(_) => as_part(made_of(alloc, Fun::Negate, all)),
-        Node::Not(_) => as_part(made_of(alloc, Fun::Not, all)),
-        Node::Percent(_) => as_part(made_of(alloc, Fun::Percent, all)),
-        Node::Pair(op, _, _) => as_part(paired(alloc, *op, all)),
-        Node::Joined(_) => as_part(made_of(alloc, Fun::Concatenation, all)),
-        Node::And(_) => as_part(formed_of(alloc, Form::All, all)),
-        Node::Or(_) => as_part(formed_of(alloc, Form::Any, all)),
+        Node::Neg(_) => as_part(make_of(alloc, Fun::Negate, all)),
+        Node::Not(_) => as_part(make_of(alloc, Fun::Not, all)),
+        Node::Percent(_) => as_part(make_of(alloc, Fun::Percent, all)),
+        Node::Pair(op, _, _) => as_part(pair(alloc, *op, all)),
+        Node::Joined(_) => as_part(make_of(alloc, Fun::Concatenation, all)),
+        Node::And(_) => as_part(make_form_of(alloc, Form::All, all)),
+        Node::Or(_) => as_part(make_form_of(alloc, Form::Any, all)),
         Node::Chain(_) => {
             let pure = !stand.grant.may_act();
-            as_part(unless(pure, Rule::BehaviourInPure, chained(alloc, all)))
+            as_part(unless(pure, Rule::BehaviourInPure, chain(alloc, all)))
         }
         Node::Alias(_, name) => alias_by(alloc, stand.grant, name, all),
         Node::Rec(fields) => record_by(alloc, stand.grant, fields.as_slice(), all),
-        Node::List(_) => as_part(listed(alloc, all)),
-        Node::Woven(_) => as_part(woven_by(alloc, all)),
+        Node::List(_) => as_part(list(alloc, all)),
+        Node::Woven(_) => as_part(weave(alloc, all)),
     }
 }

@@ -1,4 +1,4 @@
-//! The parts of a node.
+//! The parts of a node. They go by number, whatever the node is, so that one loop judges those of all nodes.
 ghost use Rattle.std.specs.Prelude.{◌≡◌, MatchOption, suc};
 ghost use Rattle.fx_trees.specs.Tree as tree;
 ghost use Rattle.fx_typing.specs.Parts.{parts_in};

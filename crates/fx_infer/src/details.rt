@@ -11,14 +11,14 @@ ghost use Rattle.fx_scopes.specs.PlanView.{head_of};
 ghost use Rattle.fx_scopes.specs.SettingView.{setting};
 
 use crate::borrowed::values_or_none;
-use crate::limits::{list_limit, nested, record_limit, type_limit};
-use crate::mismatches::misjoined;
-use crate::mistyped::{called_as, part_names, wrong_types};
-use crate::stuck::{named_twice, unknown_column};
-use crate::texts::{commas, counted, head_name, nothing};
+use crate::limits::{list_limit, nesting, record_limit, type_limit};
+use crate::mismatches::mismatch;
+use crate::mistyped::{call_shape, part_names, wrong_types};
+use crate::stuck::{repeated_name, unknown_column};
+use crate::texts::{commas, head_name, name_with_count, nothing};
 use crate::too_deep::is_too_deep;
 use fx_base::Memory;
-use fx_calls::{called_by, large_given};
+use fx_calls::{call_by_shape, first_large_type};
 use fx_data::types::Ty;
 use fx_data::words::Words;
 use fx_scopes::{Part, Place, Scopes, Stand};
@@ -45,7 +45,7 @@ fn large_in<'n>(at: &Place<'n>, shape: SigShape, all: &[Part]) -> Option<&'n Ty>
     ensures { option_map (λ t. type_of t.now) result ≡ told.large_in (place at.now) shape (map part all.now) }
 {
     match shape {
-        SigShape::Act(acting) => large_given(at.names, at.screen, acting, all),
+        SigShape::Act(acting) => first_large_type(at.names, at.screen, acting, all),
         _ => None,
     }
 }
@@ -85,15 +85,15 @@ fn own_limit(
     ensures { IfOk result (λ w. w ≡ told.limit_of (called_by (place at.now) (setting scopes.now stand) shape
         (map part all.entry.items))) }
 {
-    match called_by(alloc, at, stand, shape, all) {
+    match call_by_shape(alloc, at, stand, shape, all) {
         Ok(tree) => type_limit(alloc, &tree.ty),
-        Err(Wrong::Breaks(_)) => nothing(alloc),
+        Err(Wrong::Refused(_)) => nothing(alloc),
         Err(Wrong::Memory) => Err(Memory),
     }
 }
 
 // The limit that a node passes.
-fn limit_passed(
+fn passed_limit(
     alloc: Global,
     at: &Place,
     scopes: &Scopes,
@@ -106,9 +106,9 @@ fn limit_passed(
         (head_of whole.now) (map part all.entry.items)) }
 {
     match &whole.node {
-        Node::Call(_, _) if is_too_deep(at, scopes, stand, whole, &all) => nested(alloc, scopes),
+        Node::Call(_, _) if is_too_deep(at, scopes, stand, whole, &all) => nesting(alloc, scopes),
         Node::Call(name, _) => {
-            call_limit(alloc, at, scopes, stand, called_as(at.names, name), all)
+            call_limit(alloc, at, scopes, stand, call_shape(at.names, name), all)
         }
         Node::Rec(fields) => record_limit(alloc, fields.as_slice(), &values_or_none(alloc, &all)?),
         _ => list_limit(alloc, &values_or_none(alloc, &all)?),
@@ -130,12 +130,12 @@ pub fn detail_of(
         (head_of whole.now) (map part all.entry.items) (number_of rule)) }
 {
     match rule {
-        Rule::NameTwice => named_twice(alloc, at.names, whole, &all),
+        Rule::NameTwice => repeated_name(alloc, at.names, whole, &all),
         Rule::WrongType => commas(alloc, &wrong_types(alloc, at.names, whole, &all)?),
-        Rule::WrongCount => counted(alloc, &head_name(alloc, whole)?, all.len()),
-        Rule::VariableTypes => misjoined(alloc, at, whole, &all),
+        Rule::WrongCount => name_with_count(alloc, &head_name(alloc, whole)?, all.len()),
+        Rule::VariableTypes => mismatch(alloc, at, whole, &all),
         Rule::UnknownColumn => unknown_column(alloc, at.names, whole, &all),
-        Rule::LimitPassed => limit_passed(alloc, at, scopes, stand, whole, all),
+        Rule::LimitPassed => passed_limit(alloc, at, scopes, stand, whole, all),
         Rule::NotAVariable => no_variable(alloc, whole, &all),
         _ => head_name(alloc, whole),
     }

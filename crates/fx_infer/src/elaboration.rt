@@ -64,7 +64,7 @@ pub struct Written {
 }
 
 // What is wanted of a formula: a table type without columns lets every table be.
-fn to_wanted(alloc: Global, wanted: &Option<Ty>, value: Typed) -> Result<Typed, Wrong>
+fn to_wanted_type(alloc: Global, wanted: &Option<Ty>, value: Typed) -> Result<Typed, Wrong>
     ensures { Answers typed (typing.to_wanted (option_map shape wanted.now) (typed value)) result }
 {
     let Some(ty) = wanted else {
@@ -98,9 +98,9 @@ fn whole_of(alloc: Global, wanted: &Option<Ty>, whole: Part) -> Result<Typed, Wr
     ensures { Answers typed (typing.whole_of (option_map shape wanted.now) (part whole.entry)) result }
 {
     match whole {
-        Part::Piece(Piece::Value(_, value)) => to_wanted(alloc, wanted, value),
+        Part::Piece(Piece::Value(_, value)) => to_wanted_type(alloc, wanted, value),
         Part::Piece(Piece::Label(_)) | Part::Meant(_) | Part::Target(_, _) | Part::Assigned(_, _) =>
-            { Err(Wrong::Breaks(Rule::WrongType)) }
+            { Err(Wrong::Refused(Rule::WrongType)) }
     }
 }
 
@@ -118,7 +118,7 @@ fn outermost(place: PlaceKind) -> Stand
 }
 
 // What is answered of a formula that is broken there.
-fn broken(alloc: Global, cell: &Words, flaw: Flaw) -> InferEnd
+fn refuse(alloc: Global, cell: &Words, flaw: Flaw) -> InferEnd
     ensures { (p : Place) → (b : Bool) → (w : Option Shape) → (e : Tree)
         → IsToldBrokenWhole p b w e flaw.at (number_of flaw.rule) flaw.detail
         → Ends p b w e cell.now (Err result) }
@@ -135,7 +135,7 @@ fn broken(alloc: Global, cell: &Words, flaw: Flaw) -> InferEnd
 }
 
 // What is answered of a formula that is admitted as this part, before this type is wanted of it.
-fn settled(
+fn settle(
     alloc: Global,
     names: &Names,
     cell: &Written,
@@ -152,15 +152,15 @@ fn settled(
     match whole_of(alloc, wanted, whole) {
         Ok(value) => Ok(value),
         Err(Wrong::Memory) => Err(InferEnd::Memory),
-        Err(Wrong::Breaks(rule)) => {
+        Err(Wrong::Refused(rule)) => {
             let at = begins(&cell.expr);
-            Err(broken(alloc, &cell.cell, Flaw { at, rule, detail }))
+            Err(refuse(alloc, &cell.cell, Flaw { at, rule, detail }))
         }
     }
 }
 
 // What is answered of a formula of which this type is wanted.
-fn judged(
+fn judge_cell(
     alloc: Global,
     names: &Names,
     cell: &Written,
@@ -179,8 +179,8 @@ fn judged(
     };
     let mut scopes = Scopes::new(alloc);
     match judge(alloc, &at, &mut scopes, outermost(cell.place), &cell.expr) {
-        Ok(whole) => settled(alloc, names, cell, wanted, whole),
-        Err(Halt::Flawed(flaw)) => Err(broken(alloc, &cell.cell, flaw)),
+        Ok(whole) => settle(alloc, names, cell, wanted, whole),
+        Err(Halt::Refused(flaw)) => Err(refuse(alloc, &cell.cell, flaw)),
         Err(Halt::Memory) => Err(InferEnd::Memory),
     }
 }
@@ -213,10 +213,11 @@ pub fn elaborate(alloc: Global, names: &Names, cell: &Written) -> Result<Typed, 
         × ((x : Term × Shape) → FormulaElaborates (place_of names.now cell.now) (may_act cell.now.place)
         (option_map shape cell.now.wanted) cell.now.expr x → ⊥) }
 {
+    // The laws are called for what they say of what is admitted or broken.
     admitted_is_typed();
     admitted_elaborates();
     broken_elaborates_nothing();
-    judged(alloc, names, cell, &cell.wanted)
+    judge_cell(alloc, names, cell, &cell.wanted)
 }
 
 /// The same of the formula itself, whatever is wanted of it.
@@ -229,5 +230,5 @@ pub fn elaborate_alone(alloc: Global, names: &Names, cell: &Written) -> Result<T
         → judge_whole (place_of names.now cell.now) (may_act cell.now.place)
         None cell.now.expr ≡ Err (b.at, number_of b.rule) }
 {
-    judged(alloc, names, cell, &None)
+    judge_cell(alloc, names, cell, &None)
 }

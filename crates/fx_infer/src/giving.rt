@@ -35,7 +35,7 @@ pub enum Given {
 }
 
 // How a name is called.
-fn called_as(names: &Names, name: &Words) -> Option<SigShape>
+fn call_shape(names: &Names, name: &Words) -> Option<SigShape>
     ensures { result ≡ plans.called_as names.now name.now }
 {
     signature_in(names.signatures, name.as_str()).map(|signature| signature.shape)
@@ -208,7 +208,7 @@ pub fn give(
         ++ rounds.gives (place at.now) (setting ss stand) (head_of whole.now) (map part parts.now)) }
 {
     match &whole.node {
-        Node::Call(name, _) => match called_as(at.names, name) {
+        Node::Call(name, _) => match call_shape(at.names, name) {
             Some(SigShape::Act(acting)) => give_by_act(alloc, acting, parts, given),
             Some(
                 SigShape::One(_)

@@ -40,10 +40,11 @@ pub fn judge<'a>(
     match admit(alloc, at, scopes, stand, whole, parts) {
         Ok(part) => Ok(part),
         Err(Wrong::Memory) => Err(Halt::Memory),
-        Err(Wrong::Breaks(rule)) => {
+        Err(Wrong::Refused(rule)) => {
+            // `admit` took the parts; they are judged again only to say what is broken.
             let parts = judge_parts(alloc, at, scopes, stand, whole)?;
             let detail = detail_of(alloc, at, scopes, stand, whole, parts, rule)?;
-            Err(Halt::Flawed(Flaw {
+            Err(Halt::Refused(Flaw {
                 at: begins(whole),
                 rule,
                 detail,
@@ -102,6 +103,7 @@ fn judge_next<'a>(
 {
     let around = scopes.len();
     let inner = enter(alloc, at.names, scopes, stand, whole, count, done)?;
+    // Without `?`, so that the scopes are cut back also where the part is broken.
     let answer = judge(alloc, at, scopes, inner, next);
     scopes.cut(around);
     answer

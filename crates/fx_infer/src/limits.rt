@@ -9,7 +9,7 @@ ghost use Rattle.fx_trees.specs.Tree as tree;
 ghost use Rattle.fx_typing.specs.Local.{join_all};
 ghost use Rattle.fx_typing.specs.TypedView.{typed};
 
-use crate::texts::{nothing, word_counted};
+use crate::texts::{nothing, word_with_count};
 use fx_base::Memory;
 use fx_data::types::{Columns, Ty};
 use fx_data::words::Words;
@@ -20,7 +20,8 @@ use fx_typing::Typed;
 use fx_typing::columns::{put_column, row_columns};
 use std::alloc::Global;
 
-// The number behind this one, if there is one.
+// The number behind this one, if there is one. Past the greatest it counts as want of memory, since no clause says how
+// deep a type in memory can be.
 fn one_more(number: usize) -> Result<usize, Memory>
     ensures { IfOk result (λ n. n ≡ suc number) }
 {
@@ -78,9 +79,9 @@ pub fn type_limit(alloc: Global, ty: &Ty) -> Result<Words, Memory>
 {
     let depth = type_depth(ty)?;
     if depth <= 8 {
-        word_counted(alloc, "fields", most_fields(ty))
+        word_with_count(alloc, "fields", most_fields(ty))
     } else {
-        word_counted(alloc, "type", depth)
+        word_with_count(alloc, "type", depth)
     }
 }
 
@@ -124,8 +125,8 @@ pub fn list_limit(alloc: Global, values: &[&Typed]) -> Result<Words, Memory>
 }
 
 /// How many scopes of calls over tables would stand in one another.
-pub fn nested(alloc: Global, scopes: &Scopes) -> Result<Words, Memory>
+pub fn nesting(alloc: Global, scopes: &Scopes) -> Result<Words, Memory>
     ensures { IfOk result (λ w. w ≡ told.counted (codes "nested") (suc (depth_of scopes.now))) }
 {
-    word_counted(alloc, "nested", one_more(scopes.depth())?)
+    word_with_count(alloc, "nested", one_more(scopes.depth())?)
 }

@@ -12,13 +12,13 @@ ghost use Rattle.fx_scopes.specs.PartView.{part};
 ghost use Rattle.fx_scopes.specs.PlanView.{head_of};
 
 use crate::borrowed::values_or_none;
-use crate::mistyped::called_as;
+use crate::mistyped::call_shape;
 use crate::texts::{commas, nothing, type_name};
 use fx_base::Memory;
 use fx_calls::given::joins_to;
 use fx_data::types::Ty;
 use fx_data::words::Words;
-use fx_scopes::targets::{collection_named, global_variable, screen_variable};
+use fx_scopes::targets::{find_collection, global_variable, screen_variable};
 use fx_scopes::{Part, Place};
 use fx_trees::expr::{Expr, Node};
 use fx_trees::functions::Acting;
@@ -40,7 +40,7 @@ fn given_names(alloc: Global, name: &Words, ty: &Ty, other: &Ty) -> Result<Words
 }
 
 // The first of the values that doesn't join to a type.
-fn misgiven(alloc: Global, name: &Words, ty: &Ty, values: &[&Typed]) -> Result<Words, Memory>
+fn first_mismatch(alloc: Global, name: &Words, ty: &Ty, values: &[&Typed]) -> Result<Words, Memory>
     ensures { IfOk result (λ w. w
         ≡ told.misgiven name.now (shape ty.now) (map (λ v. typed v.now) values.now)) }
 {
@@ -63,7 +63,7 @@ fn rows_type(alloc: Global, value: &Typed) -> Result<Ty, Memory>
 }
 
 // The first of the values that as rows doesn't join to a type.
-fn misgiven_rows(alloc: Global, name: &Words, ty: &Ty, values: &[&Typed]) -> Result<Words, Memory>
+fn rows_mismatch(alloc: Global, name: &Words, ty: &Ty, values: &[&Typed]) -> Result<Words, Memory>
     ensures { IfOk result (λ w. w
         ≡ told.misgiven_rows name.now (shape ty.now) (map (λ v. typed v.now) values.now)) }
 {
@@ -77,7 +77,7 @@ fn misgiven_rows(alloc: Global, name: &Words, ty: &Ty, values: &[&Typed]) -> Res
 }
 
 // What doesn't join to a variable.
-fn misgiven_to(
+fn variable_mismatch(
     alloc: Global,
     name: &Words,
     variable: Option<(u32, &Variable)>,
@@ -87,13 +87,13 @@ fn misgiven_to(
         (option_map (λ e. (e.0, e.1.now)) variable.entry) (map (λ v. typed v.now) values.now)) }
 {
     match variable {
-        Some((_, variable)) => misgiven(alloc, name, &variable.ty, values),
+        Some((_, variable)) => first_mismatch(alloc, name, &variable.ty, values),
         None => nothing(alloc),
     }
 }
 
 // What doesn't join to a collection.
-fn miscollected(
+fn collection_mismatch(
     alloc: Global,
     name: &Words,
     collection: Option<(u32, &Collection)>,
@@ -103,7 +103,7 @@ fn miscollected(
         (option_map (λ e. (e.0, e.1.now)) collection.entry) (map (λ v. typed v.now) values.now)) }
 {
     match collection {
-        Some((_, collection)) => misgiven_rows(alloc, name, &collection.ty, values),
+        Some((_, collection)) => rows_mismatch(alloc, name, &collection.ty, values),
         None => nothing(alloc),
     }
 }
@@ -124,7 +124,7 @@ fn fits_variable(
 }
 
 // The first of the variables of a screen to which its value doesn't join.
-fn misassigned(
+fn context_mismatch(
     alloc: Global,
     names: &Names,
     screen: Option<u32>,
@@ -141,14 +141,14 @@ fn misassigned(
         };
         let variable = screen_variable(names, screen, name);
         if !fits_variable(alloc, variable, value)? {
-            return misgiven_to(alloc, name, variable, &[value]);
+            return variable_mismatch(alloc, name, variable, &[value]);
         }
     }
     nothing(alloc)
 }
 
 // What an acting call gives a name to which it doesn't join.
-fn unjoined_to(
+fn target_mismatch(
     alloc: Global,
     at: &Place,
     acting: Acting,
@@ -161,13 +161,13 @@ fn unjoined_to(
 {
     let values = values_or_none(alloc, others)?;
     match acting {
-        Acting::Set => misgiven_to(alloc, name, global_variable(at.names, name), &values),
-        _ => miscollected(alloc, name, collection_named(at.names, name), &values),
+        Acting::Set => variable_mismatch(alloc, name, global_variable(at.names, name), &values),
+        _ => collection_mismatch(alloc, name, find_collection(at.names, name), &values),
     }
 }
 
 // What an acting call gives variables of a screen to which it doesn't join.
-fn unjoined_in(
+fn assignment_mismatch(
     alloc: Global,
     at: &Place,
     acting: Acting,
@@ -179,13 +179,13 @@ fn unjoined_in(
         (Some (sig.Act acting)) (parts.assigned variables.now (map typed values.now) ∷ qs)) }
 {
     match acting {
-        Acting::UpdateContext => misassigned(alloc, at.names, at.screen, variables, values),
+        Acting::UpdateContext => context_mismatch(alloc, at.names, at.screen, variables, values),
         _ => nothing(alloc),
     }
 }
 
 // What an acting call gives a variable or a collection to which it doesn't join.
-fn unjoined(alloc: Global, at: &Place, acting: Acting, all: &[Part]) -> Result<Words, Memory>
+fn acting_mismatch(alloc: Global, at: &Place, acting: Acting, all: &[Part]) -> Result<Words, Memory>
     requires { IsLawful at.now.names.now }
     ensures { IfOk result (λ w. w
         ≡ told.unjoined (place at.now) (Some (sig.Act acting)) (map part all.now)) }
@@ -194,14 +194,16 @@ fn unjoined(alloc: Global, at: &Place, acting: Acting, all: &[Part]) -> Result<W
         return nothing(alloc);
     };
     match first {
-        Part::Target(_, name) => unjoined_to(alloc, at, acting, name, others),
-        Part::Assigned(variables, values) => unjoined_in(alloc, at, acting, variables, values),
+        Part::Target(_, name) => target_mismatch(alloc, at, acting, name, others),
+        Part::Assigned(variables, values) => assignment_mismatch(
+            alloc, at, acting, variables, values,
+        ),
         Part::Piece(_) | Part::Meant(_) => nothing(alloc),
     }
 }
 
 // What a call gives a variable or a collection to which it doesn't join.
-fn call_unjoined(
+fn call_mismatch(
     alloc: Global,
     at: &Place,
     shape: Option<SigShape>,
@@ -211,19 +213,19 @@ fn call_unjoined(
     ensures { IfOk result (λ w. w ≡ told.unjoined (place at.now) shape (map part all.now)) }
 {
     match shape {
-        Some(SigShape::Act(acting)) => unjoined(alloc, at, acting, all),
+        Some(SigShape::Act(acting)) => acting_mismatch(alloc, at, acting, all),
         _ => nothing(alloc),
     }
 }
 
 /// What a node gives a variable or a collection to which it doesn't join.
-pub fn misjoined(alloc: Global, at: &Place, whole: &Expr, all: &[Part]) -> Result<Words, Memory>
+pub fn mismatch(alloc: Global, at: &Place, whole: &Expr, all: &[Part]) -> Result<Words, Memory>
     requires { IsLawful at.now.names.now }
     ensures { IfOk result (λ w. w
         ≡ told.misjoined (place at.now) (head_of whole.now) (map part all.now)) }
 {
     match &whole.node {
-        Node::Call(name, _) => call_unjoined(alloc, at, called_as(at.names, name), all),
+        Node::Call(name, _) => call_mismatch(alloc, at, call_shape(at.names, name), all),
         _ => nothing(alloc),
     }
 }

@@ -15,7 +15,7 @@ use crate::texts::{type_word, word};
 use fx_base::Memory;
 use fx_data::types::Ty;
 use fx_data::words::Words;
-use fx_scopes::targets::rows_named;
+use fx_scopes::targets::find_target;
 use fx_scopes::{Part, pick};
 use fx_trees::expr::{Expr, Node};
 use fx_trees::functions::Acting;
@@ -45,7 +45,7 @@ fn push_rows(
     ensures { OnOk result (found.new.items
         ≡ found.old.items ++ told.some_name (targets.rows_named names.now name.now)) }
 {
-    match rows_named(alloc, names, name)? {
+    match find_target(alloc, names, name)? {
         Some(rows) => push_word(alloc, type_word(&rows.ty), found),
         None => Ok(()),
     }
@@ -129,7 +129,7 @@ fn are_rows(alloc: Global, names: &Names, name: &Words) -> Result<bool, Memory>
     requires { IsLawful names.now }
     ensures { IfOk result (λ b. b ≡ told.is_rows (targets.rows_named names.now name.now)) }
 {
-    match rows_named(alloc, names, name)? {
+    match find_target(alloc, names, name)? {
         Some(rows) => Ok(is_table(&rows.ty)),
         None => Ok(true),
     }
@@ -159,7 +159,7 @@ fn names_over_table(alloc: Global, names: &Names, all: &[Part]) -> Result<Vec<Wo
 }
 
 /// How a name is called.
-pub fn called_as(names: &Names, name: &Words) -> Option<SigShape>
+pub fn call_shape(names: &Names, name: &Words) -> Option<SigShape>
     ensures { result ≡ plans.called_as names.now name.now }
 {
     signature_in(names.signatures, name.as_str()).map(|signature| signature.shape)
@@ -176,7 +176,7 @@ fn call_names(
     ensures { IfOk result (λ v. v.items ≡ told.call_names names.now
         (told.takes_table (plans.called_as names.now name.now) (map part all.now)) (map part all.now)) }
 {
-    if takes_table(called_as(names, name), all) {
+    if takes_table(call_shape(names, name), all) {
         names_over_table(alloc, names, all)
     } else {
         all_names(alloc, names, all)

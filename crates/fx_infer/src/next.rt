@@ -15,7 +15,7 @@ ghost use Rattle.fx_infer.specs.TypesView.{types_view};
 use crate::giving::Given;
 use crate::joining::{collection_join, variable_join};
 use crate::round_types::Types;
-use crate::walking::all_given;
+use crate::walking::collect_assignments;
 use crate::{InferEnd, Written, elaborate_alone};
 use fx_base::Memory;
 use fx_data::types::Ty;
@@ -145,7 +145,7 @@ pub fn next_types(alloc: Global, names: &Names, cells: &[Written]) -> Result<Typ
     requires shallow { All (λ (c : Written). tree_depth c.expr ≤ 256) cells.now }
     ensures { IfOk result (λ ts. types_view ts ≡ rounds.next_types (map cell cells.now) names.now) }
 {
-    let given = all_given(alloc, names, cells)?;
+    let given = collect_assignments(alloc, names, cells)?;
     Ok(Types {
         variables: variable_types(alloc, names.variables.as_slice(), &given)?,
         collections: collection_types(alloc, names.collections.as_slice(), &given)?,

@@ -13,10 +13,10 @@ ghost use Rattle.fx_scopes.specs.PlanView.{head_of};
 
 use crate::acted::acted_column;
 use crate::borrowed::all_pieces;
-use crate::mistyped::called_as;
+use crate::mistyped::call_shape;
 use crate::texts::{nothing, word};
 use fx_base::Memory;
-use fx_calls::taken_at;
+use fx_calls::taken_name;
 use fx_data::types::Columns;
 use fx_data::words::Words;
 use fx_scopes::Part;
@@ -25,7 +25,7 @@ use fx_trees::expr::{Expr, Node};
 use fx_trees::names::Names;
 use fx_trees::rows::{Answer, row_of};
 use fx_trees::signatures::SigShape;
-use fx_typing::columns::{field_in, with_renamed};
+use fx_typing::columns::{field_in, rename_column};
 use fx_typing::{Piece, Typed, Wrong};
 use std::alloc::Global;
 
@@ -54,7 +54,7 @@ fn twice_in(alloc: Global, fields: &[(Words, Expr)]) -> Result<Words, Memory>
 }
 
 // The first name that is no column's, of those that are left out or shown.
-fn stuck_sought(alloc: Global, pieces: &[&Piece], columns: &Columns) -> Result<Words, Memory>
+fn missing_column(alloc: Global, pieces: &[&Piece], columns: &Columns) -> Result<Words, Memory>
     ensures { IfOk result (λ w. w
         ≡ told.stuck_sought (map (λ p. piece p.now) pieces.now) (column_list columns.now)) }
 {
@@ -70,7 +70,7 @@ fn stuck_sought(alloc: Global, pieces: &[&Piece], columns: &Columns) -> Result<W
 }
 
 // The name at which columns can't be named anew.
-fn stuck_renamed(alloc: Global, pieces: &[&Piece], columns: Columns) -> Result<Words, Memory>
+fn stuck_rename(alloc: Global, pieces: &[&Piece], columns: Columns) -> Result<Words, Memory>
     ensures { IfOk result (λ w. w
         ≡ told.stuck_renamed (map (λ p. piece p.now) pieces.now) (column_list columns)) }
 {
@@ -83,10 +83,10 @@ fn stuck_renamed(alloc: Global, pieces: &[&Piece], columns: Columns) -> Result<W
         if field_in(from, &columns).is_none() {
             return from.copy(alloc);
         }
-        columns = match with_renamed(alloc, from, to.copy(alloc)?, columns) {
+        columns = match rename_column(alloc, from, to.copy(alloc)?, columns) {
             Ok(columns) => columns,
             Err(Wrong::Memory) => return Err(Memory),
-            Err(Wrong::Breaks(_)) => return to.copy(alloc),
+            Err(Wrong::Refused(_)) => return to.copy(alloc),
         };
         more = rest;
     }
@@ -105,8 +105,8 @@ fn stuck_behind(
 {
     let columns = item_columns(alloc, &value.ty)?;
     match answer {
-        Answer::Dropped | Answer::Shown => stuck_sought(alloc, others, &columns),
-        Answer::Renamed => stuck_renamed(alloc, others, columns),
+        Answer::Dropped | Answer::Shown => missing_column(alloc, others, &columns),
+        Answer::Renamed => stuck_rename(alloc, others, columns),
         _ => word(alloc, "Kind"),
     }
 }
@@ -135,20 +135,20 @@ fn stuck_in(alloc: Global, shape: Option<SigShape>, all: &[Part]) -> Result<Word
 }
 
 // The first new name of a call that is taken.
-fn taken_in(alloc: Global, shape: Option<SigShape>, all: &[Part]) -> Result<Words, Memory>
+fn taken_name_in(alloc: Global, shape: Option<SigShape>, all: &[Part]) -> Result<Words, Memory>
     ensures { IfOk result (λ w. w ≡ told.taken_in shape (map part all.now)) }
 {
     let Some(SigShape::One(fun)) = shape else {
         return nothing(alloc);
     };
-    match taken_at(alloc, fun, all)? {
+    match taken_name(alloc, fun, all)? {
         Some(name) => name.copy(alloc),
         None => nothing(alloc),
     }
 }
 
 /// The name that stands twice in a node.
-pub fn named_twice(
+pub fn repeated_name(
     alloc: Global,
     names: &Names,
     whole: &Expr,
@@ -158,7 +158,7 @@ pub fn named_twice(
 {
     match &whole.node {
         Node::Rec(fields) => twice_in(alloc, fields.as_slice()),
-        Node::Call(name, _) => taken_in(alloc, called_as(names, name), all),
+        Node::Call(name, _) => taken_name_in(alloc, call_shape(names, name), all),
         _ => nothing(alloc),
     }
 }
@@ -191,7 +191,7 @@ pub fn unknown_column(
 {
     match &whole.node {
         Node::Dot(_, name) => name.copy(alloc),
-        Node::Call(name, _) => column_in(alloc, names, called_as(names, name), all),
+        Node::Call(name, _) => column_in(alloc, names, call_shape(names, name), all),
         _ => nothing(alloc),
     }
 }

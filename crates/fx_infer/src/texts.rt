@@ -74,7 +74,7 @@ pub fn commas(alloc: Global, texts: &[Words]) -> Result<Words, Memory>
 }
 
 /// A name and a number, a space between them.
-pub fn counted(alloc: Global, name: &Words, number: usize) -> Result<Words, Memory>
+pub fn name_with_count(alloc: Global, name: &Words, number: usize) -> Result<Words, Memory>
     ensures { IfOk result (λ w. w ≡ told.counted name.now number) }
 {
     let text = number_text(alloc, name.as_str(), number)?;
@@ -89,12 +89,12 @@ fn number_text(alloc: Global, text: &str, number: usize) -> Result<String, Memor
 }
 
 /// A word of ASCII characters and a number, a space between them.
-pub fn word_counted(alloc: Global, text: &str, number: usize) -> Result<Words, Memory>
+pub fn word_with_count(alloc: Global, text: &str, number: usize) -> Result<Words, Memory>
     requires { IsAscii text.now }
     ensures { IfOk result (λ w. w ≡ told.counted text.now number) }
 {
     let name = word(alloc, text)?;
-    counted(alloc, &name, number)
+    name_with_count(alloc, &name, number)
 }
 
 /// What a node is called: by its name or the name of its call, and a chain by its mark. Other nodes

@@ -23,7 +23,7 @@ pub trait TypedName: Sized {
         ensures { shape result.now ≡ type_of self.now };
 
     /// The same thing with another type.
-    fn retyped(self, ty: Ty) -> Self
+    fn retype(self, ty: Ty) -> Self
         ensures same { IsSame self result }
         ensures ty { type_of result ≡ shape ty };
 }
@@ -41,7 +41,7 @@ impl TypedName for Variable {
         &self.ty
     }
 
-    fn retyped(self, ty: Ty) -> Variable {
+    fn retype(self, ty: Ty) -> Variable {
         Variable {
             name: self.name,
             screen: self.screen,
@@ -63,7 +63,7 @@ impl TypedName for Collection {
         &self.ty
     }
 
-    fn retyped(self, ty: Ty) -> Collection {
+    fn retype(self, ty: Ty) -> Collection {
         Collection {
             name: self.name,
             ty,
@@ -84,7 +84,7 @@ impl TypedName for FormulaName {
         &self.ty
     }
 
-    fn retyped(self, ty: Ty) -> FormulaName {
+    fn retype(self, ty: Ty) -> FormulaName {
         FormulaName {
             name: self.name,
             cell: self.cell,
@@ -106,7 +106,7 @@ impl TypedName for ControlName {
         &self.items
     }
 
-    fn retyped(self, ty: Ty) -> ControlName {
+    fn retype(self, ty: Ty) -> ControlName {
         ControlName {
             name: self.name,
             kind: self.kind,
@@ -118,7 +118,7 @@ impl TypedName for ControlName {
 }
 
 // The same things with these types.
-fn all_retyped<T: TypedName + Drop>(
+fn retype_all<T: TypedName + Drop>(
     alloc: Global,
     things: InOrder<T>,
     types: Vec<Ty>,
@@ -129,7 +129,7 @@ fn all_retyped<T: TypedName + Drop>(
 {
     let mut all = InOrder::new(alloc);
     for (thing, ty) in things.into_items().into_iter().zip(types) {
-        all.push(thing.retyped(ty))?;
+        all.push(thing.retype(ty))?;
     }
     Ok(all)
 }
@@ -144,10 +144,10 @@ pub fn with_types(alloc: Global, names: Names, types: Types) -> Result<Names, Me
         signatures: names.signatures,
         schema: names.schema,
         screens: names.screens,
-        controls: all_retyped(alloc, names.controls, types.items)?,
+        controls: retype_all(alloc, names.controls, types.items)?,
         properties: names.properties,
-        formulas: names.formulas.retyped(alloc, types.formulas)?,
-        variables: all_retyped(alloc, names.variables, types.variables)?,
-        collections: all_retyped(alloc, names.collections, types.collections)?,
+        formulas: names.formulas.retype(alloc, types.formulas)?,
+        variables: retype_all(alloc, names.variables, types.variables)?,
+        collections: retype_all(alloc, names.collections, types.collections)?,
     })
 }

@@ -40,14 +40,14 @@ fn no_name(alloc: Global) -> Result<Words, Memory>
 }
 
 // A part as the others know it: one that is broken is no value.
-fn known<'a>(alloc: Global, answer: Result<Part<'a>, Halt>) -> Result<Part<'a>, Memory>
+fn known_part<'a>(alloc: Global, answer: Result<Part<'a>, Halt>) -> Result<Part<'a>, Memory>
     ensures { (p : meaning.Place) → (s : Setting) → (e : Tree)
         → Judged part (typing.judge p s e) (IsToldBroken p s e) answer.entry
         → IfOk result (λ q. part q ≡ rounds.or_unknown (typing.judge p s e)) }
 {
     match answer {
         Ok(part) => Ok(part),
-        Err(Halt::Flawed(_)) => Ok(Part::Piece(Piece::Label(no_name(alloc)?))),
+        Err(Halt::Refused(_)) => Ok(Part::Piece(Piece::Label(no_name(alloc)?))),
         Err(Halt::Memory) => Err(Memory),
     }
 }
@@ -95,7 +95,8 @@ fn walk_next<'a>(
     answer
 }
 
-// A part where it stands, as the others know it; what is given in it is added.
+// A part where it stands, as the others know it; what is given in it is added. Walked and judged apart, since a part
+// that is broken still gives what stands in it.
 #[cycle(walk)]
 fn walk_inside<'a>(
     alloc: Global,
@@ -115,7 +116,7 @@ fn walk_inside<'a>(
 {
     walk(alloc, at, scopes, stand, whole, given)?;
     let answer = judge(alloc, at, scopes, stand, whole);
-    known(alloc, answer)
+    known_part(alloc, answer)
 }
 
 /// Adds what is given in a formula, in the order of its text. Each part is judged in its place, also where
@@ -137,6 +138,7 @@ pub fn walk(
 {
     let count = part_count(whole);
     let mut done = Vec::new(alloc);
+    // Apart, since what a node gives itself comes before what its parts give.
     let mut below = Vec::new(alloc);
     while let Some(next) = part_at(whole, done.len()) {
         let part = walk_next(
@@ -193,7 +195,11 @@ fn walk_cell(
 }
 
 /// What the formulas of an app give to the names that they assign, in order.
-pub fn all_given(alloc: Global, names: &Names, cells: &[Written]) -> Result<Vec<Given>, Memory>
+pub fn collect_assignments(
+    alloc: Global,
+    names: &Names,
+    cells: &[Written],
+) -> Result<Vec<Given>, Memory>
     requires lawful { IsLawful names.now }
     requires shallow { All (λ (c : Written). tree_depth c.expr ≤ 256) cells.now }
     ensures { IfOk result (λ gs. map given_view gs.items

@@ -6,6 +6,7 @@ ghost use Rattle.fx_lexer.specs.Scan.{passes};
 use crate::token::TokenKind;
 
 /// What a character can be a part of.
+// Proofs then go by four cases, and not by all the characters that are white space.
 #[derive(Clone, Copy)]
 pub enum Class {
     White,
@@ -36,6 +37,7 @@ pub enum Mode {
 }
 
 /// What a run of characters is made of.
+// An enum, so that one loop serves all runs; a closure would need a promise of its own that it may be called.
 #[derive(Clone, Copy)]
 pub enum Run {
     Name,

@@ -131,6 +131,7 @@ fn read_tokens(alloc: Global, cs: &[char], source: &str) -> Result<Vec<Token>, L
     let mut out = Vec::new(alloc);
     let mut around = Vec::new(alloc);
     let mut rest = cs;
+    // It goes along with `rest`, since only a `&str` is read as a number.
     let mut text = source;
     let mut at: u32 = 0;
     while !rest.is_empty() {
@@ -141,6 +142,7 @@ fn read_tokens(alloc: Global, cs: &[char], source: &str) -> Result<Vec<Token>, L
         };
         let upto = at + front.bytes;
         put(&mut out, &mut around, front.element, at, upto)?;
+        // By `split_at`, which tells the rest plainly: `&rest[n..]` is told as the first so many of what follows.
         let (_, others) = rest.split_at(front.characters);
         let (_, after) = text.split_at(front.bytes as usize);
         rest = others;
@@ -153,6 +155,7 @@ fn read_tokens(alloc: Global, cs: &[char], source: &str) -> Result<Vec<Token>, L
 /// The tokens of a text of less than 2^32 bytes, in order, by the lexical rules of the Power Fx formula reference.
 /// Each is a slice of the text, of the greatest length; between them stand white space and comments. `Bad` comes exactly
 /// where the text has no list of tokens, and names the byte where the first bad token begins.
+// The rules speak of characters, so these are listed once; their bytes are counted on the way.
 pub fn tokens(alloc: Global, source: &str) -> Result<Vec<Token>, LexEnd>
     requires { length source.now < 2 ^ 32 }
     ensures tokens { IfOk result (λ v. Lexed (chars source.now) v.items) }

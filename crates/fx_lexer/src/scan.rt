@@ -9,7 +9,7 @@ use crate::token::{Symbol, TokenKind, Word};
 /// An element and how many characters it has.
 type Seen = Option<(Element, usize)>;
 
-fn seen(kind: TokenKind, length: usize) -> Seen
+fn seen_token(kind: TokenKind, length: usize) -> Seen
     ensures { result ≡ Some (Element.Token kind, length) }
 {
     Some((Element::Token(kind), length))
@@ -211,7 +211,7 @@ fn slash_of(others: &[char]) -> Seen
             Some(n) => Some((Element::Skip, 2 + n)),
             None => None,
         },
-        _ => seen(TokenKind::Symbol(Symbol::Slash), 1),
+        _ => seen_token(TokenKind::Symbol(Symbol::Slash), 1),
     }
 }
 
@@ -220,7 +220,7 @@ fn text_of(others: &[char]) -> Seen
     ensures { result ≡ text_seen (open_run 34 others.now) }
 {
     match quoted_length('"', others) {
-        Some(n) => seen(TokenKind::Text, 1 + n),
+        Some(n) => seen_token(TokenKind::Text, 1 + n),
         None => None,
     }
 }
@@ -230,7 +230,7 @@ fn quoted_name_of(others: &[char]) -> Seen
     ensures { result ≡ quoted_seen (open_run 39 others.now) }
 {
     match quoted_length('\'', others) {
-        Some(n) if n > 1 => seen(TokenKind::Name, 1 + n),
+        Some(n) if n > 1 => seen_token(TokenKind::Name, 1 + n),
         _ => None,
     }
 }
@@ -246,13 +246,13 @@ fn other_of(first: char, others: &[char]) -> Seen
         slash_of(others)
     } else if first == '$' {
         if begins_with(others, '"') {
-            seen(TokenKind::Opening, 2)
+            seen_token(TokenKind::Opening, 2)
         } else {
             None
         }
     } else {
         match symbol_of(first, others) {
-            Some((symbol, n)) => seen(TokenKind::Symbol(symbol), n),
+            Some((symbol, n)) => seen_token(TokenKind::Symbol(symbol), n),
             None => None,
         }
     }
@@ -265,8 +265,8 @@ fn name_of(cs: &[char], n: usize) -> Seen
 {
     let (name, _) = cs.split_at(n);
     match word_of(name) {
-        Some(word) => seen(TokenKind::Word(word), n),
-        None => seen(TokenKind::Name, n),
+        Some(word) => seen_token(TokenKind::Word(word), n),
+        None => seen_token(TokenKind::Name, n),
     }
 }
 
@@ -277,7 +277,7 @@ fn in_formula(cs: &[char]) -> Seen
         [] => None,
         [c, others @ ..] => match class_of(*c) {
             Class::White => Some((Element::Skip, 1)),
-            Class::Digit => seen(TokenKind::Number, 1 + number_length(others)),
+            Class::Digit => seen_token(TokenKind::Number, 1 + number_length(others)),
             Class::Letter => name_of(cs, 1 + run_length(Run::Name, others)),
             Class::Other => other_of(*c, others),
         },
@@ -289,8 +289,8 @@ fn mark_of(cs: &[char]) -> Seen
     ensures { result ≡ mark_at cs.now }
 {
     match cs {
-        ['"', ..] => seen(TokenKind::Closing, 1),
-        ['{', ..] => seen(TokenKind::Symbol(Symbol::OpenBrace), 1),
+        ['"', ..] => seen_token(TokenKind::Closing, 1),
+        ['{', ..] => seen_token(TokenKind::Symbol(Symbol::OpenBrace), 1),
         _ => None,
     }
 }
@@ -300,7 +300,7 @@ fn in_weave(cs: &[char]) -> Seen
 {
     match piece_length(cs) {
         0 => mark_of(cs),
-        n => seen(TokenKind::Piece, n),
+        n => seen_token(TokenKind::Piece, n),
     }
 }
 

@@ -150,7 +150,8 @@ fn exponent(b: Num) -> Option<i64>
     }
 }
 
-// `a` multiplied with itself, each product rounded.
+// `a` multiplied with itself, each product rounded. Not by squaring, since another order of roundings could give
+// another number.
 fn whole_power(a: Num, exponent: u64) -> Result<Num, NumErr>
     ensures { CheckedOnWay (ArePowersInRange a exponent) (power_of a exponent) result }
 {

@@ -40,6 +40,7 @@ pub fn text(alloc: Global, a: Num) -> Result<String, Memory>
 /// Laws, and no work: a text spells one number or none, which can be found from left to right; the
 /// text of a number spells that number, so that reading it gives the number back; and digits with
 /// or without a fraction, and nothing around them, spell their value.
+// A statement is proved only where it is a clause of a function, so a law is a function with an empty body.
 pub fn spelling_laws()
     ensures one_number { (text : List ℕ) → (z : ℤ) → Spells text z ↔ (spelled text ≡ Some z) }
     ensures read_back { (z : ℤ) → IsInRange z → Spells (text_of z) z }

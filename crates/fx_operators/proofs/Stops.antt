@@ -1,9 +1,8 @@
 -- Where a part answers an error, the whole does.
 use Rattle.std.proofs.Common.{◌≡◌, ℕ, Result, Ok, Err}
 use Rattle.fx_trees.specs.Rules.{number_of}
-use Rattle.fx_typing.specs.declared.wrong.Wrong.{Wrong}
-use Rattle.fx_typing.specs.declared.wrong.Wrong.TheVariants.{Breaks, Memory}
-use Rattle.fx_typing.specs.Answers.{Answers}
+use Rattle.fx_base.specs.declared.or_memory.OrMemory.TheVariants.{Refused as Breaks, Memory}
+use Rattle.fx_typing.specs.Answers.{Answers, Wrong}
 
 pub stops : {A B C D : Type 0} (f : A → B) (g : C → D) (r : Result B ℕ) (s : Result D ℕ) (e : Wrong) →
     ((k : ℕ) → r ≡ Err k → s ≡ Err k) → Answers f r (Err e) → Answers g s (Err e)

@@ -11,28 +11,30 @@ use fx_base::Memory;
 use fx_data::types::{Columns, Ty};
 use fx_trees::Rule;
 use fx_trees::rows::Answer;
-use fx_typing::columns::{added, dropped, renamed, row_columns, shown, value_column};
+use fx_typing::columns::{
+    add_columns, drop_columns, rename_columns, row_columns, show_columns, value_column,
+};
 use fx_typing::typed::Typed;
 use fx_typing::wrong::Wrong;
 use std::alloc::Global;
 
 /// The type that a call answers, from its parts as they stand and the common type of its branches, or
 /// the rule that is broken.
-pub fn answered(alloc: Global, answer: Answer, common: &Ty, parts: &[Typed]) -> Result<Ty, Wrong>
+pub fn answer_type(alloc: Global, answer: Answer, common: &Ty, parts: &[Typed]) -> Result<Ty, Wrong>
     ensures { Answers shape (typing.answered answer (shape common.now) (map typed parts.now)) result }
 {
     match parts.split_first() {
-        Some((first, rest)) => answered_of(alloc, answer, common, first, rest),
+        Some((first, rest)) => answer_type_behind(alloc, answer, common, first, rest),
         None => match answer {
             Answer::Scalar(scalar) => Ok(scalar.ty()),
             Answer::Common => Ok(common.copy(alloc)?),
-            _ => Err(Wrong::Breaks(Rule::WrongType)),
+            _ => Err(Wrong::Refused(Rule::WrongType)),
         },
     }
 }
 
 // The type that a call with a first part answers.
-fn answered_of(
+fn answer_type_behind(
     alloc: Global,
     answer: Answer,
     common: &Ty,
@@ -51,28 +53,28 @@ fn answered_of(
             _ => Ok(row_type(alloc, &first.ty)?),
         },
         Answer::Added => {
-            let columns = added(alloc, rest, columns_of(alloc, &first.ty)?)?;
+            let columns = add_columns(alloc, rest, columns_of(alloc, &first.ty)?)?;
             Ok(Ty::Tab(columns))
         }
         Answer::Dropped => {
-            let columns = dropped(alloc, rest, columns_of(alloc, &first.ty)?)?;
+            let columns = drop_columns(alloc, rest, columns_of(alloc, &first.ty)?)?;
             Ok(Ty::Tab(columns))
         }
         Answer::Shown => {
-            let columns = shown(alloc, rest, columns_of(alloc, &first.ty)?)?;
+            let columns = show_columns(alloc, rest, columns_of(alloc, &first.ty)?)?;
             Ok(Ty::Tab(columns))
         }
         Answer::Renamed => {
-            let columns = renamed(alloc, rest, columns_of(alloc, &first.ty)?)?;
+            let columns = rename_columns(alloc, rest, columns_of(alloc, &first.ty)?)?;
             Ok(Ty::Tab(columns))
         }
         Answer::Values => match rest.first() {
             Some(formula) => Ok(Ty::Tab(value_column(alloc, formula.ty.copy(alloc)?)?)),
-            None => Err(Wrong::Breaks(Rule::WrongType)),
+            None => Err(Wrong::Refused(Rule::WrongType)),
         },
         Answer::Each => match rest.first() {
             Some(formula) => Ok(Ty::Tab(row_columns(alloc, formula.ty.copy(alloc)?)?)),
-            None => Err(Wrong::Breaks(Rule::WrongType)),
+            None => Err(Wrong::Refused(Rule::WrongType)),
         },
     }
 }
@@ -93,6 +95,6 @@ fn columns_of(alloc: Global, table: &Ty) -> Result<Columns, Wrong>
 {
     match table {
         Ty::Tab(columns) => Ok(columns.copy(alloc)?),
-        _ => Err(Wrong::Breaks(Rule::WrongType)),
+        _ => Err(Wrong::Refused(Rule::WrongType)),
     }
 }

@@ -10,5 +10,5 @@ pub mod standing;
 
 pub use acting::acts;
 pub use common::join_all;
-pub use local::{formed, made};
+pub use local::{make, make_form};
 pub use operators::function_of;

@@ -8,7 +8,7 @@ ghost use Rattle.fx_typing.specs.WellTyped.{head_by};
 ghost use Rattle.fx_typing.specs.Answers.{Answers};
 ghost use Rattle.fx_typing.specs.TypedView.{typed, piece, built};
 
-use crate::answering::answered;
+use crate::answering::answer_type;
 use crate::common::{branches, common_of};
 use crate::standing::stand_all;
 use fx_base::Memory;
@@ -21,37 +21,37 @@ use fx_typing::wrong::Wrong;
 use std::alloc::Global;
 
 /// A function or an operator of these parts, or the rule that is broken.
-pub fn made(alloc: Global, fun: Fun, parts: Vec<Piece>) -> Result<Typed, Wrong>
+pub fn make(alloc: Global, fun: Fun, parts: Vec<Piece>) -> Result<Typed, Wrong>
     ensures { Answers typed (local.made fun (map piece parts.items)) result }
 {
     let row = row_of(fun);
-    let (parts, ty) = settled(alloc, row, parts)?;
-    let core = headed(alloc, fun, row.first, parts)?;
+    let (parts, ty) = resolve_parts(alloc, row, parts)?;
+    let core = apply_function(alloc, fun, row.first, parts)?;
     Ok(Typed { core, ty })
 }
 
 /// A form of these parts, or the rule that is broken.
-pub fn formed(alloc: Global, form: Form, parts: Vec<Piece>) -> Result<Typed, Wrong>
+pub fn make_form(alloc: Global, form: Form, parts: Vec<Piece>) -> Result<Typed, Wrong>
     ensures { Answers typed (local.formed form (map piece parts.items)) result }
 {
-    let (parts, ty) = settled(alloc, form_row(form), parts)?;
-    let core = make_core::formed(form, cores_of(alloc, parts)?);
+    let (parts, ty) = resolve_parts(alloc, form_row(form), parts)?;
+    let core = make_core::form(form, cores_of(alloc, parts)?);
     Ok(Typed { core, ty })
 }
 
 // The parts as they stand, and the type of the whole, whatever its head is.
-fn settled(alloc: Global, row: Row, parts: Vec<Piece>) -> Result<(Vec<Typed>, Ty), Wrong>
+fn resolve_parts(alloc: Global, row: Row, parts: Vec<Piece>) -> Result<(Vec<Typed>, Ty), Wrong>
     ensures made { (h : term.Top) → Answers (λ x. built h x.0.items x.1) (local.made_by row h (map piece parts.items)) result }
     ensures count { IfOk result (λ x. takes_count row (length x.0.items) ≡ true) }
 {
     if !row.takes_count(parts.len()) {
-        return Err(Wrong::Breaks(Rule::WrongCount));
+        return Err(Wrong::Refused(Rule::WrongCount));
     }
     let Some(common) = common_type(alloc, row, parts.as_slice())? else {
-        return Err(Wrong::Breaks(Rule::WrongType));
+        return Err(Wrong::Refused(Rule::WrongType));
     };
     let parts = stand_all(alloc, row, &common, parts)?;
-    let ty = answered(alloc, row.answer, &common, parts.as_slice())?;
+    let ty = answer_type(alloc, row.answer, &common, parts.as_slice())?;
     Ok((parts, ty))
 }
 
@@ -64,13 +64,13 @@ fn common_type(alloc: Global, row: Row, parts: &[Piece]) -> Result<Option<Ty>, M
 }
 
 // A function of parts: over the first one, where that is a table.
-fn headed(alloc: Global, fun: Fun, first: Takes, parts: Vec<Typed>) -> Result<Core, Memory>
+fn apply_function(alloc: Global, fun: Fun, first: Takes, parts: Vec<Typed>) -> Result<Core, Memory>
     requires { first ≡ Takes.Table → 0 < length parts.items }
     ensures { IfOk result (λ c. c ≡ term.of (head_by first fun) (term.all (local.firsts (map typed parts.items)))) }
 {
     match first {
         Takes::Table => over(alloc, fun, parts),
-        _ => Ok(make_core::called(fun, cores_of(alloc, parts)?)),
+        _ => Ok(make_core::call(fun, cores_of(alloc, parts)?)),
     }
 }
 
@@ -81,7 +81,7 @@ fn over(alloc: Global, fun: Fun, parts: Vec<Typed>) -> Result<Core, Memory>
 {
     let mut parts = parts;
     let Typed { core, ty: _ } = parts.remove(0);
-    make_core::called_over(alloc, fun, core, cores_of(alloc, parts)?)
+    make_core::call_over(alloc, fun, core, cores_of(alloc, parts)?)
 }
 
 // The trees of parts.

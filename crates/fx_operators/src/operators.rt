@@ -67,7 +67,7 @@ fn unequal_by(by: Compared) -> Fun
 }
 
 // Texts and truths have no order.
-fn ordered_by(numbers: Fun, dates: Fun, by: Option<Compared>) -> Option<Fun>
+fn ordering_function(numbers: Fun, dates: Fun, by: Option<Compared>) -> Option<Fun>
     ensures { result ≡ operators.ordered_by numbers dates (option_map compared_view by) }
 {
     match by {
@@ -112,10 +112,10 @@ pub fn function_of(op: Op, a: &Ty, b: &Ty) -> Option<Fun>
         Op::Pow => Some(Fun::PowNumbers),
         Op::Eq => comparison(a, b).map(equal_by),
         Op::Ne => comparison(a, b).map(unequal_by),
-        Op::Lt => ordered_by(Fun::LessNumbers, Fun::LessDates, comparison(a, b)),
-        Op::Le => ordered_by(Fun::LessEqualNumbers, Fun::LessEqualDates, comparison(a, b)),
-        Op::Gt => ordered_by(Fun::GreaterNumbers, Fun::GreaterDates, comparison(a, b)),
-        Op::Ge => ordered_by(
+        Op::Lt => ordering_function(Fun::LessNumbers, Fun::LessDates, comparison(a, b)),
+        Op::Le => ordering_function(Fun::LessEqualNumbers, Fun::LessEqualDates, comparison(a, b)),
+        Op::Gt => ordering_function(Fun::GreaterNumbers, Fun::GreaterDates, comparison(a, b)),
+        Op::Ge => ordering_function(
             Fun::GreaterEqualNumbers,
             Fun::GreaterEqualDates,
             comparison(a, b),

@@ -20,7 +20,7 @@ use fx_trees::rows::{Row, Takes};
 use fx_trees::{Rule, make_core};
 use fx_typing::columns::{field_in, tells_error};
 use fx_typing::typed::{Piece, Typed};
-use fx_typing::ways::{branch_way, by_way, coerced, exact_way, is_comparable, is_scalar, way_to};
+use fx_typing::ways::{branch_way, by_way, coerce, exact_way, is_comparable, is_scalar, way_to};
 use fx_typing::wrong::Wrong;
 use std::alloc::Global;
 
@@ -41,7 +41,7 @@ pub fn stand(
                 core: make_core::constant(Value::Text(name)),
                 ty: Ty::Text,
             }),
-            _ => Err(Wrong::Breaks(Rule::WrongType)),
+            _ => Err(Wrong::Refused(Rule::WrongType)),
         },
     }
 }
@@ -73,7 +73,7 @@ fn stand_value(
             let fits = is_comparable(first, &value.ty);
             if_fits(fits, value)
         }
-        Takes::Column | Takes::NewColumn => Err(Wrong::Breaks(Rule::WrongType)),
+        Takes::Column | Takes::NewColumn => Err(Wrong::Refused(Rule::WrongType)),
     }
 }
 
@@ -105,18 +105,19 @@ fn as_branch(alloc: Global, value: Typed, common: &Ty) -> Result<Typed, Wrong>
 fn as_error(alloc: Global, value: Typed) -> Result<Typed, Wrong>
     ensures { Answers typed (local.stand takes.ErrorRecord blanks blanks (local.value None value.core (shape value.ty))) result }
 {
+    // Taken apart first, since no field can be moved out while another is matched on.
     let Typed { core, ty } = value;
     match ty {
         Ty::Rec(columns) => {
             if !tells_error(alloc, &columns)? {
-                return Err(Wrong::Breaks(without_kind(alloc, &columns)?));
+                return Err(Wrong::Refused(without_kind(alloc, &columns)?));
             }
             Ok(Typed {
                 core,
                 ty: Ty::Rec(columns),
             })
         }
-        _ => Err(Wrong::Breaks(Rule::WrongType)),
+        _ => Err(Wrong::Refused(Rule::WrongType)),
     }
 }
 
@@ -143,10 +144,10 @@ fn as_table(alloc: Global, value: Typed) -> Result<Typed, Wrong>
         }),
         Ty::Blank => {
             let ty = Ty::Tab(Columns::new(alloc));
-            let core = coerced(alloc, core, &ty)?;
+            let core = coerce(alloc, core, &ty)?;
             Ok(Typed { core, ty })
         }
-        _ => Err(Wrong::Breaks(Rule::WrongType)),
+        _ => Err(Wrong::Refused(Rule::WrongType)),
     }
 }
 
@@ -155,7 +156,7 @@ fn as_row(value: Typed) -> Result<Typed, Wrong>
     ensures { Answers typed (local.stand takes.RowFormula blanks blanks (local.value None value.core (shape value.ty))) result }
 {
     match value.ty {
-        Ty::Tab(_) => Err(Wrong::Breaks(Rule::WrongType)),
+        Ty::Tab(_) => Err(Wrong::Refused(Rule::WrongType)),
         _ => Ok(value),
     }
 }
@@ -167,7 +168,7 @@ fn if_fits(fits: bool, value: Typed) -> Result<Typed, Wrong>
     if fits {
         Ok(value)
     } else {
-        Err(Wrong::Breaks(Rule::WrongType))
+        Err(Wrong::Refused(Rule::WrongType))
     }
 }
 

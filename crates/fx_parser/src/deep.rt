@@ -120,7 +120,7 @@ impl Reader {
     }
 
     /// The operator that waits innermost, if it binds tighter than so, or as tight where `same`.
-    fn waiting(&self, power: u8, same: bool) -> Option<(Part, bool)>
+    fn innermost_operator(&self, power: u8, same: bool) -> Option<(Part, bool)>
         ensures { IfSome result (λ _. 0 < vec_len self.now.open) }
     {
         let open = self.open.last()?;
@@ -142,7 +142,7 @@ impl Reader {
     /// Ends the operators that bind tighter than so, or as tight where `same`. A last `;` behind one part makes no
     /// node.
     fn end(&mut self, power: u8, same: bool) {
-        while let Some((part, several)) = self.waiting(power, same) {
+        while let Some((part, several)) = self.innermost_operator(power, same) {
             self.open.pop();
             if several || self.value.is_some() {
                 let deepest = part.depth.max(self.depth());
@@ -155,7 +155,7 @@ impl Reader {
 
     /// A further part of an operator that joins its parts.
     fn join(&mut self, power: u8, value: Part) -> Result<(), Memory> {
-        match self.waiting(power, true) {
+        match self.innermost_operator(power, true) {
             None => self.push(operator(power, false), value.first, value.depth),
             Some((part, _)) => {
                 self.open.pop();
@@ -339,6 +339,8 @@ pub fn deepest(alloc: Global, items: &[Item], named: bool) -> Result<usize, Memo
 {
     match first_deep(alloc, items, named)? {
         Some(index) => {
+            // The test spares the reader a contract: what it finds is shown by tests alone, and this keeps it among the
+            // tokens.
             if index < items.len() {
                 Ok(index)
             } else {

@@ -1,4 +1,5 @@
-//! The descent: one function for each line of the grammar, each no deeper than its limit.
+//! The descent: one function for each line of the grammar, each no deeper than its limit. Each takes the tokens that
+//! are left and gives back those behind its tree, so that no proof follows places in a list.
 ghost use Rattle.std.specs.Prelude.{◌≡◌, ◌<◌, ◌≤◌, ◌-◌, ◌+◌, ◌^◌, IfOk, Some, IfSome, length};
 ghost use Rattle.fx_trees.specs.Tree.{Head};
 ghost use Rattle.fx_grammar.specs.Grammar as grammar;
@@ -7,12 +8,12 @@ ghost use Rattle.fx_parser.specs.Answer.{Gives, seen, strand_seen, fields_from};
 
 use crate::descent_end::End;
 use crate::front::{after, between, first, label_at, operator_at, part_of, place, sign_at, under};
-use crate::tails::{alias_behind, applied, dots, gather, global, percents, shut, signed};
+use crate::tails::{alias_behind, apply, dots, gather, global, percents, shut, sign_before};
 use fx_data::words::Words;
 use fx_grammar::{Item, Join, Left, Line, Mark, Meaning, Separator};
 use fx_lexer::{Symbol, Word};
 use fx_trees::expr::{Args, Expr, Op, Parts};
-use fx_trees::make_expr::{listed, named, numbered, paired, quoted, recorded, truth, woven};
+use fx_trees::make_expr;
 use std::alloc::Global;
 
 /// A tree of this line.
@@ -127,7 +128,7 @@ fn by<'t>(
             return Err(End::Refused);
         }
         deepest += 1;
-        tree = paired(alloc, at, op, tree, right)?;
+        tree = make_expr::pair(alloc, at, op, tree, right)?;
         rest = others;
     }
     Ok((tree, deepest, rest))
@@ -155,7 +156,11 @@ fn prefix<'t>(alloc: Global, limit: u32, tokens: &'t [Item]) -> Result<(Expr, u3
         None => power(alloc, limit, tokens),
         Some((sign, others)) => {
             let (part, depth, rest) = line(alloc, Line::Prefix, limit - 1, others)?;
-            Ok((signed(alloc, sign, place(tokens), part)?, depth + 1, rest))
+            Ok((
+                sign_before(alloc, sign, place(tokens), part)?,
+                depth + 1,
+                rest,
+            ))
         }
     }
 }
@@ -173,7 +178,7 @@ fn power<'t>(alloc: Global, limit: u32, tokens: &'t [Item]) -> Result<(Expr, u32
         Some(others) => {
             let (up, height, rest) = line(alloc, Line::Prefix, limit - 1, others)?;
             if depth < limit {
-                let tree = paired(alloc, place(tokens), Op::Pow, tree, up)?;
+                let tree = make_expr::pair(alloc, place(tokens), Op::Pow, tree, up)?;
                 Ok((tree, depth.max(height) + 1, rest))
             } else {
                 Err(End::Refused)
@@ -235,19 +240,19 @@ fn atom_of<'t>(
     ensures shorter { IfOk result (λ y. length y.2.now ≤ length tokens.now) }
 {
     match &x.meaning {
-        Meaning::Number(value) => Ok((numbered(x.at, *value), 1, tokens)),
-        Meaning::Text(words) => Ok((quoted(x.at, words.copy(alloc)?), 1, tokens)),
+        Meaning::Number(value) => Ok((make_expr::number(x.at, *value), 1, tokens)),
+        Meaning::Text(words) => Ok((make_expr::text(x.at, words.copy(alloc)?), 1, tokens)),
         Meaning::Name(name) => match after(Mark::OpenParen, tokens) {
-            None => Ok((named(x.at, name.copy(alloc)?), 1, tokens)),
+            None => Ok((make_expr::name(x.at, name.copy(alloc)?), 1, tokens)),
             Some(inner) => call(alloc, limit, x, inner),
         },
-        Meaning::Word(Word::True) => Ok((truth(x.at, true), 1, tokens)),
-        Meaning::Word(Word::False) => Ok((truth(x.at, false), 1, tokens)),
+        Meaning::Word(Word::True) => Ok((make_expr::truth(x.at, true), 1, tokens)),
+        Meaning::Word(Word::False) => Ok((make_expr::truth(x.at, false), 1, tokens)),
         Meaning::Word(Word::And | Word::Or) => match after(Mark::OpenParen, tokens) {
             None => Err(End::Refused),
             Some(inner) => call(alloc, limit, x, inner),
         },
-        Meaning::Symbol(symbol) => bracketed(alloc, limit, x, *symbol, tokens),
+        Meaning::Symbol(symbol) => bracket(alloc, limit, x, *symbol, tokens),
         Meaning::Opening => weave(alloc, limit, x, tokens),
         _ => Err(End::Refused),
     }
@@ -267,12 +272,12 @@ fn call<'t>(
     ensures shorter { IfOk result (λ y. length y.2.now < length tokens.now) }
 {
     let (found, depth, rest) = args(alloc, Mark::CloseParen, limit - 1, tokens)?;
-    Ok((applied(alloc, x.at, &x.meaning, found)?, depth + 1, rest))
+    Ok((apply(alloc, x.at, &x.meaning, found)?, depth + 1, rest))
 }
 
 /// What a bracket opens, which is read.
 #[cycle(descent)]
-fn bracketed<'t>(
+fn bracket<'t>(
     alloc: Global,
     limit: u32,
     x: &Item,
@@ -291,12 +296,12 @@ fn bracketed<'t>(
         }
         Symbol::OpenBracket => {
             let (found, depth, rest) = args(alloc, Mark::CloseBracket, limit - 1, tokens)?;
-            Ok((listed(x.at, found), depth + 1, rest))
+            Ok((make_expr::list(x.at, found), depth + 1, rest))
         }
         Symbol::OpenBracketAt => global(alloc, x.at, tokens),
         Symbol::OpenBrace => {
             let (found, depth, rest) = fields(alloc, limit - 1, tokens)?;
-            Ok((recorded(x.at, found), depth + 1, rest))
+            Ok((make_expr::record_of(x.at, found), depth + 1, rest))
         }
         _ => Err(End::Refused),
     }
@@ -410,7 +415,7 @@ fn weave<'t>(
     }
     let rest = shut(Mark::CloseWeave, rest)?;
     if deepest < limit {
-        Ok((woven(x.at, found), deepest + 1, rest))
+        Ok((make_expr::weave(x.at, found), deepest + 1, rest))
     } else {
         Err(End::Refused)
     }
@@ -446,7 +451,7 @@ fn strand_of<'t>(
     ensures shorter { IfOk result (λ o. IfSome o (λ y. length y.2.now ≤ length tokens.now)) }
 {
     match &x.meaning {
-        Meaning::Piece(words) => Ok(Some((quoted(x.at, words.copy(alloc)?), 1, tokens))),
+        Meaning::Piece(words) => Ok(Some((make_expr::text(x.at, words.copy(alloc)?), 1, tokens))),
         Meaning::Symbol(Symbol::OpenBrace) => {
             let (tree, depth, rest) = line(alloc, Line::Chain, limit, tokens)?;
             Ok(Some((tree, depth, shut(Mark::CloseBrace, rest)?)))

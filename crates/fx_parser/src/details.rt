@@ -40,18 +40,19 @@ fn token_at(tokens: &[Token], at: u32) -> Option<Token>
 
 /// What is said of the place where a text of less than 2^32 bytes stops being a formula: `unexpected `
 /// and the text of the token that begins at this byte, or `unexpected end` where none does.
-pub fn unexpected(alloc: Global, source: &str, at: u32) -> Result<Words, Memory>
+pub fn syntax_detail(alloc: Global, source: &str, at: u32) -> Result<Words, Memory>
     requires { length source.now < 2 ^ 32 }
     ensures { IfOk result (λ w. (ts : List Tok) → Lexed (chars source.now) ts → w ≡ unexpected_words source.now at ts) }
 {
+    // The tokens are read again, since an error carries its place alone.
     match tokens(alloc, source) {
-        Ok(found) => told(alloc, source, token_at(found.as_slice(), at)),
-        Err(LexEnd::Bad(_)) => told(alloc, source, None),
+        Ok(found) => token_detail(alloc, source, token_at(found.as_slice(), at)),
+        Err(LexEnd::Bad(_)) => token_detail(alloc, source, None),
         Err(LexEnd::Memory) => Err(Memory),
     }
 }
 
-fn told(alloc: Global, source: &str, token: Option<Token>) -> Result<Words, Memory>
+fn token_detail(alloc: Global, source: &str, token: Option<Token>) -> Result<Words, Memory>
     requires { IfSome token (λ t. IsSlice source.now t) }
     ensures { IfOk result (λ w. w ≡ unexpected_by source.now token) }
 {

@@ -165,7 +165,7 @@ fn separates(separator: Separator, meaning: &Meaning) -> bool
     }
 }
 
-fn separated(separator: Separator, tokens: &[Item]) -> Option<&[Item]>
+fn skip_separator(separator: Separator, tokens: &[Item]) -> Option<&[Item]>
     ensures value { rest_of result ≡ read.separated separator tokens.now }
     ensures shorter { IfSome result (λ x. length x.now < length tokens.now) }
 {
@@ -181,11 +181,11 @@ fn separated(separator: Separator, tokens: &[Item]) -> Option<&[Item]>
     }
 }
 
-fn going_on(tokens: &[Item]) -> Option<&[Item]>
+fn skip_semicolon(tokens: &[Item]) -> Option<&[Item]>
     ensures value { rest_of result ≡ read.between (Separator.Between Join.Chain) tokens.now }
     ensures shorter { IfSome result (λ x. length x.now < length tokens.now) }
 {
-    match separated(Separator::Between(Join::Chain), tokens) {
+    match skip_separator(Separator::Between(Join::Chain), tokens) {
         None => None,
         Some(others) => { if closes(others) { None } else { Some(others) } }
     }
@@ -197,8 +197,8 @@ pub fn between(separator: Separator, tokens: &[Item]) -> Option<&[Item]>
     ensures shorter { IfSome result (λ x. length x.now < length tokens.now) }
 {
     match separator {
-        Separator::Between(Join::Chain) => going_on(tokens),
-        _ => separated(separator, tokens),
+        Separator::Between(Join::Chain) => skip_semicolon(tokens),
+        _ => skip_separator(separator, tokens),
     }
 }
 

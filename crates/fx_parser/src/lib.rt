@@ -17,7 +17,7 @@ mod refusal;
 mod state;
 mod tails;
 
-pub use details::{bad_token, unexpected};
+pub use details::{bad_token, syntax_detail};
 pub use end::ParseEnd;
 pub use entries::Named;
 pub use fx_printer::print;

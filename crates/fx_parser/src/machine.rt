@@ -68,7 +68,7 @@ fn either(one: Move, other: Move) -> Move
     }
 }
 
-fn begun(begin: Begin) -> Move
+fn begin_operand(begin: Begin) -> Move
     ensures { result ≡ operand begin }
 {
     match begin {
@@ -86,7 +86,7 @@ fn begun(begin: Begin) -> Move
 }
 
 /// A closing bracket behind no argument.
-fn emptied_by(innermost: Option<Frame>, follow: Follow) -> Move
+fn close_empty(innermost: Option<Frame>, follow: Follow) -> Move
     ensures { result ≡ emptied follow innermost }
 {
     match (innermost, follow) {
@@ -97,7 +97,7 @@ fn emptied_by(innermost: Option<Frame>, follow: Follow) -> Move
 }
 
 /// A closing bracket, or a comma.
-fn closed_by(innermost: Option<Frame>, follow: Follow) -> Move
+fn close_or_separate(innermost: Option<Frame>, follow: Follow) -> Move
     ensures { result ≡ closed follow innermost }
 {
     match (innermost, follow) {
@@ -114,7 +114,7 @@ fn closed_by(innermost: Option<Frame>, follow: Follow) -> Move
 }
 
 /// A `;`: fields have none, and between named formulas it begins the next.
-fn parted(whole: Whole, innermost: Option<Frame>) -> Move
+fn at_semicolon(whole: Whole, innermost: Option<Frame>) -> Move
     ensures { result ≡ semicolon whole innermost }
 {
     match (whole, innermost) {
@@ -124,13 +124,14 @@ fn parted(whole: Whole, innermost: Option<Frame>) -> Move
     }
 }
 
+// This function and the next three each take what their state adds, and leave the rest to the one before.
 fn after_alias(whole: Whole, innermost: Option<Frame>, follow: Follow) -> Move
     ensures { result ≡ behind_alias whole innermost follow }
 {
     match follow {
         Follow::Operator => Move::Stay(State::Operand),
-        Follow::Semicolon => parted(whole, innermost),
-        _ => closed_by(innermost, follow),
+        Follow::Semicolon => at_semicolon(whole, innermost),
+        _ => close_or_separate(innermost, follow),
     }
 }
 
@@ -163,7 +164,7 @@ fn after_name(whole: Whole, innermost: Option<Frame>, follow: Follow) -> Move
     }
 }
 
-fn called_behind(follow: Follow) -> Move
+fn open_call(follow: Follow) -> Move
     ensures { result ≡ called follow }
 {
     match follow {
@@ -235,12 +236,12 @@ pub fn turn_at(whole: Whole, state: State, innermost: Option<Frame>, meaning: &M
     let begin = beginning(meaning);
     let follow = following(meaning);
     match state {
-        State::Start => either(begun(begin), equal_before(meaning, State::Operand)),
-        State::Operand => begun(begin),
-        State::OperandOrClose => either(begun(begin), emptied_by(innermost, follow)),
-        State::OperandOrEnd => either(begun(begin), closed_by(innermost, follow)),
+        State::Start => either(begin_operand(begin), equal_before(meaning, State::Operand)),
+        State::Operand => begin_operand(begin),
+        State::OperandOrClose => either(begin_operand(begin), close_empty(innermost, follow)),
+        State::OperandOrEnd => either(begin_operand(begin), close_or_separate(innermost, follow)),
         State::AfterName => after_name(whole, innermost, follow),
-        State::AfterCallee => called_behind(follow),
+        State::AfterCallee => open_call(follow),
         State::AfterAccess => after_access(whole, innermost, follow),
         State::AfterPercent => after_percent(whole, innermost, follow),
         State::AfterAlias => after_alias(whole, innermost, follow),

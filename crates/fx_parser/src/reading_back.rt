@@ -29,6 +29,7 @@ pub fn read_back(alloc: Global, expr: &Expr) -> Result<Expr, ReadBackEnd>
         Err(Memory) => return Err(ReadBackEnd::Parse(ParseEnd::Memory)),
     };
     let source = text.as_str();
+    // Places in a text are numbers of 32 bits.
     if source.len() >= 4_294_967_296 {
         return Err(ReadBackEnd::TooLong);
     }

@@ -1,4 +1,5 @@
-//! Reading the tokens once, from left to right.
+//! Reading the tokens once, from left to right. The descent can't tell a text that is too deep from one without a tree.
+//! This can, since it keeps what is open in a list and doesn't recurse.
 ghost use Rattle.std.specs.Prelude.{◌≡◌, IfOk};
 ghost use Rattle.fx_parser.specs.Trees.{HasFormula, HasEntries, Judges};
 ghost use Rattle.fx_parser.specs.Machine.{Ended};
@@ -46,7 +47,7 @@ pub fn formula(alloc: Global, items: &[Item]) -> Result<Verdict, Memory>
 }
 
 /// Whether the tokens are named formulas, each however deep.
-pub fn named(alloc: Global, items: &[Item]) -> Result<Verdict, Memory>
+pub fn named_formulas(alloc: Global, items: &[Item]) -> Result<Verdict, Memory>
     ensures { IfOk result (Judges HasEntries items.now) }
 {
     recognize(alloc, Whole::Named, State::Entry, items)

@@ -8,7 +8,7 @@ ghost use Rattle.fx_parser.specs.Texts.{place_or, IsItemsEnd, IsLexEnd};
 
 use crate::deep::deepest;
 use crate::end::ParseEnd;
-use crate::recognize::{Verdict, formula, named};
+use crate::recognize::{Verdict, formula, named_formulas};
 use fx_grammar::{Item, items};
 use fx_lexer::{LexEnd, tokens};
 use std::alloc::Global;
@@ -59,7 +59,7 @@ pub fn named_end(alloc: Global, items: &[Item], end: u32) -> ParseEnd
     requires { AreDeeper 64 items.now }
     ensures { IsItemsEnd trees.HasEntries (AreDeeper 64) items.now end result }
 {
-    match named(alloc, items) {
+    match named_formulas(alloc, items) {
         Ok(Verdict::StopsAt(index)) => ParseEnd::Syntax(place(items, index, end)),
         Ok(Verdict::HasTree) => match deepest(alloc, items, true) {
             Ok(index) => ParseEnd::TooDeep(place(items, index, end)),

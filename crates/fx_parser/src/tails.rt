@@ -1,4 +1,5 @@
-//! What stands behind a tree that is read, and what is made of it.
+//! What stands behind a tree that is read, and what is made of it. None of it calls a line of the grammar, so it stands
+//! outside of the recursion.
 ghost use Rattle.std.specs.Prelude.{◌≡◌, ◌<◌, ◌≤◌, ◌+◌, ◌-◌, ◌^◌, IfOk, length, Some};
 ghost use Rattle.fx_trees.specs.Tree.{Head, node, forest, more, none};
 ghost use Rattle.fx_trees.specs.Tree as tree;
@@ -12,10 +13,7 @@ use fx_base::Memory;
 use fx_grammar::{Item, Join, Mark, Meaning};
 use fx_lexer::Word;
 use fx_trees::expr::{Args, Expr};
-use fx_trees::make_expr::{
-    aliased, all_of, any_of, called, chained, dotted, global_named, inverted, joined, negated,
-    percentage,
-};
+use fx_trees::make_expr;
 use std::alloc::Global;
 
 /// Fields behind a tree.
@@ -41,7 +39,7 @@ pub fn dots<'t>(
         }
         deepest += 1;
         let name = name.copy(alloc)?;
-        tree = dotted(alloc, at, tree, name)?;
+        tree = make_expr::dot(alloc, at, tree, name)?;
         rest = others;
     }
     Ok((tree, deepest, rest))
@@ -69,7 +67,7 @@ pub fn percents<'t>(
             return Err(End::Refused);
         }
         deepest += 1;
-        tree = percentage(alloc, at, tree)?;
+        tree = make_expr::percentage(alloc, at, tree)?;
         rest = others;
     }
     Ok((tree, deepest, rest))
@@ -93,7 +91,7 @@ pub fn alias_behind<'t>(
         None => Ok((part, depth, tokens)),
         Some((name, rest)) => {
             if depth < limit {
-                let tree = aliased(alloc, at, part, name.copy(alloc)?)?;
+                let tree = make_expr::alias(alloc, at, part, name.copy(alloc)?)?;
                 Ok((tree, depth + 1, rest))
             } else {
                 Err(End::Refused)
@@ -128,19 +126,19 @@ pub fn global<'t>(
         Some((name, others)) => {
             let name = name.copy(alloc)?;
             let rest = shut(Mark::CloseBracket, others)?;
-            Ok((global_named(at, name), 1, rest))
+            Ok((make_expr::global_name(at, name), 1, rest))
         }
     }
 }
 
 /// A call of what this token names.
-pub fn applied(alloc: Global, at: u32, meaning: &Meaning, parts: Args) -> Result<Expr, Memory>
+pub fn apply(alloc: Global, at: u32, meaning: &Meaning, parts: Args) -> Result<Expr, Memory>
     ensures { (h : Head) → grammar.callee meaning.now ≡ Some h → IfOk result (λ e. e ≡ node at h (forest parts)) }
 {
     match meaning {
-        Meaning::Name(name) => Ok(called(at, name.copy(alloc)?, parts)),
-        Meaning::Word(Word::And) => Ok(all_of(at, parts)),
-        _ => Ok(any_of(at, parts)),
+        Meaning::Name(name) => Ok(make_expr::call(at, name.copy(alloc)?, parts)),
+        Meaning::Word(Word::And) => Ok(make_expr::all_of(at, parts)),
+        _ => Ok(make_expr::any_of(at, parts)),
     }
 }
 
@@ -149,10 +147,10 @@ fn joint(join: Join, at: u32, parts: Args) -> Expr
     ensures { result ≡ node at (grammar.head_of join) (forest parts) }
 {
     match join {
-        Join::Chain => chained(at, parts),
-        Join::Or => any_of(at, parts),
-        Join::And => all_of(at, parts),
-        Join::Cat => joined(at, parts),
+        Join::Chain => make_expr::chain(at, parts),
+        Join::Or => make_expr::any_of(at, parts),
+        Join::And => make_expr::all_of(at, parts),
+        Join::Cat => make_expr::join(at, parts),
     }
 }
 
@@ -183,11 +181,11 @@ pub fn gather<'t>(
 }
 
 /// A sign before a tree.
-pub fn signed(alloc: Global, sign: Sign, at: u32, part: Expr) -> Result<Expr, Memory>
+pub fn sign_before(alloc: Global, sign: Sign, at: u32, part: Expr) -> Result<Expr, Memory>
     ensures { IfOk result (λ e. e ≡ node at (sign_head sign) (more part none)) }
 {
     match sign {
-        Sign::Minus => negated(alloc, at, part),
-        Sign::Not => inverted(alloc, at, part),
+        Sign::Minus => make_expr::negate(alloc, at, part),
+        Sign::Not => make_expr::invert(alloc, at, part),
     }
 }

@@ -155,6 +155,7 @@ fn write_pair(
 }
 
 /// Adds trees where this line stands, with a text between each two.
+// The first stands apart, so that all turns of the loop are alike.
 #[cycle(print)]
 fn write_parts(
     alloc: Global,
@@ -335,6 +336,7 @@ fn write_strand(
 fn write_island(alloc: Global, part: &Expr, out: &mut Writer) -> Result<(), Memory>
     ensures { OnOk result (out.new ≡ out.old ++ island_text (shown part.now)) }
 {
+    // Written by itself first, since only its text tells whether it begins with a brace.
     let mut inner = Writer::new(alloc);
     write(alloc, part, &mut inner)?;
     out.push_plain(island_opening(inner.begins_with_brace()))?;

@@ -42,6 +42,7 @@ impl Writer {
     }
 
     /// Adds marks, words, digits and spaces at the end.
+    // Apart from `push_text`: of ASCII the bytes are the characters, and no proof reads UTF-8.
     pub fn push_plain(&mut self, text: &str) -> Result<(), Memory>
         requires { IsAscii text.now }
         ensures { OnOk result (self.new ≡ self.old ++ text.now) }

@@ -7,7 +7,7 @@ ghost use Rattle.fx_scalar.specs.Answers.{IsPosition, IsWhole, date_answer, mayb
 
 use crate::arguments::no_text;
 use fx_base::Memory;
-use fx_builtins::kinded;
+use fx_builtins::with_kind;
 use fx_data::{Day, Fault, Kind, Value, Words};
 use fx_number::{Num, NumErr};
 use std::alloc::Global;
@@ -67,7 +67,7 @@ pub(crate) fn date(alloc: Global, answer: Result<Day, Kind>) -> Result<Value, Me
 pub(crate) fn whole(alloc: Global, whole: i128) -> Result<Value, Memory>
     ensures { IfOk result (λ v. IsWhole whole (view v)) }
 {
-    number(alloc, kinded(whole_number(whole)))
+    number(alloc, with_kind(whole_number(whole)))
 }
 
 fn whole_number(whole: i128) -> Result<Num, NumErr>

@@ -31,6 +31,7 @@ pub(crate) fn at(args: &[Value], place: usize) -> Option<&Value>
 }
 
 /// The argument at a place, and this blank where there is none.
+// The blank is lent by the caller, so that no argument is copied.
 pub(crate) fn at_or<'a>(args: &'a [Value], place: usize, none: &'a Value) -> &'a Value
     requires { view none.now ≡ blank }
     ensures { view result.now ≡ at_of (views args.now) place }

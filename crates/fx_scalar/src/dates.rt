@@ -139,7 +139,7 @@ pub(crate) fn format_date(
 {
     match date_at(args, 0) {
         Some(day) => {
-            let text = fx_builtins::formatted(alloc, day, format)?;
+            let text = fx_builtins::format_day(alloc, day, format)?;
             Ok(Value::Text(Words::of(alloc, text.as_str())?))
         }
         None => Ok(Value::Text(no_text(alloc)?)),

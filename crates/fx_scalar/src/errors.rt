@@ -20,13 +20,13 @@ pub(crate) fn error(alloc: Global, args: &[Value]) -> Result<Value, Memory>
     ensures { IfOk result (λ v. IsResult fun.Error (views args.now) (view v)) }
 {
     match at(args, 0) {
-        Some(Value::Rec(fields)) => told_by(alloc, fields),
+        Some(Value::Rec(fields)) => error_of_fields(alloc, fields),
         _ => error_of(alloc, &Value::Blank, &Value::Blank),
     }
 }
 
 // The error that the fields of a record tell. Those but Kind and Message are ignored.
-fn told_by(alloc: Global, fields: &Fields) -> Result<Value, Memory>
+fn error_of_fields(alloc: Global, fields: &Fields) -> Result<Value, Memory>
     ensures { IfOk result (λ v. IsErrorOf (rec (field_list fields.now)) (view v)) }
 {
     let kind = field_text(alloc, fields, &Words::of(alloc, "Kind")?)?;

@@ -42,7 +42,7 @@ pub fn decide_match(wanted: &Value, value: Value) -> Decision
 
 /// What a form is worth where no part is left and none has decided: `And` is true, `Or` false, and all
 /// else blank.
-pub fn none_left(form: Form) -> Value
+pub fn exhausted_value(form: Form) -> Value
     ensures { view result ≡ none_left_of form }
 {
     match form {

@@ -15,5 +15,5 @@ mod truths;
 pub use dates::today;
 pub use errors::error_record;
 pub use laws::{answers_fit, fitting_can_apply, one_answer, records_tell};
-pub use lazy_forms::{Decision, decide, decide_match, is_blank, none_left, without_error};
+pub use lazy_forms::{Decision, decide, decide_match, exhausted_value, is_blank, without_error};
 pub use table::apply;

@@ -8,7 +8,7 @@ ghost use Rattle.fx_scalar.specs.ScalarFunctions.{IsResult};
 use crate::answers::{maybe, number};
 use crate::arguments::{number_at, numbers, text_at, zero};
 use fx_base::Memory;
-use fx_builtins::kinded;
+use fx_builtins::with_kind;
 use fx_data::{Ty, Value};
 use fx_number::{Num, Way};
 use std::alloc::Global;
@@ -18,7 +18,7 @@ pub(crate) fn add(alloc: Global, args: &[Value]) -> Result<Value, Memory>
 {
     let a = number_at(args, 0);
     let b = number_at(args, 1);
-    number(alloc, kinded(fx_number::add(a, b)))
+    number(alloc, with_kind(fx_number::add(a, b)))
 }
 
 pub(crate) fn subtract(alloc: Global, args: &[Value]) -> Result<Value, Memory>
@@ -26,7 +26,7 @@ pub(crate) fn subtract(alloc: Global, args: &[Value]) -> Result<Value, Memory>
 {
     let a = number_at(args, 0);
     let b = number_at(args, 1);
-    number(alloc, kinded(fx_number::sub(a, b)))
+    number(alloc, with_kind(fx_number::sub(a, b)))
 }
 
 pub(crate) fn multiply(alloc: Global, args: &[Value]) -> Result<Value, Memory>
@@ -34,7 +34,7 @@ pub(crate) fn multiply(alloc: Global, args: &[Value]) -> Result<Value, Memory>
 {
     let a = number_at(args, 0);
     let b = number_at(args, 1);
-    number(alloc, kinded(fx_number::mul(a, b)))
+    number(alloc, with_kind(fx_number::mul(a, b)))
 }
 
 pub(crate) fn divide(alloc: Global, args: &[Value]) -> Result<Value, Memory>
@@ -42,7 +42,7 @@ pub(crate) fn divide(alloc: Global, args: &[Value]) -> Result<Value, Memory>
 {
     let a = number_at(args, 0);
     let b = number_at(args, 1);
-    number(alloc, kinded(fx_number::div(a, b)))
+    number(alloc, with_kind(fx_number::div(a, b)))
 }
 
 pub(crate) fn raise(alloc: Global, args: &[Value]) -> Result<Value, Memory>
@@ -96,13 +96,16 @@ pub(crate) fn round_down(alloc: Global, args: &[Value]) -> Result<Value, Memory>
 pub(crate) fn percent(alloc: Global, args: &[Value]) -> Result<Value, Memory>
     ensures { IfOk result (λ v. IsResult fun.Percent (views args.now) (view v)) }
 {
-    number(alloc, kinded(fx_number::div(number_at(args, 0), hundred())))
+    number(
+        alloc,
+        with_kind(fx_number::div(number_at(args, 0), hundred())),
+    )
 }
 
 pub(crate) fn negate(alloc: Global, args: &[Value]) -> Result<Value, Memory>
     ensures { IfOk result (λ v. IsResult fun.Negate (views args.now) (view v)) }
 {
-    number(alloc, kinded(fx_number::sub(zero(), number_at(args, 0))))
+    number(alloc, with_kind(fx_number::sub(zero(), number_at(args, 0))))
 }
 
 pub(crate) fn int(alloc: Global, args: &[Value]) -> Result<Value, Memory>

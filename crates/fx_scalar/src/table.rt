@@ -125,6 +125,7 @@ fn calculate(alloc: Global, fun: Fun, args: &[Value]) -> Result<Value, Memory>
         Fun::Year => dates::year(alloc, args),
         Fun::Weekday => dates::weekday(alloc, args),
         Fun::DateValue => dates::read_date(alloc, args),
+        // Functions of tables aren't called here. They are listed, so that no new function is taken for one.
         Fun::Filter
         | Fun::LookUp
         | Fun::Sort(_)

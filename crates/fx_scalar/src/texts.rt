@@ -76,11 +76,11 @@ pub(crate) fn trim(alloc: Global, args: &[Value]) -> Result<Value, Memory>
 pub(crate) fn find(alloc: Global, args: &[Value]) -> Result<Value, Memory>
     ensures { IfOk result (λ v. IsResult fun.Find (views args.now) (view v)) }
 {
-    position(alloc, found(alloc, args)?)
+    position(alloc, find_place(alloc, args)?)
 }
 
 // The position at which the first text is found in the second.
-fn found(alloc: Global, args: &[Value]) -> Result<Result<Option<usize>, Kind>, Memory>
+fn find_place(alloc: Global, args: &[Value]) -> Result<Result<Option<usize>, Kind>, Memory>
     ensures { IfOk result (let a = views args.now in
         IsFound (text_of a 0) (text_of a 1) (start_of a)) }
 {

@@ -106,7 +106,7 @@ fn default_type(alloc: Global, kind: Control, name: &str, ty: Ty) -> Ty
 }
 
 // A written property is its cell, and another one its default.
-fn written_or(
+fn cell_or_default(
     alloc: Global,
     names: &Names,
     number: u32,
@@ -128,7 +128,7 @@ fn written_or(
 }
 
 // A pure property of a control.
-fn property_read(
+fn read_property(
     alloc: Global,
     names: &Names,
     number: u32,
@@ -141,15 +141,15 @@ fn property_read(
 {
     match property_type(alloc, control, name)? {
         Some(ty) => {
-            let found = written_or(alloc, names, number, control.kind, name, ty)?;
+            let found = cell_or_default(alloc, names, number, control.kind, name, ty)?;
             Ok(found)
         }
-        None => Err(Wrong::Breaks(Rule::UnknownColumn)),
+        None => Err(Wrong::Refused(Rule::UnknownColumn)),
     }
 }
 
 // What the user gave to a control.
-fn input_read(number: u32, kind: Control) -> Result<Typed, Wrong>
+fn read_input(number: u32, kind: Control) -> Result<Typed, Wrong>
     ensures { Answers typed (sought.input_read number (input_type kind)) result }
 {
     match input_ty(kind) {
@@ -157,12 +157,12 @@ fn input_read(number: u32, kind: Control) -> Result<Typed, Wrong>
             core: make_core::read(Source::Input(number)),
             ty,
         }),
-        None => Err(Wrong::Breaks(Rule::UnknownColumn)),
+        None => Err(Wrong::Refused(Rule::UnknownColumn)),
     }
 }
 
 // A property of a control. One of a gallery's template isn't named: its value differs from item to item.
-fn control_read(
+fn read_control(
     alloc: Global,
     names: &Names,
     number: u32,
@@ -173,7 +173,7 @@ fn control_read(
     ensures { Answers typed (sought.control_read names.now number control.now control.now.gallery name.now) result }
 {
     if control.gallery.is_some() {
-        return Err(Wrong::Breaks(Rule::WrongType));
+        return Err(Wrong::Refused(Rule::WrongType));
     }
     if is_chosen(control.kind, name.as_str()) {
         return Ok(Typed {
@@ -182,9 +182,9 @@ fn control_read(
         });
     }
     if is_input(control.kind, name.as_str()) {
-        return input_read(number, control.kind);
+        return read_input(number, control.kind);
     }
-    property_read(alloc, names, number, control, name)
+    read_property(alloc, names, number, control, name)
 }
 
 // A member of an enumeration is the text of its name.
@@ -192,7 +192,7 @@ fn member_of(alloc: Global, enumeration: Enumeration, name: &Words) -> Result<Ty
     ensures { Answers typed (sought.member_of (has_member enumeration (encode_utf8_all name.now)) name.now) result }
 {
     if !enumeration.has(name.as_str()) {
-        return Err(Wrong::Breaks(Rule::UnknownColumn));
+        return Err(Wrong::Refused(Rule::UnknownColumn));
     }
     Ok(Typed {
         core: make_core::constant(Value::Text(name.copy(alloc)?)),
@@ -201,13 +201,13 @@ fn member_of(alloc: Global, enumeration: Enumeration, name: &Words) -> Result<Ty
 }
 
 // A field of a record; other types have none.
-fn field_read(alloc: Global, before: Typed, name: &Words) -> Result<Typed, Wrong>
+fn read_field(alloc: Global, before: Typed, name: &Words) -> Result<Typed, Wrong>
     ensures { Answers typed (sought.field_read before.core name.now (shape before.ty)) result }
 {
     let Typed { core, ty } = before;
     match ty {
         Ty::Rec(columns) => known_field(alloc, core, name, &columns),
-        _ => Err(Wrong::Breaks(Rule::WrongType)),
+        _ => Err(Wrong::Refused(Rule::WrongType)),
     }
 }
 
@@ -219,24 +219,24 @@ fn known_field(alloc: Global, core: Core, name: &Words, columns: &Columns) -> Re
         Some(ty) => {
             let ty = ty.copy(alloc)?;
             Ok(Typed {
-                core: make_core::dotted(alloc, core, name.copy(alloc)?)?,
+                core: make_core::dot(alloc, core, name.copy(alloc)?)?,
                 ty,
             })
         }
-        None => Err(Wrong::Breaks(Rule::UnknownColumn)),
+        None => Err(Wrong::Refused(Rule::UnknownColumn)),
     }
 }
 
 /// What stands behind a dot, by what stands before it: a field of a record, a property of a control or a
 /// member of an enumeration.
-pub fn dotted(alloc: Global, names: &Names, name: &Words, before: Meaning) -> Result<Typed, Wrong>
+pub fn dot(alloc: Global, names: &Names, name: &Words, before: Meaning) -> Result<Typed, Wrong>
     requires { IsLawful names.now }
     ensures { Answers typed (sought.dotted names.now name.now (Some (meaning_view before.entry))) result }
 {
     match before {
-        Meaning::Valued(value) => field_read(alloc, value, name),
-        Meaning::Controlled(number, control) => control_read(alloc, names, number, control, name),
+        Meaning::Valued(value) => read_field(alloc, value, name),
+        Meaning::Controlled(number, control) => read_control(alloc, names, number, control, name),
         Meaning::Enumerated(enumeration) => member_of(alloc, enumeration, name),
-        Meaning::Screened => Err(Wrong::Breaks(Rule::WrongType)),
+        Meaning::Screened => Err(Wrong::Refused(Rule::WrongType)),
     }
 }

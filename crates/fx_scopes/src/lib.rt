@@ -12,7 +12,7 @@ pub mod settings;
 pub mod tables;
 pub mod targets;
 
-pub use dots::dotted;
+pub use dots::dot;
 pub use meanings::{Meaning, Place, as_value, in_globals, meaning_of};
 pub use named::Named;
 pub use parts::Part;

@@ -15,7 +15,7 @@ use crate::scoped::{in_scopes, this_record};
 use crate::scopes::Scopes;
 use crate::tables::{columns_of, item_type};
 use crate::targets::{
-    collection_named, control_named, global_variable, screen_named, screen_variable, table_named,
+    find_collection, find_control, find_screen, find_table, global_variable, screen_variable,
 };
 use fx_base::Memory;
 use fx_data::types::Ty;
@@ -98,7 +98,7 @@ fn first_error(alloc: Global, catches: bool) -> Result<Option<Typed>, Memory>
         return Ok(None);
     }
     Ok(Some(Typed {
-        core: make_core::caught(),
+        core: make_core::caught_error(),
         ty: fault_type(alloc)?,
     }))
 }
@@ -128,7 +128,7 @@ fn reserved_name(name: &Words) -> Option<Reserved>
 }
 
 // What a reserved name means.
-fn reserved_as<'a>(
+fn reserved_meaning<'a>(
     alloc: Global,
     at: &Place<'a>,
     scopes: &Scopes,
@@ -193,24 +193,24 @@ pub fn in_globals<'a>(
         let found = read_as(alloc, Source::Global(number), &variable.ty)?;
         return Ok(Some(Meaning::Valued(found)));
     }
-    if let Some((number, collection)) = collection_named(names, name) {
+    if let Some((number, collection)) = find_collection(names, name) {
         let found = read_as(alloc, Source::Gathered(number), &collection.ty)?;
         return Ok(Some(Meaning::Valued(found)));
     }
     if let Some(found) = in_formulas(alloc, names, name)? {
         return Ok(Some(Meaning::Valued(found)));
     }
-    if let Some((number, table)) = table_named(names, name) {
+    if let Some((number, table)) = find_table(names, name) {
         let found = Typed {
             core: make_core::read(Source::Table(number as u16)),
             ty: Ty::Tab(columns_of(alloc, table)?),
         };
         return Ok(Some(Meaning::Valued(found)));
     }
-    if let Some((number, control)) = control_named(names, name) {
+    if let Some((number, control)) = find_control(names, name) {
         return Ok(Some(Meaning::Controlled(number, control)));
     }
-    Ok(screen_named(names, name).map(|_| Meaning::Screened))
+    Ok(find_screen(names, name).map(|_| Meaning::Screened))
 }
 
 /// What a name means: in the scopes, as a reserved name, among the context variables of the screen, among
@@ -231,7 +231,7 @@ pub fn meaning_of<'a>(
         return Ok(Some(Meaning::Valued(found)));
     }
     if let Some(reserved) = reserved_name(name) {
-        return reserved_as(alloc, at, scopes, catches, reserved);
+        return reserved_meaning(alloc, at, scopes, catches, reserved);
     }
     if let Some(found) = in_context(alloc, at, name)? {
         return Ok(Some(Meaning::Valued(found)));
@@ -246,7 +246,7 @@ pub fn as_value(meaning: Option<Meaning>) -> Result<Typed, Wrong>
 {
     match meaning {
         Some(Meaning::Valued(value)) => Ok(value),
-        Some(Meaning::Controlled(_, _) | Meaning::Screened) => Err(Wrong::Breaks(Rule::WrongType)),
-        Some(Meaning::Enumerated(_)) | None => Err(Wrong::Breaks(Rule::UnknownName)),
+        Some(Meaning::Controlled(_, _) | Meaning::Screened) => Err(Wrong::Refused(Rule::WrongType)),
+        Some(Meaning::Enumerated(_)) | None => Err(Wrong::Refused(Rule::UnknownName)),
     }
 }

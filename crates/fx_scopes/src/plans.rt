@@ -89,7 +89,7 @@ impl Standing {
     }
 }
 
-fn planned(place: Standing, allowed: Grant) -> Plan
+fn make_plan(place: Standing, allowed: Grant) -> Plan
     ensures { plan result ≡ plans.planned (standing place) (grant allowed) }
 {
     Plan {
@@ -133,7 +133,7 @@ fn plan_by_row(acts: bool, row: Row, count: usize, place: usize) -> Plan
     ensures { plan result ≡ plans.plan_by_row acts row count place }
 {
     let takes = row.takes(count, place);
-    planned(standing_of(takes), grant_of(acts, takes))
+    make_plan(standing_of(takes), grant_of(acts, takes))
 }
 
 // Whether a part is a table, or a value with a name for its rows.
@@ -173,7 +173,7 @@ fn plan_either(acts: bool, scalars: Fun, rows: Fun, count: usize, done: &[Part])
     ensures { plan result ≡ plans.plan_either acts scalars rows count (map part done.now) }
 {
     if done.is_empty() {
-        return planned(Standing::Plain, Grant::AnAlias);
+        return make_plan(Standing::Plain, Grant::AnAlias);
     }
     plan_by_row(acts, row_of(pick(scalars, rows, done)), count, done.len())
 }
@@ -186,7 +186,7 @@ fn plan_literal(acts: bool, fun: Fun, count: usize, place: usize) -> Plan
     if place < row.most as usize {
         plan_by_row(acts, row, count, place)
     } else {
-        planned(Standing::Plain, Grant::Nothing)
+        make_plan(Standing::Plain, Grant::Nothing)
     }
 }
 
@@ -195,9 +195,9 @@ fn plan_with(acts: bool, place: usize) -> Plan
     ensures { plan result ≡ plans.plan_with acts place }
 {
     if place == 0 {
-        planned(Standing::Plain, Grant::Nothing)
+        make_plan(Standing::Plain, Grant::Nothing)
     } else {
-        planned(Standing::Bound, if_acting(acts))
+        make_plan(Standing::Bound, if_acting(acts))
     }
 }
 
@@ -206,9 +206,9 @@ fn first_then(first: Grant, others: Standing, behind: Grant, place: usize) -> Pl
     ensures { plan result ≡ plans.first_then (grant first) (standing others) (grant behind) place }
 {
     if place == 0 {
-        planned(Standing::Plain, first)
+        make_plan(Standing::Plain, first)
     } else {
-        planned(others, behind)
+        make_plan(others, behind)
     }
 }
 
@@ -231,7 +231,7 @@ fn plan_act(acts: bool, acting: Acting, place: usize) -> Plan
             Grant::Nothing,
             place,
         ),
-        Acting::Notify => planned(Standing::Plain, Grant::Nothing),
+        Acting::Notify => make_plan(Standing::Plain, Grant::Nothing),
         Acting::Clear
         | Acting::ClearCollect
         | Acting::Patch
@@ -256,13 +256,13 @@ fn plan_call(acts: bool, shape: Option<SigShape>, count: usize, done: &[Part]) -
         }
         Some(SigShape::Act(acting)) => plan_act(acts, acting, place),
         Some(SigShape::Table | SigShape::Today) | None => {
-            planned(Standing::Plain, Grant::Nothing)
+            make_plan(Standing::Plain, Grant::Nothing)
         }
     }
 }
 
 // How a name is called.
-fn called_as(names: &Names, name: &Words) -> Option<SigShape>
+fn call_shape(names: &Names, name: &Words) -> Option<SigShape>
     ensures { result ≡ plans.called_as names.now name.now }
 {
     signature_in(names.signatures, name.as_str()).map(|signature| signature.shape)
@@ -275,12 +275,12 @@ pub fn plan_at(names: &Names, whole: Grant, head: &Expr, count: usize, done: &[P
 {
     let acts = whole.may_act();
     match &head.node {
-        Node::Dot(_, _) => planned(Standing::Plain, Grant::AMeaning(acts)),
-        Node::Call(name, _) => plan_call(acts, called_as(names, name), count, done),
-        Node::Chain(_) => planned(Standing::Plain, if_acting(acts)),
-        Node::Alias(_, _) => planned(Standing::Plain, alias_grant(whole)),
-        Node::Rec(_) => planned(Standing::Plain, field_grant(whole)),
-        _ => planned(Standing::Plain, Grant::Nothing),
+        Node::Dot(_, _) => make_plan(Standing::Plain, Grant::AMeaning(acts)),
+        Node::Call(name, _) => plan_call(acts, call_shape(names, name), count, done),
+        Node::Chain(_) => make_plan(Standing::Plain, if_acting(acts)),
+        Node::Alias(_, _) => make_plan(Standing::Plain, alias_grant(whole)),
+        Node::Rec(_) => make_plan(Standing::Plain, field_grant(whole)),
+        _ => make_plan(Standing::Plain, Grant::Nothing),
     }
 }
 

@@ -44,7 +44,7 @@ fn field_at(alloc: Global, number: u8, name: &Words, row_type: &Ty) -> Result<Op
 {
     match field_type(name, row_type) {
         Some(ty) => Ok(Some(Typed {
-            core: make_core::dotted(alloc, make_core::row(number), name.copy(alloc)?)?,
+            core: make_core::dot(alloc, make_core::row(number), name.copy(alloc)?)?,
             ty: ty.copy(alloc)?,
         })),
         None => Ok(None),
@@ -69,6 +69,7 @@ pub fn in_scopes(alloc: Global, name: &Words, scopes: &Scopes) -> Result<Option<
     ensures { IfOk result (λ t. option_map as_valued t ≡ sought.in_scopes 0 name.now scopes.now) }
 {
     let items = scopes.as_slice();
+    // By number, from the innermost, since a typed tree names a scope by its number.
     let mut number = items.len();
     while number > 0 {
         number -= 1;

@@ -58,7 +58,7 @@ fn row_scope(alloc: Global, alias: &Option<Words>, row_type: Ty) -> Result<Scope
 {
     Ok(Scope {
         row_type,
-        alias: copied(alloc, alias)?,
+        alias: copy_name(alloc, alias)?,
         counted: true,
     })
 }
@@ -92,7 +92,7 @@ fn first_row(alloc: Global, names: &Names, first: &Part) -> Result<Scope, Memory
 }
 
 // The same name, if there is one.
-fn copied(alloc: Global, name: &Option<Words>) -> Result<Option<Words>, Memory>
+fn copy_name(alloc: Global, name: &Option<Words>) -> Result<Option<Words>, Memory>
     ensures { IfOk result (λ n. n ≡ name.now) }
 {
     match name {

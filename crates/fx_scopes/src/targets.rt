@@ -47,7 +47,7 @@ pub fn screen_variable<'a>(
 }
 
 /// The collection of this name, with its number.
-pub fn collection_named<'a>(names: &'a Names, name: &Words) -> Option<(u32, &'a Collection)>
+pub fn find_collection<'a>(names: &'a Names, name: &Words) -> Option<(u32, &'a Collection)>
     requires { IsLawful names.now }
     ensures { option_map (λ e. (e.0, e.1.now)) result ≡ targets.collection_named names.now name.now }
 {
@@ -55,7 +55,7 @@ pub fn collection_named<'a>(names: &'a Names, name: &Words) -> Option<(u32, &'a 
 }
 
 /// The table of this name, with its number, which is below 32.
-pub fn table_named<'a>(names: &'a Names, name: &Words) -> Option<(u32, &'a TableShape)>
+pub fn find_table<'a>(names: &'a Names, name: &Words) -> Option<(u32, &'a TableShape)>
     requires { IsLawful names.now }
     ensures value { option_map (λ e. (e.0, e.1.now)) result ≡ targets.table_named names.now name.now }
     ensures below { IfSome result (λ e. e.0 < 32) }
@@ -64,7 +64,7 @@ pub fn table_named<'a>(names: &'a Names, name: &Words) -> Option<(u32, &'a Table
 }
 
 /// The number of the screen of this name.
-pub fn screen_named<'a>(names: &'a Names, name: &Words) -> Option<(u32, &'a Words)>
+pub fn find_screen<'a>(names: &'a Names, name: &Words) -> Option<(u32, &'a Words)>
     requires { IsLawful names.now }
     ensures { option_map (λ e. (e.0, e.1.now)) result ≡ targets.screen_named names.now name.now }
 {
@@ -72,7 +72,7 @@ pub fn screen_named<'a>(names: &'a Names, name: &Words) -> Option<(u32, &'a Word
 }
 
 /// The control of this name, with its number.
-pub fn control_named<'a>(names: &'a Names, name: &Words) -> Option<(u32, &'a ControlName)>
+pub fn find_control<'a>(names: &'a Names, name: &Words) -> Option<(u32, &'a ControlName)>
     requires { IsLawful names.now }
     ensures { option_map (λ e. (e.0, e.1.now)) result ≡ targets.control_named names.now name.now }
 {
@@ -80,17 +80,17 @@ pub fn control_named<'a>(names: &'a Names, name: &Words) -> Option<(u32, &'a Con
 }
 
 /// The rows of this name that change: a table's or a collection's.
-pub fn rows_named(alloc: Global, names: &Names, name: &Words) -> Result<Option<RowsNamed>, Memory>
+pub fn find_target(alloc: Global, names: &Names, name: &Words) -> Result<Option<RowsNamed>, Memory>
     requires { IsLawful names.now }
     ensures { IfOk result (λ r. option_map rows_view r ≡ targets.rows_named names.now name.now) }
 {
-    if let Some((number, table)) = table_named(names, name) {
+    if let Some((number, table)) = find_table(names, name) {
         return Ok(Some(RowsNamed {
             target: Target::Table(number as u16),
             ty: Ty::Tab(columns_of(alloc, table)?),
         }));
     }
-    match collection_named(names, name) {
+    match find_collection(names, name) {
         Some((number, collection)) => Ok(Some(RowsNamed {
             target: Target::Gathered(number),
             ty: collection.ty.copy(alloc)?,
@@ -104,7 +104,7 @@ pub fn target_columns(alloc: Global, names: &Names, name: &Words) -> Result<Colu
     requires { IsLawful names.now }
     ensures { IfOk result (λ c. column_list c ≡ targets.target_columns names.now name.now) }
 {
-    match rows_named(alloc, names, name)? {
+    match find_target(alloc, names, name)? {
         Some(rows) => Ok(into_columns(alloc, rows.ty)),
         None => Ok(Columns::new(alloc)),
     }

@@ -42,7 +42,7 @@ pub fn rename_column(alloc: Global, rows: Rows, from: &str, to: &str) -> Result<
 {
     let from = Words::of(alloc, from)?;
     let to = Words::of(alloc, to)?;
-    rows_renamed(alloc, rows, &from, &to)
+    rename_rows(alloc, rows, &from, &to)
 }
 
 /// The rows with the columns of these names alone.
@@ -85,14 +85,14 @@ fn rows_without(alloc: Global, rows: Rows, name: &Words) -> Result<Rows, Memory>
     Ok(Rows::from_items(kept))
 }
 
-fn rows_renamed(alloc: Global, rows: Rows, from: &Words, to: &Words) -> Result<Rows, Memory>
+fn rename_rows(alloc: Global, rows: Rows, from: &Words, to: &Words) -> Result<Rows, Memory>
     requires { LacksColumn to.now rows }
     ensures { IfOk result (λ r. r ≡ map (renamed_of from.now to.now) rows) }
 {
     let items = rows.into_items();
     let mut changed = Vec::with_capacity(alloc, items.len())?;
     for row in items {
-        changed.push(renamed(row, from, to.copy(alloc)?)?)?;
+        changed.push(rename_field(row, from, to.copy(alloc)?)?)?;
     }
     Ok(Rows::from_items(changed))
 }
@@ -147,7 +147,7 @@ fn is_among(name: &Words, names: &[Words]) -> bool
 }
 
 // A record in which a field has another name.
-fn renamed(row: Fields, from: &Words, to: Words) -> Result<Fields, Memory>
+fn rename_field(row: Fields, from: &Words, to: Words) -> Result<Fields, Memory>
     requires { item_of to row ≡ None }
     ensures { IfOk result (λ f. f ≡ renamed_of from.now to row) }
 {

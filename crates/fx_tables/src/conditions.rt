@@ -34,7 +34,7 @@ pub fn filter(alloc: Global, rows: Rows, conditions: Vec<Value>) -> Result<Value
         → IfOk result (λ v. fits_in (view v) t ≡ true) }
 {
     match without_errors(conditions) {
-        Ok(conditions) => Ok(Value::Tab(kept(alloc, rows, conditions)?)),
+        Ok(conditions) => Ok(Value::Tab(keep_rows(alloc, rows, conditions)?)),
         Err(fault) => Ok(Value::Fault(fault)),
     }
 }
@@ -48,7 +48,7 @@ pub fn look_up(alloc: Global, rows: Rows, conditions: Vec<Value>) -> Result<Valu
         → IfOk result (λ v. fits_in (view v) (records cs) ≡ true) }
 {
     match without_errors(conditions) {
-        Ok(conditions) => Ok(first(kept(alloc, rows, conditions)?)),
+        Ok(conditions) => Ok(first(keep_rows(alloc, rows, conditions)?)),
         Err(fault) => Ok(Value::Fault(fault)),
     }
 }
@@ -60,7 +60,7 @@ fn all_hold(conditions: &[Value]) -> bool
 }
 
 // The rows whose condition holds.
-fn kept(alloc: Global, rows: Rows, conditions: Vec<Value>) -> Result<Rows, Memory>
+fn keep_rows(alloc: Global, rows: Rows, conditions: Vec<Value>) -> Result<Rows, Memory>
     requires { length conditions.items ≡ length rows }
     ensures { IfOk result (λ r. r ≡ kept_rows rows (map view conditions.items)) }
 {
@@ -76,7 +76,8 @@ fn kept(alloc: Global, rows: Rows, conditions: Vec<Value>) -> Result<Rows, Memor
     Ok(Rows::from_items(held))
 }
 
-// Keeps a row whose condition holds.
+// Keeps a row whose condition holds. A function, since the loop would lose what it knows where the ways of an `if`
+// meet.
 fn keep(held: &mut Vec<Fields>, row: Fields, condition: &Value) -> Result<(), Memory>
     ensures { OnOk result (held.new.items
         ≡ held.old.items ++ (if holds_in (view condition.now) then row ∷ [] else [])) }

@@ -32,12 +32,12 @@ fn count_of(conditions: &[Value]) -> usize
 {
     let mut count = 0;
     for condition in conditions {
-        count += counted(condition);
+        count += count_one(condition);
     }
     count
 }
 
-fn counted(condition: &Value) -> usize
+fn count_one(condition: &Value) -> usize
     ensures value { result ≡ (if holds_in (view condition.now) then 1 else 0) }
     ensures bound { result ≤ 1 }
 {

@@ -50,7 +50,7 @@ pub fn first_n(rows: Rows, count: Option<Value>) -> Value
 {
     match count {
         Some(Value::Fault(fault)) => Value::Fault(fault),
-        count => Value::Tab(first_rows_of(rows, count_asked(&count))),
+        count => Value::Tab(first_rows_of(rows, asked_count(&count))),
     }
 }
 
@@ -64,7 +64,7 @@ pub fn last_n(rows: Rows, count: Option<Value>) -> Value
 {
     match count {
         Some(Value::Fault(fault)) => Value::Fault(fault),
-        count => Value::Tab(last_rows_of(rows, count_asked(&count))),
+        count => Value::Tab(last_rows_of(rows, asked_count(&count))),
     }
 }
 
@@ -98,13 +98,14 @@ fn last_rows_of(rows: Rows, count: usize) -> Rows
     let mut items = rows.into_items();
     let skipped = items.len().saturating_sub(count);
     let kept = items.len() - skipped;
+    // Turned and cut off, so that no row is copied and no memory is taken.
     items.rotate_left(skipped);
     items.truncate(kept);
     Rows::from_items(items)
 }
 
 // How many rows a number asks for.
-fn count_asked(count: &Option<Value>) -> usize
+fn asked_count(count: &Option<Value>) -> usize
     ensures { result ≡ count_asked_of (option_map view count.now) }
 {
     match count {

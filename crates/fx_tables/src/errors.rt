@@ -20,6 +20,7 @@ pub(crate) fn without_errors(values: Vec<Value>) -> Result<Vec<Value>, Fault>
     let mut values = values;
     match place_of_error(values.as_slice()) {
         None => Ok(values),
+        // The others are let go, so that their order doesn't matter.
         Some(place) => match values.swap_remove(place) {
             Value::Fault(fault) => Err(fault),
             _ => unreachable!(),

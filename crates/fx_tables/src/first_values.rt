@@ -43,6 +43,7 @@ fn take_first(
         → All (λ e. AreOfOneType e (view value.now)) ds → All IsProper ds
         → OnOk result (HoldsFirsts seen.new rows.new.items (ds ++ view value.now ∷ [])) }
 {
+    // Both are called for what they say: equal values, and no others, have equal keys.
     value_is_proper(value);
     keys_order();
     let key = key_of(alloc, value)?;

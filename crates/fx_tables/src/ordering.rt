@@ -24,9 +24,10 @@ pub fn order_by(alloc: Global, rows: Rows, keys: &[Value], down: bool) -> Result
     requires { length keys.now ≡ length rows }
     ensures { IfOk result (λ r. IsOrderedBy down (map view keys.now) rows r) }
 {
+    // A law is called for what it says, here that `sort_by` is given an order.
     compare_is_total();
     let mut keyed = beside_keys(alloc, rows, keys)?;
-    keyed.sort_by(|a, b| directed(down, a.key, b.key))?;
+    keyed.sort_by(|a, b| directed_order(down, a.key, b.key))?;
     rows_of(alloc, keyed)
 }
 
@@ -45,7 +46,7 @@ fn beside_keys(alloc: Global, rows: Rows, keys: &[Value]) -> Result<Vec<Keyed<'_
 }
 
 // How two keys compare, either way.
-fn directed(down: bool, a: &Value, b: &Value) -> Ordering
+fn directed_order(down: bool, a: &Value, b: &Value) -> Ordering
     ensures { result ≡ directed_order down (view a.now) (view b.now) }
 {
     if down { compare(b, a) } else { compare(a, b) }

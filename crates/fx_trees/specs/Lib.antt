@@ -17,4 +17,3 @@ pub mod Controls
 pub mod Formulas
 pub mod Lawful
 pub mod SourceTypes
-pub mod Decided

@@ -1,10 +1,9 @@
 //! What acting parts of a formula do, and to what.
-ghost use Rattle.std.specs.Prelude.{◌≡◌, ◌≤◌, ◌++◌, ◌∷◌, [], length, slice_get, Some, IfOk, OnOk, OnErr, MatchOption};
+ghost use Rattle.std.specs.Prelude.{◌≡◌, IfOk};
 
 use crate::sources::Source;
-use fx_base::Memory;
+use fx_base::{InOrder, Memory};
 use std::alloc::Global;
-use std::marker::Model;
 
 /// Rows that change: those of a table of the schema, or of a collection.
 #[derive(Clone, Copy, Debug, PartialEq, Eq)]
@@ -14,70 +13,7 @@ pub enum Target {
 }
 
 /// Sources in order.
-#[derive(Drop)]
-pub struct Sources {
-    items: Vec<Source>,
-}
-
-impl Model for Sources {
-    ghost use Rattle.std.specs.Prelude.{List};
-    ghost use Rattle.fx_trees.specs.declared.sources.Source.{Source};
-
-    ghost Value = { List Source };
-
-    ghost view = { λ a. a.items.items };
-}
-
-impl Sources {
-    /// No sources.
-    pub fn new(alloc: Global) -> Sources
-        ensures { result ≡ [] }
-    {
-        Sources {
-            items: Vec::new(alloc),
-        }
-    }
-
-    /// Adds a source at the end.
-    pub fn push(&mut self, item: Source) -> Result<(), Memory>
-        ensures ok { OnOk result (self.new ≡ self.old ++ item ∷ []) }
-        ensures err { OnErr result (self.new ≡ self.old) }
-    {
-        self.items.push(item)?;
-        Ok(())
-    }
-
-    /// How many sources there are.
-    pub fn len(&self) -> usize
-        ensures { result ≡ length self.now }
-    {
-        self.items.len()
-    }
-
-    /// The source at a place, counted from 0.
-    pub fn get(&self, place: usize) -> Option<&Source>
-        ensures { MatchOption result (length self.now ≤ place)
-            (λ s. slice_get self.now place ≡ Some s.now) }
-    {
-        self.items.get(place)
-    }
-
-    /// The sources in order.
-    pub fn as_slice(&self) -> &[Source]
-        ensures { result.now ≡ self.now }
-    {
-        self.items.as_slice()
-    }
-
-    /// The same sources.
-    pub fn copy(&self, alloc: Global) -> Result<Sources, Memory>
-        ensures { IfOk result (λ s. s ≡ self.now) }
-    {
-        Ok(Sources {
-            items: Vec::from_slice(alloc, self.items.as_slice())?,
-        })
-    }
-}
+pub type Sources = InOrder<Source>;
 
 /// What an acting part does. Numbers are places in the lists of the app's names, from 0.
 #[derive(Drop)]

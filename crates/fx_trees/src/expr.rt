@@ -40,6 +40,7 @@ pub enum Op {
 
 /// A formula's tree. `at` is the byte of the source, counted from 0, at which its first token
 /// begins.
+// A struct round an enum, since contracts can see a struct, and no enum, as plain data.
 #[cycle(expr)]
 #[derive(Drop)]
 pub struct Expr {
@@ -92,6 +93,7 @@ pub enum Node {
 }
 
 /// Formulas in order.
+// No `InOrder`: it is a part of what it holds, so that its size is told together with the tree's.
 #[cycle(expr)]
 #[derive(Drop)]
 pub struct Args {

@@ -54,6 +54,7 @@ impl FormulaList {
         let name = formula.name.copy(alloc)?;
         let place = self.items.len();
         self.items.push(formula)?;
+        // Without a note the formula goes again, so that want of memory changes nothing.
         if note(&mut self.places, name, place).is_err() {
             self.items.pop();
             return Err(Memory);
@@ -84,7 +85,7 @@ impl FormulaList {
     }
 
     /// The same formulas with these types, of which there is one for each.
-    pub fn retyped(self, alloc: Global, types: Vec<Ty>) -> Result<FormulaList, Memory>
+    pub fn retype(self, alloc: Global, types: Vec<Ty>) -> Result<FormulaList, Memory>
         requires { length types.items ≡ length self }
         ensures { IfOk result (λ l. l ≡ retyped self types.items) }
     {

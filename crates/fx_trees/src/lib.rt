@@ -6,12 +6,9 @@ mod broken;
 mod broken_text;
 pub mod controls;
 pub mod deeds;
-mod distinct;
 pub mod expr;
 pub mod formulas;
 pub mod functions;
-mod lawful_names;
-mod lawful_schema;
 pub mod literals;
 pub mod make_core;
 pub mod make_expr;
@@ -30,8 +27,6 @@ pub use broken_text::{address, line, lines};
 pub use deeds::{Deed, Sources, Target};
 pub use formulas::FormulaList;
 pub use functions::{Acting, Form, Fun};
-pub use lawful_names::is_lawful;
-pub use lawful_schema::is_lawful_schema;
 pub use literals::{DateFormat, Enumeration, NumberFormat, SortOrder, TimeUnit};
 pub use names::{
     Collection, CollectionList, ControlList, ControlName, FormulaName, Names, Property,

@@ -116,7 +116,7 @@ fn date_format(text: &str) -> Option<DateFormat>
 }
 
 /// The text of a value by a format.
-fn formatted(text: &str) -> Option<Fun>
+fn text_format(text: &str) -> Option<Fun>
     ensures { result ≡ spelled.formatted text.now }
 {
     match number_format(text) {
@@ -138,7 +138,7 @@ pub fn with_literal(fun: Fun, literal: &str) -> Option<Fun>
         Fun::DateAdd(_) => time_unit(literal).map(Fun::DateAdd),
         Fun::DateDiff(_) => time_unit(literal).map(Fun::DateDiff),
         Fun::Sort(_) => sort_order(literal).map(Fun::Sort),
-        Fun::Text => formatted(literal),
+        Fun::Text => text_format(literal),
         _ => None,
     }
 }

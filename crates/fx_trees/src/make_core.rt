@@ -52,7 +52,7 @@ pub fn item() -> Core
 }
 
 /// The error that the nearest `IfError` caught.
-pub fn caught() -> Core
+pub fn caught_error() -> Core
     ensures { result ≡ of top.caught nil }
 {
     Core {
@@ -61,7 +61,7 @@ pub fn caught() -> Core
 }
 
 /// A field of a record.
-pub fn dotted(alloc: Global, part: Core, name: Words) -> Result<Core, Memory>
+pub fn dot(alloc: Global, part: Core, name: Words) -> Result<Core, Memory>
     ensures { IfOk result (λ c. c ≡ of (top.dot name) (cons part nil)) }
 {
     Ok(Core {
@@ -70,7 +70,7 @@ pub fn dotted(alloc: Global, part: Core, name: Words) -> Result<Core, Memory>
 }
 
 /// A function of the values of its parts.
-pub fn called(fun: Fun, parts: CoreArgs) -> Core
+pub fn call(fun: Fun, parts: CoreArgs) -> Core
     ensures { result ≡ of (top.call fun) (all parts) }
 {
     Core {
@@ -79,7 +79,7 @@ pub fn called(fun: Fun, parts: CoreArgs) -> Core
 }
 
 /// A function of a table and other parts.
-pub fn called_over(alloc: Global, fun: Fun, table: Core, parts: CoreArgs) -> Result<Core, Memory>
+pub fn call_over(alloc: Global, fun: Fun, table: Core, parts: CoreArgs) -> Result<Core, Memory>
     ensures { IfOk result (λ c. c ≡ of (top.over fun) (cons table (all parts))) }
 {
     Ok(Core {
@@ -99,7 +99,7 @@ pub fn within(alloc: Global, scope: Core, formula: Core) -> Result<Core, Memory>
 }
 
 /// A record of these fields.
-pub fn recorded(fields: CoreFields) -> Core
+pub fn record_of(fields: CoreFields) -> Core
     ensures { result ≡ of (top.rec (names_of fields)) (parts_of fields) }
 {
     Core {
@@ -108,7 +108,7 @@ pub fn recorded(fields: CoreFields) -> Core
 }
 
 /// A table of these rows.
-pub fn listed(row: Ty, parts: CoreArgs) -> Core
+pub fn list(row: Ty, parts: CoreArgs) -> Core
     ensures { result ≡ of (top.list (shape row)) (all parts) }
 {
     Core {
@@ -117,7 +117,7 @@ pub fn listed(row: Ty, parts: CoreArgs) -> Core
 }
 
 /// A form that evaluates only the parts that it needs.
-pub fn formed(form: Form, parts: CoreArgs) -> Core
+pub fn form(form: Form, parts: CoreArgs) -> Core
     ensures { result ≡ of (top.form form) (all parts) }
 {
     let node = match form {
@@ -131,7 +131,7 @@ pub fn formed(form: Form, parts: CoreArgs) -> Core
 }
 
 /// A value as one of this type.
-pub fn coerced(alloc: Global, part: Core, ty: Ty) -> Result<Core, Memory>
+pub fn coerce(alloc: Global, part: Core, ty: Ty) -> Result<Core, Memory>
     ensures { IfOk result (λ c. c ≡ of (top.coerce (shape ty)) (cons part nil)) }
 {
     Ok(Core {
@@ -140,7 +140,7 @@ pub fn coerced(alloc: Global, part: Core, ty: Ty) -> Result<Core, Memory>
 }
 
 /// Parts in turn.
-pub fn chained(parts: CoreArgs) -> Core
+pub fn chain(parts: CoreArgs) -> Core
     ensures { result ≡ of top.chain (all parts) }
 {
     Core {
@@ -149,7 +149,7 @@ pub fn chained(parts: CoreArgs) -> Core
 }
 
 /// A change of state.
-pub fn acting(deed: Deed, parts: CoreArgs) -> Core
+pub fn act(deed: Deed, parts: CoreArgs) -> Core
     ensures { result ≡ of (top.act deed) (all parts) }
 {
     Core {

@@ -1,4 +1,5 @@
-//! Trees made of their parts. `at` is always the byte at which the tree's first token begins.
+//! Trees made of their parts. `at` is always the byte at which the tree's first token begins. These calls spare those
+//! who make trees the boxes in them.
 ghost use Rattle.std.specs.Prelude.{◌≡◌, IfOk};
 ghost use Rattle.fx_trees.specs.Tree.{node, none, more, forest, names_of, parts_of};
 ghost use Rattle.fx_trees.specs.Tree as tree;
@@ -10,7 +11,7 @@ use fx_number::Num;
 use std::alloc::Global;
 
 /// The leaf of a number.
-pub fn numbered(at: u32, value: Num) -> Expr
+pub fn number(at: u32, value: Num) -> Expr
     ensures { result ≡ node at (tree.num value) none }
 {
     Expr {
@@ -20,7 +21,7 @@ pub fn numbered(at: u32, value: Num) -> Expr
 }
 
 /// The leaf of a text.
-pub fn quoted(at: u32, words: Words) -> Expr
+pub fn text(at: u32, words: Words) -> Expr
     ensures { result ≡ node at (tree.text words) none }
 {
     Expr {
@@ -40,7 +41,7 @@ pub fn truth(at: u32, value: bool) -> Expr
 }
 
 /// The leaf of a name.
-pub fn named(at: u32, name: Words) -> Expr
+pub fn name(at: u32, name: Words) -> Expr
     ensures { result ≡ node at (tree.name name) none }
 {
     Expr {
@@ -50,7 +51,7 @@ pub fn named(at: u32, name: Words) -> Expr
 }
 
 /// The leaf of a name that is sought among the global ones alone.
-pub fn global_named(at: u32, name: Words) -> Expr
+pub fn global_name(at: u32, name: Words) -> Expr
     ensures { result ≡ node at (tree.global name) none }
 {
     Expr {
@@ -60,7 +61,7 @@ pub fn global_named(at: u32, name: Words) -> Expr
 }
 
 /// A call of a function.
-pub fn called(at: u32, name: Words, parts: Args) -> Expr
+pub fn call(at: u32, name: Words, parts: Args) -> Expr
     ensures { result ≡ node at (tree.call name) (forest parts) }
 {
     Expr {
@@ -70,7 +71,7 @@ pub fn called(at: u32, name: Words, parts: Args) -> Expr
 }
 
 /// Texts joined.
-pub fn joined(at: u32, parts: Args) -> Expr
+pub fn join(at: u32, parts: Args) -> Expr
     ensures { result ≡ node at tree.joined (forest parts) }
 {
     Expr {
@@ -100,7 +101,7 @@ pub fn any_of(at: u32, parts: Args) -> Expr
 }
 
 /// Formulas in turn.
-pub fn chained(at: u32, parts: Args) -> Expr
+pub fn chain(at: u32, parts: Args) -> Expr
     ensures { result ≡ node at tree.chain (forest parts) }
 {
     Expr {
@@ -110,7 +111,7 @@ pub fn chained(at: u32, parts: Args) -> Expr
 }
 
 /// A table of these.
-pub fn listed(at: u32, parts: Args) -> Expr
+pub fn list(at: u32, parts: Args) -> Expr
     ensures { result ≡ node at tree.list (forest parts) }
 {
     Expr {
@@ -120,7 +121,7 @@ pub fn listed(at: u32, parts: Args) -> Expr
 }
 
 /// Pieces and islands in order.
-pub fn woven(at: u32, parts: Args) -> Expr
+pub fn weave(at: u32, parts: Args) -> Expr
     ensures { result ≡ node at tree.woven (forest parts) }
 {
     Expr {
@@ -130,7 +131,7 @@ pub fn woven(at: u32, parts: Args) -> Expr
 }
 
 /// A record of these fields.
-pub fn recorded(at: u32, fields: Parts) -> Expr
+pub fn record_of(at: u32, fields: Parts) -> Expr
     ensures { result ≡ node at (tree.rec (names_of fields)) (parts_of fields) }
 {
     Expr {
@@ -140,7 +141,7 @@ pub fn recorded(at: u32, fields: Parts) -> Expr
 }
 
 /// `-` before a tree.
-pub fn negated(alloc: Global, at: u32, part: Expr) -> Result<Expr, Memory>
+pub fn negate(alloc: Global, at: u32, part: Expr) -> Result<Expr, Memory>
     ensures { IfOk result (λ e. e ≡ node at tree.neg (more part none)) }
 {
     Ok(Expr {
@@ -150,7 +151,7 @@ pub fn negated(alloc: Global, at: u32, part: Expr) -> Result<Expr, Memory>
 }
 
 /// `!` or `Not` before a tree.
-pub fn inverted(alloc: Global, at: u32, part: Expr) -> Result<Expr, Memory>
+pub fn invert(alloc: Global, at: u32, part: Expr) -> Result<Expr, Memory>
     ensures { IfOk result (λ e. e ≡ node at tree.opposite (more part none)) }
 {
     Ok(Expr {
@@ -170,7 +171,7 @@ pub fn percentage(alloc: Global, at: u32, part: Expr) -> Result<Expr, Memory>
 }
 
 /// A field of a tree.
-pub fn dotted(alloc: Global, at: u32, part: Expr, name: Words) -> Result<Expr, Memory>
+pub fn dot(alloc: Global, at: u32, part: Expr, name: Words) -> Result<Expr, Memory>
     ensures { IfOk result (λ e. e ≡ node at (tree.dot name) (more part none)) }
 {
     Ok(Expr {
@@ -180,7 +181,7 @@ pub fn dotted(alloc: Global, at: u32, part: Expr, name: Words) -> Result<Expr, M
 }
 
 /// A tree under a name for its rows.
-pub fn aliased(alloc: Global, at: u32, part: Expr, name: Words) -> Result<Expr, Memory>
+pub fn alias(alloc: Global, at: u32, part: Expr, name: Words) -> Result<Expr, Memory>
     ensures { IfOk result (λ e. e ≡ node at (tree.alias name) (more part none)) }
 {
     Ok(Expr {
@@ -190,7 +191,7 @@ pub fn aliased(alloc: Global, at: u32, part: Expr, name: Words) -> Result<Expr, 
 }
 
 /// Two trees with an operator between them.
-pub fn paired(alloc: Global, at: u32, op: Op, left: Expr, right: Expr) -> Result<Expr, Memory>
+pub fn pair(alloc: Global, at: u32, op: Op, left: Expr, right: Expr) -> Result<Expr, Memory>
     ensures { IfOk result (λ e. e ≡ node at (tree.pair op) (more left (more right none))) }
 {
     let left = Box::new(alloc, left)?;

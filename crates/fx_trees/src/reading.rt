@@ -64,7 +64,7 @@ fn place_in(sources: &[Source], source: Source) -> Option<usize>
 }
 
 // The sources, each once and rising.
-fn rising(alloc: Global, sources: &[Source]) -> Result<Vec<Source>, Memory>
+fn sort_sources(alloc: Global, sources: &[Source]) -> Result<Vec<Source>, Memory>
     ensures { IfOk result (λ r. r.items ≡ put_all sources.now []) }
 {
     let mut once = Vec::new(alloc);
@@ -85,7 +85,7 @@ impl Core {
     {
         let mut named = Vec::new(alloc);
         self.gather(&mut named)?;
-        rising(alloc, named.as_slice())
+        sort_sources(alloc, named.as_slice())
     }
 
     #[cycle(gather)]

@@ -161,7 +161,7 @@ pub fn is_within(least: u8, most: u8, count: usize) -> bool
     least as usize <= count && (most == 255 || count <= most as usize)
 }
 
-fn placed(least: u8, most: u8, places: (Takes, Takes, Takes, Takes), answer: Answer) -> Row
+fn open_row(least: u8, most: u8, places: (Takes, Takes, Takes, Takes), answer: Answer) -> Row
     ensures { result ≡ table.placed least most places.0 places.1 places.2 places.3 answer }
 {
     let (first, second, third, fourth) = places;
@@ -177,7 +177,7 @@ fn placed(least: u8, most: u8, places: (Takes, Takes, Takes, Takes), answer: Ans
     }
 }
 
-fn paired(first: Takes, second: Takes, third: Takes, fourth: Takes, answer: Answer) -> Row
+fn whole_row(first: Takes, second: Takes, third: Takes, fourth: Takes, answer: Answer) -> Row
     ensures { result ≡ table.paired first second third fourth answer }
 {
     Row {
@@ -192,7 +192,7 @@ fn paired(first: Takes, second: Takes, third: Takes, fourth: Takes, answer: Answ
     }
 }
 
-fn branched(least: u8, first: Takes, second: Takes, third: Takes, fourth: Takes) -> Row
+fn branch_row(least: u8, first: Takes, second: Takes, third: Takes, fourth: Takes) -> Row
     ensures { result ≡ table.branched least first second third fourth }
 {
     Row {
@@ -217,9 +217,10 @@ fn scalars(least: u8, most: u8, places: (Scalar, Scalar, Scalar, Scalar), answer
         Takes::Scalar(third),
         Takes::Scalar(fourth),
     );
-    placed(least, most, places, Answer::Scalar(answer))
+    open_row(least, most, places, Answer::Scalar(answer))
 }
 
+// Places that no such call has are filled with a type that it takes, here and below.
 fn one(first: Scalar, answer: Scalar) -> Row
     ensures { result ≡ table.one first answer }
 {
@@ -241,13 +242,13 @@ fn many(each: Scalar, answer: Scalar) -> Row
 fn each(least: u8, most: u8, takes: Takes, answer: Answer) -> Row
     ensures { result ≡ table.placed least most takes takes takes takes answer }
 {
-    placed(least, most, (takes, takes, takes, takes), answer)
+    open_row(least, most, (takes, takes, takes, takes), answer)
 }
 
 fn over(least: u8, most: u8, second: Takes, rest: Takes, answer: Answer) -> Row
     ensures { result ≡ table.over least most second rest answer }
 {
-    placed(least, most, (Takes::Table, second, rest, rest), answer)
+    open_row(least, most, (Takes::Table, second, rest, rest), answer)
 }
 
 /// What a function takes and answers.
@@ -317,7 +318,7 @@ pub fn row_of(fun: Fun) -> Row
             let formula = Takes::Formula(Number);
             over(2, 2, formula, formula, Answer::Scalar(Number))
         }
-        Fun::AddColumns => paired(
+        Fun::AddColumns => whole_row(
             Takes::Table,
             Takes::NewColumn,
             Takes::AnyFormula,
@@ -326,7 +327,7 @@ pub fn row_of(fun: Fun) -> Row
         ),
         Fun::DropColumns => over(2, 255, Takes::Column, Takes::Column, Answer::Dropped),
         Fun::ShowColumns => over(2, 255, Takes::Column, Takes::Column, Answer::Shown),
-        Fun::RenameColumns => paired(
+        Fun::RenameColumns => whole_row(
             Takes::Table,
             Takes::Column,
             Takes::NewColumn,
@@ -354,8 +355,8 @@ pub fn form_row(form: Form) -> Row
     let fallback = Takes::Fallback;
     match form {
         Form::All | Form::Any => many(Scalar::Boolean, Scalar::Boolean),
-        Form::If => branched(2, condition, branch, condition, branch),
-        Form::Switch => branched(3, Takes::Compared, Takes::Match, branch, Takes::Match),
-        Form::IfError => placed(2, 255, (branch, fallback, branch, fallback), Answer::Common),
+        Form::If => branch_row(2, condition, branch, condition, branch),
+        Form::Switch => branch_row(3, Takes::Compared, Takes::Match, branch, Takes::Match),
+        Form::IfError => open_row(2, 255, (branch, fallback, branch, fallback), Answer::Common),
     }
 }

@@ -12,6 +12,7 @@ use std::alloc::Global;
 use std::marker::Model;
 
 /// A typed tree.
+// A struct round an enum, since contracts can see a struct, and no enum, as plain data.
 #[cycle(core)]
 #[derive(Drop)]
 pub struct Core {

@@ -72,13 +72,13 @@ pub fn with_new(name: Words, ty: Ty, columns: Columns) -> Result<Columns, Wrong>
     ensures { Answers column_list (typing.with_new name (shape ty) (column_list columns)) result }
 {
     if field_in(&name, &columns).is_some() {
-        return Err(Wrong::Breaks(Rule::NameTwice));
+        return Err(Wrong::Refused(Rule::NameTwice));
     }
     Ok(put_column(name, ty, columns)?)
 }
 
 /// A column that is there under a name that is new.
-pub fn with_renamed(
+pub fn rename_column(
     alloc: Global,
     from: &Words,
     to: Words,
@@ -87,10 +87,10 @@ pub fn with_renamed(
     ensures { Answers column_list (typing.with_renamed from.now to (column_list columns)) result }
 {
     let Some(ty) = field_in(from, &columns) else {
-        return Err(Wrong::Breaks(Rule::UnknownColumn));
+        return Err(Wrong::Refused(Rule::UnknownColumn));
     };
     if field_in(&to, &columns).is_some() {
-        return Err(Wrong::Breaks(Rule::NameTwice));
+        return Err(Wrong::Refused(Rule::NameTwice));
     }
     let ty = ty.copy(alloc)?;
     Ok(put_column(to, ty, without(from, columns))?)
@@ -112,12 +112,12 @@ fn name_of(alloc: Global, core: &Core) -> Result<Words, Wrong>
 {
     match label_of(core) {
         Some(name) => Ok(name.copy(alloc)?),
-        None => Err(Wrong::Breaks(Rule::WrongType)),
+        None => Err(Wrong::Refused(Rule::WrongType)),
     }
 }
 
 /// New columns in turn, each of the name that stands before its formula.
-pub fn added(alloc: Global, parts: &[Typed], columns: Columns) -> Result<Columns, Wrong>
+pub fn add_columns(alloc: Global, parts: &[Typed], columns: Columns) -> Result<Columns, Wrong>
     ensures { Answers column_list (typing.added (map typed parts.now) (column_list columns)) result }
 {
     let mut columns = columns;
@@ -131,7 +131,7 @@ pub fn added(alloc: Global, parts: &[Typed], columns: Columns) -> Result<Columns
 }
 
 /// Columns under new names in turn, each of which stands behind the old one.
-pub fn renamed(alloc: Global, parts: &[Typed], columns: Columns) -> Result<Columns, Wrong>
+pub fn rename_columns(alloc: Global, parts: &[Typed], columns: Columns) -> Result<Columns, Wrong>
     ensures { Answers column_list (typing.renamed (map typed parts.now) (column_list columns)) result }
 {
     let mut columns = columns;
@@ -139,7 +139,7 @@ pub fn renamed(alloc: Global, parts: &[Typed], columns: Columns) -> Result<Colum
     while let [from, to, rest @ ..] = more {
         let from = name_of(alloc, &from.core)?;
         let to = name_of(alloc, &to.core)?;
-        columns = with_renamed(alloc, &from, to, columns)?;
+        columns = rename_column(alloc, &from, to, columns)?;
         more = rest;
     }
     Ok(columns)
@@ -160,7 +160,7 @@ fn names_there(alloc: Global, parts: &[Typed], columns: &Columns) -> Result<Vec<
     for part in parts {
         let name = name_of(alloc, &part.core)?;
         if field_in(&name, columns).is_none() {
-            return Err(Wrong::Breaks(Rule::UnknownColumn));
+            return Err(Wrong::Refused(Rule::UnknownColumn));
         }
         names.push(name)?;
     }
@@ -179,7 +179,7 @@ fn without_all(names: &[Words], columns: Columns) -> Columns
 }
 
 /// The columns without those of these names, which are all there. A name that stands twice counts once.
-pub fn dropped(alloc: Global, parts: &[Typed], columns: Columns) -> Result<Columns, Wrong>
+pub fn drop_columns(alloc: Global, parts: &[Typed], columns: Columns) -> Result<Columns, Wrong>
     ensures { Answers column_list (typing.dropped (map typed parts.now) (column_list columns)) result }
 {
     let names = names_there(alloc, parts, &columns)?;
@@ -190,11 +190,11 @@ pub fn dropped(alloc: Global, parts: &[Typed], columns: Columns) -> Result<Colum
 fn only(names: &[Words], columns: Columns) -> Columns
     ensures { column_list result ≡ typing.only names.now (column_list columns) }
 {
-    Columns::from_rising(kept(names, columns.into_items()))
+    Columns::from_rising(select_columns(names, columns.into_items()))
 }
 
 // The columns of these names.
-fn kept(names: &[Words], columns: Vec<(Words, Ty)>) -> Vec<(Words, Ty)>
+fn select_columns(names: &[Words], columns: Vec<(Words, Ty)>) -> Vec<(Words, Ty)>
     ensures { result.items ≡ filter (λ c. typing.is_one_of c.0 names.now) columns.items }
 {
     let mut columns = columns;
@@ -203,7 +203,7 @@ fn kept(names: &[Words], columns: Vec<(Words, Ty)>) -> Vec<(Words, Ty)>
 }
 
 /// The columns of these names alone, which are all there.
-pub fn shown(alloc: Global, parts: &[Typed], columns: Columns) -> Result<Columns, Wrong>
+pub fn show_columns(alloc: Global, parts: &[Typed], columns: Columns) -> Result<Columns, Wrong>
     ensures { Answers column_list (typing.shown (map typed parts.now) (column_list columns)) result }
 {
     let names = names_there(alloc, parts, &columns)?;

@@ -54,6 +54,7 @@ fn same_columns(a: &Columns, b: &Columns) -> bool
         return false;
     }
     for (i, (name, ty)) in xs.iter().enumerate() {
+        // By index: behind a `zip` the whole lists have no names in an invariant.
         let (other_name, other) = &ys[i];
         if !name.is(other_name) || !same_shape(ty, other) {
             return false;
@@ -136,10 +137,10 @@ pub fn branch_way(alloc: Global, from: &Ty, to: &Ty) -> Result<Way, Memory>
 }
 
 /// A value as one of a type.
-pub fn coerced(alloc: Global, core: Core, to: &Ty) -> Result<Core, Memory>
+pub fn coerce(alloc: Global, core: Core, to: &Ty) -> Result<Core, Memory>
     ensures { IfOk result (λ c. c ≡ local.coerced core (shape to.now)) }
 {
-    make_core::coerced(alloc, core, to.copy(alloc)?)
+    make_core::coerce(alloc, core, to.copy(alloc)?)
 }
 
 /// A value that comes to a type, or the rule `WrongType`.
@@ -148,8 +149,8 @@ pub fn by_way(alloc: Global, way: Way, core: Core, to: &Ty) -> Result<Typed, Wro
 {
     let core = match way {
         Way::Same => core,
-        Way::Changed => coerced(alloc, core, to)?,
-        Way::Refused => return Err(Wrong::Breaks(Rule::WrongType)),
+        Way::Changed => coerce(alloc, core, to)?,
+        Way::Refused => return Err(Wrong::Refused(Rule::WrongType)),
     };
     Ok(Typed {
         core,

@@ -41,6 +41,7 @@ fn same_record(a: &Fields, b: &Fields) -> bool
         return false;
     }
     for (i, (name, value)) in xs.iter().enumerate() {
+        // By index: behind a `zip` the whole lists have no names in an invariant.
         let (other_name, other) = &ys[i];
         if !name.is(other_name) || !same(value, other) {
             return false;

@@ -43,6 +43,7 @@ fn join_columns(alloc: Global, a: &Columns, b: &Columns) -> Result<Option<Column
     let mut joined = Vec::new(alloc);
     let mut i = 0;
     let mut j = 0;
+    // Places in whole slices, so that an invariant can name what is left of each; the label names the loop there.
     'merge: while i < xs.len() && j < ys.len() {
         let x = &xs[i];
         let y = &ys[j];

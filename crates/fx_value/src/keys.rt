@@ -17,6 +17,7 @@ pub fn key_of(alloc: Global, v: &Value) -> Result<Vec<u8>, Memory>
     match v {
         Value::Blank => key.push(0)?,
         Value::Number(number) => {
+            // Shifted by 2^63, so that bytes without a sign order as the numbers do.
             let shifted = i128::from(number.units()) + (1 << 63);
             key.push(1)?;
             key.extend_from_slice(&(shifted as u64).to_be_bytes())?;
@@ -38,6 +39,7 @@ pub fn key_of(alloc: Global, v: &Value) -> Result<Vec<u8>, Memory>
 
 /// A fact about every value, for the law of keys: a number and a day are in their ranges, and a text
 /// is of scalar values.
+// Each read is for its clause alone, by which what it gives is in range.
 pub fn value_is_proper(v: &Value)
     ensures { IsProper (view v.now) }
 {

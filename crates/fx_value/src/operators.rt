@@ -15,7 +15,7 @@ pub fn holds(op: Cmp, a: &Value, b: &Value) -> bool
     requires { CanCompare op (view a.now) (view b.now) }
     ensures { result ≡ holds_of op (view a.now) (view b.now) }
 {
-    match compared(op, a, b) {
+    match compare_scalars(op, a, b) {
         Some(order) => takes(op, order),
         None => false,
     }
@@ -36,7 +36,7 @@ fn takes(op: Cmp, order: Ordering) -> bool
 }
 
 // How two scalars compare under an operator, if they do.
-fn compared(op: Cmp, a: &Value, b: &Value) -> Option<Ordering>
+fn compare_scalars(op: Cmp, a: &Value, b: &Value) -> Option<Ordering>
     ensures { result ≡ compared_by op (view a.now) (view b.now) }
 {
     match op {

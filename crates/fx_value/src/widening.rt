@@ -66,7 +66,8 @@ fn widen_table(alloc: Global, rows: Rows, columns: &Columns) -> Result<Rows, Mem
     Ok(Rows::from_items(wide))
 }
 
-// The value under a name, which is taken out, or blank where it is missing.
+// The value under a name, which is taken out, or blank where it is missing. A blank stays in its place, so that nothing
+// is copied and no other field moves.
 fn take_value(items: &mut Vec<(Words, Value)>, name: &Words) -> Value
     ensures value { view result ≡ value_in name.now (field_list (fields_view items.old.items)) }
     ensures others { (m : List ℕ) → m ≢ name.now

@@ -46,7 +46,7 @@ pub fn values_of<L: Ledger>(
     let day = today(alloc, moment)?;
     let formulas = lines.as_slice();
     let kept = kept_cells(alloc, formulas, &day, steps)?;
-    named(alloc, formulas, kept)
+    name_values(alloc, formulas, kept)
 }
 
 // The values of formulas, which are kept.
@@ -109,12 +109,13 @@ fn value_of<L: Ledger>(
     match eval(alloc, &mut env, &mut scope, &formula.core, steps) {
         Ok(value) => Ok(value),
         Err(Stop::Memory) => Err(Memory),
+        // Only over an environment that counts faults, and this one counts none.
         Err(Stop::Keeper) => unreachable!(),
     }
 }
 
 // The names of formulas with their values, which were kept.
-fn named(
+fn name_values(
     alloc: Global,
     formulas: &[Formula],
     kept: Vec<KeptCell>,

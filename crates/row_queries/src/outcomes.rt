@@ -78,7 +78,7 @@ pub fn judge<'t>(alloc: Global, test: &'t Test, row: &Row) -> Result<Judgement<'
         },
         TestNode::And(tests) => judge_all(alloc, tests.as_slice(), row),
         TestNode::Or(tests) => judge_any(alloc, tests.as_slice(), row),
-        TestNode::Not(test) => Ok(reversed(judge(alloc, test, row)?)),
+        TestNode::Not(test) => Ok(reverse(judge(alloc, test, row)?)),
     }
 }
 
@@ -114,7 +114,7 @@ fn judge_any<'t>(alloc: Global, tests: &'t [Test], row: &Row) -> Result<Judgemen
     Ok(Judgement::Unmet)
 }
 
-fn reversed(judgement: Judgement<'_>) -> Judgement<'_>
+fn reverse(judgement: Judgement<'_>) -> Judgement<'_>
     ensures { judged result ≡ reversed_outcome (judged judgement.entry) }
 {
     match judgement {
@@ -225,7 +225,7 @@ fn has_part(alloc: Global, text: &Words, part: &Words) -> Result<bool, Memory>
     Ok(fx_builtins::contains(alloc, text, part)?)
 }
 
-// The text in a column, or an empty one.
+// The text in a column, or an empty one. The empty one is lent by the caller, so that no text is copied.
 fn cell_text<'t>(row: &'t Row, column: u16, empty: &'t Words) -> &'t Words
     requires place { IsSome (slice_get (values_of row.now) column) }
     requires empty { empty.now ≡ [] }

@@ -63,6 +63,7 @@ impl Key {
     }
 }
 
+// By hand, since a derived comparison needs that what is seen of a key determines it, and its capacity isn't seen.
 impl PartialEq for Key {
     ghost use Rattle.std.specs.Prelude.{bytes_eq};
 

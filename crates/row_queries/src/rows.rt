@@ -8,6 +8,7 @@ use std::alloc::Global;
 use std::marker::Model;
 
 /// The values of a row, one for each column of its table, `ID` aside.
+// No `InOrder`, of which contracts see the values themselves: of this they see plain data.
 #[derive(Drop)]
 pub struct Cells {
     items: Vec<Value>,

@@ -60,7 +60,7 @@ impl Caller {
     }
 
     /// The kept reply.
-    pub(crate) fn kept(&self) -> &[u8]
+    pub(crate) fn last_reply(&self) -> &[u8]
         ensures { result.now ≡ self.now.reply }
     {
         self.reply.as_slice()

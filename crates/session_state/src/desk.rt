@@ -49,6 +49,6 @@ impl Desk {
     pub fn kept(&self) -> &[u8]
         ensures { result.now ≡ self.now.reply }
     {
-        self.caller.kept()
+        self.caller.last_reply()
     }
 }

@@ -21,13 +21,14 @@ const MOST_NOTICES: usize = 10;
 /// What is kept of one session. Numbers are places in the lists of the app's names, from 0.
 #[derive(Drop)]
 pub struct Session {
+    // Kept, so that `copy` and `get` take none.
     alloc: Global,
     screen: u32,
     // Whether a screen was made the current one since this was asked last.
     navigated: bool,
     variables: Vec<Value>,
     collections: Vec<Value>,
-    // What the variables and collections weigh.
+    // What the variables and collections weigh. Kept, so that a change weighs two values alone.
     weight: u64,
     inputs: Vec<Option<Value>>,
     chosen: Vec<Option<(u32, Option<u32>)>>,
@@ -85,6 +86,7 @@ impl Session {
             .len()
             .checked_add(names.collections.len())
             .ok_or(Memory)?;
+        // A blank value and an empty table weigh 16 each.
         let weight = count.checked_mul(16).ok_or(Memory)? as u64;
         Ok(Session {
             alloc,
@@ -152,7 +154,8 @@ impl Session {
         self.make(change)
     }
 
-    // Makes a change, where it isn't refused.
+    // Makes a change, where it isn't refused. That the session goes on fitting the app's names is proved in `change`,
+    // over these clauses alone.
     fn make(&mut self, change: Change) -> Result<bool, Memory>
         requires { IsThere change self.old }
         ensures answer { IfOk result (λ done. done ≡ not (is_refused change self.old)) }
@@ -235,7 +238,7 @@ impl Session {
     pub fn kept(&self) -> &[u8]
         ensures { result.now ≡ self.now.kept.reply }
     {
-        self.caller.kept()
+        self.caller.last_reply()
     }
 
     /// The number of the current screen.

@@ -13,14 +13,14 @@ pub fn row(alloc: Global, line: &str) -> io::Result<String> {
     if line.is_empty() || line.starts_with("#") {
         return Ok(String::from_str(alloc, line)?);
     }
-    match answered(alloc, line) {
+    match answer_line(alloc, line) {
         Ok(text) => Ok(text),
         Err(Memory) => Err(ErrorKind::OutOfMemory.into()),
     }
 }
 
 /// A formula with its answer.
-fn answered(alloc: Global, line: &str) -> Result<String, Memory> {
+fn answer_line(alloc: Global, line: &str) -> Result<String, Memory> {
     match answer(alloc, line) {
         Ok(answer) => Ok(format!(in alloc; "{line} = {answer}")?),
         Err(Stop::NoFormula) => Ok(format!(in alloc; "{line} is no formula")?),

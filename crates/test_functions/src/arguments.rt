@@ -17,7 +17,7 @@ use fx_value::{coerce, fits};
 use std::alloc::Global;
 
 /// What a function answers to arguments, which are coerced as its row says.
-pub fn applied(alloc: Global, fun: Fun, args: Vec<Typed>) -> Result<Typed, Stop> {
+pub fn apply_to(alloc: Global, fun: Fun, args: Vec<Typed>) -> Result<Typed, Stop> {
     let row = row_of(fun);
     if !row.takes_count(args.len()) {
         return Err(Stop::NoRow);
@@ -26,7 +26,7 @@ pub fn applied(alloc: Global, fun: Fun, args: Vec<Typed>) -> Result<Typed, Stop>
     let count = args.len();
     let mut values = Vec::with_capacity(alloc, count)?;
     for (place, arg) in args.into_iter().enumerate() {
-        values.push(taken(alloc, row.takes(count, place), arg, common)?)?;
+        values.push(take(alloc, row.takes(count, place), arg, common)?)?;
     }
     if !can_apply(fun, &values) {
         return Err(Stop::NoRow);
@@ -45,12 +45,12 @@ fn common_type(args: &[Typed]) -> Option<Scalar> {
     }
     let mut common = Scalar::Blank;
     for arg in args {
-        common = joined(common, arg.ty)?;
+        common = join(common, arg.ty)?;
     }
     Some(common)
 }
 
-fn joined(left: Scalar, right: Scalar) -> Option<Scalar> {
+fn join(left: Scalar, right: Scalar) -> Option<Scalar> {
     if left == Scalar::Blank {
         Some(right)
     } else if right == Scalar::Blank || right == left {
@@ -61,9 +61,9 @@ fn joined(left: Scalar, right: Scalar) -> Option<Scalar> {
 }
 
 // An argument as its place takes it.
-fn taken(alloc: Global, takes: Takes, arg: Typed, common: Option<Scalar>) -> Result<Value, Stop> {
+fn take(alloc: Global, takes: Takes, arg: Typed, common: Option<Scalar>) -> Result<Value, Stop> {
     match (takes, common) {
-        (Takes::Scalar(ty), _) | (Takes::Choice, Some(ty)) => coerced(alloc, arg, ty),
+        (Takes::Scalar(ty), _) | (Takes::Choice, Some(ty)) => coerce_argument(alloc, arg, ty),
         (Takes::Exact(ty), _) if arg.ty == ty || arg.ty == Scalar::Blank => Ok(arg.value),
         (Takes::Any, _) => Ok(arg.value),
         _ => Err(Stop::NoRow),
@@ -71,7 +71,7 @@ fn taken(alloc: Global, takes: Takes, arg: Typed, common: Option<Scalar>) -> Res
 }
 
 // A value as one of another type, if there is such a coercion.
-fn coerced(alloc: Global, arg: Typed, to: Scalar) -> Result<Value, Stop> {
+fn coerce_argument(alloc: Global, arg: Typed, to: Scalar) -> Result<Value, Stop> {
     if !fits(&arg.value, &arg.ty.ty()) || !has_coercion(arg.ty, to) {
         return Err(Stop::NoRow);
     }

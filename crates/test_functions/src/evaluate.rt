@@ -1,6 +1,6 @@
 //! What formulas of literals, operators and functions of values answer.
 
-use crate::arguments::applied;
+use crate::arguments::apply_to;
 use crate::operators::fun_of;
 use crate::records::{error_of, record_of};
 use crate::typed::{Stop, Typed};
@@ -43,7 +43,7 @@ pub fn evaluate(alloc: Global, tree: &Expr, depth: u32) -> Result<Typed, Stop> {
         }
         Node::Joined(parts) | Node::Woven(parts) => {
             let parts = each(alloc, parts.as_slice(), depth - 1)?;
-            applied(alloc, Fun::Concatenation, parts)
+            apply_to(alloc, Fun::Concatenation, parts)
         }
         Node::Call(name, args) => call(alloc, name.as_str(), args.as_slice(), depth - 1),
         _ => Err(Stop::NoRow),
@@ -54,14 +54,14 @@ pub fn evaluate(alloc: Global, tree: &Expr, depth: u32) -> Result<Typed, Stop> {
 fn one(alloc: Global, fun: Fun, part: &Expr, depth: u32) -> Result<Typed, Stop> {
     let mut args = Vec::new(alloc);
     args.push(evaluate(alloc, part, depth)?)?;
-    applied(alloc, fun, args)
+    apply_to(alloc, fun, args)
 }
 
 fn two(alloc: Global, fun: Fun, left: Typed, right: Typed) -> Result<Typed, Stop> {
     let mut args = Vec::new(alloc);
     args.push(left)?;
     args.push(right)?;
-    applied(alloc, fun, args)
+    apply_to(alloc, fun, args)
 }
 
 #[cycle(evaluate)]
@@ -82,7 +82,7 @@ fn call(alloc: Global, name: &str, args: &[Expr], depth: u32) -> Result<Typed, S
     match found.shape {
         SigShape::One(Fun::Error) => error(alloc, args, depth),
         SigShape::One(fun) | SigShape::Either(fun, _) => {
-            applied(alloc, fun, each(alloc, args, depth)?)
+            apply_to(alloc, fun, each(alloc, args, depth)?)
         }
         SigShape::Literal(fun) => by_literal(alloc, fun, args, depth),
         SigShape::Today => Ok(Typed::new(today(alloc, MOMENT)?, Scalar::Date)),
@@ -99,11 +99,11 @@ fn by_literal(alloc: Global, fun: Fun, args: &[Expr], depth: u32) -> Result<Type
                 return Err(Stop::NoRow);
             };
             match with_literal(fun, literal.as_str()) {
-                Some(fun) => applied(alloc, fun, each(alloc, values, depth)?),
+                Some(fun) => apply_to(alloc, fun, each(alloc, values, depth)?),
                 None => Err(Stop::NoRow),
             }
         }
-        _ => applied(alloc, fun, each(alloc, args, depth)?),
+        _ => apply_to(alloc, fun, each(alloc, args, depth)?),
     }
 }
 

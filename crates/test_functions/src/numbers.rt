@@ -51,15 +51,15 @@ pub fn write(page: &mut Page) -> Result<(), Memory> {
 fn add_rounded(page: &mut Page, number: Num, digits: i64) -> Result<(), Memory> {
     let alloc = page.alloc;
     let shown = text(alloc, number)?;
-    let near = rounded(alloc, number, digits, Way::Near)?;
-    let up = rounded(alloc, number, digits, Way::Up)?;
-    let down = rounded(alloc, number, digits, Way::Down)?;
-    let floor = rounded(alloc, number, digits, Way::Floor)?;
+    let near = rounding(alloc, number, digits, Way::Near)?;
+    let up = rounding(alloc, number, digits, Way::Up)?;
+    let down = rounding(alloc, number, digits, Way::Down)?;
+    let floor = rounding(alloc, number, digits, Way::Floor)?;
     let line = format!(in alloc; "{shown} to {digits}: {near}, {up}, {down}, {floor}")?;
     page.add(line.as_str())
 }
 
-fn rounded(alloc: Global, number: Num, digits: i64, way: Way) -> Result<String, Memory> {
+fn rounding(alloc: Global, number: Num, digits: i64, way: Way) -> Result<String, Memory> {
     match round(number, digits, way) {
         Ok(number) => text(alloc, number),
         Err(_) => Ok(String::from_str(alloc, "out of range")?),

@@ -3,7 +3,7 @@
 use crate::page::Page;
 use fx_base::Memory;
 use fx_trees::functions::Fun;
-use fx_trees::make_core::{called, read};
+use fx_trees::make_core::{call, read};
 use fx_trees::sources::Source;
 use fx_trees::trees::{Core, CoreArgs};
 use std::alloc::Global;
@@ -20,7 +20,7 @@ fn tree(alloc: Global) -> Result<Core, Memory> {
     parts.push(read(Source::Today))?;
     parts.push(read(Source::Table(1)))?;
     parts.push(read(Source::Today))?;
-    called(Fun::Concatenate, parts).copy(alloc)
+    call(Fun::Concatenate, parts).copy(alloc)
 }
 
 fn add_sources(page: &mut Page, tree: &Core) -> Result<(), Memory> {

@@ -2,7 +2,7 @@
 
 use crate::page::Page;
 use fx_base::Memory;
-use fx_grammar::{Marks, undoubled};
+use fx_grammar::{Marks, undouble};
 use fx_lexer::{LexEnd, Token, tokens};
 
 pub fn write(page: &mut Page) -> Result<(), Memory> {
@@ -57,7 +57,7 @@ fn add_found(page: &mut Page, source: &str, found: &[Token]) -> Result<(), Memor
 }
 
 fn add_undoubled(page: &mut Page, marks: Marks, doubled: &[char]) -> Result<(), Memory> {
-    let Some(found) = undoubled(page.alloc, marks, doubled)? else {
+    let Some(found) = undouble(page.alloc, marks, doubled)? else {
         return page.add("a mark stands alone");
     };
     let mut line = String::new(page.alloc);

@@ -26,8 +26,8 @@ pub fn value_json(alloc: Global, value: &Value) -> Result<Json, Memory>
         Value::Number(number) => number_json(alloc, *number),
         Value::Text(text) => Ok(Json::try_from_str(alloc, text.as_str())?),
         Value::Boolean(truth) => Ok(Json::Bool(*truth)),
-        Value::Date(day) => tagged(alloc, "d", Json::String(date_text(alloc, *day)?)),
-        Value::Rec(fields) => tagged(alloc, "r", Json::Object(fields_json(alloc, fields)?)),
+        Value::Date(day) => tag(alloc, "d", Json::String(date_text(alloc, *day)?)),
+        Value::Rec(fields) => tag(alloc, "r", Json::Object(fields_json(alloc, fields)?)),
         Value::Tab(rows) => Ok(Json::Array(rows_json(alloc, rows)?)),
         Value::Fault(fault) => error_json(alloc, fault),
     }
@@ -60,7 +60,7 @@ fn rows_json(alloc: Global, rows: &Rows) -> Result<Vec<Json>, Memory>
 }
 
 // An object of one member.
-pub(crate) fn tagged(alloc: Global, key: &str, value: Json) -> Result<Json, Memory>
+pub(crate) fn tag(alloc: Global, key: &str, value: Json) -> Result<Json, Memory>
     ensures { IfOk result (λ v. json_view v ≡ tagged key.now (json_view value)) }
 {
     Ok(json!(in alloc; {key: value})?)
@@ -74,7 +74,7 @@ fn number_json(alloc: Global, number: Num) -> Result<Json, Memory>
     if units % ONE == 0 {
         Ok(Json::from(units / ONE))
     } else {
-        tagged(alloc, "n", Json::String(fx_number::text(alloc, number)?))
+        tag(alloc, "n", Json::String(fx_number::text(alloc, number)?))
     }
 }
 

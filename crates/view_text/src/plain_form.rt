@@ -72,7 +72,8 @@ fn write_table(alloc: Global, out: &mut String, rows: &Rows) -> Result<(), Memor
     Ok(out.push(']')?)
 }
 
-// What stands before a part, where another part stands before it.
+// What stands before a part, where another part stands before it. A function, since an `if` that writes would part the
+// proof of each loop in two.
 fn write_comma(out: &mut String, later: bool) -> Result<(), Memory>
     ensures { OnOk result (string_bytes out.new ≡ string_bytes out.old ++ comma_if later) }
 {

@@ -5,7 +5,7 @@ ghost use Rattle.serde_json.specs.View.{view as json_view};
 ghost use Rattle.view_text.specs.RefusalText.{Fits, detail_data, line_data, move_data, refusal_data, refusal_text, row_data};
 
 use crate::Cause;
-use crate::json::tagged;
+use crate::json::tag;
 use fx_base::{InOrder, Memory};
 use fx_data::Words;
 use serde_json::{Value as Json, json};
@@ -47,6 +47,7 @@ pub fn refusal_json(alloc: Global, refusal: &Refusal) -> Result<String, Memory>
     Ok(whole.to_string(alloc)?)
 }
 
+// Apart from its text: where `json!` and `to_string` stand in one body, what the macro made is lost to the proof.
 fn refusal_object(alloc: Global, refusal: &Refusal) -> Result<Json, Memory>
     requires { IsInRange 1 28 refusal.now.code }
     ensures { IfOk result (λ v. json_view v ≡ refusal_data refusal.now) }

@@ -3,7 +3,7 @@ ghost use Rattle.std.specs.Prelude.{◌≡◌, IfOk, map, string_bytes};
 ghost use Rattle.serde_json.specs.View.{view as json_view};
 ghost use Rattle.view_text.specs.ReplyText.{all_named_data, named_data, named_text, ok_text};
 
-use crate::json::{tagged, value_json};
+use crate::json::{tag, value_json};
 use fx_base::Memory;
 use fx_data::{Value, Words};
 use serde_json::{Value as Json, json};
@@ -27,15 +27,15 @@ pub fn ok_json() -> &'static str
 pub fn named_json(alloc: Global, rows: &[Named]) -> Result<String, Memory>
     ensures { IfOk result (λ s. string_bytes s ≡ named_text rows.now) }
 {
-    let whole = all_named(alloc, rows)?;
+    let whole = name_all(alloc, rows)?;
     Ok(whole.to_string(alloc)?)
 }
 
-fn all_named(alloc: Global, rows: &[Named]) -> Result<Json, Memory>
+fn name_all(alloc: Global, rows: &[Named]) -> Result<Json, Memory>
     ensures { IfOk result (λ v. json_view v ≡ all_named_data rows.now) }
 {
     let objects = named_objects(alloc, rows)?;
-    tagged(alloc, "named", Json::from(objects))
+    tag(alloc, "named", Json::from(objects))
 }
 
 fn named_objects(alloc: Global, rows: &[Named]) -> Result<Vec<Json>, Memory>

@@ -16,8 +16,8 @@ turns slice readers reads e h = let P : List (Vec ℕ Global) → Type 0 = λ ls
 all_seen : (i count : ℕ) (states : List State) → count ≤ i → SeenBelow i states → SeenBelow count states
 all_seen i count states le seen n lt = seen n (omega arith)
 
-pub turned-requires-clause-below : goal.turned-requires-clause-below
-turned-requires-clause-below c =
+pub transpose-requires-clause-below : goal.transpose-requires-clause-below
+transpose-requires-clause-below c =
     let P : List (Vec ℕ Global) → Type 0 = λ ls. HoldBelow c.args.count (lists_of ls) in
     subst P (sym c.as_slice.ensures.value) (readers_below c.args.count c.args.edges.now _ c.requires c.in_ok-readers.ensures.readers)
 

@@ -14,5 +14,5 @@ use Rattle.fx_calls.proofs.filtering.filter_of.Goals as goal
 pub returns : goal.returns
 returns c =
     let qs = map part c.args.conditions.items in
-    as_same typed (filter_of (changing_view c.args.rows.now) c.args.alias qs) (made fun.Filter (map piece c.in_ok-pieces.pieces.items)) c.made.result
-    (ap (made fun.Filter) (sym (c.in_ok-pieces.ensures ∙ ap (λ (x : Term × Shape). value c.args.alias x.0 x.1 ∷ pieces qs) c.in_ok-table.ensures))) c.made.ensures
+    as_same typed (filter_of (changing_view c.args.rows.now) c.args.alias qs) (made fun.Filter (map piece c.in_ok-pieces.pieces.items)) c.make.result
+    (ap (made fun.Filter) (sym (c.in_ok-pieces.ensures ∙ ap (λ (x : Term × Shape). value c.args.alias x.0 x.1 ∷ pieces qs) c.in_ok-table.ensures))) c.make.ensures

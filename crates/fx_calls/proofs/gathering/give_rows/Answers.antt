@@ -8,4 +8,4 @@ use Rattle.fx_calls.proofs.gathering.give_rows.Goals as goal
 pub returns : goal.returns
 returns c =
     let t = shape c.args.ty.now in
-    as_same typed (given t (rows_of (typed c.args.value))) (given t (typed c.in_ok-rows.rows)) c.given.result (ap (given t) (sym c.in_ok-rows.ensures)) c.given.ensures
+    as_same typed (given t (rows_of (typed c.args.value))) (given t (typed c.in_ok-rows.rows)) c.give.result (ap (given t) (sym c.in_ok-rows.ensures)) c.give.ensures

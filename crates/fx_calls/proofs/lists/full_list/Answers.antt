@@ -30,6 +30,6 @@ returns c =
     let r = list_as (option_map shape c.in_ok-row.row) (map typed xs) in
     let e : option_map shape c.in_ok-row.row ≡ join_all (Some blanks) (map typed xs) =
     c.in_ok-row.ensures ∙ ap (λ (ys : List Typed). join_all (Some blanks) (map typed ys)) c.as_slice.ensures.value in
-    as_same typed (list_of (map typed xs)) (bounded r) c.bounded.result
+    as_same typed (list_of (map typed xs)) (bounded r) c.check_limits.result
     (full xs c.requires ∙ ap (λ o. bounded (list_as o (map typed xs))) (sym e))
-    (goes_on typed r (typed c.in_ok-table.table) bounded_by c.bounded.result c.in_ok-table.ensures c.bounded.ensures)
+    (goes_on typed r (typed c.in_ok-table.table) bounded_by c.check_limits.result c.in_ok-table.ensures c.check_limits.ensures)

@@ -28,4 +28,4 @@ returns c =
     let whole : Term → Result (Term × Shape) ℕ = λ x. Ok (x, records r.1) in
     patch_is r base changes
     ∙ ap (λ (q : Result (List Term) ℕ). and_then q (patching r)) c.in_ok-cores.ensures
-    ∙ ap whole (sym c.acting.ensures)
+    ∙ ap whole (sym c.act.ensures)

@@ -15,7 +15,7 @@ from_rising-requires c =
 pub returns : goal.returns
 returns c =
     let done = c.in-None.ensures.steps in
-    record_is c.loop-name.columns.items c.loop-name.parts c.from_rising.result c.recorded.result c.args.fields.items
+    record_is c.loop-name.columns.items c.loop-name.parts c.from_rising.result c.record_of.result c.args.fields.items
     (all_columns c.loop-name.columns.items c.loop-name.name-iterator.rest.items c.args.fields.items (omega arith) c.loop-name.invariant.columns)
     (all_cores c.loop-name.parts c.loop-name.name-iterator.rest.items c.args.fields.items (omega arith) c.loop-name.invariant.parts)
-    c.from_rising.ensures c.recorded.ensures
+    c.from_rising.ensures c.record_of.ensures

@@ -141,8 +141,8 @@ node-part_values-requires-in-List g t c κs within =
       (within.0, (within.1, there (AreFine _ _) _ _ _ _ _ _ (list_fine _ _ _ _) e c.as_slice-in-List.ensures c.requires)),
     )
 
-pub node-listed-requires : goal.node-listed-requires
-node-listed-requires g t c =
+pub node-list-requires : goal.node-list-requires
+node-list-requires g t c =
     list_is c.values_fit.ensures _ None _ _ _ _ _ _ (sym (ap branch c.in-List.is) ∙ c.core.view_is) c.as_slice-in-List.ensures c.requires (c.in_ok-values-in-List.ensures.value None tt)
 
 -- ---- With
@@ -233,8 +233,8 @@ go_through-returns-in-Branch-clause-value g t c =
     (branch_then _ _ _ _ _ c.split.ensures (meant_before told (meaning c.split.result.0.now) (λ s. s) _ _ (went_on _ _ _ c.loop-part.invariant.went c.tree-in-Some.ensures.went) _ (k told h))))
     c.tree-in-Branch.ensures.value
 
-pub go_through-catching-requires : goal.go_through-catching-requires
-go_through-catching-requires g t c κs within =
+pub go_through-catch_error-requires : goal.go_through-catch_error-requires
+go_through-catch_error-requires g t c κs within =
     let k = c.in-Fallback.fault.kind in
     let cs = c.in-Fallback.fault.message in
     let ready = next_step _ _ _ _ c.in-Some.part.now c.in-Some.others.now _ (catches k cs) c.loop-part.invariant.went c.loop-part.invariant.parts c.in-Some.ensures.cases.0
@@ -254,13 +254,13 @@ pub go_through-returns-in-Fallback-clause-value : goal.go_through-returns-in-Fal
 go_through-returns-in-Fallback-clause-value g t c =
     let k = c.in-Fallback.fault.kind in
     let cs = c.in-Fallback.fault.message in
-    IfOk-weaker c.catching.result _ _
+    IfOk-weaker c.catch_error.result _ _
     (λ v q told h. then_step told _ _ (going c.args.course) _ c.args.parts.now _ c.in-Some.part.now c.in-Some.others.now _ (catches k cs) c.loop-part.invariant.went
-    (c.loop-part.invariant.value told (heard_before _ _ c.tree-in-Some.ensures.went told (heard_before _ _ c.catching.ensures.went told h))) c.in-Some.ensures.cases.0
-    (c.ends_here.ensures.next c.if-ends_here.false) (c.in_ok-value.ensures.value told (heard_before _ _ c.catching.ensures.went told h)) c.in-Fallback.ensures (view v)
+    (c.loop-part.invariant.value told (heard_before _ _ c.tree-in-Some.ensures.went told (heard_before _ _ c.catch_error.ensures.went told h))) c.in-Some.ensures.cases.0
+    (c.ends_here.ensures.next c.if-ends_here.false) (c.in_ok-value.ensures.value told (heard_before _ _ c.catch_error.ensures.went told h)) c.in-Fallback.ensures (view v)
     (fallback_then _ _ _ _ _ _ _ c.split-in-Fallback.ensures
     (meant_before told (meaning c.split-in-Fallback.result.0.now) (λ s. caught_in s k cs) _ _ (went_on _ _ _ c.loop-part.invariant.went c.tree-in-Some.ensures.went) _ (q told h))))
-    c.catching.ensures.value
+    c.catch_error.ensures.value
 
 pub go_through-loop-part-preserved-in-Further : goal.go_through-loop-part-preserved-in-Further
 go_through-loop-part-preserved-in-Further g t c = record {

@@ -25,8 +25,8 @@ decreases-within g l = 8 * (term_size l.part.now + term_size l.formula.now) + 5
 abbrev pub decreases-in_scope : goal.decreases-in_scope
 decreases-in_scope g l = 8 * term_size l.formula.now + 2
 
-abbrev pub decreases-catching : goal.decreases-catching
-decreases-catching g l = 8 * term_size l.formula.now + 2
+abbrev pub decreases-catch_error : goal.decreases-catch_error
+decreases-catch_error g l = 8 * term_size l.formula.now + 2
 
 abbrev pub decreases-field_values : goal.decreases-field_values
 decreases-field_values g l = 8 * terms_size (all (terms_of l.fields.now)) + 2

@@ -6,8 +6,8 @@ use Rattle.fx_grammar.specs.declared.marks.Marks.TheVariants.{Quote}
 use Rattle.fx_grammar.proofs.Spoken.{as_text}
 use Rattle.fx_grammar.proofs.itemize.text_words.Goals as goal
 
-pub quoted-requires-clause-quotes : goal.quoted-requires-clause-quotes
-quoted-requires-clause-quotes c = subst (λ (x : List ℕ). IsQuoted Quote x) (sym (c.as_slice.ensures.value ∙ c.in_ok-chars.ensures)) (as_text (chars c.args.text.now) c.requires)
+pub unquote-requires-clause-quotes : goal.unquote-requires-clause-quotes
+unquote-requires-clause-quotes c = subst (λ (x : List ℕ). IsQuoted Quote x) (sym (c.as_slice.ensures.value ∙ c.in_ok-chars.ensures)) (as_text (chars c.args.text.now) c.requires)
 
-pub quoted-requires-clause-scalars : goal.quoted-requires-clause-scalars
-quoted-requires-clause-scalars c = subst (λ (x : List ℕ). all_scalars x ≡ true) (sym (c.as_slice.ensures.value ∙ c.in_ok-chars.ensures)) (scalars-chars c.args.text.now c.utf8.text)
+pub unquote-requires-clause-scalars : goal.unquote-requires-clause-scalars
+unquote-requires-clause-scalars c = subst (λ (x : List ℕ). all_scalars x ≡ true) (sym (c.as_slice.ensures.value ∙ c.in_ok-chars.ensures)) (scalars-chars c.args.text.now c.utf8.text)

@@ -90,7 +90,7 @@ returns-in-Neg c =
     let s = setting c.args.scopes.now c.args.stand in
     let qs = map part c.args.all.items in
     let e = headed c.args.whole.now c.whole.inside.at c.whole.inside.node _ c.whole.view_is c.in-Neg.is in
-    subst (λ h. Answers part (admit p s h qs) c.as_part-in-Neg.result) (sym e) (c.as_part-in-Neg.ensures (made fun.Negate (pieces qs)) c.made_of.ensures)
+    subst (λ h. Answers part (admit p s h qs) c.as_part-in-Neg.result) (sym e) (c.as_part-in-Neg.ensures (made fun.Negate (pieces qs)) c.make_of.ensures)
 
 pub returns-in-Not : goal.returns-in-Not
 returns-in-Not c =
@@ -98,7 +98,7 @@ returns-in-Not c =
     let s = setting c.args.scopes.now c.args.stand in
     let qs = map part c.args.all.items in
     let e = headed c.args.whole.now c.whole.inside.at c.whole.inside.node _ c.whole.view_is c.in-Not.is in
-    subst (λ h. Answers part (admit p s h qs) c.as_part-in-Not.result) (sym e) (c.as_part-in-Not.ensures (made fun.Not (pieces qs)) c.made_of-in-Not.ensures)
+    subst (λ h. Answers part (admit p s h qs) c.as_part-in-Not.result) (sym e) (c.as_part-in-Not.ensures (made fun.Not (pieces qs)) c.make_of-in-Not.ensures)
 
 pub returns-in-Percent : goal.returns-in-Percent
 returns-in-Percent c =
@@ -106,7 +106,7 @@ returns-in-Percent c =
     let s = setting c.args.scopes.now c.args.stand in
     let qs = map part c.args.all.items in
     let e = headed c.args.whole.now c.whole.inside.at c.whole.inside.node _ c.whole.view_is c.in-Percent.is in
-    subst (λ h. Answers part (admit p s h qs) c.as_part-in-Percent.result) (sym e) (c.as_part-in-Percent.ensures (made fun.Percent (pieces qs)) c.made_of-in-Percent.ensures)
+    subst (λ h. Answers part (admit p s h qs) c.as_part-in-Percent.result) (sym e) (c.as_part-in-Percent.ensures (made fun.Percent (pieces qs)) c.make_of-in-Percent.ensures)
 
 pub returns-in-Pair : goal.returns-in-Pair
 returns-in-Pair c =
@@ -114,7 +114,7 @@ returns-in-Pair c =
     let s = setting c.args.scopes.now c.args.stand in
     let qs = map part c.args.all.items in
     let e = headed c.args.whole.now c.whole.inside.at c.whole.inside.node _ c.whole.view_is c.in-Pair.is in
-    subst (λ h. Answers part (admit p s h qs) c.as_part-in-Pair.result) (sym e) (c.as_part-in-Pair.ensures (and_then (values qs) (λ xs. paired_by c.in-Pair.op xs (pieces qs))) c.paired.ensures)
+    subst (λ h. Answers part (admit p s h qs) c.as_part-in-Pair.result) (sym e) (c.as_part-in-Pair.ensures (and_then (values qs) (λ xs. paired_by c.in-Pair.op xs (pieces qs))) c.pair.ensures)
 
 pub returns-in-Joined : goal.returns-in-Joined
 returns-in-Joined c =
@@ -122,7 +122,7 @@ returns-in-Joined c =
     let s = setting c.args.scopes.now c.args.stand in
     let qs = map part c.args.all.items in
     let e = headed c.args.whole.now c.whole.inside.at c.whole.inside.node _ c.whole.view_is c.in-Joined.is in
-    subst (λ h. Answers part (admit p s h qs) c.as_part-in-Joined.result) (sym e) (c.as_part-in-Joined.ensures (made fun.Concatenation (pieces qs)) c.made_of-in-Joined.ensures)
+    subst (λ h. Answers part (admit p s h qs) c.as_part-in-Joined.result) (sym e) (c.as_part-in-Joined.ensures (made fun.Concatenation (pieces qs)) c.make_of-in-Joined.ensures)
 
 pub returns-in-And : goal.returns-in-And
 returns-in-And c =
@@ -130,7 +130,7 @@ returns-in-And c =
     let s = setting c.args.scopes.now c.args.stand in
     let qs = map part c.args.all.items in
     let e = headed c.args.whole.now c.whole.inside.at c.whole.inside.node _ c.whole.view_is c.in-And.is in
-    subst (λ h. Answers part (admit p s h qs) c.as_part-in-And.result) (sym e) (c.as_part-in-And.ensures (formed form.All (pieces qs)) c.formed_of.ensures)
+    subst (λ h. Answers part (admit p s h qs) c.as_part-in-And.result) (sym e) (c.as_part-in-And.ensures (formed form.All (pieces qs)) c.make_form_of.ensures)
 
 pub returns-in-Or : goal.returns-in-Or
 returns-in-Or c =
@@ -138,7 +138,7 @@ returns-in-Or c =
     let s = setting c.args.scopes.now c.args.stand in
     let qs = map part c.args.all.items in
     let e = headed c.args.whole.now c.whole.inside.at c.whole.inside.node _ c.whole.view_is c.in-Or.is in
-    subst (λ h. Answers part (admit p s h qs) c.as_part-in-Or.result) (sym e) (c.as_part-in-Or.ensures (formed form.Any (pieces qs)) c.formed_of-in-Or.ensures)
+    subst (λ h. Answers part (admit p s h qs) c.as_part-in-Or.result) (sym e) (c.as_part-in-Or.ensures (formed form.Any (pieces qs)) c.make_form_of-in-Or.ensures)
 
 pub returns-in-Chain : goal.returns-in-Chain
 returns-in-Chain c =
@@ -147,7 +147,7 @@ returns-in-Chain c =
     let qs = map part c.args.all.items in
     let e = headed c.args.whole.now c.whole.inside.at c.whole.inside.node _ c.whole.view_is c.in-Chain.is in
     let chained = and_then (values qs) chain_by in
-    let r = subst (λ b. Answers typed (unless (not b) 9 chained) c.unless.result) c.may_act-pure.ensures (c.unless.ensures chained c.chained.ensures) in
+    let r = subst (λ b. Answers typed (unless (not b) 9 chained) c.unless.result) c.may_act-pure.ensures (c.unless.ensures chained c.chain.ensures) in
     subst (λ h. Answers part (admit p s h qs) c.as_part-in-Chain.result) (sym e) (c.as_part-in-Chain.ensures (unless (not (may_act s.grant)) 9 chained) r)
 
 pub returns-in-Alias : goal.returns-in-Alias
@@ -173,7 +173,7 @@ returns-in-List c =
     let s = setting c.args.scopes.now c.args.stand in
     let qs = map part c.args.all.items in
     let e = headed c.args.whole.now c.whole.inside.at c.whole.inside.node _ c.whole.view_is c.in-List.is in
-    subst (λ h. Answers part (admit p s h qs) c.as_part-in-List.result) (sym e) (c.as_part-in-List.ensures (and_then (values qs) list_of) c.listed.ensures)
+    subst (λ h. Answers part (admit p s h qs) c.as_part-in-List.result) (sym e) (c.as_part-in-List.ensures (and_then (values qs) list_of) c.list.ensures)
 
 pub returns-in-Woven : goal.returns-in-Woven
 returns-in-Woven c =
@@ -181,4 +181,4 @@ returns-in-Woven c =
     let s = setting c.args.scopes.now c.args.stand in
     let qs = map part c.args.all.items in
     let e = headed c.args.whole.now c.whole.inside.at c.whole.inside.node _ c.whole.view_is c.in-Woven.is in
-    subst (λ h. Answers part (admit p s h qs) c.as_part-in-Woven.result) (sym e) (c.as_part-in-Woven.ensures (woven_by qs) c.woven_by.ensures)
+    subst (λ h. Answers part (admit p s h qs) c.as_part-in-Woven.result) (sym e) (c.as_part-in-Woven.ensures (woven_by qs) c.weave.ensures)

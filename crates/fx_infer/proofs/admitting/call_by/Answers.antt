@@ -17,4 +17,4 @@ returns c =
     let s = setting c.args.scopes.now c.args.stand in
     let r = called p s c.args.name.now (map part c.args.all.items) in
     let e = c.is_too_deep-too_deep.ensures ∙ ap (λ (ys : List Part). is_too_deep p s (head_of c.args.whole.now) (map part ys)) c.deref.ensures.value in
-    subst (λ b. Answers typed (unless b 13 r) c.unless.result) e (c.unless.ensures r (c.called.ensures c.args.scopes.now))
+    subst (λ b. Answers typed (unless b 13 r) c.unless.result) e (c.unless.ensures r (c.call.ensures c.args.scopes.now))

@@ -16,7 +16,7 @@ returns c =
     let whole : Term = of chain (term.all (firsts (map typed xs))) in
     let last : Some c.in-Some.last.now ≡ slice_get xs (length xs - 1) =
     c.in-Some.ensures.value ∙ ap (λ (ys : List Typed). slice_get ys (length ys - 1)) c.deref.ensures.value in
-    let core : c.chained.result ≡ whole = c.chained.ensures ∙ ap (λ ts. of chain (term.all ts)) c.in_ok-cores_of.ensures in
+    let core : c.chain.result ≡ whole = c.chain.ensures ∙ ap (λ ts. of chain (term.all ts)) c.in_ok-cores_of.ensures in
     ap (chain_as (map typed xs)) (last_shape xs c.in-Some.last.now last)
     ∙ ap (λ (t : Ty). Ok (whole, shape t)) (sym c.in_ok-ty.ensures)
     ∙ ap (λ (k : Term). Ok (k, shape c.in_ok-ty.ty)) (sym core)

@@ -10,11 +10,11 @@ use Rattle.fx_scopes.specs.PartView.{part}
 use Rattle.fx_scopes.specs.SettingView.{setting}
 use Rattle.fx_infer.proofs.details.own_limit.Goals as goal
 
-pub returns-in-Err-Breaks : goal.returns-in-Err-Breaks
-returns-in-Err-Breaks c =
+pub returns-in-Err-Refused : goal.returns-in-Err-Refused
+returns-in-Err-Refused c =
     let p = place c.args.at.now in
     let s = setting c.args.scopes.now c.args.stand in
     let qs = map part c.args.all.items in
-    let broken : called_by p s c.args.shape qs ≡ Err (number_of c.in-Err-Breaks.field-0-0) =
-    subst (λ w. Answers typed (called_by p s c.args.shape qs) (Err w)) c.in-Err-Breaks.field-0-is (c.in-Err-Breaks.ensures c.args.scopes.now) in
+    let broken : called_by p s c.args.shape qs ≡ Err (number_of c.in-Err-Refused.field-0-0) =
+    subst (λ w. Answers typed (called_by p s c.args.shape qs) (Err w)) c.in-Err-Refused.field-0-is (c.in-Err-Refused.ensures c.args.scopes.now) in
     IfOk-weaker c.nothing.result _ _ (λ w e. e ∙ sym (ap limit_of broken)) c.nothing.ensures

@@ -10,38 +10,38 @@ use Rattle.fx_infer.proofs.elaboration.elaborate.Goals as goal
 pub returns-clause-admitted : goal.returns-clause-admitted
 returns-clause-admitted c =
     let w = c.args.cell.now in
-    ends_admitted (place_of c.args.names.now w) (may_act w.place) (option_map shape w.wanted) w.expr w.cell c.judged.result c.judged.ensures
+    ends_admitted (place_of c.args.names.now w) (may_act w.place) (option_map shape w.wanted) w.expr w.cell c.judge_cell.result c.judge_cell.ensures
 
 pub returns-clause-well_typed : goal.returns-clause-well_typed
 returns-clause-well_typed c =
     let w = c.args.cell.now in
-    ends_typed (place_of c.args.names.now w) (may_act w.place) (option_map shape w.wanted) w.expr w.cell c.judged.result
+    ends_typed (place_of c.args.names.now w) (may_act w.place) (option_map shape w.wanted) w.expr w.cell c.judge_cell.result
     (λ x h. c.admitted_is_typed.ensures.typed (place_of c.args.names.now w) (may_act w.place) (option_map shape w.wanted) w.expr x c.requires.lawful h)
-    c.judged.ensures
+    c.judge_cell.ensures
 
 pub returns-clause-broken : goal.returns-clause-broken
 returns-clause-broken c =
     let w = c.args.cell.now in
     let p = place_of c.args.names.now w in
     λ b k. whole_broken p (may_act w.place) (option_map shape w.wanted) w.expr b.at (number_of b.rule) b.detail
-    (ends_told p (may_act w.place) (option_map shape w.wanted) w.expr w.cell c.judged.result b c.judged.ensures k).0
+    (ends_told p (may_act w.place) (option_map shape w.wanted) w.expr w.cell c.judge_cell.result b c.judge_cell.ensures k).0
 
 pub returns-clause-told : goal.returns-clause-told
 returns-clause-told c =
     let w = c.args.cell.now in
-    λ b k. (ends_told (place_of c.args.names.now w) (may_act w.place) (option_map shape w.wanted) w.expr w.cell c.judged.result b c.judged.ensures k).0
+    λ b k. (ends_told (place_of c.args.names.now w) (may_act w.place) (option_map shape w.wanted) w.expr w.cell c.judge_cell.result b c.judge_cell.ensures k).0
 
 pub returns-clause-cell : goal.returns-clause-cell
 returns-clause-cell c =
     let w = c.args.cell.now in
-    λ b k. (ends_told (place_of c.args.names.now w) (may_act w.place) (option_map shape w.wanted) w.expr w.cell c.judged.result b c.judged.ensures k).1
+    λ b k. (ends_told (place_of c.args.names.now w) (may_act w.place) (option_map shape w.wanted) w.expr w.cell c.judge_cell.result b c.judge_cell.ensures k).1
 
 pub returns-clause-related : goal.returns-clause-related
 returns-clause-related c =
     let w = c.args.cell.now in
     let p = place_of c.args.names.now w in
-    IfOk-weaker c.judged.result _ _ (λ t h. c.admitted_elaborates.ensures.whole p (may_act w.place) (option_map shape w.wanted) w.expr (typed t) refl h)
-    (ends_admitted p (may_act w.place) (option_map shape w.wanted) w.expr w.cell c.judged.result c.judged.ensures)
+    IfOk-weaker c.judge_cell.result _ _ (λ t h. c.admitted_elaborates.ensures.whole p (may_act w.place) (option_map shape w.wanted) w.expr (typed t) refl h)
+    (ends_admitted p (may_act w.place) (option_map shape w.wanted) w.expr w.cell c.judge_cell.result c.judge_cell.ensures)
 
 pub returns-clause-unrelated : goal.returns-clause-unrelated
 returns-clause-unrelated c =
@@ -49,4 +49,4 @@ returns-clause-unrelated c =
     let p = place_of c.args.names.now w in
     λ b k. c.broken_elaborates_nothing.ensures.whole p (may_act w.place) (option_map shape w.wanted) w.expr b.at (number_of b.rule) refl
     (whole_broken p (may_act w.place) (option_map shape w.wanted) w.expr b.at (number_of b.rule) b.detail
-    (ends_told p (may_act w.place) (option_map shape w.wanted) w.expr w.cell c.judged.result b c.judged.ensures k).0)
+    (ends_told p (may_act w.place) (option_map shape w.wanted) w.expr w.cell c.judge_cell.result b c.judge_cell.ensures k).0)

@@ -7,11 +7,11 @@ use Rattle.fx_infer.proofs.elaboration.elaborate_alone.Goals as goal
 pub returns-clause-admitted : goal.returns-clause-admitted
 returns-clause-admitted c =
     let w = c.args.cell.now in
-    ends_admitted (place_of c.args.names.now w) (may_act w.place) None w.expr w.cell c.judged.result c.judged.ensures
+    ends_admitted (place_of c.args.names.now w) (may_act w.place) None w.expr w.cell c.judge_cell.result c.judge_cell.ensures
 
 pub returns-clause-broken : goal.returns-clause-broken
 returns-clause-broken c =
     let w = c.args.cell.now in
     let p = place_of c.args.names.now w in
     λ b k. whole_broken p (may_act w.place) None w.expr b.at (number_of b.rule) b.detail
-    (ends_told p (may_act w.place) None w.expr w.cell c.judged.result b c.judged.ensures k).0
+    (ends_told p (may_act w.place) None w.expr w.cell c.judge_cell.result b c.judge_cell.ensures k).0

@@ -12,20 +12,20 @@ returns-clause-same c = record {
   schema = refl;
   screens = refl;
   properties = refl;
-  controls = c.in_ok-all_retyped.ensures.same;
-  formulas = subst (AllSame SameFormula c.args.names.formulas) (sym c.in_ok-retyped.ensures) (formulas_same c.args.names.formulas c.args.types.formulas.items c.requires.formulas);
-  variables = c.in_ok-all_retyped-2.ensures.same;
-  collections = c.in_ok-all_retyped-3.ensures.same;
+  controls = c.in_ok-retype_all.ensures.same;
+  formulas = subst (AllSame SameFormula c.args.names.formulas) (sym c.in_ok-retype.ensures) (formulas_same c.args.names.formulas c.args.types.formulas.items c.requires.formulas);
+  variables = c.in_ok-retype_all-2.ensures.same;
+  collections = c.in_ok-retype_all-3.ensures.same;
 }
 
 pub returns-clause-types : goal.returns-clause-types
 returns-clause-types c =
-    let typed : map (λ (f : FormulaName). shape f.ty) c.in_ok-retyped.field-0 ≡ map shape c.args.types.formulas.items =
-    ap (map (λ (f : FormulaName). shape f.ty)) c.in_ok-retyped.ensures
+    let typed : map (λ (f : FormulaName). shape f.ty) c.in_ok-retype.field-0 ≡ map shape c.args.types.formulas.items =
+    ap (map (λ (f : FormulaName). shape f.ty)) c.in_ok-retype.ensures
     ∙ formulas_typed c.args.names.formulas c.args.types.formulas.items c.requires.formulas in
     λ i. record {
-      variables = c.in_ok-all_retyped-2.ensures.types i;
-      collections = c.in_ok-all_retyped-3.ensures.types i;
+      variables = c.in_ok-retype_all-2.ensures.types i;
+      collections = c.in_ok-retype_all-3.ensures.types i;
       formulas = typed i;
-      items = c.in_ok-all_retyped.ensures.types i;
+      items = c.in_ok-retype_all.ensures.types i;
     }

@@ -53,8 +53,8 @@ prefix-returns-in-None-clause-gives t c = gives_as seen _ _ _ (prefix_unsigned _
 pub prefix-returns-in_err-part-in-Some-clause-gives : goal.prefix-returns-in_err-part-in-Some-clause-gives
 prefix-returns-in_err-part-in-Some-clause-gives t c = let p = err_from_is_err_and c.from_residual.result c.from_residual.ensures.1 in rw (p.1, p.2) (passed seen seen _ _ _ c.in_err-part-in-Some.ensures.gives (prefix_none _ _ _ _ c.requires c.in-Some.ensures.value))
 
-pub prefix-returns-in_ok-signed-in-Some-clause-gives : goal.prefix-returns-in_ok-signed-in-Some-clause-gives
-prefix-returns-in_ok-signed-in-Some-clause-gives t c = prefix_read _ _ _ _ _ _ _ _ _ c.requires c.in-Some.ensures.value c.in_ok-part-in-Some.ensures.gives c.place.ensures c.in_ok-signed-in-Some.ensures
+pub prefix-returns-in_ok-sign_before-in-Some-clause-gives : goal.prefix-returns-in_ok-sign_before-in-Some-clause-gives
+prefix-returns-in_ok-sign_before-in-Some-clause-gives t c = prefix_read _ _ _ _ _ _ _ _ _ c.requires c.in-Some.ensures.value c.in_ok-part-in-Some.ensures.gives c.place.ensures c.in_ok-sign_before-in-Some.ensures
 
 pub power-returns-in_err-tree-clause-gives : goal.power-returns-in_err-tree-clause-gives
 power-returns-in_err-tree-clause-gives t c = let p = err_from_is_err_and c.from_residual.result c.from_residual.ensures.1 in rw (p.1, p.2) (passed seen seen _ _ _ c.in_err-tree.ensures.gives (power_none _ _ c.requires))
@@ -218,7 +218,7 @@ weave-returns-in_err-rest-clause-gives t c =
 pub weave-returns-then-deepest-limit-clause-gives : goal.weave-returns-then-deepest-limit-clause-gives
 weave-returns-then-deepest-limit-clause-gives t c =
     weave_read c.args.limit (line_at (c.args.limit - 1)) c.args.x.now c.args.tokens.now _ _ _ _ _
-    (strands_end _ _ _ _ _ c.loop-found.invariant.comes (strand_over _ _ _ c.in_ok-part.ensures.gives c.in_default.is)) c.in_ok-rest.ensures.gives c.if-deepest-limit.true c.woven.ensures
+    (strands_end _ _ _ _ _ c.loop-found.invariant.comes (strand_over _ _ _ c.in_ok-part.ensures.gives c.in_default.is)) c.in_ok-rest.ensures.gives c.if-deepest-limit.true c.weave.ensures
 
 pub weave-returns-clause-gives : goal.weave-returns-clause-gives
 weave-returns-clause-gives t c =

@@ -71,8 +71,8 @@ decreases-strand_of l = l.limit * 60 + 53
 abbrev pub decreases-call : goal.decreases-call
 decreases-call l = l.limit * 60
 
-abbrev pub decreases-bracketed : goal.decreases-bracketed
-decreases-bracketed l = l.limit * 60
+abbrev pub decreases-bracket : goal.decreases-bracket
+decreases-bracket l = l.limit * 60
 
 abbrev pub decreases-args : goal.decreases-args
 decreases-args l = l.limit * 60 + 53

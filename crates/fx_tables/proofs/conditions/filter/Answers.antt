@@ -8,16 +8,16 @@ use Rattle.fx_tables.proofs.FirstErrors.{error_is, none_is}
 use Rattle.fx_tables.proofs.FitRows.{kept_fit}
 use Rattle.fx_tables.proofs.conditions.filter.Goals as goal
 
-pub returns-in_ok-kept-in-Ok-clause-value : goal.returns-in_ok-kept-in-Ok-clause-value
-returns-in_ok-kept-in-Ok-clause-value c =
+pub returns-in_ok-keep_rows-in-Ok-clause-value : goal.returns-in_ok-keep_rows-in-Ok-clause-value
+returns-in_ok-keep_rows-in-Ok-clause-value c =
     let vs = c.args.conditions.items in
-    let made = c.in_ok-kept-in-Ok.ensures ∙ ap (λ us. kept_rows c.args.rows (map view us)) c.in-Ok.ensures.0 in
+    let made = c.in_ok-keep_rows-in-Ok.ensures ∙ ap (λ us. kept_rows c.args.rows (map view us)) c.in-Ok.ensures.0 in
     ap (λ rs. tab (row_list rs)) made ∙ none_is (map view vs) (tab (row_list (kept_rows c.args.rows (map view vs)))) c.in-Ok.ensures.1
 
-pub returns-in_ok-kept-in-Ok-clause-fits : goal.returns-in_ok-kept-in-Ok-clause-fits
-returns-in_ok-kept-in-Ok-clause-fits c = λ t h.
+pub returns-in_ok-keep_rows-in-Ok-clause-fits : goal.returns-in_ok-keep_rows-in-Ok-clause-fits
+returns-in_ok-keep_rows-in-Ok-clause-fits c = λ t h.
     let P : List Row → Type 0 = λ rs. fits_in (tab (row_list rs)) t ≡ true in
-    subst P (sym c.in_ok-kept-in-Ok.ensures) (kept_fit c.args.rows (map view c.in-Ok.conditions.items) t h)
+    subst P (sym c.in_ok-keep_rows-in-Ok.ensures) (kept_fit c.args.rows (map view c.in-Ok.conditions.items) t h)
 
 pub returns-in-Err-clause-value : goal.returns-in-Err-clause-value
 returns-in-Err-clause-value c = error_is (map view c.args.conditions.items) (tab (row_list (kept_rows c.args.rows (map view c.args.conditions.items)))) _ c.in-Err.ensures

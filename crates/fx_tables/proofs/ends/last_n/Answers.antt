@@ -8,4 +8,4 @@ use Rattle.fx_tables.proofs.ends.last_n.Goals as goal
 pub returns-in_default-clause-fits : goal.returns-in_default-clause-fits
 returns-in_default-clause-fits c = λ t h.
     let P : List Row → Type 0 = λ rs. fits_in (tab (row_list rs)) t ≡ true in
-    subst P (sym c.last_rows_of.ensures) (last_rows_fit c.args.rows (length c.args.rows - c.count_asked.result) t h)
+    subst P (sym c.last_rows_of.ensures) (last_rows_fit c.args.rows (length c.args.rows - c.asked_count.result) t h)

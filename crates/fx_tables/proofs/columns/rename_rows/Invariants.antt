@@ -1,0 +1,9 @@
+use Rattle.std.proofs.Common.{◌≡◌, ◌++◌, map}
+use Rattle.fx_tables.specs.Columns.{LacksColumn, renamed}
+use Rattle.fx_tables.proofs.columns.rename_rows.Given as goal
+
+abbrev pub invariant-loop-row : goal.invariant-loop-row
+invariant-loop-row l = record {
+  value : l.changed.items ++ map (renamed l.from l.to) l.row-iterator.rest.items ≡ map (renamed l.from l.to) l.fn.rows;
+  lacks : LacksColumn l.to l.row-iterator.rest.items;
+}

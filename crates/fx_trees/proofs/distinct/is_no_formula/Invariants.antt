@@ -1,6 +1,0 @@
-use Rattle.std.proofs.Common.{◌≡◌, drop, nat_eq}
-use Rattle.fx_trees.specs.Decided.{is_new, formula_cells}
-use Rattle.fx_trees.proofs.distinct.is_no_formula.Given as goal
-
-abbrev pub invariant-loop-formula : goal.invariant-loop-formula
-invariant-loop-formula l = is_new nat_eq l.cell (formula_cells (drop l.formula-index l.formulas)) ≡ is_new nat_eq l.cell (formula_cells l.formulas)

@@ -1,6 +1,0 @@
-use Rattle.std.proofs.Common.{◌≡◌, drop, bytes_eq}
-use Rattle.fx_trees.specs.Decided.{is_new, table_names}
-use Rattle.fx_trees.proofs.distinct.is_no_table.Given as goal
-
-abbrev pub invariant-loop-table : goal.invariant-loop-table
-invariant-loop-table l = is_new bytes_eq l.name (table_names (drop l.table-index l.tables)) ≡ is_new bytes_eq l.name (table_names l.tables)

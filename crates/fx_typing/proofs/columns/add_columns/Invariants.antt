@@ -1,0 +1,11 @@
+use Rattle.std.proofs.Common.{◌≡◌, length, map}
+use Rattle.fx_data.specs.Types.{column_list}
+use Rattle.fx_typing.specs.Columns.{added}
+use Rattle.fx_typing.specs.TypedView.{typed}
+use Rattle.fx_typing.proofs.columns.add_columns.Given as goal
+
+abbrev pub invariant-loop-more : goal.invariant-loop-more
+invariant-loop-more l = added (map typed l.more) (column_list l.columns) ≡ added (map typed l.fn.parts) (column_list l.fn.columns)
+
+abbrev pub decreases-loop-more : goal.decreases-loop-more
+decreases-loop-more l = length l.more
