@@ -4,3 +4,4 @@ pub mod JsonText
 pub mod PlainText
 pub mod RefusalText
 pub mod ReplyText
+pub mod ViewText

@@ -34,7 +34,7 @@ pub fn value_json(alloc: Global, value: &Value) -> Result<Json, Memory>
 }
 
 #[cycle(json)]
-fn fields_json(alloc: Global, fields: &Fields) -> Result<Map<String, Json>, Memory>
+pub(crate) fn fields_json(alloc: Global, fields: &Fields) -> Result<Map<String, Json>, Memory>
     ensures { IfOk result (λ m. members_view m.entries ≡ fields_data (field_list fields.now)) }
 {
     let items = fields.as_slice();
@@ -78,7 +78,7 @@ fn number_json(alloc: Global, number: Num) -> Result<Json, Memory>
     }
 }
 
-fn error_json(alloc: Global, fault: &Fault) -> Result<Json, Memory>
+pub(crate) fn error_json(alloc: Global, fault: &Fault) -> Result<Json, Memory>
     ensures { IfOk result (λ v. json_view v ≡ error_data fault.now.kind fault.now.message) }
 {
     let kind = fault.kind.name();

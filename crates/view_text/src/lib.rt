@@ -7,6 +7,7 @@ mod refusals;
 pub mod refused;
 pub mod replies;
 mod status;
+pub mod views;
 
 pub use fx_value::date_text;
 pub use json::value_json;
@@ -15,3 +16,7 @@ pub use refusals::Cause;
 pub use refused::{Detail, Lines, Refusal, refusal_json};
 pub use replies::{Named, named_json, ok_json};
 pub use status::reason;
+pub use views::{
+    ItemControl, ItemControlList, ItemList, ItemView, Items, Shown, ShownList, View, event_json,
+    items_json, view_json,
+};

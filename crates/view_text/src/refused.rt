@@ -84,7 +84,7 @@ fn move_json(alloc: Global, table: &str, column: &str, rule: &str) -> Result<Jso
     Ok(json!(in alloc; {"column": column, "rule": rule, "table": table})?)
 }
 
-fn lines_json(alloc: Global, lines: &[Words]) -> Result<Vec<Json>, Memory>
+pub(crate) fn lines_json(alloc: Global, lines: &[Words]) -> Result<Vec<Json>, Memory>
     ensures { IfOk result (λ v. map json_view v.items ≡ map line_data lines.now) }
 {
     let mut texts = Vec::new(alloc);
