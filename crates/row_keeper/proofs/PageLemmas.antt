@@ -61,13 +61,13 @@ ids_are_hits column (r ∷ rs) es i =
 abbrev K : ℕ → List ℕ
 K i = key_bytes (id_value i)
 
-numbers_go : (i j : ℕ) → int_cmp (pos (i * 10000)) (pos (j * 10000)) ≡ nat_cmp i j
+pub numbers_go : (i j : ℕ) → int_cmp (pos (i * 10000)) (pos (j * 10000)) ≡ nat_cmp i j
 numbers_go i j = grind (arith, nat_tests)
 
 number_fits : (i : ℕ) → i < 2 ^ 32 → IsInRange (pos (i * 10000))
 number_fits i l = (omega (arith, ints, l), omega (arith, ints, l))
 
-keys_go : KeysOrder → (i j : ℕ) → i < 2 ^ 32 → j < 2 ^ 32 → slice_cmp nat_cmp (K i) (K j) ≡ nat_cmp i j
+pub keys_go : KeysOrder → (i j : ℕ) → i < 2 ^ 32 → j < 2 ^ 32 → slice_cmp nat_cmp (K i) (K j) ≡ nat_cmp i j
 keys_go law i j l m = law (id_value i) (id_value j) tt (number_fits i l) (number_fits j m) ∙ numbers_go i j
 
 -- ---- an entry now is that of a row, under the key of its number

@@ -1,5 +1,5 @@
 -- The rows of a whole table are sound.
-use Rattle.std.proofs.Common.{◌≡◌, ◌⊎◌, inl, inr, ℕ, zero, suc, ◌≤◌, List, [], ◌∷◌, filter, length, refl, sym, ap, ap₂, ◌∙◌, arith, true, false, cond, Option, None, Some, subst}
+use Rattle.std.proofs.Common.{◌≡◌, ◌⊎◌, inl, inr, ℕ, zero, suc, ◌<◌, ◌≤◌, ◌^◌, List, [], ◌∷◌, filter, length, refl, sym, ap, ap₂, ◌∙◌, arith, true, false, cond, Option, None, Some, subst}
 use Rattle.std.specs.List.{AllByRecursion, list_any}
 use Rattle.std.specs.List.Sorted.{IsStrictlySortedBy}
 use Rattle.std.specs.Map.{keys_of, lookup}
@@ -51,21 +51,25 @@ own_later at f es (e ∷ part) owns = by (f e.1) (ap (λ o. in_slot_of o) owns.0
         go None k = rest
         go (Some cells) k = (k, rest)
 
-state_sound : (columns : List Column) (f : Slot → Option (List Data)) (es : List (ℕ × Slot)) (last : ℕ) → IsStrictlySortedBy nat_cmp (keys_of es) → ((i : ℕ) → IsGood columns i (cells_at f es i)) → NoneAbove last (cells_at f es) → length (rows_by f es) ≤ 200000
+rows_sound : (columns : List Column) (f : Slot → Option (List Data)) (es : List (ℕ × Slot)) → IsStrictlySortedBy nat_cmp (keys_of es) → ((i : ℕ) → IsGood columns i (cells_at f es i)) → AllByRecursion (IsSoundRow columns) (rows_by f es)
+rows_sound columns f es sorted good = sound_rows columns (cells_at f es) good (rows_by f es) (own_later (cells_at f es) f es es (owns_all es sorted))
+
+state_sound : (columns : List Column) (f : Slot → Option (List Data)) (es : List (ℕ × Slot)) (last : ℕ) → IsStrictlySortedBy nat_cmp (keys_of es) → ((i : ℕ) → IsGood columns i (cells_at f es i)) → NoneAbove last (cells_at f es) → length (rows_by f es) ≤ 200000 → last < 2 ^ 32
     → IsSoundState columns (record { rows = rows_by f es; last = last })
-state_sound columns f es last sorted good above few = record {
-  rows = sound_rows columns (cells_at f es) good (rows_by f es) (own_later (cells_at f es) f es es (owns_all es sorted));
+state_sound columns f es last sorted good above few bounded = record {
+  rows = rows_sound columns f es sorted good;
   rising = in_order f es sorted;
   given = all_below last (rows_by f es) (λ i l. ap is_some (row_is f es sorted i) ∙ above i l) (in_order f es sorted);
+  bounded = bounded;
   few = few;
 }
 
-pub sound : (columns : List Column) (covered : List ℕ) (rows : List (ℕ × Slot)) (es : Entries) (last count first first_count : ℕ) → IsWhole columns covered rows es last count first first_count → IsStrictlySortedBy nat_cmp (keys_of rows)
+pub sound : (columns : List Column) (covered : List ℕ) (rows : List (ℕ × Slot)) (es : Entries) (last count first first_count : ℕ) → IsWhole columns covered rows es last count first first_count → IsStrictlySortedBy nat_cmp (keys_of rows) → last < 2 ^ 32 → first < 2 ^ 32
     → IsSound (record { columns = columns; now = record { rows = rows_now rows; last = last }; then = record { rows = rows_then rows; last = first } })
-sound columns covered rows es last count first first_count w sorted = record {
+sound columns covered rows es last count first first_count w sorted most most_then = record {
   narrow = w.narrow;
-  now = state_sound columns cells_now rows last sorted w.good w.tallied.above (let c : count ≡ length (rows_now rows) = w.tallied.counted in let f : count ≤ 200000 = w.tallied.few in omega (arith, c, f));
-  then = state_sound columns cells_then rows first sorted w.good_then w.tallied.before (let c : first_count ≡ length (rows_then rows) = w.tallied.counted_then in let f : first_count ≤ 200000 = w.tallied.few_then in omega (arith, c, f));
+  now = state_sound columns cells_now rows last sorted w.good w.tallied.above (let c : count ≡ length (rows_now rows) = w.tallied.counted in let f : count ≤ 200000 = w.tallied.few in omega (arith, c, f)) most;
+  then = state_sound columns cells_then rows first sorted w.good_then w.tallied.before (let c : first_count ≡ length (rows_then rows) = w.tallied.counted_then in let f : first_count ≤ 200000 = w.tallied.few_then in omega (arith, c, f)) most_then;
 }
 
 -- the rows that the index finds
@@ -88,4 +92,4 @@ all_lie columns column rs every (r ∷ rows) h = ap₂ (λ b l. cond b (r ∷ l)
 pub unfound : (columns : List Column) (covered : List ℕ) (column : ℕ) (rs : List KeyRange) (rows : List (ℕ × Slot)) (es : Entries) (last count first first_count : ℕ) → IsWhole columns covered rows es last count first first_count
     → IsStrictlySortedBy nat_cmp (keys_of rows) → covers covered column ≡ false → ((covers (covered_of columns) column ≡ true) ⊎ HoldEveryKey rs) → filter (lies_among column rs) (rows_now rows) ≡ rows_now rows
 unfound columns covered column rs rows es last count first first_count w sorted hidden (inl h) = absurd (let e : covers covered column ≡ true = ap (λ v. covers v column) w.covered_is ∙ h in cc)
-unfound columns covered column rs rows es last count first first_count w sorted hidden (inr every) = all_lie columns column rs every (rows_now rows) (let s = sound columns covered rows es last count first first_count w sorted in s.now.rows)
+unfound columns covered column rs rows es last count first first_count w sorted hidden (inr every) = all_lie columns column rs every (rows_now rows) (rows_sound columns cells_now rows sorted w.good)

@@ -286,6 +286,7 @@ state_of s t e h = record {
   fit = All-from_recursion (IsRowOf s) t.now.rows (weaker (IsSoundRow t.columns) (IsRowOf s) (λ r k. (k.id, subst (λ cs. AreCellsOf cs r.cells) e k.fit)) t.now.rows h.rows);
   rising = h.rising;
   given = All-from_recursion (λ (r : Row). r.id ≤ t.now.last) t.now.rows h.given;
+  bounded = h.bounded;
 }
 
 pub states_of : (tables : List TableView) (shapes : List TableShape) → columns_kept tables ≡ columns_shaped shapes → AllByRecursion IsSound tables → AreStatesOf shapes (states_now tables)
@@ -299,7 +300,7 @@ empty_states [] = tt
 empty_states (s ∷ ss) = (none s, empty_states ss)
   where
     none : (s : TableShape) → IsStateOf s no_rows
-    none s = record { fit = All-from_recursion (IsRowOf s) [] tt; rising = tt; given = All-from_recursion (λ (r : Row). r.id ≤ 0) [] tt }
+    none s = record { fit = All-from_recursion (IsRowOf s) [] tt; rising = tt; given = All-from_recursion (λ (r : Row). r.id ≤ 0) [] tt; bounded = omega arith }
 
 -- ---- what a query asks of its table
 pub shorter : {X : Type 0} (p : X → Bool) (xs : List X) → length (filter p xs) ≤ length xs

@@ -10,6 +10,7 @@ pub mod Pages
 pub mod RowRules
 pub mod Rules
 pub mod Sameness
+pub mod Skips
 pub mod Slots
 pub mod Sound
 pub mod StoreView

@@ -1,5 +1,5 @@
 -- What holds of the rows of a table that is seen.
-use Rattle.std.specs.Prelude.{ℕ, ◌≤◌, Bool, List, length}
+use Rattle.std.specs.Prelude.{ℕ, ◌^◌, ◌<◌, ◌≤◌, Bool, List, length}
 use Rattle.std.specs.List.{AllByRecursion}
 use Rattle.fx_trees.specs.declared.schema.Column.{Column}
 use Rattle.fx_value.specs.Keys.{IsProper, key_bytes}
@@ -20,6 +20,7 @@ pub record IsSoundState (columns : List Column) (s : TableState) : Type 0 where
   pub rows : AllByRecursion (IsSoundRow columns) s.rows
   pub rising : AreInIdOrder s.rows
   pub given : AllByRecursion (λ (r : Row). r.id ≤ s.last) s.rows
+  pub bounded : s.last < 2 ^ 32
   pub few : length s.rows ≤ 200000
 
 -- now, and as the transaction began

@@ -1,5 +1,5 @@
 -- The tables that are kept.
-use Rattle.std.specs.Prelude.{ℕ, ◌+◌, ◌≤◌, ◌==◌, cond, List, [], ◌∷◌, ◌++◌, map, filter, set, length, sum_by, not, Bool, Option, Some, None, option_map, slice_get, unwrap_or}
+use Rattle.std.specs.Prelude.{ℕ, ◌+◌, ◌^◌, ◌<◌, ◌≤◌, ◌==◌, cond, List, [], ◌∷◌, ◌++◌, map, filter, set, length, sum_by, not, Bool, Option, Some, None, option_map, slice_get, unwrap_or}
 use Rattle.std.specs.List.{All}
 use Rattle.fx_data.specs.Values.{Data}
 use Rattle.fx_trees.specs.declared.schema.Column.{Column}
@@ -77,11 +77,12 @@ filled [] states = []
 filled (t ∷ ts) [] = no_rows ∷ filled ts []
 filled (t ∷ ts) (s ∷ ss) = s ∷ filled ts ss
 
--- the rows fit the table, stand by rising numbers, and the last number that was given isn't below any
+-- the rows fit the table, stand by rising numbers, and the last number that was given isn't below any and has 32 bits
 pub record IsStateOf (t : TableShape) (s : TableState) : Type 0 where
   pub fit : All (IsRowOf t) s.rows
   pub rising : AreInIdOrder s.rows
   pub given : All (λ (r : Row). r.id ≤ s.last) s.rows
+  pub bounded : s.last < 2 ^ 32
 
 -- each table is one of its shape
 abbrev pub AreStatesOf : List TableShape → List TableState → Type 0

@@ -1,11 +1,12 @@
 //! Rows in memory.
-ghost use Rattle.std.specs.Prelude.{◌≡◌, ◌≤◌, ◌+◌, length, slice_get, IfOk, IsSomeAnd};
+ghost use Rattle.std.specs.Prelude.{◌≡◌, ◌≤◌, ◌+◌, true, length, map, slice_get, IfOk, IsSomeAnd};
 ghost use Rattle.std.specs.List.{All, AllByRecursion};
 ghost use Rattle.row_queries.specs.Queries.{AreAsked, IsQuery, IsScanned};
 ghost use Rattle.row_queries.specs.TableRows.{IsRowOf, rows_at};
 ghost use Rattle.row_queries.specs.Visits.{VisitsAtLeast, VisitsItsRanges};
 ghost use Rattle.row_keeper.specs.InMemory.{unused};
 ghost use Rattle.row_keeper.specs.Pages.{IsPage};
+ghost use Rattle.row_keeper.specs.Skips.{passed};
 ghost use Rattle.row_keeper.specs.Tables.{rows_of, shapes_of};
 
 use crate::answers::{answer, give_rows, values_in};
@@ -73,6 +74,15 @@ impl MemoryKeeper {
         ensures { result ≡ self.now.plan.count }
     {
         self.plan.count()
+    }
+
+    /// Passes over the numbers up to this one: no table gives one of them any more, once the transaction has ended with
+    /// its changes. So the end of the numbers can be tried.
+    pub fn skip_to(&mut self, number: u32)
+        requires { self.old.store.is_begun ≡ true }
+        ensures { self.new ≡ record self.old { store = record self.old.store { now = map (passed number) self.old.store.now } } }
+    {
+        self.store.skip_to(number);
     }
 
     /// Counts so many rows as visited.

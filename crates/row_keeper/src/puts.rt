@@ -3,6 +3,7 @@ ghost use Rattle.std.specs.Prelude.{◌≡◌, map, slice_get, IfOk, IsSome, IsS
 ghost use Rattle.std.specs.List.{AllByRecursion};
 ghost use Rattle.row_queries.specs.TableRows.{AreCellsOf};
 ghost use Rattle.row_keeper.specs.OneTable.{ChangesAt, PutsNew, PutsOver, TakesOut, restored, settled};
+ghost use Rattle.row_keeper.specs.Skips.{passed_now};
 ghost use Rattle.row_keeper.specs.Sound.{IsSound};
 ghost use Rattle.row_keeper.specs.TableView.{states_now};
 ghost use Rattle.row_keeper.specs.Tables.{all_rows as all_rows_of};
@@ -100,6 +101,15 @@ pub fn remove_at(tables: &mut [Table], place: u16, id: u32) -> Result<bool, Memo
 {
     let table = &mut tables[place as usize];
     drop_row(table, id)
+}
+
+/// Passes over the numbers up to this one in all tables.
+pub fn skip_all(tables: &mut [Table], number: u32)
+    ensures { tables.new ≡ map (passed_now number) tables.old }
+{
+    for table in tables.iter_mut() {
+        table.skip_to(number);
+    }
 }
 
 /// Ends a transaction of all tables with its changes, and takes no memory.

@@ -10,10 +10,11 @@ ghost use Rattle.row_queries.specs.declared.rows.Row.{Row as RowValue};
 ghost use Rattle.row_keeper.specs.Changes.{Inserts, IsInserted, IsReplaced, Removes, Replaces, Shapes};
 ghost use Rattle.row_keeper.specs.Kept.{empty_table};
 ghost use Rattle.row_keeper.specs.Pages.{AreFirst};
+ghost use Rattle.row_keeper.specs.Skips.{passed};
 ghost use Rattle.row_keeper.specs.StoreView.{no_store, tables_now, tables_then};
 ghost use Rattle.row_keeper.specs.Tables.{AreStatesOf, columns_at, rows_of, shapes_of};
 
-use crate::puts::{are_sound, insert_at, remove_at, replace_at, restore_all, settle_all};
+use crate::puts::{are_sound, insert_at, remove_at, replace_at, restore_all, settle_all, skip_all};
 use crate::rows::Put;
 use crate::scans::sort_rows;
 use crate::schemas::{copy_columns, copy_schema, is_same_schema};
@@ -152,6 +153,14 @@ impl Store {
         ensures err { OnErr result (self.new ≡ self.old) }
     {
         remove_at(&mut self.tables, table, id)
+    }
+
+    /// Passes over the numbers up to this one in all tables.
+    pub fn skip_to(&mut self, number: u32)
+        requires { self.old.is_begun ≡ true }
+        ensures { self.new ≡ record self.old { now = map (passed number) self.old.now } }
+    {
+        skip_all(&mut self.tables, number);
     }
 
     /// Ends a transaction with its changes, and takes no memory.

@@ -10,6 +10,7 @@ ghost use Rattle.row_queries.specs.TableRows.{AreCellsOf, value_at};
 ghost use Rattle.row_keeper.specs.Covered.{covered_of, covers, entries_of, key_at};
 ghost use Rattle.row_keeper.specs.Slots.{now_at, rows_now, rows_then};
 ghost use Rattle.row_queries.specs.Ranges.{AreRising, HoldEveryKey};
+ghost use Rattle.row_keeper.specs.Skips.{passed_now};
 ghost use Rattle.row_keeper.specs.Sound.{IsSound, lies_among};
 ghost use Rattle.row_keeper.specs.Tables.{has_id, no_rows, with_cells, with_row, without_row};
 
@@ -215,6 +216,13 @@ impl Table {
         Ok(true)
     }
 
+    /// Passes over the numbers up to this one.
+    pub fn skip_to(&mut self, number: u32)
+        ensures { self.new ≡ passed_now number self.old }
+    {
+        self.last = self.last.max(number);
+    }
+
     /// Whether there is a row of this number.
     pub fn has(&self, id: u32) -> bool
         ensures { result ≡ list_any (has_id id) self.now.now.rows }
@@ -231,6 +239,7 @@ impl Table {
         ensures { IsSound self.now }
     {
         let _len = self.slots.by_id.len();
+        let (_last, _first) = (self.last, self.first);
     }
 
     /// The rows whose keys in a column lie in ranges, by rising numbers.
