@@ -1,6 +1,5 @@
 -- Requests of desks that come again.
 use Rattle.std.proofs.Common.{◌≡◌, ◌≢◌, ◌⊎◌, inl, inr, ℕ, Bool, true, false, List, Option, Some, None, Result, Ok, Err, refl, ap, sym, ◌∙◌, subst}
-use Rattle.serde_json.specs.Data as json
 use Rattle.fx_base.specs.Silence.{IsLost, Marks}
 use Rattle.fx_trees.specs.declared.schema.TableShape.{TableShape}
 use Rattle.row_keeper.specs.Tables.{Tables}
@@ -10,38 +9,22 @@ use Rattle.app_wire.specs.Routing.{IsOneRoute}
 use Rattle.app_wire.specs.declared.route.Route.{Route}
 use Rattle.app_wire.specs.declared.route.Route.TheVariants.{Begin, End, View, Named as Shown, Items, Event, Input, Rows, Edit, Page, Plan, Graph}
 use Rattle.session_state.specs.Once.{Kept}
-use Rattle.row_requests.specs.Bodies.{json_of, posted_in}
-use Rattle.row_requests.specs.Checks.{desk_checks, is_full, kept_of, number_reply, numbered, shaped, worded}
-use Rattle.row_requests.specs.DeskRows.{Outcome, PostsChecked, PostsRows, accepted_reply, desks_after, outcome_reply}
-use Rattle.row_requests.specs.Directory.{find}
+use Rattle.row_requests.specs.Bodies.{posted_in}
+use Rattle.request_checks.specs.Checks.{desk_of}
+use Rattle.row_requests.specs.DeskRows.{Outcome, PostsChecked, PostsRows, accepted_reply, desk_checks, desks_after, outcome_reply}
+use Rattle.request_checks.specs.Directory.{find}
 use Rattle.row_requests.specs.Laws.{IsLast}
 use Rattle.row_requests.specs.declared.bodies.Posted.{Posted}
-use Rattle.row_requests.specs.declared.directory.Named.{Named}
+use Rattle.request_checks.specs.declared.directory.Named.{Named}
 use Rattle.office.specs.Answers.{Exchange, Plays}
 use Rattle.office.specs.Isolation.{AreOfOthers, IsOf, caller_of, desk}
 use Rattle.office.specs.State.{State, schema_of}
 use Rattle.office.specs.Step.{Answered, Does, Left, Reaches}
 use Rattle.row_requests.proofs.Again.{checks_again}
-use Rattle.row_requests.proofs.Directories.{find_put}
+use Rattle.request_checks.proofs.Again.{passed}
+use Rattle.request_checks.proofs.Directories.{find_put}
 use Rattle.office.proofs.Isolation.{does_of, plays_leave, route_is}
 use Rattle.office.proofs.Steps.{left_all}
-
-numbered_is : (b : Bool) (o : Option (List ℕ)) (q p : Posted) → numbered b o q ≡ Ok p → q ≡ p
-numbered_is true o q p e = cc
-numbered_is false None q p e = cc
-numbered_is false (Some words) q p e = cc
-
--- what passed the checks is what the body posts
-checked : (desks : List (Named Kept)) (name body : List ℕ) (p : Posted) → desk_checks desks name body ≡ Ok p → (d : json.Data) × (json_of body ≡ Some d) × (posted_in d ≡ Some p)
-checked desks name body p e = by (json_of body) refl e
-  where
-    in_shape : (d : json.Data) (q : Option Posted) → posted_in d ≡ q → shaped q desks name body ≡ Ok p → posted_in d ≡ Some p
-    in_shape d None f g = cc
-    in_shape d (Some q) f g = f ∙ ap (λ (x : Posted). Some x) (numbered_is (is_full name desks) (number_reply (kept_of name desks) q.seq body) q p g)
-
-    by : (o : Option json.Data) → json_of body ≡ o → worded o desks name body ≡ Ok p → (d : json.Data) × (json_of body ≡ Some d) × (posted_in d ≡ Some p)
-    by None f g = cc
-    by (Some d) f g = (d, f, in_shape d (posted_in d) refl g)
 
 -- it is the last of its desk, and what was said is kept
 pub record IsKept (desks : List (Named Kept)) (name body said : List ℕ) : Type 0 where
@@ -58,10 +41,10 @@ accepted lost shapes name body tables tables' desks desks' said h differ = by (d
     kept p e (Err r) are replied = absurd (differ (ap (find name) are))
     kept p e (Ok ids) are replied =
         let k : Kept = record { last = p.seq; body = body; reply = accepted_reply p.seq ids } in
-        let d = checked desks name body p e in
+        let d = passed Posted posted_in (λ (q : Posted). q.seq) (desk_of name desks) body p e in
         record {
           kept = k;
-          last = record { found = ap (find name) are ∙ find_put Kept name k desks; value = d.0; is_json = d.1; posted = p; shape = d.2; number = refl };
+          last = record { found = ap (find name) are ∙ find_put Kept name k desks; value = d.value; is_json = d.is_json; posted = p; shape = d.shape; number = refl };
           body_is = refl;
           reply_is = sym replied;
         }

@@ -2,9 +2,9 @@
 use Rattle.std.proofs.Common.{◌≡◌, ◌≢◌, ℕ, suc, Bool, true, false, is_some, List, [], ◌∷◌, Option, Some, None, option_map, refl, ap, sym, ◌∙◌, arith}
 use Rattle.std.specs.List.{position}
 use Rattle.std.proofs.lemmas.Grind.{common_steps}
-use Rattle.row_requests.specs.Directory.{find, is_among, is_named}
-use Rattle.row_requests.specs.declared.directory.Named.{Named}
-use Rattle.row_requests.proofs.Directories.{find_here, find_past, position_here, position_past, same_bytes}
+use Rattle.request_checks.specs.Directory.{find, is_among, is_named}
+use Rattle.request_checks.specs.declared.directory.Named.{Named}
+use Rattle.request_checks.proofs.Directories.{find_here, find_past, position_here, position_past, same_bytes}
 use Rattle.office.specs.Sessions.{without}
 
 -- a thing is among them where it is found

@@ -14,9 +14,9 @@ use Rattle.fx_semantics.specs.Unique.{OneNaming}
 use Rattle.fx_trees.specs.declared.names.Names.{Names}
 use Rattle.session_state.specs.Sessions.{SessionState, opened}
 use Rattle.view_text.specs.ReplyText.{ok_text}
-use Rattle.row_requests.specs.Checks.{desk_checks}
-use Rattle.row_requests.specs.Directory.{find, is_among, put}
-use Rattle.row_requests.specs.declared.directory.Named.{Named}
+use Rattle.row_requests.specs.DeskRows.{desk_checks}
+use Rattle.request_checks.specs.Directory.{find, is_among, put}
+use Rattle.request_checks.specs.declared.directory.Named.{Named}
 use Rattle.office.specs.Answers.{Exchange, Plays}
 use Rattle.office.specs.Isolation.{AreOfOthers, Caller, IsOf, caller_of, desk, session}
 use Rattle.office.specs.NamedReply.{IsNamedBody}
@@ -24,7 +24,7 @@ use Rattle.office.specs.Sessions.{ShowsNamed, begins, most_sessions}
 use Rattle.office.specs.State.{State, formulas_of, schema_of}
 use Rattle.office.specs.Step.{Answered, Does, DoesAt, Step}
 use Rattle.row_requests.proofs.Again.{posts_others}
-use Rattle.row_requests.proofs.Directories.{find_other}
+use Rattle.request_checks.proofs.Directories.{find_other}
 use Rattle.office.proofs.Directories.{find_without, found_among}
 use Rattle.office.proofs.Replies.{one_body}
 

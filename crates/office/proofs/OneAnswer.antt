@@ -14,12 +14,11 @@ use Rattle.session_state.specs.Once.{Kept}
 use Rattle.session_state.specs.Sessions.{SessionState}
 use Rattle.view_text.specs.declared.refused.Refusal.{Refusal}
 use Rattle.row_requests.specs.Changes.{perform, place_of}
-use Rattle.row_requests.specs.Checks.{desk_checks}
-use Rattle.row_requests.specs.DeskRows.{Acts, Outcome, PostsChecked, PostsRows, desks_after, outcome_reply}
+use Rattle.row_requests.specs.DeskRows.{Acts, Outcome, PostsChecked, PostsRows, desk_checks, desks_after, outcome_reply}
 use Rattle.row_requests.specs.Page.{ShowsPage, ShowsTable}
 use Rattle.row_requests.specs.declared.bodies.Change.{Change}
 use Rattle.row_requests.specs.declared.bodies.Posted.{Posted}
-use Rattle.row_requests.specs.declared.directory.Named.{Named}
+use Rattle.request_checks.specs.declared.directory.Named.{Named}
 use Rattle.office.specs.State.{State, formulas_of, schema_of}
 use Rattle.office.specs.Step.{Does, DoesAt, Step}
 use Rattle.office.proofs.Isolation.{is_known, shows_alike}

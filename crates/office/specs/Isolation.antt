@@ -7,7 +7,7 @@ use Rattle.app_wire.specs.Routing.{Routing}
 use Rattle.app_wire.specs.declared.head.Method.TheVariants.{Put}
 use Rattle.app_wire.specs.declared.route.Route.{Route}
 use Rattle.app_wire.specs.declared.route.Route.TheVariants.{Begin, End, View, Named, Items, Event, Input, Rows, Edit}
-use Rattle.row_requests.specs.Directory.{find}
+use Rattle.request_checks.specs.Directory.{find}
 use Rattle.office.specs.Answers.{Exchange, Plays}
 use Rattle.office.specs.State.{State, formulas_of}
 use Rattle.office.specs.Step.{Answered, Left, Step}

@@ -4,9 +4,9 @@ use Rattle.fx_trees.specs.Lawful.{IsLawfulSchema}
 use Rattle.fx_trees.specs.declared.schema.Schema.{Schema}
 use Rattle.row_keeper.specs.Tables.{Tables}
 use Rattle.session_state.specs.Once.{Kept}
-use Rattle.row_requests.specs.Replies.{KeepReplies}
+use Rattle.request_checks.specs.Replies.{KeepReplies}
 use Rattle.row_requests.specs.Sound.{AreSound}
-use Rattle.row_requests.specs.declared.directory.Named.{Named}
+use Rattle.request_checks.specs.declared.directory.Named.{Named}
 
 -- No transaction is begun, the keeper is shaped by the app's schema, its tables, where they are told, are those of the schema,
 -- and what is kept of desks are replies.

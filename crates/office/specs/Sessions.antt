@@ -6,8 +6,8 @@ use Rattle.app_wire.specs.ReplyBytes.{refusal, reply}
 use Rattle.fx_trees.specs.declared.names.Names.{Names}
 use Rattle.session_state.specs.Sessions.{SessionState, opened}
 use Rattle.view_text.specs.ReplyText.{ok_text}
-use Rattle.row_requests.specs.Directory.{is_among, is_named, put}
-use Rattle.row_requests.specs.declared.directory.Named.{Named}
+use Rattle.request_checks.specs.Directory.{is_among, is_named, put}
+use Rattle.request_checks.specs.declared.directory.Named.{Named}
 use Rattle.office.specs.NamedReply.{IsNamedBody}
 
 -- the most sessions that live at a time

@@ -7,7 +7,7 @@ use Rattle.session_state.specs.Once.{Kept}
 use Rattle.session_state.specs.Sessions.{SessionState}
 use Rattle.app_names.specs.declared.formula.Formula.{Formula}
 use Rattle.app_loader.specs.declared.app.App.{App}
-use Rattle.row_requests.specs.declared.directory.Named.{Named}
+use Rattle.request_checks.specs.declared.directory.Named.{Named}
 
 -- the named formulas of an app, in the order of their lines
 abbrev pub formulas_of : App → List Formula

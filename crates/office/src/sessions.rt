@@ -1,7 +1,7 @@
 //! Sessions: they begin, end, and are shown the named formulas.
 ghost use Rattle.std.specs.Prelude.{◌≡◌, IfOk, OnErr};
 ghost use Rattle.app_wire.specs.ReplyBytes.{reply};
-ghost use Rattle.row_requests.specs.Replies.{IsReply, said};
+ghost use Rattle.request_checks.specs.Replies.{IsReply, said};
 ghost use Rattle.view_text.specs.ReplyText.{ok_text};
 ghost use Rattle.office.specs.Sessions.{ShowsNamed, begins, without};
 ghost use Rattle.office.specs.State.{formulas_of};

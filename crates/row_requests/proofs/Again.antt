@@ -1,46 +1,31 @@
 -- Requests that come again.
-use Rattle.std.proofs.Common.{◌≡◌, ◌≢◌, ℕ, ◌==◌, ◌+◌, Bool, true, false, if◌then◌else◌, bytes_eq, unwrap_or, List, [], ◌∷◌, Option, Some, Result, Ok, Err, refl, ap, ◌∙◌, subst, eq-eqb, arith}
+use Rattle.std.proofs.Common.{◌≡◌, ◌≢◌, ℕ, Bool, false, if◌then◌else◌, unwrap_or, List, [], ◌∷◌, Option, Some, Result, Ok, Err, refl, ap, ◌∙◌, subst}
 use Rattle.fx_base.specs.Silence.{IsLost, Marks}
 use Rattle.fx_trees.specs.declared.schema.TableShape.{TableShape}
 use Rattle.row_keeper.specs.Tables.{Tables}
-use Rattle.session_state.specs.Once.{Kept, nobody, turn_of}
-use Rattle.session_state.specs.declared.turn.Turn.TheVariants.{New, Again, Reused, OutOfStep}
-use Rattle.row_requests.specs.Checks.{desk_checks, is_full, kept_of, number_reply, numbered, shaped, turn_reply, unless_said, worded}
-use Rattle.row_requests.specs.DeskRows.{Outcome, PostsChecked, PostsRows, accepted_reply, desks_after}
-use Rattle.row_requests.specs.Directory.{find}
+use Rattle.session_state.specs.Once.{Kept, nobody}
+use Rattle.request_checks.specs.Checks.{checks, desk_of, is_full, kept_of}
+use Rattle.row_requests.specs.Bodies.{posted_in}
+use Rattle.row_requests.specs.DeskRows.{Outcome, PostsChecked, PostsRows, accepted_reply, desk_checks, desks_after}
+use Rattle.request_checks.specs.Directory.{find}
 use Rattle.row_requests.specs.Laws.{AreOfOthers, IsLast, Post}
 use Rattle.row_requests.specs.declared.bodies.Posted.{Posted}
-use Rattle.row_requests.specs.declared.directory.Named.{Named}
-use Rattle.row_requests.proofs.Directories.{find_other, found_among, itself}
-
--- the number of the last request, with its body
-picked : (a b c : Bool) (last : ℕ) → a ≡ false → b ≡ true → c ≡ true → (if a then New else (if b then (if c then Again else Reused) else OutOfStep last)) ≡ Again
-picked true b c last e f g = absurd cc
-picked false false c last e f g = absurd cc
-picked false true false last e f g = absurd cc
-picked false true true last e f g = refl
-
-not_next : (n : ℕ) → (n == n + 1) ≡ false
-not_next n = by (n == n + 1) refl
-  where
-    by : (b : Bool) → (n == n + 1) ≡ b → b ≡ false
-    by true e = absurd (grind (arith, e))
-    by false e = refl
-
-again : (k : Kept) → turn_of k k.last k.body ≡ Again
-again k = picked (k.last == k.last + 1) (k.last == k.last) (bytes_eq k.body k.body) k.last (not_next k.last) (eq-eqb k.last k.last refl) (itself k.body)
+use Rattle.request_checks.specs.declared.directory.Named.{Named}
+use Rattle.request_checks.proofs.Again.{comes_again}
+use Rattle.request_checks.proofs.Directories.{find_other, found_among}
 
 has_room : (name : List ℕ) (k : Kept) (desks : List (Named Kept)) → find name desks ≡ Some k → is_full name desks ≡ false
 has_room name k desks e = rw (found_among Kept name k desks e) refl
 
+-- a desk of which a request was accepted is a caller
+known : (name : List ℕ) (k : Kept) (desks : List (Named Kept)) → find name desks ≡ Some k → desk_of name desks ≡ Ok k
+known name k desks e =
+    ap (λ (b : Bool). if b then Err 12 else Ok (kept_of name desks)) (has_room name k desks e) ∙ ap (λ (o : Option Kept). Ok (unwrap_or o nobody)) e
+
 pub checks_again : (desks : List (Named Kept)) (name : List ℕ) (k : Kept) → IsLast desks name k → desk_checks desks name k.body ≡ Err k.reply
 checks_again desks name k last =
-    ap (λ o. worded o desks name k.body) last.is_json
-    ∙ ap (λ o. shaped o desks name k.body) last.shape
-    ∙ ap (λ b. numbered b (number_reply (kept_of name desks) last.posted.seq k.body) last.posted) (has_room name k desks last.found)
-    ∙ ap (λ o. numbered false (number_reply (unwrap_or o nobody) last.posted.seq k.body) last.posted) last.found
-    ∙ ap (λ n. numbered false (number_reply k n k.body) last.posted) last.number
-    ∙ ap (λ t. unless_said (turn_reply t k.reply) last.posted) (again k)
+    ap (λ (c : Result Kept ℕ). checks posted_in (λ (p : Posted). p.seq) c k.body) (known name k desks last.found)
+    ∙ comes_again Posted posted_in (λ (p : Posted). p.seq) k (record { value = last.value; is_json = last.is_json; it = last.posted; shape = last.shape; last = last.number })
 
 kept_others : (name other : List ℕ) (body : List ℕ) (seq : ℕ) (o : Outcome) (desks : List (Named Kept)) → name ≢ other → find other (desks_after name body seq o desks) ≡ find other desks
 kept_others name other body seq (Ok ids) desks differ = find_other Kept name other (record { last = seq; body = body; reply = accepted_reply seq ids }) desks differ

@@ -9,10 +9,10 @@ use Rattle.row_keeper.specs.Tables.{Tables}
 use Rattle.session_state.specs.Once.{Kept}
 use Rattle.row_requests.specs.DeskRows.{Acts, KeepsRows, Outcome, accepted_data, desks_after, outcome_reply}
 use Rattle.serde_json.specs.Written.{compact_text}
-use Rattle.row_requests.specs.Directory.{is_named, put, put_at}
-use Rattle.row_requests.specs.Replies.{IsAccepted, KeepReplies}
+use Rattle.request_checks.specs.Directory.{is_named, put, put_at}
+use Rattle.request_checks.specs.Replies.{IsAccepted, KeepReplies}
 use Rattle.row_requests.specs.declared.bodies.Posted.{Posted}
-use Rattle.row_requests.specs.declared.directory.Named.{Named}
+use Rattle.request_checks.specs.declared.directory.Named.{Named}
 
 after_accepted : (name body : List ℕ) (seq : ℕ) (o : Outcome) (desks : List (Named Kept)) → is_ok o ≡ true
     → put name (record { last = seq; body = body; reply = outcome_reply seq o }) desks ≡ desks_after name body seq o desks
@@ -68,12 +68,3 @@ pub kept_more : (named : List ℕ) (k : Kept) (seq : ℕ) (o : Outcome) (desks :
     → KeepReplies desks → KeepReplies (put named k desks)
 kept_more named k seq o desks accepts is all =
     all_put (λ n. IsAccepted n.it.reply) (position (is_named named) desks) (record { name = named; it = k }) desks all (subst IsAccepted (sym is) (accepted_is seq o accepts))
-
--- the reply of a desk at a place
-pub kept_at : (xs : List (Named Kept)) (k : ℕ) (x : Named Kept) → KeepReplies xs → slice_get xs k ≡ Some x → IsAccepted x.it.reply
-kept_at [] k x h e = absurd cc
-kept_at (y ∷ ys) zero x h e = subst (λ (n : Named Kept). IsAccepted n.it.reply) (same e) h.0
-  where
-    same : Some y ≡ Some x → y ≡ x
-    same e = cc
-kept_at (y ∷ ys) (suc k) x h e = kept_at ys k x h.1 e

@@ -1,9 +1,9 @@
 -- The rows that are found.
-use Rattle.std.proofs.Common.{◌≡◌, ℕ, zero, suc, ◌+◌, ◌*◌, ◌<◌, ◌==◌, ◌&&◌, ◌||◌, Bool, true, false, cond, List, [], ◌∷◌, ◌++◌, map, filter, take, length, Option, Some, None, refl, ap, ap₂, sym, ◌∙◌, subst, arith, add-one}
+use Rattle.std.proofs.Common.{◌≡◌, ℕ, zero, suc, ◌+◌, ◌*◌, ◌<◌, ◌≤◌, ◌^◌, ◌==◌, ◌&&◌, ◌||◌, Bool, true, false, cond, List, [], ◌∷◌, ◌++◌, map, filter, take, length, Option, Some, None, refl, ap, ap₂, sym, ◌∙◌, subst, arith, add-one}
 use Rattle.std.specs.Prelude.{IfSome, IsSomeAnd, MatchOption, nat_lt, option_to_list, pos, slice_index_or}
 use Rattle.std.specs.List.{All, AllByRecursion}
 use Rattle.std.specs.List.Sorted.{IsSorted}
-use Rattle.std.specs.Ordering.{int_cmp, is_eq, is_gt, is_le, is_lt, nat_cmp}
+use Rattle.std.specs.Ordering.{int_cmp, is_eq, is_le, is_lt, nat_cmp, ordering_then}
 use Rattle.std.specs.Cmp.Lexicographic.{slice_cmp}
 use Rattle.std.specs.declared.cmp.Ordering.{Ordering}
 use Rattle.std.specs.declared.cmp.Ordering.TheVariants.{Less, Equal, Greater}
@@ -11,21 +11,23 @@ use Rattle.std.proofs.lemmas.Bool.Decides.{nat_tests}
 use Rattle.std.proofs.lemmas.List.Sorted.{IsPermutation-refl}
 use Rattle.std.proofs.lemmas.List.Elements.{recursion_from_All}
 use Rattle.fx_trees.specs.declared.schema.TableShape.{TableShape}
-use Rattle.fx_value.specs.Keys.{key_bytes}
+use Rattle.fx_value.specs.Keys.{KeysOrder, key_bytes}
 use Rattle.row_queries.specs.Laws.{AskedOnce}
 use Rattle.row_queries.specs.Queries.{AreAsked, IsScanned, first_fault, given_of, lies, outcome_on, row_order, rows_or_fault}
 use Rattle.row_queries.specs.Ranges.{in_ranges}
 use Rattle.row_queries.specs.RowTests.{decided, is_met}
 use Rattle.row_queries.specs.TableRows.{AreInIdOrder, IsBelowAll, IsRowOf, id_value, rows_at}
+use Rattle.row_queries.specs.Visits.{VisitsItsRanges, VisitsTold}
 use Rattle.row_queries.specs.declared.queries.Query.{Query}
 use Rattle.row_queries.specs.declared.rows.Row.{Row}
 use Rattle.row_queries.specs.declared.rows.RowList.{RowList}
 use Rattle.row_keeper.specs.Changes.{Scans}
-use Rattle.row_keeper.specs.Tables.{TableState, Tables, has_id, rows_of, state_at}
+use Rattle.row_keeper.specs.Tables.{TableState, Tables, has_id, rows_of, rows_told, state_at}
+use Rattle.row_keeper.proofs.PageLemmas.{keys_go, numbers_go}
 use Rattle.row_keeper.proofs.RowLists.{order_less}
 use Rattle.row_requests.specs.Changes.{row_of}
 use Rattle.row_requests.specs.Page.{past}
-use Rattle.row_requests.specs.Queries.{FindsRow, FindsRows, every, next_rows, one_row, only}
+use Rattle.row_requests.specs.Queries.{AreNumbered, FindsRow, FindsRows, VisitsPast, after_key, beyond, next_rows, one_row, only}
 
 -- ---- lists
 
@@ -105,14 +107,6 @@ asked_is law q unordered rows asked h is =
 
 -- ---- tests of numbers
 
-numbers_order : (a b : ℕ) → int_cmp (pos (a * 10000)) (pos (b * 10000)) ≡ nat_cmp a b
-numbers_order a b = by (nat_cmp a b) refl
-  where
-    by : (o : Ordering) → nat_cmp a b ≡ o → int_cmp (pos (a * 10000)) (pos (b * 10000)) ≡ o
-    by Less e = grind (arith, nat_tests, e)
-    by Equal e = grind (arith, nat_tests, e)
-    by Greater e = grind (arith, nat_tests, e)
-
 is_same : (a b : ℕ) → is_eq (nat_cmp a b) ≡ (a == b)
 is_same a b = by (nat_cmp a b) refl
   where
@@ -121,23 +115,16 @@ is_same a b = by (nat_cmp a b) refl
     by Equal e = grind (arith, nat_tests, e)
     by Greater e = grind (arith, nat_tests, e)
 
-is_above : (a b : ℕ) → is_gt (nat_cmp a b) ≡ nat_lt b a
-is_above a b = by (nat_cmp a b) refl
+is_below : (a b : ℕ) → is_lt (nat_cmp a b) ≡ nat_lt a b
+is_below a b = by (nat_cmp a b) refl
   where
-    by : (o : Ordering) → nat_cmp a b ≡ o → is_gt o ≡ nat_lt b a
+    by : (o : Ordering) → nat_cmp a b ≡ o → is_lt o ≡ nat_lt a b
     by Less e = grind (arith, nat_tests, e)
     by Equal e = grind (arith, nat_tests, e)
     by Greater e = grind (arith, nat_tests, e)
 
 met_one : (table id : ℕ) (r : Row) → is_met (outcome_on (one_row table id) r) ≡ has_id id r
-met_one table id r = met (is_eq (int_cmp (pos (r.id * 10000)) (pos (id * 10000)))) ∙ ap is_eq (numbers_order r.id id) ∙ is_same r.id id
-  where
-    met : (b : Bool) → is_met (decided b) ≡ b
-    met true = refl
-    met false = refl
-
-met_next : (table after : ℕ) (r : Row) → is_met (outcome_on (next_rows table after) r) ≡ nat_lt after r.id
-met_next table after r = met (is_gt (int_cmp (pos (r.id * 10000)) (pos (after * 10000)))) ∙ ap is_gt (numbers_order r.id after) ∙ is_above r.id after
+met_one table id r = met (is_eq (int_cmp (pos (r.id * 10000)) (pos (id * 10000)))) ∙ ap is_eq (numbers_go r.id id) ∙ is_same r.id id
   where
     met : (b : Bool) → is_met (decided b) ≡ b
     met true = refl
@@ -168,12 +155,40 @@ lies_one table id r e = subst (λ n. in_ranges (only (key_bytes (id_value id)) �
     same : (a b : ℕ) → (a == b) ≡ true → a ≡ b
     same a b e = grind (arith, e)
 
-lies_next : (table after : ℕ) (r : Row) → lies (next_rows table after) r ≡ true
-lies_next table after r = by (key_bytes (id_value r.id))
+-- the keys from the first bytes after a key on are those after it
+from_after : (xs ys : List ℕ) → is_le (slice_cmp nat_cmp (after_key xs) ys) ≡ is_lt (slice_cmp nat_cmp xs ys)
+from_after [] [] = refl
+from_after [] (y ∷ ys) = by (nat_cmp 0 y) refl ys
   where
-    by : (key : List ℕ) → in_ranges (every ∷ []) key ≡ true
-    by [] = refl
-    by (x ∷ xs) = refl
+    by : (o : Ordering) → nat_cmp 0 y ≡ o → (ys : List ℕ) → is_le (ordering_then o (slice_cmp nat_cmp [] ys)) ≡ true
+    by Less e ys = refl
+    by Equal e [] = refl
+    by Equal e (z ∷ zs) = refl
+    by Greater e ys = absurd (let l : y < 0 = grind (arith, nat_tests, e) in omega (arith, l))
+from_after (x ∷ xs) [] = refl
+from_after (x ∷ xs) (y ∷ ys) = by (nat_cmp x y) (from_after xs ys)
+  where
+    by : (o : Ordering) → is_le (slice_cmp nat_cmp (after_key xs) ys) ≡ is_lt (slice_cmp nat_cmp xs ys)
+        → is_le (ordering_then o (slice_cmp nat_cmp (after_key xs) ys)) ≡ is_lt (ordering_then o (slice_cmp nat_cmp xs ys))
+    by Less ih = refl
+    by Equal ih = ih
+    by Greater ih = refl
+
+-- a number has a key in the range exactly where it is greater
+lies_next : KeysOrder → (table after : ℕ) → after < 2 ^ 32 → (r : Row) → r.id < 2 ^ 32 → lies (next_rows table after) r ≡ nat_lt after r.id
+lies_next law table after most r bounded =
+    alone (is_le (slice_cmp nat_cmp (after_key (key_bytes (id_value after))) (key_bytes (id_value r.id))))
+    ∙ from_after (key_bytes (id_value after)) (key_bytes (id_value r.id))
+    ∙ ap is_lt (keys_go law after r.id most bounded)
+    ∙ is_below after r.id
+  where
+    alone : (b : Bool) → ((b && true) || false) ≡ b
+    alone true = refl
+    alone false = refl
+
+lie_next : KeysOrder → (table after : ℕ) → after < 2 ^ 32 → (rows : List Row) → AllByRecursion (λ (r : Row). r.id < 2 ^ 32) rows → filter (lies (next_rows table after)) rows ≡ past after rows
+lie_next law table after most [] h = refl
+lie_next law table after most (r ∷ rows) h = ap₂ (λ b l. cond b (r ∷ l) l) (lies_next law table after most r h.0) (lie_next law table after most rows h.1)
 
 -- ---- no error in a test of numbers
 
@@ -187,11 +202,7 @@ clear_one table id (r ∷ rows) = by (is_eq (int_cmp (pos (r.id * 10000)) (pos (
 
 clear_next : (table after : ℕ) (rows : List Row) → first_fault (map (outcome_on (next_rows table after)) rows) ≡ None
 clear_next table after [] = refl
-clear_next table after (r ∷ rows) = by (is_gt (int_cmp (pos (r.id * 10000)) (pos (after * 10000)))) (clear_next table after rows)
-  where
-    by : (b : Bool) → first_fault (map (outcome_on (next_rows table after)) rows) ≡ None → first_fault (decided b ∷ map (outcome_on (next_rows table after)) rows) ≡ None
-    by true ih = ih
-    by false ih = ih
+clear_next table after (r ∷ rows) = clear_next table after rows
 
 -- ---- what a scan gives
 
@@ -209,12 +220,13 @@ given_one law table id rows answer h (asked, is, answered) =
     ∙ filter_wider (has_id id) (lies (one_row table id)) (lies_one table id) rows
     ∙ at_most_one id rows h
 
-given_next : AskedOnce → (table after : ℕ) (rows : List Row) (answer : RowList) → AreInIdOrder rows → IsScanned (next_rows table after) rows answer → answer.rows ≡ take 101 (past after rows)
-given_next law table after rows answer h (asked, is, answered) =
+given_next : AskedOnce → KeysOrder → (table after : ℕ) → after < 2 ^ 32 → (rows : List Row) (answer : RowList) → AreInIdOrder rows → All (λ (r : Row). r.id < 2 ^ 32) rows → IsScanned (next_rows table after) rows answer → answer.rows ≡ take 101 (past after rows)
+given_next law keys table after most rows answer h bounded (asked, is, answered) =
     ap (λ (a : RowList). a.rows) answered
     ∙ ap (λ o. (rows_or_fault (given_of (next_rows table after) asked) o).rows) (clear_next table after asked)
-    ∙ ap (take 101) (filter_same (λ r. is_met (outcome_on (next_rows table after) r)) (λ r. nat_lt after r.id) (met_next table after) asked)
-    ∙ ap (λ l. take 101 (past after l)) (asked_is law (next_rows table after) refl rows asked h is ∙ all_pass (lies (next_rows table after)) (lies_next table after) rows)
+    ∙ ap (take 101) (all_pass (λ r. is_met (outcome_on (next_rows table after) r)) (λ r. refl) asked)
+    ∙ ap (take 101) (asked_is law (next_rows table after) refl rows asked h is)
+    ∙ ap (take 101) (lie_next keys table after most rows (recursion_from_All (λ (r : Row). r.id < 2 ^ 32) rows bounded))
 
 -- the last of a list of at most one is that one
 last_of_one : (found : Option Row) (xs left : List Row) (o : Option Row) (n m : ℕ) → n ≡ length xs → m ≡ length left → xs ≡ left ++ option_to_list found
@@ -238,11 +250,27 @@ finds_row law table id answer found left n m p q popped count a b h = (
   h.1,
 )
 
-pub finds_rows : AskedOnce → (table after : ℕ) (answer : RowList) → (a b : Tables) → Scans (next_rows table after) answer a b → FindsRows table after answer.rows a b
-finds_rows law table after answer a b h = (
-  λ ordered. given_next law table after (state_at a.states table).rows answer ordered (subst (λ rs. IsScanned (next_rows table after) rs answer) (rows_are a.states table) h.0),
+pub finds_rows : AskedOnce → KeysOrder → (table after : ℕ) → after < 2 ^ 32 → (answer : RowList) → (a b : Tables) → Scans (next_rows table after) answer a b → FindsRows table after answer.rows a b
+finds_rows law keys table after most answer a b h = (
+  λ (numbered : AreNumbered (state_at a.states table)). given_next law keys table after most (state_at a.states table).rows answer numbered.rising numbered.bounded (subst (λ rs. IsScanned (next_rows table after) rs answer) (rows_are a.states table) h.0),
   h.1,
 )
+
+-- ---- the rows that are visited
+
+pub visits_none : (table after n : ℕ) (x : Option Tables) → VisitsPast table after x n n
+visits_none table after n None = tt
+visits_none table after n (Some t) = λ numbered. omega arith
+
+pub visits_past : KeysOrder → (table after : ℕ) → after < 2 ^ 32 → (x : Option Tables) (before now : ℕ) → VisitsTold (rows_told x) (next_rows table after) before now → VisitsPast table after x before now
+visits_past law table after most None before now h = tt
+visits_past law table after most (Some t) before now h =
+    λ (numbered : AreNumbered (state_at t.states table)).
+    subst (λ (rows : List Row). now ≤ before + length rows)
+    (lie_next law table after most (state_at t.states table).rows (recursion_from_All (λ (r : Row). r.id < 2 ^ 32) (state_at t.states table).rows numbered.bounded))
+    (subst (λ rows. VisitsItsRanges (next_rows table after) rows before now) (rows_are t.states table) h)
+
+-- ---- rows that fit
 
 last_fits : (P : Row → Type 0) (left : List Row) (x : Row) → AllByRecursion P (left ++ x ∷ []) → P x
 last_fits P [] x h = h.0

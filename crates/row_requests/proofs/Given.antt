@@ -15,7 +15,7 @@ use Rattle.view_text.specs.declared.refused.Refusal.{Refusal}
 use Rattle.row_requests.specs.Changes.{blanks, broken, cells_with, column_named, given_at, has_type, judged, or_else, rule_of_given}
 use Rattle.row_requests.specs.GivenRows.{AreScalars}
 use Rattle.row_requests.specs.declared.rule.Rule.TheVariants.{ColumnType}
-use Rattle.row_requests.proofs.Directories.{itself, same_bytes}
+use Rattle.request_checks.proofs.Directories.{itself, same_bytes}
 
 -- ---- blanks fit
 

@@ -1,16 +1,12 @@
 pub mod Again
-pub mod Days
 pub mod Desks
-pub mod Directories
 pub mod Finds
 pub mod Floats
 pub mod Given
-pub mod JsonValues
+pub mod GivenMembers
 pub mod Names
-pub mod Numbers
 pub mod Pages
 pub mod Performing
-pub mod Refusals
 pub mod Rows
 pub mod Schemas
 pub mod Soundness

@@ -8,16 +8,16 @@ use Rattle.app_wire.specs.ReplyBytes.{reply}
 use Rattle.fx_base.specs.Silence.{Goes}
 use Rattle.fx_base.specs.Telling.{Stays}
 use Rattle.fx_trees.specs.declared.schema.Column.{Column}
-use Rattle.row_queries.specs.TableRows.{AreCellsOf, AreInIdOrder}
+use Rattle.row_queries.specs.TableRows.{AreCellsOf}
 use Rattle.row_queries.specs.declared.rows.Row.{Row}
 use Rattle.row_keeper.specs.Tables.{Tables, state_at}
 use Rattle.fx_data.specs.Values.{Data}
 use Rattle.serde_json.specs.Data.{Members, put}
 use Rattle.serde_json.specs.Written.{compact_text}
 use Rattle.view_text.specs.JsonText.{value_data}
-use Rattle.row_requests.specs.Page.{Shows, page_data, page_reply, past, with_values}
+use Rattle.row_requests.specs.Page.{Shows, VisitsTable, page_data, page_reply, past, with_values}
 use Rattle.row_requests.specs.PageRows.{AreShown}
-use Rattle.row_requests.specs.Queries.{FindsRows}
+use Rattle.row_requests.specs.Queries.{AreNumbered, FindsRows, VisitsPast}
 
 -- one row more than a page shows tells whether there are more
 longer : (n : ℕ) (rows : List Row) → n ≡ length (take 101 rows) → nat_lt 100 n ≡ nat_lt 100 (length rows)
@@ -29,7 +29,7 @@ page_of_some columns rows =
 
 -- what was found is shown
 pub shows : (lost : Type 0) (k after : ℕ) (found : List Row) (columns : List Column) (said : List ℕ) → said ≡ page_reply columns found
-    → (x y : Option Tables) → IfSome x (λ (t : Tables). AreInIdOrder (state_at t.states k).rows) → Goes lost (FindsRows k after found) x y → Goes lost (Shows k after said columns) x y
+    → (x y : Option Tables) → IfSome x (λ (t : Tables). AreNumbered (state_at t.states k)) → Goes lost (FindsRows k after found) x y → Goes lost (Shows k after said columns) x y
 shows lost k after found columns said e None y h g = g
 shows lost k after found columns said e (Some a) None h g = g
 shows lost k after found columns said e (Some a) (Some b) h g = (
@@ -41,6 +41,10 @@ pub stays : (lost : Type 0) (k after : ℕ) (found : List Row) (x y : Option Tab
 stays lost k after found None y g = g
 stays lost k after found (Some a) None g = g
 stays lost k after found (Some a) (Some b) g = g.1
+
+pub visits : (k after before now : ℕ) (x : Option Tables) → IfSome x (λ (t : Tables). AreNumbered (state_at t.states k)) → VisitsPast k after x before now → VisitsTable (Some k) after x before now
+visits k after before now None numbered h = tt
+visits k after before now (Some t) numbered h = h numbered
 
 -- ---- the values of a row, one after another
 

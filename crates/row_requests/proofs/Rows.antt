@@ -17,7 +17,7 @@ use Rattle.row_keeper.specs.declared.rows.Put.TheVariants as put
 use Rattle.view_text.specs.declared.refused.Refusal.{Refusal}
 use Rattle.row_requests.specs.Changes.{add_row, blanks, cells_with, change_in_table, change_row, judged, kept_refusal, place_of, remove_row, row_of, table_of, unless}
 use Rattle.row_requests.specs.Queries.{FindsRow}
-use Rattle.row_requests.specs.Replies.{plain}
+use Rattle.request_checks.specs.Replies.{plain}
 use Rattle.row_requests.specs.Steps.{ChangesOne, Comes, came}
 use Rattle.row_requests.specs.declared.bodies.Change.{Change}
 use Rattle.row_requests.specs.declared.changes.Changed.{Changed}

@@ -1,5 +1,5 @@
 -- The tables of a schema by their places.
-use Rattle.std.proofs.Common.{◌≡◌, ℕ, zero, suc, ◌<◌, Bool, List, [], ◌∷◌, map, length, Option, Some, None, refl, arith, sym, subst}
+use Rattle.std.proofs.Common.{◌≡◌, ℕ, zero, suc, ◌<◌, ◌^◌, ◌≤◌, Bool, List, [], ◌∷◌, map, length, Option, Some, None, refl, arith, sym, subst}
 use Rattle.std.specs.Prelude.{IfSome, IsSome, IsSomeAnd, slice_get}
 use Rattle.std.specs.List.{AllByRecursion}
 use Rattle.std.proofs.lemmas.List.Elements.{recursion_from_All}
@@ -14,7 +14,7 @@ use Rattle.row_queries.specs.declared.rows.Row.{Row}
 use Rattle.row_keeper.specs.Changes.{Inserts, Removes, Replaces}
 use Rattle.row_keeper.specs.Tables.{AreStatesOf, Tables, columns_at, state_at}
 use Rattle.row_keeper.specs.declared.rows.Put.{Put}
-use Rattle.row_requests.specs.Queries.{FindsRow}
+use Rattle.row_requests.specs.Queries.{AreNumbered, FindsRow}
 use Rattle.row_requests.specs.Sound.{AreSound}
 use Rattle.row_requests.proofs.Soundness.{sound_inserts, sound_removes, sound_replaces, state_is}
 
@@ -75,6 +75,17 @@ removes_sound s lost k id was h x y sound g = let t = stands s.tables k h in sou
 pub rows_in_order : (s : Schema) (k : ℕ) → k < length s.tables → (x : Option Tables) → AreSound s x → IfSome x (λ (t : Tables). AreInIdOrder (state_at t.states k).rows)
 rows_in_order s k h None sound = tt
 rows_in_order s k h (Some t) sound = let u = stands s.tables k h in (state_is s.tables t.states k u.table sound u.is).rising
+
+-- .. each of 32 bits
+pub rows_numbered : (s : Schema) (k : ℕ) → k < length s.tables → (x : Option Tables) → AreSound s x → IfSome x (λ (t : Tables). AreNumbered (state_at t.states k))
+rows_numbered s k h None sound = tt
+rows_numbered s k h (Some t) sound =
+    let u = stands s.tables k h in
+    let is = state_is s.tables t.states k u.table sound u.is in
+    record { rising = is.rising; bounded = λ i d l. lower _ _ (is.given i d l) is.bounded }
+  where
+    lower : (a b : ℕ) → a ≤ b → b < 2 ^ 32 → a < 2 ^ 32
+    lower a b le lt = omega (arith, le, lt)
 
 -- the cells of a row that fits
 pub row_cells : (o : Option TableShape) (r : Row) → IsSomeAnd o (λ (t : TableShape). IsRowOf t r) → IsSomeAnd o (λ (t : TableShape). AreCellsOf t.columns r.cells)

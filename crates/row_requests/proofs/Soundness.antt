@@ -1,5 +1,5 @@
 -- Tables that fit a schema go on fitting it.
-use Rattle.std.proofs.Common.{◌≡◌, ℕ, zero, suc, ◌+◌, ◌≤◌, Bool, true, false, not, cond, List, [], ◌∷◌, set, Option, Some, None, sym, subst, arith}
+use Rattle.std.proofs.Common.{◌≡◌, ℕ, zero, suc, ◌+◌, ◌-◌, ◌^◌, ◌<◌, ◌≤◌, Bool, true, false, not, cond, List, [], ◌∷◌, set, Option, Some, None, sym, subst, arith}
 use Rattle.std.specs.Prelude.{slice_get, IfSome}
 use Rattle.std.specs.List.{All}
 use Rattle.std.proofs.lemmas.List.Elements.{All-append, All-cons, All-filter, All-map, All-nil, recursion_from_All}
@@ -12,20 +12,22 @@ use Rattle.fx_trees.specs.declared.schema.TableShape.{TableShape}
 use Rattle.row_queries.specs.TableRows.{AreCellsOf, IsRowOf}
 use Rattle.row_queries.specs.declared.rows.Row.{Row}
 use Rattle.row_keeper.specs.Changes.{Inserts, Removes, Replaces}
-use Rattle.row_keeper.specs.Tables.{AreStatesOf, IsStateOf, TableState, Tables, has_id, state_at, with_cells, with_row, without_row}
+use Rattle.row_keeper.specs.Tables.{AreStatesOf, IsStateOf, TableState, Tables, all_rows, has_id, state_at, with_cells, with_row, without_row}
 use Rattle.row_keeper.specs.declared.rows.Put.{Put}
 use Rattle.row_keeper.specs.declared.rows.Put.TheVariants.{Id, NoRow, Refused}
+use Rattle.row_keeper.proofs.PutLemmas.{has_room}
 use Rattle.row_keeper.proofs.RowLists.{changed, order_changed, order_less, order_more}
 use Rattle.row_requests.specs.Sound.{AreSound}
 
 -- ---- one table
 
-more : (t : TableShape) (s : TableState) (cells : List Data) → AreCellsOf t.columns cells → IsStateOf t s → IsStateOf t (with_row cells s)
-more t s cells fit is = record {
+more : (t : TableShape) (s : TableState) (cells : List Data) → AreCellsOf t.columns cells → s.last < 2 ^ 32 - 1 → IsStateOf t s → IsStateOf t (with_row cells s)
+more t s cells fit room is = record {
   fit = All-append (IsRowOf t) s.rows (new ∷ []) is.fit (All-cons (IsRowOf t) new [] (omega arith, fit) (All-nil (IsRowOf t)));
   rising = order_more s.last s.rows new (omega arith) (recursion_from_All (λ (r : Row). r.id ≤ s.last) s.rows is.given) is.rising;
   given = All-append (λ (r : Row). r.id ≤ s.last + 1) s.rows (new ∷ []) (higher s.rows is.given)
       (All-cons (λ (r : Row). r.id ≤ s.last + 1) new [] (omega arith) (All-nil (λ (r : Row). r.id ≤ s.last + 1)));
+  bounded = omega (arith, room);
 }
   where
     new : Row
@@ -53,6 +55,7 @@ other t s id cells fit is = record {
   fit = All-map (IsRowOf t) (changed id cells) s.rows (λ k d l. changed_fits t id cells fit _ (is.fit k d l));
   rising = order_changed id cells s.rows is.rising;
   given = All-map (λ (r : Row). r.id ≤ s.last) (changed id cells) s.rows (λ k d l. changed_below s.last id cells _ (is.given k d l));
+  bounded = is.bounded;
 }
 
 less : (t : TableShape) (s : TableState) (id : ℕ) → IsStateOf t s → IsStateOf t (without_row id s)
@@ -60,6 +63,7 @@ less t s id is = record {
   fit = All-filter (λ r. not (has_id id r)) (IsRowOf t) s.rows is.fit;
   rising = order_less (λ r. not (has_id id r)) s.rows is.rising;
   given = All-filter (λ r. not (has_id id r)) (λ (r : Row). r.id ≤ s.last) s.rows is.given;
+  bounded = is.bounded;
 }
 
 -- ---- all tables
@@ -100,7 +104,10 @@ pub sound_inserts : (s : Schema) (lost : Type 0) (columns : List Column) (k : �
 sound_inserts s lost columns k t cells put e fit x y h g = kept (λ (t : Tables). AreStatesOf s.tables t.states) lost (Inserts columns k cells put) (step put) x y h g
   where
     step : (put : Put) (a b : Tables) → AreStatesOf s.tables a.states → Inserts columns k cells put a b → AreStatesOf s.tables b.states
-    step (Id id) a b p q = subst (λ (w : Tables). AreStatesOf s.tables w.states) (sym q.2) (with_one s.tables a.states k t (with_row cells (state_at a.states k)) p e (more t (state_at a.states k) cells fit (state_is s.tables a.states k t p e)))
+    step (Id id) a b p q =
+        let is = state_is s.tables a.states k t p e in
+        let room = has_room columns (state_at a.states k) (all_rows a.states) cells q.0 is.bounded in
+        subst (λ (w : Tables). AreStatesOf s.tables w.states) (sym q.2) (with_one s.tables a.states k t (with_row cells (state_at a.states k)) p e (more t (state_at a.states k) cells fit room.0 is))
     step NoRow a b p q = absurd q
     step (Refused r) a b p q = subst (λ (w : Tables). AreStatesOf s.tables w.states) (sym q.1) p
 

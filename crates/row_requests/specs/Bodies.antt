@@ -1,16 +1,11 @@
 -- The bodies of requests that change rows.
-use Rattle.std.specs.Prelude.{ℕ, ◌==◌, ◌&&◌, nat_le, List, [], ◌∷◌, length, codes, bytes_eq, Option, Some, None, option_and_then, option_map, if◌then◌else◌}
-use Rattle.std.specs.Str.{is_utf8}
+use Rattle.std.specs.Prelude.{ℕ, ◌==◌, ◌&&◌, ◌≤◌, nat_le, List, [], ◌∷◌, length, codes, bytes_eq, Option, Some, None, option_and_then, option_map, if◌then◌else◌}
 use Rattle.serde_json.specs.Data as json
-use Rattle.serde_json.specs.Read.{read}
-use Rattle.row_requests.specs.GivenValues.{bytes_at, given_in, items_at, member_count, members_at, number_at, text_at}
+use Rattle.request_checks.specs.GivenValues.{bytes_at, items_at, member_count, members_at, number_at, text_at}
+use Rattle.row_requests.specs.GivenRows.{given_in}
 use Rattle.row_requests.specs.declared.bodies.Posted.{Posted}
 use Rattle.row_requests.specs.declared.bodies.Change.{Change}
 use Rattle.row_requests.specs.declared.bodies.Change.TheVariants.{Add, Replace, Remove}
-
--- the JSON that a body is, where it is one: a text in UTF-8, nested at most 127 deep
-abbrev pub json_of : List ℕ → Option json.Data
-json_of body = if is_utf8 body then read body else None
 
 -- `{"op":"add","table":..,"row":{..}}`
 abbrev pub added_in : json.Data → Option Change
@@ -54,3 +49,8 @@ posted_in d =
     if member_count d == 2 then
     option_and_then (λ seq. option_map (λ cs. record { seq = seq; changes = cs }) (option_and_then if_few (option_and_then changes_in (items_at (codes "changes") d)))) (number_at (codes "seq") d)
     else None
+
+-- few changes are posted, under a number from 1
+pub record IsSoundPost (p : Posted) : Type 0 where
+  pub number : 1 ≤ p.seq
+  pub few : length p.changes ≤ 1000

@@ -14,7 +14,7 @@ use Rattle.row_keeper.specs.declared.rows.RowRule.{RowRule}
 use Rattle.row_keeper.specs.declared.rows.RowRule.TheVariants as row
 use Rattle.view_text.specs.declared.refused.Detail.TheVariants as detail
 use Rattle.view_text.specs.declared.refused.Refusal.{Refusal}
-use Rattle.row_requests.specs.Replies.{plain}
+use Rattle.request_checks.specs.Replies.{plain}
 use Rattle.row_requests.specs.declared.rule.Rule.{Rule}
 use Rattle.row_requests.specs.declared.rule.Rule.TheVariants.{Column, ColumnType, Required, Unique, Size, Full}
 use Rattle.row_requests.specs.declared.bodies.Change.{Change}

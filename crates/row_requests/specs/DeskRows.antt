@@ -9,13 +9,18 @@ use Rattle.fx_trees.specs.declared.schema.TableShape.{TableShape}
 use Rattle.row_keeper.specs.Tables.{Tables}
 use Rattle.session_state.specs.Once.{Kept}
 use Rattle.view_text.specs.declared.refused.Refusal.{Refusal}
+use Rattle.row_requests.specs.Bodies.{posted_in}
 use Rattle.row_requests.specs.Changes.{perform}
-use Rattle.row_requests.specs.Checks.{desk_checks}
-use Rattle.row_requests.specs.Directory.{put}
-use Rattle.row_requests.specs.Replies.{refusal_reply}
+use Rattle.request_checks.specs.Checks.{checks, desk_of}
+use Rattle.request_checks.specs.Directory.{put}
+use Rattle.request_checks.specs.Replies.{refusal_reply}
 use Rattle.row_requests.specs.declared.bodies.Change.{Change}
 use Rattle.row_requests.specs.declared.bodies.Posted.{Posted}
-use Rattle.row_requests.specs.declared.directory.Named.{Named}
+use Rattle.request_checks.specs.declared.directory.Named.{Named}
+
+-- the checks of posted rows: JSON (9), its shape (10), a desk too many (12), and the number (13, 14, or the kept reply)
+abbrev pub desk_checks : List (Named Kept) → List ℕ → List ℕ → Result Posted (List ℕ)
+desk_checks desks name body = checks posted_in (λ (p : Posted). p.seq) (desk_of name desks) body
 
 -- what becomes of changes: the numbers of their rows, or why the first that is refused is
 abbrev pub Outcome : Type 0

@@ -5,11 +5,12 @@ use Rattle.fx_base.specs.Silence.{IsLost, Marks}
 use Rattle.fx_trees.specs.declared.schema.TableShape.{TableShape}
 use Rattle.row_keeper.specs.Tables.{Tables}
 use Rattle.session_state.specs.Once.{Kept}
-use Rattle.row_requests.specs.Bodies.{json_of, posted_in}
+use Rattle.request_checks.specs.Bodies.{json_of}
+use Rattle.row_requests.specs.Bodies.{posted_in}
 use Rattle.row_requests.specs.DeskRows.{PostsRows}
-use Rattle.row_requests.specs.Directory.{find}
+use Rattle.request_checks.specs.Directory.{find}
 use Rattle.row_requests.specs.declared.bodies.Posted.{Posted}
-use Rattle.row_requests.specs.declared.directory.Named.{Named}
+use Rattle.request_checks.specs.declared.directory.Named.{Named}
 
 -- this is kept of a desk: its last accepted request posted changes under the last number
 pub record IsLast (desks : List (Named Kept)) (name : List ℕ) (k : Kept) : Type 0 where

@@ -1,16 +1,11 @@
 pub mod Bodies
 pub mod Changes
-pub mod Checked
-pub mod Checks
 pub mod DeskRows
-pub mod Directory
 pub mod GivenRows
-pub mod GivenValues
 pub mod Laws
 pub mod Page
 pub mod PageRows
 pub mod Prepared
 pub mod Queries
-pub mod Replies
 pub mod Sound
 pub mod Steps

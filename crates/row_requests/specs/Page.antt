@@ -1,5 +1,5 @@
 -- Rows shown.
-use Rattle.std.specs.Prelude.{◌≡◌, ℕ, Bool, nat_lt, List, ◌∷◌, map, take, length, codes, encode_utf8_all, Option, Some, None}
+use Rattle.std.specs.Prelude.{◌≡◌, ℕ, ◌+◌, ◌≤◌, Bool, nat_lt, List, ◌∷◌, map, take, length, codes, encode_utf8_all, Option, Some, None, IfSome}
 use Rattle.std.specs.List.{filter}
 use Rattle.serde_json.specs.Data as json
 use Rattle.serde_json.specs.Data.{Members, array, member, no_members, object, put, unsigned}
@@ -14,7 +14,7 @@ use Rattle.row_queries.specs.declared.rows.Row.{Row}
 use Rattle.row_keeper.specs.Tables.{Tables, columns_at, state_at}
 use Rattle.view_text.specs.JsonText.{value_data}
 use Rattle.row_requests.specs.Changes.{place_of}
-use Rattle.row_requests.specs.Replies.{plain, refusal_reply}
+use Rattle.request_checks.specs.Replies.{plain, refusal_reply}
 
 -- the most rows of a page
 abbrev pub most_rows : ℕ
@@ -58,6 +58,14 @@ ShowsTable lost shapes (Some k) after tables said tables' =
 -- THE route
 abbrev pub ShowsPage : Type 0 → List TableShape → List ℕ → ℕ → Option Tables → List ℕ → Option Tables → Type 0
 ShowsPage lost shapes name after tables said tables' = ShowsTable lost shapes (place_of name shapes) after tables said tables'
+
+-- how many rows are visited: where the tables are told, none but those of greater numbers
+abbrev pub VisitsTable : Option ℕ → ℕ → Option Tables → ℕ → ℕ → Type 0
+VisitsTable None after told before now = now ≡ before
+VisitsTable (Some k) after told before now = IfSome told (λ (t : Tables). now ≤ before + length (past after (state_at t.states k).rows))
+
+abbrev pub VisitsPage : List TableShape → List ℕ → ℕ → Option Tables → ℕ → ℕ → Type 0
+VisitsPage shapes name after told before now = VisitsTable (place_of name shapes) after told before now
 
 -- the check that calls no keeper is passed
 abbrev pub ReachesPage : List TableShape → List ℕ → Type 0

@@ -1,7 +1,7 @@
 -- A reply that was made, with a copy of it to keep, before anything is settled.
 use Rattle.std.specs.Prelude.{◌≡◌, ℕ}
 use Rattle.row_requests.specs.DeskRows.{outcome_reply}
-use Rattle.row_requests.specs.Replies.{IsReply, said}
+use Rattle.request_checks.specs.Replies.{IsReply, said}
 use Rattle.row_requests.specs.declared.transaction.Prepared.{Prepared}
 
 pub record IsPrepared (seq : ℕ) (p : Prepared) : Type 0 where

@@ -8,7 +8,7 @@ use Rattle.row_keeper.specs.Tables.{Tables}
 use Rattle.view_text.specs.RefusalText.{Fits}
 use Rattle.view_text.specs.declared.refused.Refusal.{Refusal}
 use Rattle.row_requests.specs.Changes.{change_one, kept_refusal, perform}
-use Rattle.row_requests.specs.Replies.{plain}
+use Rattle.request_checks.specs.Replies.{plain}
 use Rattle.row_requests.specs.DeskRows.{Outcome}
 use Rattle.row_requests.specs.declared.bodies.Change.{Change}
 use Rattle.row_requests.specs.declared.changes.Changed.{Changed}

@@ -2,15 +2,15 @@
 ghost use Rattle.std.specs.Prelude.{◌≡◌, IfOk, IfSome, codes, option_and_then, option_map};
 ghost use Rattle.serde_json.specs.View.{items_view, members_view, view as json_view};
 ghost use Rattle.fx_data.specs.ValueView.{view};
-ghost use Rattle.row_requests.specs.Bodies.{added_in as added, change_by as by_operation, change_in as one_change, changes_in as all_changes, if_few as few_of, json_of as json_in_body, posted_in as posted, removed_in as removed, replaced_in as replaced};
-ghost use Rattle.row_requests.specs.Checked.{IsSoundPost};
+ghost use Rattle.row_requests.specs.Bodies.{added_in as added, change_by as by_operation, change_in as one_change, changes_in as all_changes, if_few as few_of, IsSoundPost, posted_in as posted, removed_in as removed, replaced_in as replaced};
 ghost use Rattle.row_requests.specs.Changes.{given_at, table_of};
-ghost use Rattle.row_requests.specs.GivenRows.{AreScalars, given_view};
-ghost use Rattle.row_requests.specs.GivenValues.{given_in as given_of_members, members_at as members_at_key};
+ghost use Rattle.row_requests.specs.GivenRows.{AreScalars, given_in as given_of_members, given_view};
+ghost use Rattle.request_checks.specs.GivenValues.{members_at as members_at_key};
 
-use crate::values::{items_at, member_count, members_at, number_at, text_at, value_in};
 use fx_base::{InOrder, Memory};
 use fx_data::{Value, Words};
+use request_checks::Body;
+use request_checks::values::{items_at, member_count, members_at, number_at, text_at, value_in};
 use serde_json::{Map, Value as Json};
 use std::alloc::Global;
 use std::marker::Model;
@@ -207,36 +207,32 @@ fn if_few(changes: Option<ChangeList>) -> Option<ChangeList>
     }
 }
 
-/// What JSON posts, if it has that shape.
-pub(crate) fn posted_in(alloc: Global, json: &Json) -> Result<Option<Posted>, Memory>
-    ensures posted { IfOk result (λ p. p ≡ posted (json_view json.now)) }
-    ensures sound { IfOk result (λ p. IfSome p IsSoundPost) }
-{
-    if member_count(json) != 2 {
-        return Ok(None);
-    }
-    let Some(seq) = number_at(json, "seq") else {
-        return Ok(None);
-    };
-    let Some(items) = items_at(json, "changes") else {
-        return Ok(None);
-    };
-    match if_few(changes_in(alloc, items)?) {
-        Some(changes) => Ok(Some(Posted { seq, changes })),
-        None => Ok(None),
-    }
-}
+impl Body for Posted {
+    ghost asked = { posted };
 
-/// The JSON that a body is, if it is one.
-pub(crate) fn json_of(alloc: Global, body: &[u8]) -> Result<Option<Json>, Memory>
-    ensures { IfOk result (λ j. option_map json_view j ≡ json_in_body body.now) }
-{
-    let Ok(text) = std::str::from_utf8(body) else {
-        return Ok(None);
-    };
-    match Json::from_str(alloc, text) {
-        Ok(json) => Ok(Some(json)),
-        Err(error) if error.is_memory() => Err(Memory),
-        Err(_) => Ok(None),
+    ghost number = { λ p. p.seq };
+
+    ghost sound = { IsSoundPost };
+
+    fn read(alloc: Global, json: &Json) -> Result<Option<Posted>, Memory> {
+        if member_count(json) != 2 {
+            return Ok(None);
+        }
+        let Some(seq) = number_at(json, "seq") else {
+            return Ok(None);
+        };
+        let Some(items) = items_at(json, "changes") else {
+            return Ok(None);
+        };
+        match if_few(changes_in(alloc, items)?) {
+            Some(changes) => Ok(Some(Posted { seq, changes })),
+            None => Ok(None),
+        }
     }
+
+    fn seq(&self) -> u32 {
+        self.seq
+    }
+
+    ghost counted = { λ p h. h.number };
 }

@@ -7,7 +7,7 @@ ghost use Rattle.fx_trees.specs.Lawful.{IsLawfulSchema};
 ghost use Rattle.row_keeper.specs.Causes.{HasCause};
 ghost use Rattle.row_keeper.specs.Tables.{columns_at, has_id, state_at};
 ghost use Rattle.row_requests.specs.Changes.{add_row, change_in_table, change_row, place_of as place_of_name, remove_row, row_of};
-ghost use Rattle.row_requests.specs.Replies.{plain};
+ghost use Rattle.request_checks.specs.Replies.{plain};
 ghost use Rattle.row_requests.specs.Sound.{AreSound};
 ghost use Rattle.row_requests.specs.Steps.{ChangesOne, Comes, HasDetail, came as came_of};
 

@@ -9,11 +9,12 @@ ghost use Rattle.fx_value.specs.Order.{IsScalar};
 ghost use Rattle.row_queries.specs.TableRows.{IsRowOf, id_value as id_value_of};
 ghost use Rattle.row_keeper.specs.Causes.{HasCause};
 ghost use Rattle.row_keeper.specs.Tables.{shapes_of};
-ghost use Rattle.row_requests.specs.Queries.{FindsRow, FindsRows, every as every_key, next_rows as next_rows_query, one_row as one_row_query, only as only_key};
+ghost use Rattle.row_requests.specs.Queries.{FindsRow, FindsRows, VisitsPast, after_key, beyond as beyond_key, next_rows as next_rows_query, one_row as one_row_query, only as only_key};
 
 use fx_base::{InOrder, Memory};
 use fx_data::{Cmp, Value};
 use fx_number::Num;
+use fx_value::keys_order;
 use row_keeper::{Keeper, KeeperEnd};
 use row_queries::{Key, KeyRange, Query, Row, Test, TestNode, asked_once};
 use std::alloc::Global;
@@ -31,18 +32,32 @@ fn id_value(id: u32) -> Value
     }
 }
 
+/// The first bytes after a key.
+fn end_of(alloc: Global, key: &Key) -> Result<Key, Memory>
+    ensures { IfOk result (λ k. k ≡ after_key key.now) }
+{
+    let mut bytes = Vec::from_slice(alloc, key.as_bytes())?;
+    bytes.push(0)?;
+    Ok(Key::from_bytes(bytes))
+}
+
 /// The range of a value's key alone.
 fn only(alloc: Global, value: &Value) -> Result<KeyRange, Memory>
     requires { IsScalar (view value.now) }
     ensures { IfOk result (λ r. r ≡ only_key (key_bytes (view value.now))) }
 {
     let from = Key::of(alloc, value)?;
-    let mut bytes = Vec::from_slice(alloc, from.as_bytes())?;
-    bytes.push(0)?;
-    Ok(KeyRange {
-        from,
-        upto: Some(Key::from_bytes(bytes)),
-    })
+    let upto = Some(end_of(alloc, &from)?);
+    Ok(KeyRange { from, upto })
+}
+
+/// The range of the keys after a value's.
+fn beyond(alloc: Global, value: &Value) -> Result<KeyRange, Memory>
+    requires { IsScalar (view value.now) }
+    ensures { IfOk result (λ r. r ≡ beyond_key (key_bytes (view value.now))) }
+{
+    let from = end_of(alloc, &Key::of(alloc, value)?)?;
+    Ok(KeyRange { from, upto: None })
 }
 
 /// A range as the only one.
@@ -77,16 +92,12 @@ fn one_row(alloc: Global, table: u16, id: u32) -> Result<Query, Memory>
 fn next_rows(alloc: Global, table: u16, after: u32) -> Result<Query, Memory>
     ensures { IfOk result (λ q. q ≡ next_rows_query table after) }
 {
-    let every = KeyRange {
-        from: Key::from_bytes(Vec::new(alloc)),
-        upto: None,
-    };
     Ok(Query {
         table,
         column: 0,
-        ranges: alone(alloc, every)?,
+        ranges: alone(alloc, beyond(alloc, &id_value(after))?)?,
         test: Test {
-            node: TestNode::Compare(Cmp::Gt, 0, id_value(after)),
+            node: TestNode::All,
         },
         order: None,
         take: Some(101),
@@ -131,13 +142,16 @@ pub(crate) fn find_rows<K: Keeper>(
     requires { IsSome (slice_get (shapes_of (K.shaped keeper.old)) table) }
     ensures found { IfOk result (λ rows. Goes (IsLost (K.marks keeper.old) (K.marks keeper.new)) (FindsRows table after rows.items) (K.told keeper.old) (K.told keeper.new)) }
     ensures fit { IfOk result (λ rows. IsSomeAnd (slice_get (shapes_of (K.shaped keeper.old)) table) (λ t. All (IsRowOf t) rows.items)) }
+    ensures visits { VisitsPast table after (K.told keeper.old) (K.visited keeper.old) (K.visited keeper.new) }
     ensures err { OnErr result (Goes (IsLost (K.marks keeper.old) (K.marks keeper.new)) Stays (K.told keeper.old) (K.told keeper.new)) }
     ensures cause { HasCause (K.marks keeper.old) (K.marks keeper.new) result }
     ensures mode { K.in_transaction keeper.new ≡ K.in_transaction keeper.old }
     ensures shaped { K.shaped keeper.new ≡ K.shaped keeper.old }
     ensures loan { K.loan keeper.new ≡ K.loan keeper.old }
 {
+    // Both are called for what they say: such rows are asked in that order, and their keys go as their numbers do.
     asked_once();
+    keys_order();
     let query = next_rows(alloc, table, after)?;
     match keeper.scan(&query) {
         Ok(answer) => Ok(answer.rows.into_items()),

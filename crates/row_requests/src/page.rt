@@ -9,17 +9,17 @@ ghost use Rattle.fx_trees.specs.Lawful.{IsLawfulSchema};
 ghost use Rattle.row_queries.specs.TableRows.{AreCellsOf};
 ghost use Rattle.row_keeper.specs.Causes.{HasCause};
 ghost use Rattle.row_keeper.specs.declared.keeper.KeeperEnd.TheVariants.{Failed};
-ghost use Rattle.row_requests.specs.Page.{ReachesPage, ShowsPage, page_data, page_reply as page_bytes, row_data, with_values};
+ghost use Rattle.row_requests.specs.Page.{ReachesPage, ShowsPage, VisitsPage, page_data, page_reply as page_bytes, row_data, with_values};
 ghost use Rattle.row_requests.specs.PageRows.{AreShown};
-ghost use Rattle.row_requests.specs.Replies.{IsReply, plain, refusal_reply, said};
+ghost use Rattle.request_checks.specs.Replies.{IsReply, plain, refusal_reply, said};
 ghost use Rattle.row_requests.specs.Sound.{AreSound};
 
 use crate::changes::{columns_of, table_place};
 use crate::finding::find_rows;
-use crate::reply::Reply;
 use fx_base::Memory;
 use fx_data::{Value, Words};
 use fx_trees::{Column, Schema};
+use request_checks::Reply;
 use row_keeper::{Keeper, KeeperEnd};
 use row_queries::Row;
 use serde_json::{Map, Value as Json, json};
@@ -99,6 +99,7 @@ pub fn show_page<K: Keeper>(
     ensures done { IfOk result (λ r. ShowsPage (IsLost (K.marks keeper.old) (K.marks keeper.new)) schema.now.tables table.now after (K.told keeper.old) (said r) (K.told keeper.new)) }
     ensures whole { IfOk result IsReply }
     ensures still { Goes (IsLost (K.marks keeper.old) (K.marks keeper.new)) Stays (K.told keeper.old) (K.told keeper.new) }
+    ensures visits { VisitsPage schema.now.tables table.now after (K.told keeper.old) (K.visited keeper.old) (K.visited keeper.new) }
     ensures reached { IsErrOf result Failed → ReachesPage schema.now.tables table.now }
     ensures cause { HasCause (K.marks keeper.old) (K.marks keeper.new) result }
     ensures idle { K.in_transaction keeper.new ≡ false }

@@ -7,16 +7,16 @@ ghost use Rattle.fx_trees.specs.Lawful.{IsLawfulSchema};
 ghost use Rattle.row_keeper.specs.Causes.{HasCause};
 ghost use Rattle.row_requests.specs.DeskRows.{Acts, accepted_data, accepted_reply as accepted_bytes, id_data, outcome_reply};
 ghost use Rattle.row_requests.specs.Prepared.{IsPrepared};
-ghost use Rattle.row_requests.specs.Replies.{IsReply, said};
+ghost use Rattle.request_checks.specs.Replies.{IsReply, said};
 ghost use Rattle.row_requests.specs.Sound.{AreSound};
 ghost use Rattle.row_requests.specs.Steps.{Performs, HaveDetail};
 
 use crate::bodies::{Change, Posted};
 use crate::changes::{Changed, change_one};
 use crate::end::settle;
-use crate::reply::Reply;
 use fx_base::{InOrder, Memory};
 use fx_trees::Schema;
+use request_checks::Reply;
 use row_keeper::{Keeper, KeeperEnd};
 use serde_json::{Value as Json, json};
 use std::alloc::Global;

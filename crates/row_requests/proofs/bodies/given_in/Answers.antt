@@ -1,9 +1,8 @@
 use Rattle.std.proofs.Common.{◌∙◌, ◌≡◌, ◌++◌, ap, subst, sym}
 use Rattle.std.proofs.lemmas.List.{append-nil}
 use Rattle.serde_json.specs.View.{members_view}
-use Rattle.row_requests.specs.GivenRows.{AreScalars, given_view}
-use Rattle.row_requests.specs.GivenValues.{given_in}
-use Rattle.row_requests.proofs.JsonValues.{given_scalars}
+use Rattle.row_requests.specs.GivenRows.{AreScalars, given_in, given_view}
+use Rattle.row_requests.proofs.GivenMembers.{given_scalars}
 use Rattle.row_requests.proofs.bodies.given_in.Goals as goal
 
 pub invariant_of-result : goal.invariant_of-result

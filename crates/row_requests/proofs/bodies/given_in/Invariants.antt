@@ -1,7 +1,6 @@
 use Rattle.std.proofs.Common.{◌≡◌, ◌++◌}
 use Rattle.serde_json.specs.View.{members_view}
-use Rattle.row_requests.specs.GivenRows.{given_view}
-use Rattle.row_requests.specs.GivenValues.{given_in}
+use Rattle.row_requests.specs.GivenRows.{given_in, given_view}
 use Rattle.row_requests.proofs.bodies.given_in.Given as goal
 
 abbrev pub invariant-loop-key : goal.invariant-loop-key

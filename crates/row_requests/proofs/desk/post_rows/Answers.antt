@@ -1,5 +1,5 @@
 use Rattle.std.proofs.Common.{◌≡◌, Ok, subst}
-use Rattle.row_requests.specs.Checks.{desk_checks}
+use Rattle.row_requests.specs.DeskRows.{desk_checks}
 use Rattle.row_requests.proofs.desk.post_rows.Goals as goal
 
 pub returns-in-Ok-Acts-clause-reached : goal.returns-in-Ok-Acts-clause-reached

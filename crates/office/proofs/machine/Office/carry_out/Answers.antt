@@ -1,7 +1,7 @@
 use Rattle.std.proofs.Common.{refl}
 use Rattle.std.proofs.lemmas.Result.{IfOk-weaker}
 use Rattle.app_wire.specs.Framing.{asked}
-use Rattle.row_requests.specs.Replies.{said}
+use Rattle.request_checks.specs.Replies.{said}
 use Rattle.office.proofs.Steps.{left_all, routed, unrouted, wrong_method}
 use Rattle.office.proofs.machine.Office.carry_out.Goals as goal
 
