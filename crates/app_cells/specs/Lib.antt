@@ -1,0 +1,2 @@
+pub mod Leaning
+pub mod Spots

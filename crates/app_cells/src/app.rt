@@ -1,0 +1,33 @@
+//! An accepted app.
+
+use crate::cell::Cell;
+use fx_base::InOrder;
+use fx_data::types::Ty;
+use fx_trees::{Core, Names, Sources};
+
+/// A formula of an accepted app.
+#[derive(Drop)]
+pub struct CellInfo {
+    /// The formula as it is written.
+    pub cell: Cell,
+    /// Its typed tree.
+    pub core: Core,
+    /// The type of the tree.
+    pub ty: Ty,
+    /// What the tree names, each once, in the order of sources.
+    pub reads: Sources,
+}
+
+/// An accepted app.
+#[derive(Drop)]
+pub struct App {
+    /// What its formulas may name, with the types that these have, and its tables, screens and controls.
+    pub names: Names,
+    /// Its formulas: named formulas by the order of their text, what runs at the start, and for each screen what runs when it
+    /// is shown, and the properties of its controls.
+    pub cells: InOrder<CellInfo>,
+    /// The numbers of all its formulas, each behind those that it leans on.
+    pub order: InOrder<u32>,
+    /// The most rows of a query that isn't delegated: 1 to 2,000.
+    pub limit: u32,
+}
