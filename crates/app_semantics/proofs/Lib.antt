@@ -1,0 +1,5 @@
+pub mod Typings
+pub mod Ordered
+pub mod CellTypes
+pub mod Given
+pub mod Freshness

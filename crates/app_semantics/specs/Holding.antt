@@ -1,0 +1,18 @@
+-- What a session holds fits the types that the names of its app give.
+use Rattle.std.specs.Prelude.{◌≡◌, true, Some}
+use Rattle.fx_data.specs.Types.{Shape}
+use Rattle.fx_trees.specs.SourceTypes.{sources}
+use Rattle.fx_trees.specs.declared.names.Names.{Names}
+use Rattle.fx_trees.specs.declared.sources.Source.{Source}
+use Rattle.fx_value.specs.Fits.{fits_in}
+use Rattle.session_state.specs.Changes.{FitsNames, IsOwn}
+use Rattle.session_state.specs.Sessions.{Holds, SessionState, held}
+
+-- each source that is a session's own and has a type is held, with a value that fits it
+pub record HoldsFitting (n : Names) (s : SessionState) : Type 0 where
+  pub sources_held : (x : Source) (t : Shape) → IsOwn x → sources n x ≡ Some t → Holds s x
+  pub values_fit : (x : Source) (t : Shape) → IsOwn x → sources n x ≡ Some t → fits_in (held s x) t ≡ true
+
+-- a session that fits an app's names holds what fits them
+abbrev pub FittingHolds : Type 0
+FittingHolds = (n : Names) (s : SessionState) → FitsNames n s → HoldsFitting n s

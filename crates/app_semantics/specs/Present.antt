@@ -1,0 +1,66 @@
+-- What the formulas of an app are evaluated over, and what their sources then give.
+use Rattle.std.specs.Prelude.{◌≡◌, ℕ, pos, List, false, Option, Some, None, slice_get, slice_index_or}
+use Rattle.app_cells.specs.Leaning.{default_cell, items_cell}
+use Rattle.app_cells.specs.declared.app.App.{App}
+use Rattle.app_semantics.specs.Chosen.{chosen_of}
+use Rattle.fx_data.specs.Values.{Data, blank, number, boolean, tab, no_rows}
+use Rattle.fx_data.specs.declared.controls.Control.TheVariants as control
+use Rattle.fx_data.specs.declared.controls.Control.{Control}
+use Rattle.fx_scalar.specs.ScalarFunctions.{IsToday}
+use Rattle.fx_trees.specs.declared.names.ControlName.{ControlName}
+use Rattle.fx_trees.specs.declared.names.Names.{Names}
+use Rattle.fx_trees.specs.declared.sources.Source.{Source}
+use Rattle.fx_trees.specs.declared.sources.Source.TheVariants as source
+use Rattle.session_state.specs.Sessions.{SessionState, held}
+
+-- an app, a session of it, and a moment in seconds since 1970-01-01 UTC
+pub record Present : Type 0 where
+  pub app : App
+  pub session : SessionState
+  pub moment : ℕ
+
+abbrev pub present : App → SessionState → ℕ → Present
+present a s m = record { app = a; session = s; moment = m }
+
+-- the value of a cell, and another one where there is no cell
+abbrev pub value_or : (ℕ → Data) → Data → Option ℕ → Data
+value_or values d (Some k) = values k
+value_or values d None = d
+
+-- the value of an input to which neither a user nor a formula gave one
+abbrev pub unset : Control → Data
+unset control.Slider = number (pos 0)
+unset control.Checkbox = boolean false
+unset c = blank
+
+abbrev pub unset_at : Option ControlName → Data
+unset_at (Some c) = unset c.kind
+unset_at None = blank
+
+-- what a user gave, which is never blank, and another value where a user gave nothing
+abbrev pub given_or : Data → Data → Data
+given_or blank d = d
+given_or v d = v
+
+-- the value of an input: the user's, else that of the formula of its default, else that of its kind
+abbrev pub input_of : Names → SessionState → (ℕ → Data) → ℕ → Data
+input_of n s values k = given_or (held s (source.Input k)) (value_or values (unset_at (slice_get n.controls k)) (default_cell n k))
+
+-- the items of a gallery: the value of their formula, and no rows without one
+abbrev pub items_of : Names → (ℕ → Data) → ℕ → Data
+items_of n values g = value_or values (tab no_rows) (items_cell n g)
+
+-- the chosen item of a gallery
+abbrev pub selected_of : Names → SessionState → (ℕ → Data) → ℕ → Data
+selected_of n s values g = chosen_of (slice_index_or s.chosen g None) (items_of n values g)
+
+-- WHAT A SOURCE GIVES, where cells have these values. No formula names a table yet: a table gives nothing.
+abbrev pub Gives : Present → (ℕ → Data) → Source → Data → Type 0
+Gives p values (source.Cell k) v = v ≡ values k
+Gives p values (source.Global k) v = v ≡ held p.session (source.Global k)
+Gives p values (source.Context k) v = v ≡ held p.session (source.Context k)
+Gives p values (source.Gathered k) v = v ≡ held p.session (source.Gathered k)
+Gives p values (source.Input k) v = v ≡ input_of p.app.names p.session values k
+Gives p values (source.Chosen k) v = v ≡ selected_of p.app.names p.session values k
+Gives p values (source.Table k) v = ⊥
+Gives p values source.Today v = IsToday p.moment v

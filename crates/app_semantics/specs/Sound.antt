@@ -1,0 +1,56 @@
+-- What holds of an accepted app.
+use Rattle.std.specs.Prelude.{◌≡◌, ◌↔◌, ℕ, List, [], length, Bool, false, Option, Some, None, slice_get}
+use Rattle.app_cells.specs.Leaning.{edges_of}
+use Rattle.app_cells.specs.declared.app.App.{App}
+use Rattle.app_cells.specs.declared.app.CellInfo.{CellInfo}
+use Rattle.depend_graph.specs.Order.{IsOrder}
+use Rattle.fx_data.specs.TypeView.{shape}
+use Rattle.fx_data.specs.Types.{Shape}
+use Rattle.fx_semantics.specs.Sound.{IsLawfulContext, IsLawfulTree}
+use Rattle.fx_trees.specs.Lawful.{IsLawful}
+use Rattle.fx_trees.specs.Reads.{IsAmong, sources_in}
+use Rattle.fx_trees.specs.SourceTypes.{property_of, sources}
+use Rattle.fx_trees.specs.declared.names.ControlName.{ControlName}
+use Rattle.fx_trees.specs.declared.names.FormulaName.{FormulaName}
+use Rattle.fx_trees.specs.declared.names.Names.{Names}
+use Rattle.fx_trees.specs.declared.names.Property.{Property}
+use Rattle.fx_trees.specs.declared.sources.Source.{Source}
+use Rattle.fx_trees.specs.declared.sources.Source.TheVariants as source
+use Rattle.fx_typing.specs.Acts.{acts}
+use Rattle.fx_typing.specs.Typing.{item_of}
+use Rattle.fx_typing.specs.WellTyped.{Context, IsTyped}
+
+-- where the tree of a formula stands: among the names of the app, and perhaps in a gallery
+abbrev pub context_at : Names → Option ℕ → Context
+context_at n gallery = record { sources = sources n; screens = length n.screens; rows = []; item = item_of n gallery; caught = false }
+
+-- a formula that doesn't act is a lawful tree, among lawful types, and nothing in it acts
+pub record IsCalm (n : Names) (c : CellInfo) : Type 0 where
+  pub context : IsLawfulContext (context_at n c.cell.item)
+  pub lawful : IsLawfulTree c.core
+  pub quiet : acts c.core ≡ false
+
+-- A formula has its type where it stands. It reads what stands in its tree, which is no table.
+pub record IsSoundCell (n : Names) (c : CellInfo) : Type 0 where
+  pub typed : IsTyped (context_at n c.cell.item) c.core (shape c.ty)
+  pub calm : c.cell.acts ≡ false → IsCalm n c
+  pub reads : (s : Source) → IsAmong s c.reads ↔ IsAmong s (sources_in c.core)
+  pub no_tables : (k : ℕ) → ¬ IsAmong (source.Table k) c.reads
+
+-- the cell of this number has a formula that doesn't act, sees the item of this gallery, if any, and has this type
+pub record IsCellOf (cells : List CellInfo) (k : ℕ) (gallery : Option ℕ) (t : Shape) : Type 0 where
+  pub cell : CellInfo
+  pub there : slice_get cells k ≡ Some cell
+  pub quiet : cell.cell.acts ≡ false
+  pub item : cell.cell.item ≡ gallery
+  pub ty : shape cell.ty ≡ t
+
+-- AN ACCEPTED APP: its names are lawful and those of its cells, each formula has its type, and the order is one of leaning.
+pub record IsSound (a : App) : Type 0 where
+  pub names : IsLawful a.names
+  pub cells : (k : ℕ) (c : CellInfo) → slice_get a.cells k ≡ Some c → IsSoundCell a.names c
+  pub formulas : (i : ℕ) (f : FormulaName) → slice_get a.names.formulas i ≡ Some f → IsCellOf a.cells f.cell None (shape f.ty)
+  pub properties : (i : ℕ) (p : Property) (c : ControlName) (t : Shape) →
+      slice_get a.names.properties i ≡ Some p → slice_get a.names.controls p.control ≡ Some c → property_of p.name c ≡ Some t →
+      IsCellOf a.cells p.cell c.gallery t
+  pub order : IsOrder (length a.cells) (edges_of a.names a.cells) a.order

@@ -1,0 +1,6 @@
+//! What the formulas of an app are worth. This crate has definitions and laws alone.
+#![tactic(auto)]
+
+pub mod laws;
+
+pub use laws::{fitting_holds, fresh_fits, one_fresh};
