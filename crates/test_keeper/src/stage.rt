@@ -20,7 +20,7 @@ pub struct Stage {
 }
 
 /// Why a call gave no answer.
-fn end(alloc: Global, end: KeeperEnd) -> Result<String, Memory> {
+pub fn end(alloc: Global, end: KeeperEnd) -> Result<String, Memory> {
     match end {
         KeeperEnd::Memory => Ok(String::from_str(alloc, "no memory")?),
         KeeperEnd::Failed => Ok(String::from_str(alloc, "failed")?),
@@ -42,7 +42,7 @@ fn refused(alloc: Global, refusal: RowRefusal) -> Result<String, Memory> {
 }
 
 /// What became of a row.
-fn put(alloc: Global, put: Result<Put, KeeperEnd>) -> Result<String, Memory> {
+pub fn put(alloc: Global, put: Result<Put, KeeperEnd>) -> Result<String, Memory> {
     match put {
         Ok(Put::Id(id)) => Ok(format!(in alloc; "row {id}")?),
         Ok(Put::NoRow) => Ok(String::from_str(alloc, "no row")?),
@@ -52,7 +52,7 @@ fn put(alloc: Global, put: Result<Put, KeeperEnd>) -> Result<String, Memory> {
 }
 
 /// How a call ended that answers nothing.
-fn done(alloc: Global, done: Result<(), KeeperEnd>) -> Result<String, Memory> {
+pub fn done(alloc: Global, done: Result<(), KeeperEnd>) -> Result<String, Memory> {
     match done {
         Ok(()) => Ok(String::from_str(alloc, "done")?),
         Err(why) => end(alloc, why),
@@ -114,6 +114,23 @@ pub fn back(alloc: Global, keeper: &mut MemoryKeeper, stage: &mut Stage) -> Resu
     }
     keeper.back();
     stage.is_begun = false;
+    done(alloc, Ok(()))
+}
+
+/// Passes over the numbers up to this one.
+pub fn skip(
+    alloc: Global,
+    keeper: &mut MemoryKeeper,
+    stage: Stage,
+    number: u32,
+) -> Result<String, Memory>
+    requires { IsInStep stage.is_shaped stage.is_begun keeper.old }
+    ensures { IsInStep stage.is_shaped stage.is_begun keeper.new }
+{
+    if !stage.is_begun {
+        return Ok(String::from_str(alloc, "not now")?);
+    }
+    keeper.skip_to(number);
     done(alloc, Ok(()))
 }
 
@@ -263,7 +280,7 @@ pub fn total(
 }
 
 /// Rows in a line.
-fn listed(alloc: Global, rows: &[Row]) -> Result<String, Memory> {
+pub fn listed(alloc: Global, rows: &[Row]) -> Result<String, Memory> {
     let mut line = format!(in alloc; "{} rows", rows.len())?;
     for row in rows {
         line.push_str("; ")?;

@@ -1,0 +1,111 @@
+// Calls of a keeper, as lines say them.
+
+use fx_base::Memory;
+use fx_number::{Num, read};
+use std::alloc::Global;
+
+/// What a line says.
+#[derive(Clone, Copy, Debug)]
+pub enum Call<'l> {
+    /// A new keeper is taken, whose calls of the numbers in the text fail.
+    New(&'l str),
+    Shape,
+    Begin,
+    Commit,
+    Back,
+    /// The numbers up to this one are passed over.
+    Skip(u32),
+    /// A row of a name and a quantity is put, or put over that of a number.
+    Insert(&'l str, Option<Num>),
+    Replace(u32, &'l str, Option<Num>),
+    Remove(u32),
+    Ask(Ask),
+    /// How many rows were visited.
+    Seen,
+    Nothing,
+}
+
+/// What is asked, of the rows of at least a quantity or, for a page, a number; at most so many.
+#[derive(Clone, Copy, Debug)]
+pub struct Ask {
+    pub of: Asked,
+    pub least: Option<Num>,
+    pub most: Option<u32>,
+}
+
+/// What is asked.
+#[derive(Clone, Copy, Debug)]
+pub enum Asked {
+    Rows,
+    Count,
+    Total,
+    Page,
+    /// The rows of a page that have no quantity.
+    Blanks,
+}
+
+impl<'l> Call<'l> {
+    /// The call that a line says.
+    pub fn of(line: &'l str) -> Call<'l> {
+        let (call, rest) = line.split_once(' ').unwrap_or((line, ""));
+        match call {
+            "new" => Call::New(rest),
+            "shape" => Call::Shape,
+            "begin" => Call::Begin,
+            "commit" => Call::Commit,
+            "back" => Call::Back,
+            "skip" => Call::Skip(number(rest)),
+            "insert" => insert(rest),
+            "replace" => replace(rest),
+            "remove" => Call::Remove(number(rest)),
+            "rows" => Call::Ask(question(Asked::Rows, rest)),
+            "count" => Call::Ask(question(Asked::Count, rest)),
+            "total" => Call::Ask(question(Asked::Total, rest)),
+            "page" => Call::Ask(question(Asked::Page, rest)),
+            "blanks" => Call::Ask(question(Asked::Blanks, rest)),
+            "seen" => Call::Seen,
+            _ => Call::Nothing,
+        }
+    }
+}
+
+fn insert(rest: &str) -> Call {
+    let (first, second) = rest.split_once(' ').unwrap_or((rest, ""));
+    Call::Insert(name(first), read(second))
+}
+
+fn replace(rest: &str) -> Call {
+    let (first, rest) = rest.split_once(' ').unwrap_or((rest, ""));
+    let (second, third) = rest.split_once(' ').unwrap_or((rest, ""));
+    Call::Replace(number(first), name(second), read(third))
+}
+
+fn question(of: Asked, rest: &str) -> Ask {
+    let (least, most) = rest.split_once(' ').unwrap_or((rest, ""));
+    Ask {
+        of,
+        least: read(least),
+        most: most.parse::<u32>().ok(),
+    }
+}
+
+/// A name; `-` is the empty one.
+fn name(text: &str) -> &str {
+    if text == "-" { "" } else { text }
+}
+
+/// A row's number; 0 has no row.
+fn number(text: &str) -> u32 {
+    text.parse::<u32>().unwrap_or(0)
+}
+
+/// Numbers in a text.
+pub fn numbers(alloc: Global, text: &str) -> Result<Vec<u64>, Memory> {
+    let mut numbers = Vec::new(alloc);
+    for part in text.split(' ') {
+        if let Ok(number) = part.parse::<u64>() {
+            numbers.push(number)?;
+        }
+    }
+    Ok(numbers)
+}
