@@ -23,6 +23,8 @@ pub struct Row {
     pub one: bool,
     /// The name of a table without columns that the keeper has been shaped by, or nothing.
     pub kept: String,
+    /// The last number that this table gave, 0 at first.
+    pub last: u32,
     pub file_fails: Vec<u64>,
     pub sink_fails: Vec<u64>,
     pub door_fails: Vec<u64>,
@@ -43,6 +45,7 @@ impl Row {
             piece: 4096,
             one: false,
             kept: String::new(alloc),
+            last: 0,
             file_fails: Vec::new(alloc),
             sink_fails: Vec::new(alloc),
             door_fails: Vec::new(alloc),
@@ -68,6 +71,7 @@ impl Row {
             "door_fails" => self.door_fails = numbers(alloc, text)?,
             "keeper_fails" => self.keeper_fails = numbers(alloc, text)?,
             "kept" => self.kept = String::from_str(alloc, text)?,
+            "last" => self.last = text.parse::<u32>().unwrap_or(0),
             _ => return Ok(false),
         }
         Ok(true)

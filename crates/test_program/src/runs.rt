@@ -85,7 +85,7 @@ fn status<L: Ledger>(
     .0
 }
 
-/// The keeper of a row. Where it has been shaped, that took its first two calls.
+/// The keeper of a row. Where it has been shaped, that took its first two calls, or four.
 fn keeper(alloc: Global, row: &Row) -> Result<MemoryKeeper, AllocError>
     ensures { IfOk result (λ keeper. keeper.store.is_begun ≡ false) }
 {
@@ -94,14 +94,19 @@ fn keeper(alloc: Global, row: &Row) -> Result<MemoryKeeper, AllocError>
     if row.kept.is_empty() {
         return Ok(keeper);
     }
-    match shape_by(alloc, &mut keeper, &row.kept) {
+    match shape_by(alloc, &mut keeper, &row.kept, row.last) {
         Ok(()) => Ok(keeper),
         Err(_) => Err(AllocError),
     }
 }
 
-/// Shapes a keeper by one table of a name, without columns.
-fn shape_by(alloc: Global, keeper: &mut MemoryKeeper, table: &str) -> Result<(), KeeperEnd>
+/// Shapes a keeper by one table of a name, without columns, which gave numbers up to the last.
+fn shape_by(
+    alloc: Global,
+    keeper: &mut MemoryKeeper,
+    table: &str,
+    last: u32,
+) -> Result<(), KeeperEnd>
     requires { keeper.old.store.is_begun ≡ false }
     ensures { keeper.new.store.is_begun ≡ false }
 {
@@ -111,7 +116,12 @@ fn shape_by(alloc: Global, keeper: &mut MemoryKeeper, table: &str) -> Result<(),
     tables.push(TableShape { name, columns })?;
     keeper.attach("")?;
     keeper.shape(&Schema { tables })?;
-    Ok(())
+    if last == 0 {
+        return Ok(());
+    }
+    keeper.begin()?;
+    keeper.skip_to(last);
+    keeper.commit()
 }
 
 /// The one file of a row.
