@@ -4,9 +4,9 @@
     bench/rows.py [PFX]
 
 PFX is the built program, ./pfx where none is given. Over tables of 25,000 to 200,000 rows a desk adds the rows in
-requests of 1,000 changes, then 100 pages are read at places that chance gives, then 10,000 rows are changed, each by a
-request of its own. Each part is told in seconds for both, with the bytes of memory that a row takes. The pages are few,
-since each looks at all rows before it by now.
+requests of 1,000 changes, then 10,000 pages are read at places that chance gives, then 10,000 rows are changed, each by a
+request of its own. Each part is told in seconds for both, with the bytes of memory that a row takes. A table of 200,000
+rows must take no further one.
 """
 import json
 import os
@@ -21,7 +21,7 @@ TOP = os.path.dirname(os.path.dirname(os.path.abspath(__file__)))
 PROGRAM = sys.argv[1] if len(sys.argv) > 1 else f"{TOP}/pfx"
 COLUMNS = [{"name": "Name", "type": "Text", "required": True, "unique": True}, {"name": "Qty", "type": "Number", "indexed": True}]
 APP = {"format": "pfx-1", "tables": [{"name": "Stock", "columns": COLUMNS}], "formulas": "", "screens": [{"name": "Home", "controls": []}]}
-ROWS, LOOKS, CHANGES, BATCH = 200_000, 100, 10_000, 1_000
+ROWS, LOOKS, CHANGES, BATCH = 200_000, 10_000, 10_000, 1_000
 
 
 def post(seq, changes):
@@ -46,19 +46,20 @@ def changing(rows, first, chance):
     return [post(first + place, [{"op": "change", "table": "Stock", "id": it, "row": {"Qty": place % 100}}]) for place, it in enumerate(ids)]
 
 
-def replay(app, requests):
-    """Returns the seconds and the greatest memory, in bytes, of a run that answers the requests, all of which must be accepted."""
+def replay(app, requests, refused=()):
+    """Returns the seconds and the greatest memory, in bytes, of a run that accepts the requests and refuses those behind them."""
     with tempfile.TemporaryFile() as stream, tempfile.TemporaryFile() as replies:
-        stream.writelines(requests)
+        stream.writelines([*requests, *refused])
         stream.seek(0)
         began = time.monotonic()
         made = subprocess.Popen([PROGRAM, "replay", app], stdin=stream, stdout=replies)
         _, status, used = os.wait4(made.pid, 0)
         took = time.monotonic() - began
         replies.seek(0)
-        accepted = replies.read().count(b"HTTP/1.1 200 OK")
-    if status or accepted != len(requests):
-        sys.exit(f"{accepted} of {len(requests)} requests were accepted, and the run ended with {status}")
+        told = replies.read()
+        accepted, full = (told.count(it) for it in (b"HTTP/1.1 200 OK", b'"rule":"full"'))
+    if status or (accepted, full) != (len(requests), len(refused)):
+        sys.exit(f"{accepted} of {len(requests)} requests were accepted, {full} found no room, and the run ended with {status}")
     return took, used.ru_maxrss * 1024
 
 
@@ -91,7 +92,7 @@ def measure(app, rows):
     chance = random.Random(rows)
     add, look, change = adding(rows), looking(rows, chance), changing(rows, rows // BATCH + 1, chance)
     empty, least = replay(app, [])
-    adds, most = replay(app, add)
+    adds, most = replay(app, add, [post(rows // BATCH + 1, [added(rows + 1)])] if rows == ROWS else [])
     looks, _ = replay(app, add + look)
     changes, _ = replay(app, add + change)
     return (adds - empty, looks - adds, changes - adds), (most - least) // rows
