@@ -1,7 +1,9 @@
 pub mod Walks
-pub mod Given
+pub mod NameSteps
 pub mod ThingSteps
 pub mod BreakSteps
-pub mod Lawful
+pub mod TwiceSteps
+pub mod Screens
+pub mod LawfulNames
 mod Differing
 mod Tested

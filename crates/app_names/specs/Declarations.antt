@@ -1,21 +1,27 @@
 -- The variables and collections that formulas declare by giving them a value.
-use Rattle.std.specs.Prelude.{ℕ, ◌++◌, List, [], ◌∷◌, Bool, true, false, ◌&&◌, not, Option, Some, None, option_map, bytes_eq, encode_utf8_all, if◌then◌else◌}
+use Rattle.std.specs.Prelude.{ℕ, ◌++◌, List, [], ◌∷◌, Bool, true, false, ◌&&◌, not, Option, Some, None, option_map, map, flat_map, bytes_eq, encode_utf8_all, if◌then◌else◌}
 use Rattle.std.specs.List.{filter, list_any}
 use Rattle.fx_trees.specs.declared.functions.Acting.TheVariants as acts
 use Rattle.fx_trees.specs.declared.signatures.SigShape.{SigShape}
 use Rattle.fx_trees.specs.declared.signatures.SigShape.TheVariants as sig
 use Rattle.fx_trees.specs.declared.signatures.Signature.{Signature}
 use Rattle.fx_trees.specs.Signatures.{signature_in}
-use Rattle.fx_parser.specs.declared.entries.Named.{Named}
+use Rattle.fx_trees.specs.declared.names.ControlName.{ControlName}
+use Rattle.fx_trees.specs.declared.schema.TableShape.{TableShape}
+use Rattle.fx_typing.specs.Rounds.{is_same_screen}
+use Rattle.app_cells.specs.declared.cell.Cell.{Cell}
+use Rattle.app_cells.specs.declared.cell.Spot.{Spot}
+use Rattle.app_cells.specs.declared.cell.Spot.TheVariants as spot
+use Rattle.app_cells.specs.declared.frame.Frame.{Frame}
 use Rattle.fx_trees.specs.Tree.{Tree, node, Forest, none, more, Head}
 use Rattle.fx_trees.specs.Tree as tree
 use Rattle.app_names.specs.declared.declarations.Declared.{Declared}
 use Rattle.app_names.specs.declared.declarations.Thing.{Thing}
 use Rattle.app_names.specs.declared.declarations.Thing.TheVariants as thing
 
--- what a function declares: `Set` a variable, and `Collect` and `ClearCollect` a collection
+-- what a function declares that names its target: `Set` a global variable, and `Collect` and `ClearCollect` a collection
 abbrev pub declared_by : Option SigShape → Option Thing
-declared_by (Some (sig.Act acts.Set)) = Some thing.Variable
+declared_by (Some (sig.Act acts.Set)) = Some (thing.Variable None)
 declared_by (Some (sig.Act acts.Collect)) = Some thing.Collection
 declared_by (Some (sig.Act acts.ClearCollect)) = Some thing.Collection
 declared_by s = None
@@ -34,30 +40,52 @@ abbrev pub declaration : Option Thing → Option (List ℕ × ℕ) → List Decl
 declaration (Some k) (Some named) = record { thing = k; name = named.0; at = named.1 } ∷ []
 declaration k named = []
 
-abbrev pub declared_at : List Signature → Head → Forest → List Declared
-declared_at functions (tree.call f) ts = declaration (declared_by (called_as functions f)) (first_name ts)
-declared_at functions h ts = []
+-- Fields of a record are variables of a screen. A field's name has no byte of its own in a tree: it is told at its value.
+abbrev pub begin_of : Tree → ℕ
+begin_of (node at h ts) = at
+
+abbrev pub variables_in : ℕ → List (List ℕ) → Forest → List Declared
+variables_in s (x ∷ xs) (more t ts) = record { thing = thing.Variable (Some s); name = x; at = begin_of t } ∷ variables_in s xs ts
+variables_in s xs ts = []
+
+-- what the first part of `UpdateContext` declares on a screen
+abbrev pub declared_by_record : ℕ → Forest → List Declared
+declared_by_record s (more (node at (tree.rec xs) ts) ks) = variables_in s xs ts
+declared_by_record s ts = []
+
+-- `UpdateContext` declares variables of the formula's screen
+abbrev pub declared_on : Option ℕ → Option SigShape → Forest → List Declared
+declared_on (Some s) (Some (sig.Act acts.UpdateContext)) ts = declared_by_record s ts
+declared_on screen shape ts = declaration (declared_by shape) (first_name ts)
+
+abbrev pub declared_at : List Signature → Option ℕ → Head → Forest → List Declared
+declared_at functions screen (tree.call f) ts = declared_on screen (called_as functions f) ts
+declared_at functions screen h ts = []
 
 abbrev mutual
-  -- what a tree declares, by the functions of a table: a node before its parts
-  pub declared_in : List Signature → Tree → List Declared
-  declared_in functions (node at h ts) = declared_at functions h ts ++ declared_among functions ts
+  -- what a tree declares, by the functions of a table and on a screen: a node before its parts
+  pub declared_in : List Signature → Option ℕ → Tree → List Declared
+  declared_in functions screen (node at h ts) = declared_at functions screen h ts ++ declared_among functions screen ts
 
-  pub declared_among : List Signature → Forest → List Declared
-  declared_among functions none = []
-  declared_among functions (more t ts) = declared_in functions t ++ declared_among functions ts
+  pub declared_among : List Signature → Option ℕ → Forest → List Declared
+  declared_among functions screen none = []
+  declared_among functions screen (more t ts) = declared_in functions screen t ++ declared_among functions screen ts
 
--- one of these formulas has this name
-abbrev pub is_formula : List Named → List ℕ → Bool
-is_formula ns x = list_any (λ (n : Named). bytes_eq n.name x) ns
+-- a global thing: a variable of no screen, or a collection
+abbrev pub is_global : Thing → Bool
+is_global (thing.Variable (Some s)) = false
+is_global k = true
 
--- what a formula declares: never a name that formulas have
-abbrev pub declared_of : List Signature → (List ℕ → Bool) → Named → List Declared
-declared_of functions formulas n = filter (λ (d : Declared). not (formulas d.name)) (declared_in functions n.expr)
+-- What a formula declares: never a global thing with a name that tables, screens, controls or named formulas have.
+abbrev pub is_declared : (List ℕ → Bool) → Declared → Bool
+is_declared given d = not (is_global d.thing && given d.name)
 
--- a variable and a collection of one name are two things
+abbrev pub declared_of : List Signature → (List ℕ → Bool) → Cell → List Declared
+declared_of functions given c = filter (is_declared given) (declared_in functions c.screen c.expr)
+
+-- a variable and a collection of one name are two things, and so are variables of two screens
 abbrev pub is_kind : Thing → Thing → Bool
-is_kind thing.Variable thing.Variable = true
+is_kind (thing.Variable s) (thing.Variable r) = is_same_screen s r
 is_kind thing.Collection thing.Collection = true
 is_kind k l = false
 
@@ -71,10 +99,31 @@ new_behind before (d ∷ ds) =
     if list_any (is_thing d) before then new_behind before ds else d ∷ new_behind (before ++ d ∷ []) ds
 
 -- all things that cells declare behind these, in the order of their first declaration
-abbrev pub things_behind : List Signature → (List ℕ → Bool) → List Declared → List Named → List Declared
-things_behind functions formulas before [] = before
-things_behind functions formulas before (n ∷ ns) =
-    things_behind functions formulas (before ++ new_behind before (declared_of functions formulas n)) ns
+abbrev pub things_behind : List Signature → (List ℕ → Bool) → List Declared → List Cell → List Declared
+things_behind functions given before [] = before
+things_behind functions given before (c ∷ cs) =
+    things_behind functions given (before ++ new_behind before (declared_of functions given c)) cs
 
-abbrev pub things_of : List Signature → List Named → List Declared
-things_of functions cells = things_behind functions (is_formula cells) [] cells
+-- the names that no variable and no collection may have: of tables, screens, controls and named formulas
+abbrev pub own_names : Spot → List (List ℕ)
+own_names (spot.Formula x) = x ∷ []
+own_names s = []
+
+abbrev pub formula_names : List Cell → List (List ℕ)
+formula_names cs = flat_map (λ (c : Cell). own_names c.spot) cs
+
+abbrev pub table_names : Frame → List (List ℕ)
+table_names f = map (λ (t : TableShape). t.name) f.schema.tables
+
+abbrev pub control_names : Frame → List (List ℕ)
+control_names f = map (λ (c : ControlName). c.name) f.controls
+
+abbrev pub given_names : Frame → List Cell → List (List ℕ)
+given_names f cs = table_names f ++ (f.screens ++ (control_names f ++ formula_names cs))
+
+-- one of these names is this
+abbrev pub is_among : List (List ℕ) → List ℕ → Bool
+is_among xs x = list_any (λ y. bytes_eq y x) xs
+
+abbrev pub things_of : List Signature → Frame → List Cell → List Declared
+things_of functions f cells = things_behind functions (is_among (given_names f cells)) [] cells

@@ -1,5 +1,5 @@
 -- Trees of formulas, and the names in a set.
-use Rattle.std.specs.Prelude.{ℕ, Bool, List}
+use Rattle.std.specs.Prelude.{ℕ, Bool, List, Option}
 use Rattle.std.specs.BTreeSet.{BTreeSet, contains}
 use Rattle.std.specs.Cmp.Lexicographic.{slice_cmp}
 use Rattle.std.specs.Ordering.{nat_cmp}
@@ -13,8 +13,8 @@ abbrev pub below : Tree → Forest
 below (node at h ts) = ts
 
 -- what a tree declares at its top
-abbrev pub declared_here : List Signature → Tree → List Declared
-declared_here functions (node at h ts) = declared_at functions h ts
+abbrev pub declared_here : List Signature → Option ℕ → Tree → List Declared
+declared_here functions screen (node at h ts) = declared_at functions screen h ts
 
 -- the set has this name
 abbrev pub has : BTreeSet (List ℕ) → List ℕ → Bool

@@ -3,10 +3,10 @@ ghost use Rattle.std.specs.Prelude.{◌≡◌, ◌++◌, [], IfOk, OnOk};
 ghost use Rattle.std.specs.Str.{IsAscii};
 ghost use Rattle.app_names.specs.NameRules as rules;
 
+use app_cells::Cell;
 use fx_base::Memory;
 use fx_data::words::Words;
-use fx_parser::Named;
-use fx_trees::{Broken, Rule, address};
+use fx_trees::{Broken, Rule};
 use std::alloc::Global;
 
 /// A rule that the whole app breaks.
@@ -21,21 +21,21 @@ pub fn in_app(alloc: Global, rule: Rule, detail: Words) -> Result<Broken, Memory
     })
 }
 
-/// A rule that a formula breaks at a byte of the text, which is counted from the formula's first token.
-pub fn in_formula(
+/// A rule that a formula breaks at a byte of the text, which is counted from where its positions are told.
+pub fn in_cell(
     alloc: Global,
-    formula: &Named,
+    cell: &Cell,
     rule: Rule,
     at: u32,
     detail: Words,
 ) -> Result<Broken, Memory>
-    ensures { IfOk result (λ b. b ≡ rules.in_formula formula.now rule at detail) }
+    ensures { IfOk result (λ b. b ≡ rules.in_cell cell.now rule at detail) }
 {
     Ok(Broken {
-        cell: address(alloc, &formula.name)?,
+        cell: cell.name.copy(alloc)?,
         rule,
         // Saturating, so that no caller has to promise that the byte lies in the formula.
-        at: at.saturating_sub(formula.at),
+        at: at.saturating_sub(cell.at),
         detail,
     })
 }

@@ -1,6 +1,6 @@
 //! The variables and collections that formulas declare.
 ghost use Rattle.std.specs.Prelude.{◌≡◌, ◌++◌, OnOk, option_map};
-ghost use Rattle.fx_trees.specs.Tree.{forest, parts_of};
+ghost use Rattle.fx_trees.specs.Tree.{forest, names_of, parts_of};
 ghost use Rattle.app_names.specs.Declarations as table;
 ghost use Rattle.app_names.specs.Declarations.{declared_among, declared_in};
 ghost use Rattle.app_names.specs.Tops.{below, declared_here};
@@ -15,7 +15,8 @@ use std::alloc::Global;
 /// What a value is given to.
 #[derive(Clone, Copy, Debug, PartialEq, Eq)]
 pub enum Thing {
-    Variable,
+    /// A variable: of the screen of this number, or a global one.
+    Variable(Option<u32>),
     Collection,
 }
 
@@ -24,16 +25,16 @@ pub enum Thing {
 pub struct Declared {
     pub thing: Thing,
     pub name: Words,
-    /// The byte of the text at which the name begins.
+    /// The byte of the text at which the name begins, and of a field's name the byte at which its value does.
     pub at: u32,
 }
 
-// What a function declares.
+// What a function declares that names its target.
 fn declared_thing(shape: Option<SigShape>) -> Option<Thing>
     ensures { result ≡ table.declared_by shape }
 {
     match shape {
-        Some(SigShape::Act(Acting::Set)) => Some(Thing::Variable),
+        Some(SigShape::Act(Acting::Set)) => Some(Thing::Variable(None)),
         Some(SigShape::Act(Acting::Collect)) => Some(Thing::Collection),
         Some(SigShape::Act(Acting::ClearCollect)) => Some(Thing::Collection),
         _ => None,
@@ -61,22 +62,53 @@ fn first_name(parts: &[Expr]) -> Option<(&Words, u32)>
     }
 }
 
-// Adds what a node declares itself.
-fn declare_here(
+// Adds the variables of a screen that fields name.
+fn declare_variables(
     alloc: Global,
-    functions: &[Signature],
-    whole: &Expr,
+    screen: u32,
+    fields: &[(Words, Expr)],
     found: &mut Vec<Declared>,
 ) -> Result<(), Memory>
-    ensures { OnOk result (found.new.items ≡ found.old.items ++ declared_here functions.now whole.now) }
+    ensures { OnOk result (found.new.items ≡ found.old.items ++ table.variables_in screen (names_of fields.now) (parts_of fields.now)) }
 {
-    let Node::Call(function, parts) = &whole.node else {
-        return Ok(());
-    };
-    match (
-        declared_thing(call_shape(functions, function)),
-        first_name(parts.as_slice()),
-    ) {
+    for (name, value) in fields {
+        found.push(Declared {
+            thing: Thing::Variable(Some(screen)),
+            name: name.copy(alloc)?,
+            at: value.at,
+        })?;
+    }
+    Ok(())
+}
+
+// Adds the variables of a screen that the first part of a call names, which has to be a record.
+fn declare_by_record(
+    alloc: Global,
+    screen: u32,
+    parts: &[Expr],
+    found: &mut Vec<Declared>,
+) -> Result<(), Memory>
+    ensures { OnOk result (found.new.items ≡ found.old.items ++ table.declared_by_record screen (forest parts.now)) }
+{
+    match parts {
+        [] => Ok(()),
+        [first, ..] => match &first.node {
+            Node::Rec(fields) => declare_variables(alloc, screen, fields.as_slice(), found),
+            _ => Ok(()),
+        },
+    }
+}
+
+// Adds what a call declares by the name of its target.
+fn declare_target(
+    alloc: Global,
+    shape: Option<SigShape>,
+    parts: &[Expr],
+    found: &mut Vec<Declared>,
+) -> Result<(), Memory>
+    ensures { OnOk result (found.new.items ≡ found.old.items ++ table.declaration (table.declared_by shape) (table.first_name (forest parts.now))) }
+{
+    match (declared_thing(shape), first_name(parts)) {
         (Some(thing), Some((name, at))) => {
             let name = name.copy(alloc)?;
             found.push(Declared { thing, name, at })?;
@@ -86,18 +118,54 @@ fn declare_here(
     }
 }
 
-/// Adds what a tree declares, by the functions of a table: a node before its parts.
+// Adds what a call declares on a screen, or outside all screens.
+fn declare_on(
+    alloc: Global,
+    screen: Option<u32>,
+    shape: Option<SigShape>,
+    parts: &[Expr],
+    found: &mut Vec<Declared>,
+) -> Result<(), Memory>
+    ensures { OnOk result (found.new.items ≡ found.old.items ++ table.declared_on screen shape (forest parts.now)) }
+{
+    match (screen, shape) {
+        (Some(screen), Some(SigShape::Act(Acting::UpdateContext))) => {
+            declare_by_record(alloc, screen, parts, found)
+        }
+        _ => declare_target(alloc, shape, parts, found),
+    }
+}
+
+// Adds what a node declares itself.
+fn declare_here(
+    alloc: Global,
+    functions: &[Signature],
+    screen: Option<u32>,
+    whole: &Expr,
+    found: &mut Vec<Declared>,
+) -> Result<(), Memory>
+    ensures { OnOk result (found.new.items ≡ found.old.items ++ declared_here functions.now screen whole.now) }
+{
+    let Node::Call(function, parts) = &whole.node else {
+        return Ok(());
+    };
+    let shape = call_shape(functions, function);
+    declare_on(alloc, screen, shape, parts.as_slice(), found)
+}
+
+/// Adds what a tree declares, by the functions of a table and on a screen: a node before its parts.
 #[cycle(declare)]
 pub fn declare(
     alloc: Global,
     functions: &[Signature],
+    screen: Option<u32>,
     whole: &Expr,
     found: &mut Vec<Declared>,
 ) -> Result<(), Memory>
-    ensures { OnOk result (found.new.items ≡ found.old.items ++ declared_in functions.now whole.now) }
+    ensures { OnOk result (found.new.items ≡ found.old.items ++ declared_in functions.now screen whole.now) }
 {
-    declare_here(alloc, functions, whole, found)?;
-    declare_below(alloc, functions, whole, found)
+    declare_here(alloc, functions, screen, whole, found)?;
+    declare_below(alloc, functions, screen, whole, found)
 }
 
 // Adds what the parts of a tree declare.
@@ -105,28 +173,31 @@ pub fn declare(
 fn declare_below(
     alloc: Global,
     functions: &[Signature],
+    screen: Option<u32>,
     whole: &Expr,
     found: &mut Vec<Declared>,
 ) -> Result<(), Memory>
-    ensures { OnOk result (found.new.items ≡ found.old.items ++ declared_among functions.now (below whole.now)) }
+    ensures { OnOk result (found.new.items ≡ found.old.items ++ declared_among functions.now screen (below whole.now)) }
 {
     match &whole.node {
         Node::Num(_) | Node::Text(_) | Node::Truth(_) | Node::Name(_) | Node::Global(_) => Ok(()),
         Node::Dot(part, _) | Node::Neg(part) | Node::Not(part) => {
-            declare(alloc, functions, part, found)
+            declare(alloc, functions, screen, part, found)
         }
-        Node::Percent(part) | Node::Alias(part, _) => declare(alloc, functions, part, found),
+        Node::Percent(part) | Node::Alias(part, _) => declare(
+            alloc, functions, screen, part, found,
+        ),
         Node::Pair(_, left, right) => {
-            declare(alloc, functions, left, found)?;
-            declare(alloc, functions, right, found)
+            declare(alloc, functions, screen, left, found)?;
+            declare(alloc, functions, screen, right, found)
         }
         Node::Call(_, parts) | Node::Joined(parts) | Node::And(parts) | Node::Or(parts) => {
-            declare_all(alloc, functions, parts.as_slice(), found)
+            declare_all(alloc, functions, screen, parts.as_slice(), found)
         }
         Node::Chain(parts) | Node::List(parts) | Node::Woven(parts) => {
-            declare_all(alloc, functions, parts.as_slice(), found)
+            declare_all(alloc, functions, screen, parts.as_slice(), found)
         }
-        Node::Rec(fields) => declare_fields(alloc, functions, fields.as_slice(), found),
+        Node::Rec(fields) => declare_fields(alloc, functions, screen, fields.as_slice(), found),
     }
 }
 
@@ -135,13 +206,14 @@ fn declare_below(
 fn declare_all(
     alloc: Global,
     functions: &[Signature],
+    screen: Option<u32>,
     parts: &[Expr],
     found: &mut Vec<Declared>,
 ) -> Result<(), Memory>
-    ensures { OnOk result (found.new.items ≡ found.old.items ++ declared_among functions.now (forest parts.now)) }
+    ensures { OnOk result (found.new.items ≡ found.old.items ++ declared_among functions.now screen (forest parts.now)) }
 {
     for part in parts {
-        declare(alloc, functions, part, found)?;
+        declare(alloc, functions, screen, part, found)?;
     }
     Ok(())
 }
@@ -151,13 +223,14 @@ fn declare_all(
 fn declare_fields(
     alloc: Global,
     functions: &[Signature],
+    screen: Option<u32>,
     fields: &[(Words, Expr)],
     found: &mut Vec<Declared>,
 ) -> Result<(), Memory>
-    ensures { OnOk result (found.new.items ≡ found.old.items ++ declared_among functions.now (parts_of fields.now)) }
+    ensures { OnOk result (found.new.items ≡ found.old.items ++ declared_among functions.now screen (parts_of fields.now)) }
 {
     for (_, part) in fields {
-        declare(alloc, functions, part, found)?;
+        declare(alloc, functions, screen, part, found)?;
     }
     Ok(())
 }

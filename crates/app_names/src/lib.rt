@@ -6,13 +6,16 @@ pub mod broken;
 pub mod declarations;
 mod distinct;
 pub mod formula;
+mod given;
 mod lawful_names;
 mod lawful_schema;
 pub mod limits;
 pub mod lines;
+mod name_sets;
 pub mod naming;
 pub mod taken;
 pub mod things;
+mod twice;
 
 pub use breaks::name_breaks;
 pub use declarations::{Declared, Thing};

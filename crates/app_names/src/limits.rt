@@ -4,11 +4,11 @@ ghost use Rattle.std.specs.List.{find};
 ghost use Rattle.std.specs.Str.{IsAscii};
 ghost use Rattle.app_names.specs.NameRules as rules;
 
-use crate::broken::{in_app, in_formula, word_with_count};
+use crate::broken::{in_cell, word_with_count};
 use crate::declarations::Declared;
+use app_cells::{Cell, Spot};
 use fx_base::Memory;
 use fx_data::words::Words;
-use fx_parser::Named;
 use fx_trees::{Broken, Rule};
 use std::alloc::Global;
 
@@ -67,67 +67,70 @@ fn first_long(new: &[Declared]) -> Option<&Declared>
 }
 
 // A formula's text that is too long.
-fn long_formula(alloc: Global, formula: &Named) -> Result<Option<Broken>, Memory>
-    ensures { IfOk result (λ o. o ≡ rules.long_formula formula.now) }
+fn long_text(alloc: Global, cell: &Cell) -> Result<Option<Broken>, Memory>
+    ensures { IfOk result (λ o. o ≡ rules.long_text cell.now) }
 {
-    let bytes = formula.text.as_str().len();
+    let bytes = cell.text.as_str().len();
     match passed_limit(alloc, MOST_FORMULA_BYTES, bytes, "formula")? {
-        Some(detail) => {
-            let rule = Rule::LimitPassed;
-            Ok(Some(in_formula(alloc, formula, rule, formula.at, detail)?))
-        }
+        Some(detail) => Ok(Some(in_cell(alloc, cell, Rule::LimitPassed, cell.at, detail)?)),
         None => Ok(None),
     }
 }
 
-// A formula's name that is too long, or else one that it declares.
-fn long_names(alloc: Global, new: &[Declared], formula: &Named) -> Result<Option<Broken>, Memory>
-    ensures { IfOk result (λ o. o ≡ rules.long_names new.now formula.now) }
+// A formula's name that is too long.
+fn long_own_name(alloc: Global, cell: &Cell, name: &Words) -> Result<Option<Broken>, Memory>
+    ensures { IfOk result (λ o. o ≡ rules.long_own_name cell.now name.now) }
 {
-    if is_long(&formula.name) {
-        let detail = long_name(alloc, &formula.name)?;
-        let broken = in_formula(alloc, formula, Rule::LimitPassed, formula.at, detail)?;
-        return Ok(Some(broken));
+    if is_long(name) {
+        let detail = long_name(alloc, name)?;
+        Ok(Some(in_cell(alloc, cell, Rule::LimitPassed, cell.at, detail)?))
+    } else {
+        Ok(None)
     }
+}
+
+// The first limit that a named formula passes by itself.
+fn own_limit(alloc: Global, cell: &Cell) -> Result<Option<Broken>, Memory>
+    ensures { IfOk result (λ o. o ≡ rules.own_limit cell.now cell.now.spot) }
+{
+    let Spot::Formula(name) = &cell.spot else {
+        return Ok(None);
+    };
+    match long_text(alloc, cell)? {
+        Some(broken) => Ok(Some(broken)),
+        None => long_own_name(alloc, cell, name),
+    }
+}
+
+// A name that a cell declares anew and that is too long.
+fn long_thing(alloc: Global, new: &[Declared], cell: &Cell) -> Result<Option<Broken>, Memory>
+    ensures { IfOk result (λ o. o ≡ rules.long_thing new.now cell.now) }
+{
     match first_long(new) {
         Some(one) => {
             let detail = long_name(alloc, &one.name)?;
-            Ok(Some(in_formula(alloc, formula, Rule::LimitPassed, one.at, detail)?))
+            Ok(Some(in_cell(alloc, cell, Rule::LimitPassed, one.at, detail)?))
         }
         None => Ok(None),
     }
 }
 
-/// The first limit that a formula passes, which declares these things anew.
-pub fn limit_break(
-    alloc: Global,
-    new: &[Declared],
-    formula: &Named,
-) -> Result<Option<Broken>, Memory>
-    ensures { IfOk result (λ o. o ≡ rules.limit_break new.now formula.now) }
+/// The first limit that a cell passes, which declares these things anew.
+pub fn limit_break(alloc: Global, new: &[Declared], cell: &Cell) -> Result<Option<Broken>, Memory>
+    ensures { IfOk result (λ o. o ≡ rules.limit_break new.now cell.now) }
 {
-    match long_formula(alloc, formula)? {
+    match own_limit(alloc, cell)? {
         Some(broken) => Ok(Some(broken)),
-        None => long_names(alloc, new, formula),
+        None => long_thing(alloc, new, cell),
     }
 }
 
-// The first limit that an app passes of so many cells and things that are declared.
-fn app_limit(alloc: Global, cells: usize, things: usize) -> Result<Option<Words>, Memory>
+/// The first limit that an app passes of so many cells and things that are declared.
+pub fn app_limit(alloc: Global, cells: usize, things: usize) -> Result<Option<Words>, Memory>
     ensures { IfOk result (λ o. o ≡ rules.app_limit cells things) }
 {
     match passed_limit(alloc, MOST_CELLS, cells, "cells")? {
         Some(detail) => Ok(Some(detail)),
         None => passed_limit(alloc, MOST_VARIABLES, things, "variables"),
-    }
-}
-
-/// The whole app has too many cells, or else too many variables and collections.
-pub fn app_break(alloc: Global, cells: usize, things: usize) -> Result<Option<Broken>, Memory>
-    ensures { IfOk result (λ o. o ≡ rules.app_break cells things) }
-{
-    match app_limit(alloc, cells, things)? {
-        Some(detail) => Ok(Some(in_app(alloc, Rule::LimitPassed, detail)?)),
-        None => Ok(None),
     }
 }

@@ -1,53 +1,104 @@
-//! The names that named formulas may use.
-ghost use Rattle.std.specs.Prelude.{◌≡◌, ◌≤◌, [], IfOk, length, map};
-ghost use Rattle.std.specs.List.{filter};
+//! The names that the formulas of an app may use.
+ghost use Rattle.std.specs.Prelude.{◌≡◌, ◌<◌, ◌≤◌, ◌++◌, [], All, IfOk, OnOk, length, map};
+ghost use Rattle.app_cells.specs.Spots.{IsFrame, IsPlaced};
 ghost use Rattle.fx_trees.specs.Lawful.{IsLawful};
+ghost use Rattle.fx_trees.specs.declared.names.FormulaName.{FormulaName as Formula};
+ghost use Rattle.fx_trees.specs.declared.names.Property.{Property as PropertyCell};
 ghost use Rattle.fx_sig.specs.Entries.{entries, entry};
-ghost use Rattle.app_names.specs.AppNames.{AreNames, as_collection, as_variable, formulas_from, is_collection, is_variable};
+ghost use Rattle.app_names.specs.AppNames as names;
+ghost use Rattle.app_names.specs.AppNames.{AreNames};
 ghost use Rattle.app_names.specs.NameRules as rules;
 
 use crate::declarations::{Declared, Thing};
-use crate::things::{names_in, things_of};
+use crate::given::given_names;
+use crate::name_sets::set_of;
+use crate::things::things_of;
+use app_cells::{Cell, Frame, Spot};
 use fx_base::{InOrder, Memory};
 use fx_data::types::Ty;
-use fx_parser::Named;
 use fx_trees::formulas::FormulaList;
-use fx_trees::names::{Collection, CollectionList, FormulaName, Names, Variable, VariableList};
-use fx_trees::schema::Schema;
+use fx_trees::names::{
+    Collection, CollectionList, FormulaName, Names, Property, PropertyList, Variable, VariableList,
+};
 use fx_trees::signatures::Signature;
 use std::alloc::Global;
 
-// The formulas by their names, with the numbers of their cells.
-fn formulas_of(alloc: Global, cells: &[Named]) -> Result<FormulaList, Memory>
+// Adds a cell of this number, if it is a named formula.
+fn put_formula(
+    alloc: Global,
+    number: u32,
+    spot: &Spot,
+    formulas: &mut FormulaList,
+) -> Result<(), Memory>
+    ensures { OnOk result (formulas.new ≡ formulas.old ++ names.as_formula number spot.now) }
+{
+    if let Spot::Formula(name) = spot {
+        let formula = FormulaName {
+            name: name.copy(alloc)?,
+            cell: number,
+            ty: Ty::Blank,
+        };
+        formulas.push(alloc, formula)?;
+    }
+    Ok(())
+}
+
+// The named formulas, with the numbers of their cells.
+fn formulas_of(alloc: Global, cells: &[Cell]) -> Result<FormulaList, Memory>
     requires { length cells.now ≤ 2000 }
-    ensures { IfOk result (λ l. l ≡ formulas_from 0 cells.now) }
+    ensures { IfOk result (λ l. l ≡ names.formulas_from 0 cells.now) }
 {
     let mut formulas = FormulaList::new(alloc);
     let mut number = 0;
     for cell in cells {
-        let name = cell.name.copy(alloc)?;
-        formulas.push(
-            alloc,
-            FormulaName {
-                name,
-                cell: number,
-                ty: Ty::Blank,
-            },
-        )?;
+        put_formula(alloc, number, &cell.spot, &mut formulas)?;
         number += 1;
     }
     Ok(formulas)
 }
 
+// Adds a cell of this number, if it is a property.
+fn put_property(
+    alloc: Global,
+    number: u32,
+    spot: &Spot,
+    properties: &mut PropertyList,
+) -> Result<(), Memory>
+    ensures { OnOk result (properties.new ≡ properties.old ++ names.as_property number spot.now) }
+{
+    if let Spot::Property(control, name) = spot {
+        properties.push(Property {
+            control: *control,
+            name: name.copy(alloc)?,
+            cell: number,
+        })?;
+    }
+    Ok(())
+}
+
+// The written properties, with the numbers of their cells.
+fn properties_of(alloc: Global, cells: &[Cell]) -> Result<PropertyList, Memory>
+    requires { length cells.now ≤ 2000 }
+    ensures { IfOk result (λ l. l ≡ names.properties_from 0 cells.now) }
+{
+    let mut properties = InOrder::new(alloc);
+    let mut number = 0;
+    for cell in cells {
+        put_property(alloc, number, &cell.spot, &mut properties)?;
+        number += 1;
+    }
+    Ok(properties)
+}
+
 fn variables_of(alloc: Global, things: &[Declared]) -> Result<VariableList, Memory>
-    ensures { IfOk result (λ l. l ≡ map as_variable (filter is_variable things.now)) }
+    ensures { IfOk result (λ l. l ≡ names.variables_among things.now) }
 {
     let mut variables = InOrder::new(alloc);
     for one in things {
-        if matches!(one.thing, Thing::Variable) {
+        if let Thing::Variable(screen) = one.thing {
             variables.push(Variable {
                 name: one.name.copy(alloc)?,
-                screen: None,
+                screen,
                 ty: Ty::Blank,
             })?;
         }
@@ -56,7 +107,7 @@ fn variables_of(alloc: Global, things: &[Declared]) -> Result<VariableList, Memo
 }
 
 fn collections_of(alloc: Global, things: &[Declared]) -> Result<CollectionList, Memory>
-    ensures { IfOk result (λ l. l ≡ map as_collection (filter is_collection things.now)) }
+    ensures { IfOk result (λ l. l ≡ names.collections_among things.now) }
 {
     let mut collections = InOrder::new(alloc);
     for one in things {
@@ -70,46 +121,56 @@ fn collections_of(alloc: Global, things: &[Declared]) -> Result<CollectionList, 
     Ok(collections)
 }
 
-// The names of cells, each of type Blank so far. That they are lawful, where nothing is broken, is proved in `names_of`
+// The names of an app, each of type Blank so far. That they are lawful, where nothing is broken, is proved in `names_of`
 // over these clauses alone.
 fn first_names(
     alloc: Global,
     functions: &'static [Signature],
-    cells: &[Named],
+    frame: Frame,
+    cells: &[Cell],
 ) -> Result<Names, Memory>
     requires functions { map entry functions.now ≡ entries }
     requires few { length cells.now ≤ 2000 }
-    ensures names { IfOk result (AreNames cells.now) }
+    ensures names { IfOk result (AreNames frame cells.now) }
     ensures functions { IfOk result (λ n. n.signatures.now ≡ functions.now) }
 {
-    let formulas = names_in(alloc, cells)?;
-    let things = things_of(alloc, functions, &formulas, cells)?;
+    let given = set_of(alloc, &given_names(alloc, &frame, cells)?)?;
+    let things = things_of(alloc, functions, &given, cells)?;
+    let Frame {
+        schema,
+        limit: _,
+        screens,
+        controls,
+    } = frame;
     Ok(Names {
         signatures: functions,
-        schema: Schema {
-            tables: InOrder::new(alloc),
-        },
-        screens: InOrder::new(alloc),
-        controls: InOrder::new(alloc),
-        properties: InOrder::new(alloc),
+        schema,
+        screens,
+        controls,
+        properties: properties_of(alloc, cells)?,
         formulas: formulas_of(alloc, cells)?,
         variables: variables_of(alloc, &things)?,
         collections: collections_of(alloc, &things)?,
     })
 }
 
-/// The names of cells, of which nothing is broken: all functions, the formulas, and what these declare, each
-/// of type Blank so far.
+/// The names of an app, of which nothing is broken: all functions, its tables, screens and controls, its named formulas and
+/// written properties, and what its formulas declare, each of type Blank so far.
 pub fn names_of(
     alloc: Global,
     functions: &'static [Signature],
-    cells: &[Named],
+    frame: Frame,
+    cells: &[Cell],
 ) -> Result<Names, Memory>
     requires functions { map entry functions.now ≡ entries }
-    requires unbroken { rules.name_breaks functions.now cells.now ≡ [] }
-    ensures names { IfOk result (AreNames cells.now) }
+    requires frame { IsFrame frame }
+    requires placed { All (IsPlaced frame) cells.now }
+    requires unbroken { rules.name_breaks functions.now frame cells.now ≡ [] }
+    ensures names { IfOk result (AreNames frame cells.now) }
     ensures functions { IfOk result (λ n. n.signatures.now ≡ functions.now) }
     ensures lawful { IfOk result IsLawful }
+    ensures formulas { IfOk result (λ n. All (λ (f : Formula). f.cell < length cells.now) n.formulas) }
+    ensures properties { IfOk result (λ n. All (λ (p : PropertyCell). p.cell < length cells.now) n.properties) }
 {
-    first_names(alloc, functions, cells)
+    first_names(alloc, functions, frame, cells)
 }

@@ -1,14 +1,15 @@
 //! Names that are taken.
-ghost use Rattle.std.specs.Prelude.{◌≡◌, ◌++◌, IfOk, bytes_eq, option_map};
+ghost use Rattle.std.specs.Prelude.{◌≡◌, ◌++◌, IfOk, option_map};
 ghost use Rattle.std.specs.List.{list_any};
+ghost use Rattle.app_names.specs.Declarations.{is_global};
 ghost use Rattle.app_names.specs.NameRules as rules;
 ghost use Rattle.app_names.specs.Tops.{has};
 
-use crate::broken::in_formula;
-use crate::declarations::Declared;
+use crate::broken::in_cell;
+use crate::declarations::{Declared, Thing};
+use app_cells::{Cell, Spot};
 use fx_base::Memory;
 use fx_data::words::Words;
-use fx_parser::Named;
 use fx_trees::literals::enumeration_of;
 use fx_trees::{Broken, Rule};
 use std::alloc::Global;
@@ -22,61 +23,99 @@ fn is_word(text: &str) -> bool
     text == "App" || (text == "ThisRecord" || (text == "ThisItem" || text == "FirstError"))
 }
 
-// Whether no app declares a name.
-fn is_reserved(name: &Words) -> bool
+/// Whether no app declares a name.
+pub fn is_reserved(name: &Words) -> bool
     ensures { result ≡ rules.is_reserved name.now }
 {
     is_word(name.as_str()) || enumeration_of(name.as_str()).is_some()
 }
 
-// Whether one of these things has a name.
-fn has_name(things: &[Declared], name: &Words) -> bool
-    ensures { result ≡ list_any (λ e. bytes_eq e.name name.now) things.now }
+/// Whether a thing is a global one.
+pub fn is_global(thing: Thing) -> bool
+    ensures { result ≡ is_global thing }
 {
-    things.iter().any(|one| one.name.is(name))
+    !matches!(thing, Thing::Variable(Some(_)))
 }
 
-// Whether a name is reserved, or that of one of these things, or of those behind them.
-fn is_taken(before: &[Declared], earlier: &[Declared], name: &Words) -> bool
-    ensures { result ≡ rules.is_taken (before.now ++ earlier.now) name.now }
+// Whether a global thing has a name.
+fn has_name(name: &Words, one: &Declared) -> bool
+    ensures { result ≡ rules.has_name name.now one.now }
 {
-    is_reserved(name) || (has_name(before, name) || has_name(earlier, name))
+    is_global(one.thing) && one.name.is(name)
 }
 
-// The first new thing whose name is reserved, or that of a thing before it.
+// Whether one of these is a global thing of a name.
+fn have_name(things: &[Declared], name: &Words) -> bool
+    ensures { result ≡ list_any (rules.has_name name.now) things.now }
+{
+    things.iter().any(|one| has_name(name, one))
+}
+
+// Whether a thing's name is reserved, or that of one of these things, or of those behind them.
+fn is_taken_thing(before: &[Declared], earlier: &[Declared], one: &Declared) -> bool
+    ensures { result ≡ rules.is_taken_thing (before.now ++ earlier.now) one.now }
+{
+    is_reserved(&one.name)
+        || (is_global(one.thing) && (have_name(before, &one.name) || have_name(earlier, &one.name)))
+}
+
+// The first new thing whose name is taken.
 fn first_taken_thing<'a>(before: &[Declared], new: &'a [Declared]) -> Option<&'a Declared>
     ensures { option_map (λ d. d.now) result ≡ rules.first_taken before.now new.now }
 {
     for (place, one) in new.iter().enumerate() {
         let (earlier, _) = new.split_at(place);
-        if is_taken(before, earlier, &one.name) {
+        if is_taken_thing(before, earlier, one) {
             return Some(one);
         }
     }
     None
 }
 
-/// A formula behind these names, where these things are declared and it declares these new ones: its name is
-/// taken, or one that it declares.
+// A named formula behind these names has one that is taken.
+fn own_taken(alloc: Global, before: &BTreeSet<Words>, cell: &Cell) -> Result<Option<Broken>, Memory>
+    ensures { IfOk result (λ o. o ≡ rules.own_taken (has before.now) cell.now cell.now.spot) }
+{
+    match &cell.spot {
+        Spot::Formula(name) if is_reserved(name) || before.contains(name) => {
+            let detail = name.copy(alloc)?;
+            Ok(Some(in_cell(alloc, cell, Rule::NameTwice, cell.at, detail)?))
+        }
+        _ => Ok(None),
+    }
+}
+
+// A cell declares a thing anew whose name is taken.
+fn thing_taken(
+    alloc: Global,
+    things: &[Declared],
+    new: &[Declared],
+    cell: &Cell,
+) -> Result<Option<Broken>, Memory>
+    ensures { IfOk result (λ o. o ≡ rules.thing_taken things.now new.now cell.now) }
+{
+    match first_taken_thing(things, new) {
+        Some(one) => {
+            let detail = one.name.copy(alloc)?;
+            Ok(Some(in_cell(alloc, cell, Rule::NameTwice, one.at, detail)?))
+        }
+        None => Ok(None),
+    }
+}
+
+/// A cell behind these names, where these things are declared and it declares these new ones: its name is taken, or one
+/// that it declares.
 pub fn taken_break(
     alloc: Global,
     before: &BTreeSet<Words>,
     things: &[Declared],
     new: &[Declared],
-    formula: &Named,
+    cell: &Cell,
 ) -> Result<Option<Broken>, Memory>
-    ensures { IfOk result (λ o. o ≡ rules.taken_break (has before.now) things.now new.now formula.now) }
+    ensures { IfOk result (λ o. o ≡ rules.taken_break (has before.now) things.now new.now cell.now) }
 {
-    let rule = Rule::NameTwice;
-    if is_reserved(&formula.name) || before.contains(&formula.name) {
-        let detail = formula.name.copy(alloc)?;
-        return Ok(Some(in_formula(alloc, formula, rule, formula.at, detail)?));
-    }
-    match first_taken_thing(things, new) {
-        Some(one) => {
-            let detail = one.name.copy(alloc)?;
-            Ok(Some(in_formula(alloc, formula, rule, one.at, detail)?))
-        }
-        None => Ok(None),
+    match own_taken(alloc, before, cell)? {
+        Some(broken) => Ok(Some(broken)),
+        None => thing_taken(alloc, things, new, cell),
     }
 }

@@ -2,53 +2,62 @@
 ghost use Rattle.std.specs.Prelude.{◌≡◌, ◌++◌, [], IfOk, OnOk};
 ghost use Rattle.std.specs.List.{list_any};
 ghost use Rattle.app_names.specs.Declarations as table;
-ghost use Rattle.app_names.specs.Declarations.{is_formula, new_behind, things_behind};
+ghost use Rattle.app_names.specs.Declarations.{new_behind, things_behind};
 ghost use Rattle.app_names.specs.Tops.{has};
+ghost use Rattle.fx_typing.specs.Rounds.{is_same_screen};
 
 use crate::declarations::{Declared, Thing, declare};
+use crate::taken::is_global;
+use app_cells::Cell;
 use fx_base::Memory;
 use fx_data::words::Words;
-use fx_parser::Named;
 use fx_trees::signatures::Signature;
 use std::alloc::Global;
 use std::collections::BTreeSet;
 
-/// The names of formulas.
-pub fn names_in(alloc: Global, cells: &[Named]) -> Result<BTreeSet<Words>, Memory>
-    ensures { IfOk result (λ s. has s ≡ is_formula cells.now) }
+// Whether a formula declares this: never a global thing of a name that is given.
+fn is_declared(given: &BTreeSet<Words>, one: &Declared) -> bool
+    ensures { result ≡ table.is_declared (has given.now) one.now }
 {
-    let mut names = BTreeSet::new(alloc);
-    for cell in cells {
-        names.insert(cell.name.copy(alloc)?)?;
-    }
-    Ok(names)
+    !(is_global(one.thing) && given.contains(&one.name))
 }
 
-/// What a formula declares: never a name that formulas have.
+/// What a formula declares: never a global thing of a name that tables, screens, controls or named formulas have.
 pub fn declared_things(
     alloc: Global,
     functions: &[Signature],
-    formulas: &BTreeSet<Words>,
-    formula: &Named,
+    given: &BTreeSet<Words>,
+    cell: &Cell,
 ) -> Result<Vec<Declared>, Memory>
-    ensures { IfOk result (λ v. v.items ≡ table.declared_of functions.now (has formulas.now) formula.now) }
+    ensures { IfOk result (λ v. v.items ≡ table.declared_of functions.now (has given.now) cell.now) }
 {
     let mut found = Vec::new(alloc);
-    declare(alloc, functions, &formula.expr, &mut found)?;
+    declare(alloc, functions, cell.screen, &cell.expr, &mut found)?;
     let mut declared = Vec::new(alloc);
     for one in found {
-        if !formulas.contains(&one.name) {
+        if is_declared(given, &one) {
             declared.push(one)?;
         }
     }
     Ok(declared)
 }
 
+// Whether two screens are one, or both are none.
+fn is_same_screen(one: Option<u32>, other: Option<u32>) -> bool
+    ensures { result ≡ is_same_screen one other }
+{
+    match (one, other) {
+        (Some(one), Some(other)) => one == other,
+        (None, None) => true,
+        _ => false,
+    }
+}
+
 fn is_kind(one: Thing, other: Thing) -> bool
     ensures { result ≡ table.is_kind one other }
 {
     match (one, other) {
-        (Thing::Variable, Thing::Variable) => true,
+        (Thing::Variable(one), Thing::Variable(other)) => is_same_screen(one, other),
         (Thing::Collection, Thing::Collection) => true,
         _ => false,
     }
@@ -99,14 +108,14 @@ pub fn put_behind(things: &mut Vec<Declared>, new: Vec<Declared>) -> Result<(), 
 pub fn things_of(
     alloc: Global,
     functions: &[Signature],
-    formulas: &BTreeSet<Words>,
-    cells: &[Named],
+    given: &BTreeSet<Words>,
+    cells: &[Cell],
 ) -> Result<Vec<Declared>, Memory>
-    ensures { IfOk result (λ v. v.items ≡ things_behind functions.now (has formulas.now) [] cells.now) }
+    ensures { IfOk result (λ v. v.items ≡ things_behind functions.now (has given.now) [] cells.now) }
 {
     let mut things = Vec::new(alloc);
     for cell in cells {
-        let declared = declared_things(alloc, functions, formulas, cell)?;
+        let declared = declared_things(alloc, functions, given, cell)?;
         let new = new_behind(alloc, &things, declared)?;
         put_behind(&mut things, new)?;
     }

@@ -17,8 +17,8 @@ decreases-declare_fields l = 2 * forest_size (parts_of l.fields.now)
 
 abbrev pub invariant-declare_all-loop-part : goal.invariant-declare_all-loop-part
 invariant-declare_all-loop-part l =
-    l.found.items ++ declared_among l.functions (forest (drop l.part-index l.parts)) ≡ l.fn.found.items ++ declared_among l.functions (forest l.parts)
+    l.found.items ++ declared_among l.functions l.screen (forest (drop l.part-index l.parts)) ≡ l.fn.found.items ++ declared_among l.functions l.screen (forest l.parts)
 
 abbrev pub invariant-declare_fields-loop-part : goal.invariant-declare_fields-loop-part
 invariant-declare_fields-loop-part l =
-    l.found.items ++ declared_among l.functions (parts_of (drop l.part-index l.fields)) ≡ l.fn.found.items ++ declared_among l.functions (parts_of l.fields)
+    l.found.items ++ declared_among l.functions l.screen (parts_of (drop l.part-index l.fields)) ≡ l.fn.found.items ++ declared_among l.functions l.screen (parts_of l.fields)

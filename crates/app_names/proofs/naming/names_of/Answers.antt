@@ -1,17 +1,25 @@
-use Rattle.std.proofs.Common.{◌≤◌, List, length, subst, sym}
+use Rattle.std.proofs.Common.{◌<◌, All, arith, length, subst, sym}
 use Rattle.std.proofs.lemmas.Result.{IfOk-weaker}
-use Rattle.fx_trees.specs.declared.signatures.Signature.{Signature}
-use Rattle.app_names.specs.Declarations.{things_of}
-use Rattle.app_names.proofs.Lawful.{both_ok, few, lawful_names}
+use Rattle.fx_trees.specs.declared.names.FormulaName.{FormulaName}
+use Rattle.fx_trees.specs.declared.names.Property.{Property}
+use Rattle.app_names.proofs.LawfulNames.{both_ok, formulas_below, lawful_names, properties_below, unbroken}
 use Rattle.app_names.proofs.naming.names_of.Goals as goal
 
 pub first_names-requires : goal.first_names-requires
-first_names-requires c = record { functions = c.requires.functions; few = (few c.args.functions.now c.args.cells.now c.requires.unbroken).0 }
+first_names-requires c = record { functions = c.requires.functions; few = (unbroken c.args.functions.now c.args.frame c.args.cells.now c.requires.unbroken).1.0 }
 
 pub returns-clause-lawful : goal.returns-clause-lawful
 returns-clause-lawful c =
-    let cells = c.args.cells.now in
-    let both = few c.args.functions.now cells c.requires.unbroken in
     IfOk-weaker c.first_names.result _ _ (λ n h.
-    lawful_names cells n h.0 both.0 (subst (λ (fs : List Signature). length (things_of fs cells) ≤ 1000) (sym h.1) both.1))
+    lawful_names c.args.functions.now c.args.frame c.args.cells.now n c.requires.frame c.requires.placed h.0 h.1 c.requires.unbroken)
     (both_ok c.first_names.result _ _ c.first_names.ensures.names c.first_names.ensures.functions)
+
+pub returns-clause-formulas : goal.returns-clause-formulas
+returns-clause-formulas c =
+    let cs = c.args.cells.now in
+    IfOk-weaker c.first_names.result _ _ (λ n h. subst (All (λ (f : FormulaName). f.cell < length cs)) (sym h.formulas) (formulas_below (length cs) 0 cs (omega arith))) c.first_names.ensures.names
+
+pub returns-clause-properties : goal.returns-clause-properties
+returns-clause-properties c =
+    let cs = c.args.cells.now in
+    IfOk-weaker c.first_names.result _ _ (λ n h. subst (All (λ (p : Property). p.cell < length cs)) (sym h.properties) (properties_below (length cs) 0 cs (omega arith))) c.first_names.ensures.names

@@ -5,4 +5,4 @@ use Rattle.app_names.proofs.things.things_of.Given as goal
 
 abbrev pub invariant-loop-cell : goal.invariant-loop-cell
 invariant-loop-cell l =
-    things_behind l.functions (has l.formulas) l.things.items (drop l.cell-index l.cells) ≡ things_behind l.functions (has l.formulas) [] l.cells
+    things_behind l.functions (has l.given) l.things.items (drop l.cell-index l.cells) ≡ things_behind l.functions (has l.given) [] l.cells
