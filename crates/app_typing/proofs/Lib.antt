@@ -1,0 +1,6 @@
+mod Writes
+mod BreakLists
+mod Looks
+mod Arrows
+pub mod Below
+mod Ended

@@ -1,0 +1,39 @@
+-- Formulas that lean on one another in a circle.
+use Rattle.std.specs.Prelude.{◌≡◌, ℕ, zero, suc, List, [], ◌∷◌, ◌++◌, Option, Some, None, codes, map, slice_get}
+use Rattle.depend_graph.specs.Order.{IsClosedPath}
+use Rattle.fx_trees.specs.declared.broken.Broken.{Broken}
+use Rattle.fx_trees.specs.declared.names.Names.{Names}
+use Rattle.fx_trees.specs.declared.rule.Rule.TheVariants as rule
+use Rattle.app_cells.specs.declared.app.CellInfo.{CellInfo}
+use Rattle.app_cells.specs.Leaning.{edges_of}
+
+-- the address of a formula by its number
+abbrev pub name_in : Option CellInfo → List ℕ
+name_in (Some i) = i.cell.name
+name_in None = []
+
+abbrev pub name_at : List CellInfo → ℕ → List ℕ
+name_at is k = name_in (slice_get is k)
+
+-- addresses with an arrow between each two
+abbrev pub joined : List (List ℕ) → List ℕ
+joined [] = []
+joined (x ∷ []) = x
+joined (x ∷ y ∷ xs) = x ++ (codes " -> " ++ joined (y ∷ xs))
+
+-- what stands before the address at a place
+abbrev pub arrow_at : ℕ → List ℕ
+arrow_at zero = []
+arrow_at (suc place) = codes " -> "
+
+abbrev pub first_of : List (List ℕ) → List ℕ
+first_of [] = []
+first_of (x ∷ xs) = x
+
+-- what is said of a closed path: its addresses, of which the first one is the cell
+abbrev pub cycle_of : List (List ℕ) → Broken
+cycle_of names = record { cell = first_of names; rule = rule.Cycle; at = 0; detail = joined names }
+
+-- formulas lean on one another in a circle, and this is told of it
+abbrev pub IsCycle : Names → List CellInfo → Broken → Type 0
+IsCycle n is b = (path : List ℕ) × IsClosedPath (edges_of n is) path × (b ≡ cycle_of (map (name_at is) path))
