@@ -1,15 +1,16 @@
 -- Tables of functions with the same entries, wherever they stand in memory, tell the same.
-use Rattle.std.proofs.Common.{◌≡◌, ◌++◌, ℕ, List, [], ◌∷◌, Bool, true, false, bytes_eq, encode_utf8_all, length, not, Option, Some, None, map, option_map, refl, ap, sym, ◌∙◌, if◌then◌else◌}
+use Rattle.std.proofs.Common.{◌≡◌, ◌++◌, ℕ, List, [], ◌∷◌, Bool, true, false, bytes_eq, encode_utf8_all, length, Option, Some, None, map, option_map, refl, ap, sym, ◌∙◌, if◌then◌else◌}
 use Rattle.std.specs.List.{filter}
 use Rattle.app_names.specs.Declarations as declared
-use Rattle.app_names.specs.Declarations.{declaration, declared_among, declared_at, declared_by, declared_in, declared_of, first_name, is_formula, new_behind, things_behind, things_of}
+use Rattle.app_names.specs.Declarations.{declared_among, declared_at, declared_in, declared_of, declared_on, given_names, is_among, is_declared, new_behind, own_names, table_names, things_behind, things_of}
 use Rattle.app_names.specs.NameRules.{app_break, breaks_behind, name_break, name_breaks, put_break}
+use Rattle.app_cells.specs.declared.cell.Cell.{Cell}
+use Rattle.app_cells.specs.declared.frame.Frame.{Frame}
 use Rattle.app_names.specs.declared.declarations.Declared.{Declared}
 use Rattle.fx_trees.specs.Signatures.{signature_in}
 use Rattle.fx_trees.specs.declared.signatures.SigShape.{SigShape}
 use Rattle.fx_trees.specs.declared.signatures.Signature.{Signature}
 use Rattle.fx_typing.specs.Plans.{shape_in}
-use Rattle.fx_parser.specs.declared.entries.Named.{Named}
 use Rattle.fx_sig.specs.Entries.{Entry, entry}
 use Rattle.fx_trees.specs.Tree.{Tree, node, Forest, none, more, Head}
 use Rattle.fx_trees.specs.Tree as tree
@@ -50,37 +51,38 @@ module _ (ss ts : List Signature) (same : map entry ss ≡ map entry ts) where
       ∙ sym (called_shape (signature_in ts f))
 
   -- what is declared
-  here_alike : (h : Head) (ks : Forest) → declared_at ss h ks ≡ declared_at ts h ks
-  here_alike (tree.call f) ks = ap (λ (o : Option SigShape). declaration (declared_by o) (first_name ks)) (called_alike f)
-  here_alike h ks = refl
+  here_alike : (screen : Option ℕ) (h : Head) (ks : Forest) → declared_at ss screen h ks ≡ declared_at ts screen h ks
+  here_alike screen (tree.call f) ks = ap (λ (o : Option SigShape). declared_on screen o ks) (called_alike f)
+  here_alike screen h ks = refl
 
   mutual
-    in_alike : (e : Tree) → declared_in ss e ≡ declared_in ts e
-    in_alike (node at h ks) = λ i. here_alike h ks i ++ among_alike ks i
+    in_alike : (screen : Option ℕ) (e : Tree) → declared_in ss screen e ≡ declared_in ts screen e
+    in_alike screen (node at h ks) = λ i. here_alike screen h ks i ++ among_alike screen ks i
 
-    among_alike : (ks : Forest) → declared_among ss ks ≡ declared_among ts ks
-    among_alike none = refl
-    among_alike (more k ks) = λ i. in_alike k i ++ among_alike ks i
+    among_alike : (screen : Option ℕ) (ks : Forest) → declared_among ss screen ks ≡ declared_among ts screen ks
+    among_alike screen none = refl
+    among_alike screen (more k ks) = λ i. in_alike screen k i ++ among_alike screen ks i
 
-  of_alike : (f : List ℕ → Bool) (n : Named) → declared_of ss f n ≡ declared_of ts f n
-  of_alike f n = ap (filter (λ (d : Declared). not (f d.name))) (in_alike n.expr)
+  of_alike : (given : List ℕ → Bool) (c : Cell) → declared_of ss given c ≡ declared_of ts given c
+  of_alike given c = ap (filter (is_declared given)) (in_alike c.screen c.expr)
 
-  behind_alike : (f : List ℕ → Bool) (before : List Declared) (ns : List Named) → things_behind ss f before ns ≡ things_behind ts f before ns
-  behind_alike f before [] = refl
-  behind_alike f before (n ∷ ns) =
-      ap (λ (ds : List Declared). things_behind ss f (before ++ new_behind before ds) ns) (of_alike f n)
-      ∙ behind_alike f (before ++ new_behind before (declared_of ts f n)) ns
+  behind_alike : (given : List ℕ → Bool) (before : List Declared) (cs : List Cell) → things_behind ss given before cs ≡ things_behind ts given before cs
+  behind_alike given before [] = refl
+  behind_alike given before (c ∷ cs) =
+      ap (λ (ds : List Declared). things_behind ss given (before ++ new_behind before ds) cs) (of_alike given c)
+      ∙ behind_alike given (before ++ new_behind before (declared_of ts given c)) cs
 
-  pub things_alike : (cells : List Named) → things_of ss cells ≡ things_of ts cells
-  things_alike cells = behind_alike (is_formula cells) [] cells
+  pub things_alike : (f : Frame) (cells : List Cell) → things_of ss f cells ≡ things_of ts f cells
+  things_alike f cells = behind_alike (is_among (given_names f cells)) [] cells
 
   -- what is broken among the names
-  pub behind_broken : (f : List ℕ → Bool) (before : List Named) (things : List Declared) (ns : List Named) → breaks_behind ss f before things ns ≡ breaks_behind ts f before things ns
-  behind_broken f before things [] = refl
-  behind_broken f before things (n ∷ ns) =
-      let new = new_behind things (declared_of ts f n) in
-      ap (λ (ds : List Declared). put_break (name_break (is_formula before) things (new_behind things ds) n) (breaks_behind ss f (before ++ n ∷ []) (things ++ new_behind things ds) ns)) (of_alike f n)
-      ∙ ap (put_break (name_break (is_formula before) things new n)) (behind_broken f (before ++ n ∷ []) (things ++ new) ns)
+  behind_broken : (given : List ℕ → Bool) (before : List (List ℕ)) (things : List Declared) (cs : List Cell) → breaks_behind ss given before things cs ≡ breaks_behind ts given before things cs
+  behind_broken given before things [] = refl
+  behind_broken given before things (c ∷ cs) =
+      let new = new_behind things (declared_of ts given c) in
+      ap (λ (ds : List Declared). put_break (name_break (is_among before) things (new_behind things ds) c) (breaks_behind ss given (before ++ own_names c.spot) (things ++ new_behind things ds) cs)) (of_alike given c)
+      ∙ ap (put_break (name_break (is_among before) things new c)) (behind_broken given (before ++ own_names c.spot) (things ++ new) cs)
 
-  pub breaks_alike : (cells : List Named) → name_breaks ss cells ≡ name_breaks ts cells
-  breaks_alike cells = λ i. put_break (app_break (length cells) (length (things_alike cells i))) (behind_broken (is_formula cells) [] [] cells i)
+  pub breaks_alike : (f : Frame) (cells : List Cell) → name_breaks ss f cells ≡ name_breaks ts f cells
+  breaks_alike f cells =
+      λ i. put_break (app_break f cells (length (things_alike f cells i))) (behind_broken (is_among (given_names f cells)) (table_names f) [] cells i)

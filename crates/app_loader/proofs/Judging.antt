@@ -138,6 +138,6 @@ module _ (m : Names) (s t : Bor (List Signature)) (same : map entry s.now ≡ ma
       (map (λ (f : FormulaName). cell_alike (slice_get cs f.cell) i) m.formulas)
       (items_alike cs 0 m.controls i)
 
-  pub judged_alike : (acts : Bool) (w : Option Shape) (e : Tree) →
-      judge_whole (record { names = one; screen = None; gallery = None; settled = true }) acts w e ≡ judge_whole (record { names = other; screen = None; gallery = None; settled = true }) acts w e
-  judged_alike acts w e = whole_alike None None true acts w e
+  pub judged_alike : (screen gallery : Option ℕ) (acts : Bool) (w : Option Shape) (e : Tree) →
+      judge_whole (record { names = one; screen = screen; gallery = gallery; settled = true }) acts w e ≡ judge_whole (record { names = other; screen = screen; gallery = gallery; settled = true }) acts w e
+  judged_alike screen gallery acts w e = whole_alike screen gallery true acts w e

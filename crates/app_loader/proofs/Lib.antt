@@ -1,20 +1,14 @@
-pub mod Calm
-pub mod KnownNames
-pub mod Silent
-pub mod LawfulTypes
-pub mod LawfulParts
-pub mod LawfulTrees
-pub mod Tellings
-pub mod BreakLists
-pub mod Writes
-pub mod Known
-pub mod ReadySteps
+pub mod Singles
+pub mod Shallow
+pub mod Opens
 pub mod Loads
-pub mod Ended
-mod OneText
-mod Functions
-mod Judging
-mod Rounds
-mod OneVerdict
-mod Told
-mod OneRefusal
+pub mod Functions
+pub mod Judging
+pub mod Rounds
+pub mod OneText
+pub mod OneReading
+pub mod Circles
+pub mod Infos
+pub mod OneVerdict
+pub mod Told
+pub mod OneRefusal

@@ -1,147 +1,145 @@
--- Lines, loaded one behind the other.
-use Rattle.std.proofs.Common.{◌≡◌, ℕ, zero, suc, ◌+◌, ◌<◌, ◌≤◌, ◌++◌, List, [], ◌∷◌, Bool, true, false, length, get_or, take, Some, None, Result, Ok, Err, nat_eq, refl, ap, sym, subst, ◌∙◌, arith, if◌then◌else◌}
+-- What formulas, files and texts are judged as, stage by stage.
+use Rattle.std.proofs.Common.{◌≡◌, ℕ, ◌<◌, ◌≤◌, List, [], ◌∷◌, Bool, true, false, nat_eq, All, length, map, Result, Ok, Err, IfErr, IfOk, refl, ap, sym, subst, ◌∙◌, arith}
+use Rattle.std.specs.Prelude.{codes}
 use Rattle.std.proofs.lemmas.Bool.{eqb-true}
-use Rattle.std.specs.Prelude.{MatchResult}
-use Rattle.std.specs.List.{find}
-use Rattle.app_loader.specs.Laws.{alone, AdmittedIsLawful, AreKnownTo, MoreNamesSameTree}
-use Rattle.app_names.specs.ReadyLines.{AreReady}
-use Rattle.app_names.specs.declared.formula.Formula.{Formula}
-use Rattle.app_loader.specs.Admitted.{AreBreaks, AreLoaded, AreLoadedFrom, AreRefused, AreUnordered, IsAdmitted, IsLoaded, UsesLater, judged, names_before}
-use Rattle.app_loader.specs.Bare.{IsBare, IsFormulaOf, UsesMissing}
-use Rattle.app_loader.specs.Judged.{AreTypedLines, JudgedLines}
-use Rattle.app_loader.specs.Judged as judge
-use Rattle.app_loader.proofs.BreakLists.{broken_more, fine_more, its_number, one_more}
-use Rattle.app_loader.proofs.Known.{numbered, settled}
-use Rattle.app_loader.proofs.ReadySteps.{AreAlike, alike_more, lawful_before, ready_line}
-use Rattle.fx_data.specs.TypeView.{shape}
-use Rattle.fx_semantics.specs.Sound.{TypingsLawful}
-use Rattle.fx_typing.specs.Laws.{AdmittedIsTyped, PureIsQuiet}
+use Rattle.std.specs.Str.{IsUtf8, chars}
+use Rattle.fx_sig.specs.Entries.{entries, entry}
 use Rattle.fx_trees.specs.Lawful.{IsLawful}
-use Rattle.fx_trees.specs.declared.names.FormulaName.{FormulaName}
-use Rattle.fx_trees.specs.declared.names.Names.{Names}
-use Rattle.fx_parser.specs.declared.entries.Named.{Named}
+use Rattle.fx_trees.specs.declared.app_end.AppEnd.{AppEnd}
+use Rattle.fx_trees.specs.declared.app_end.AppEnd.TheVariants as end
 use Rattle.fx_trees.specs.declared.broken.Broken.{Broken}
-use Rattle.fx_typing.proofs.Elaborates.{whole_elaborates}
+use Rattle.fx_trees.specs.declared.names.Names.{Names}
+use Rattle.fx_trees.specs.declared.rule.Rule.TheVariants as rule
+use Rattle.fx_trees.specs.declared.signatures.Signature.{Signature}
+use Rattle.session_state.specs.Changes.{HoldsTables}
+use Rattle.app_file.specs.Files.{IsRead, broken_of}
+use Rattle.app_file.specs.declared.breaks.FileBreak.{FileBreak}
+use Rattle.app_file.specs.declared.file.AppFile.{AppFile}
+use Rattle.app_cells.specs.Spots.{IsPlaced}
+use Rattle.app_cells.specs.declared.app.App.{App}
+use Rattle.app_cells.specs.declared.cell.Cell.{Cell}
+use Rattle.app_cells.specs.declared.frame.Frame.{Frame}
+use Rattle.app_names.specs.AppNames.{AreNames}
+use Rattle.app_names.specs.NameRules.{in_app, name_breaks}
+use Rattle.app_semantics.specs.Sound.{IsSound}
+use Rattle.app_soundness.proofs.Soundness.{app_parts}
+use Rattle.app_soundness.specs.Accepted.{AcceptedIsSilent, AcceptedIsSound, AreSingle, IsAccepted}
+use Rattle.app_texts.specs.Texts.{IsNamedReading, IsReading, TellsBreaks}
+use Rattle.app_typing.proofs.Below.{final_same}
+use Rattle.app_typing.specs.Cells.{cell_of}
+use Rattle.app_typing.specs.Judged.{JudgedCells, Tells}
+use Rattle.app_typing.specs.Types.{AreLawfullyTyped, HaveLawfulTrees}
+use Rattle.app_loader.specs.Judged as judge
+use Rattle.app_loader.specs.Judged.{AreNamed, Judged, JudgedApp, JudgedFile, JudgedFormulas, JudgedText, longest}
 
--- ---- the names of the first formulas
--- what is found among the first is found among all
-found_first : {A : Type 0} (p : A → Bool) (xs : List A) (i : ℕ) (x : A) → find p (take i xs) ≡ Some x → find p xs ≡ Some x
-found_first p xs zero x e = absurd cc
-found_first p [] (suc i) x e = absurd cc
-found_first p (y ∷ xs) (suc i) x e = by (p y) (λ q. found_first p xs i x q) e
-  where
-    by : (b : Bool) → (find p (take i xs) ≡ Some x → find p xs ≡ Some x) → (if b then Some y else find p (take i xs)) ≡ Some x → (if b then Some y else find p xs) ≡ Some x
-    by true more q = q
-    by false more q = more q
+pub tells_weaker : (P Q : List Broken → Type 0) → ((bs : List Broken) → P bs → Q bs) → (e : AppEnd) → Tells P e → Tells Q e
+tells_weaker P Q f (end.Refused all) h = f all.items h
+tells_weaker P Q f end.Memory h = tt
 
-knows_first : (fs : List FormulaName) (i : ℕ) → AreKnownTo fs (take i fs)
-knows_first fs i x f e = found_first _ fs i f e
+pub tells_this : (P : List Broken → Type 0) (a b : Broken) → a ≡ b → P (b ∷ []) → (e : AppEnd) → Tells (λ bs. bs ≡ a ∷ []) e → Tells P e
+tells_this P a b same h = tells_weaker (λ bs. bs ≡ a ∷ []) P (λ bs is. subst P (sym (is ∙ ap (λ x. x ∷ []) same)) h)
 
-names_more : (m : Names) (i : ℕ) (k : FormulaName) (now next : Names) → i < length m.formulas → k ≡ get_or m.formulas i k → now ≡ names_before i m →
-    next ≡ record now { formulas = now.formulas ++ k ∷ [] } → next ≡ names_before (i + 1) m
-names_more m i k now next l own e is =
-    is ∙ ap (λ (z : Names). record z { formulas = z.formulas ++ k ∷ [] }) e ∙ ap (λ (fs : List FormulaName). record m { formulas = fs }) (one_more m.formulas i k l own)
+ok_weaker : (P Q : App → Type 0) → ((a : App) → P a → Q a) → (r : Result App AppEnd) → IfOk r P → IfOk r Q
+ok_weaker P Q f (Ok a) h = f a h
+ok_weaker P Q f (Err e) h = tt
 
--- ---- a formula more
-loaded_behind : (m : Names) (k : ℕ) (ns : List Named) (fs : List Formula) (n : Named) (f : Formula) (j : ℕ) → j ≡ k + length ns → AreLoadedFrom m k ns fs → IsLoaded m j n f →
-    AreLoadedFrom m k (ns ++ n ∷ []) (fs ++ f ∷ [])
-loaded_behind m k [] fs n f j e h l =
-    let here : j ≡ k = omega (arith, e) in
-    subst (λ (gs : List Formula). AreLoadedFrom m k (n ∷ []) (gs ++ f ∷ [])) (sym h) (subst (λ (i : ℕ). IsLoaded m i n f) here l, refl)
-loaded_behind m k (o ∷ ns) [] n f j e h l = absurd h
-loaded_behind m k (o ∷ ns) (g ∷ fs) n f j e h l = (h.0, loaded_behind m (suc k) ns fs n f j (omega (arith, e)) h.1 l)
+err_weaker : (P Q : List Broken → Type 0) → ((bs : List Broken) → P bs → Q bs) → (r : Result App AppEnd) → IfErr r (Tells P) → IfErr r (Tells Q)
+err_weaker P Q f (Ok a) h = tt
+err_weaker P Q f (Err e) h = tells_weaker P Q f e h
 
--- the first i lines are loaded as these
-pub record AreFine (m : Names) (lines : List Named) (i : ℕ) (fs : List Formula) : Type 0 where
-  pub loaded : AreLoadedFrom m 0 (take i lines) fs
-  pub alike : AreAlike fs (take i m.formulas)
-  pub ready : AreReady fs
+-- ---- formulas beside a frame
+nonempty : (b : Bool) → b ≡ false → b ≡ true → ⊥
+nonempty b e k = let q : true ≡ false = sym k ∙ e in absurd cc
 
--- what holds of the first i lines
-pub record AreLoadedSo (m : Names) (lines : List Named) (i : ℕ) (now : Names) (fs : List Formula) (bs : List Broken) : Type 0 where
-  pub found : now ≡ names_before i m
-  pub breaks : AreBreaks (λ k. IsAdmitted (names_before k m)) (UsesLater m) 0 (take i lines) bs
-  pub fine : bs ≡ [] → AreFine m lines i fs
+pub misnamed_by : (f : Frame) (cells : List Cell) (functions : List Signature) (bs : List Broken) → map entry functions ≡ entries → bs ≡ name_breaks functions f cells →
+    nat_eq (length bs) 0 ≡ false → JudgedFormulas f cells (Err bs)
+misnamed_by f cells functions [] e is k = absurd (nonempty true k refl)
+misnamed_by f cells functions (b ∷ bs) e is k = judge.misnamed f cells functions b bs e (sym is)
 
-pub at_first : (m : Names) (lines : List Named) (now : Names) → now ≡ names_before 0 m → AreLoadedSo m lines 0 now [] []
-at_first m lines now e = record { found = e; breaks = refl; fine = λ none. record { loaded = refl; alike = tt; ready = tt } }
+pub none_by : (bs : List Broken) → nat_eq (length bs) 0 ≡ true → bs ≡ []
+none_by [] e = refl
+none_by (b ∷ bs) e = let none : length (b ∷ bs) ≡ 0 = eqb-true (length (b ∷ bs)) 0 e in absurd (omega arith)
 
--- the laws on which loading rests
-pub record Laws : Type 0 where
-  pub same_tree : MoreNamesSameTree
-  pub typed : AdmittedIsTyped
-  pub lawful : AdmittedIsLawful
-  pub typings : TypingsLawful
-  pub quiet : PureIsQuiet
+pub named_by : (f : Frame) (cells : List Cell) (n : Names) (functions : List Signature) → AreNames f cells n → n.signatures.now ≡ functions → name_breaks functions f cells ≡ [] → AreNamed f cells n
+named_by f cells n functions are e none = record { named = are; unbroken = ap (λ (ss : List Signature). name_breaks ss f cells) e ∙ none }
 
-one_fine : Laws → (m : Names) (lines : List Named) (i : ℕ) (n : Named) (k : FormulaName) (now : Names) (fs : List Formula) (f : Formula) → AreTypedLines lines m → IsBare m → IsLawful m →
-    i < length lines → i < length m.formulas → n ≡ get_or lines i n → k ≡ get_or m.formulas i k → now ≡ names_before i m → AreFine m lines i fs → IsFormulaOf now k n f → AreFine m lines (i + 1) (fs ++ f ∷ [])
-one_fine laws m lines i n k now fs f t b l less room own known found old h =
-    let here : judged (names_before i m) n ≡ Ok (f.core, shape f.ty) = subst (λ (z : Names). judged z n ≡ Ok (f.core, shape f.ty)) found h.admitted in
-    let anywhere : judged m n ≡ Ok (f.core, shape f.ty) =
-    laws.same_tree m (take i m.formulas) n.expr (f.core, shape f.ty) (record { tables = b.tables; controls = b.controls; screens = b.screens }) (knows_first m.formulas i) here in
-    let it : IsLoaded m i n f = record {
-      name = h.named.name;
-      number = h.named.number ∙ numbered lines m i k t less known;
-      here = here;
-      anywhere = anywhere;
-      related = whole_elaborates (alone m) false None n.expr (f.core, shape f.ty) refl anywhere;
-    } in
-    let types : shape f.ty ≡ shape k.ty = sym (settled lines m i n k (f.core, shape f.ty) t less own known it.anywhere) in
-    record {
-      loaded = subst (λ (ks : List Named). AreLoadedFrom m 0 ks (fs ++ f ∷ [])) (one_more lines i n less own) (loaded_behind m 0 (take i lines) fs n f i (its_number lines i less) old.loaded it);
-      alike = subst (AreAlike (fs ++ f ∷ [])) (one_more m.formulas i k room known) (alike_more fs (take i m.formulas) f k old.alike h.named.number types);
-      ready = ready_line laws.typed laws.lawful laws.typings laws.quiet m i fs n f b (lawful_before m i l b) old.alike old.ready here;
-    }
+pub formulas_ok : (f : Frame) (cells : List Cell) (n : Names) → AreNamed f cells n → (r : Result App AppEnd) → IfOk r (λ a. JudgedCells n f.limit cells (Ok a)) → IfOk r (λ a. JudgedFormulas f cells (Ok a))
+formulas_ok f cells n are = ok_weaker (λ a. JudgedCells n f.limit cells (Ok a)) (λ a. JudgedFormulas f cells (Ok a)) (λ a h. judge.named f cells n (Ok a) are h)
 
-never : (bs : List Broken) (b : Broken) → bs ++ b ∷ [] ≡ [] → ⊥
-never [] b e = cc
-never (c ∷ bs) b e = cc
+pub formulas_err : (f : Frame) (cells : List Cell) (n : Names) → AreNamed f cells n → (r : Result App AppEnd) → IfErr r (Tells (λ bs. JudgedCells n f.limit cells (Err bs)))
+    → IfErr r (Tells (λ bs. JudgedFormulas f cells (Err bs)))
+formulas_err f cells n are = err_weaker (λ bs. JudgedCells n f.limit cells (Err bs)) (λ bs. JudgedFormulas f cells (Err bs)) (λ bs h. judge.named f cells n (Err bs) are h)
 
--- what is put to the formulas that are loaded, and to the breaks
-abbrev pub IsPut : Result Formula Broken → List Formula → List Formula → List Broken → List Broken → Type 0
-IsPut one fs gs bs cs = MatchResult one (λ (f : Formula). (gs ≡ fs ++ f ∷ []) × (cs ≡ bs)) (λ (b : Broken). (gs ≡ fs) × (cs ≡ bs ++ b ∷ []))
+accepted : (f : Frame) (cells : List Cell) (n : Names) (a : App) → AreNames f cells n → All (IsPlaced f) cells → AreSingle cells → JudgedCells n f.limit cells (Ok a)
+    → AreLawfullyTyped a.names → HaveLawfulTrees a.cells → IsLawful a.names → IsAccepted f cells f.limit a
+accepted f cells n a are placed single judged types trees lawful = record { first = n; named = are; placed = placed; single = single; judged = judged; lawful = lawful; types = types; trees = trees }
 
--- one line more
-pub step : Laws → (m : Names) (lines : List Named) (i : ℕ) (n : Named) (k : FormulaName) (now next : Names) (fs gs : List Formula) (bs cs : List Broken) (one : Result Formula Broken) →
-    AreTypedLines lines m → IsBare m → IsLawful m → i < length lines → i < length m.formulas → n ≡ get_or lines i n → k ≡ get_or m.formulas i k → AreLoadedSo m lines i now fs bs →
-    MatchResult one (IsFormulaOf now k n) (UsesMissing now n) → IsPut one fs gs bs cs → next ≡ record now { formulas = now.formulas ++ k ∷ [] } → AreLoadedSo m lines (i + 1) next gs cs
-step laws m lines i n k now next fs gs bs cs (Ok f) t b l less room own known so h put is =
-    let F : ℕ → Named → Type 0 = λ j. IsAdmitted (names_before j m) in
-    let here : IsAdmitted (names_before i m) n = ((f.core, shape f.ty), subst (λ (z : Names). judged z n ≡ Ok (f.core, shape f.ty)) so.found h.admitted) in
-    record {
-      found = names_more m i k now next room known so.found is;
-      breaks = subst (AreBreaks F (UsesLater m) 0 (take (i + 1) lines)) (sym put.1) (fine_more F (UsesLater m) lines i n bs less own so.breaks here);
-      fine = λ none. subst (AreFine m lines (i + 1)) (sym put.0) (one_fine laws m lines i n k now fs f t b l less room own known so.found (so.fine (sym put.1 ∙ none)) h);
-    }
-step laws m lines i n k now next fs gs bs cs (Err c) t b l less room own known so h put is =
-    let F : ℕ → Named → Type 0 = λ j. IsAdmitted (names_before j m) in
-    let here : UsesLater m i n c = subst (λ (z : Names). UsesMissing z n c) so.found h in
-    record {
-      found = names_more m i k now next room known so.found is;
-      breaks = subst (AreBreaks F (UsesLater m) 0 (take (i + 1) lines)) (sym put.1) (broken_more F (UsesLater m) lines i n bs c less own so.breaks here);
-      fine = λ none. absurd (never bs c (sym put.1 ∙ none));
-    }
+pub sound_ok : AcceptedIsSound → (f : Frame) (cells : List Cell) (n : Names) → AreNames f cells n → All (IsPlaced f) cells → AreSingle cells → (r : Result App AppEnd) → IfOk r (λ a. JudgedCells n f.limit cells (Ok a))
+    → IfOk r (λ a. AreLawfullyTyped a.names) → IfOk r (λ a. HaveLawfulTrees a.cells) → IfOk r (λ a. IsLawful a.names) → IfOk r IsSound
+sound_ok law f cells n are placed single (Ok a) judged types trees lawful = law f cells f.limit a (accepted f cells n a are placed single judged types trees lawful)
+sound_ok law f cells n are placed single (Err e) judged types trees lawful = tt
 
--- ---- behind all lines
-all_taken : {A : Type 0} (xs : List A) (i : ℕ) → length xs ≤ i → take i xs ≡ xs
-all_taken [] zero l = refl
-all_taken [] (suc i) l = refl
-all_taken (x ∷ xs) zero l = absurd (omega (arith, l))
-all_taken (x ∷ xs) (suc i) l = ap (λ us. x ∷ us) (all_taken xs i (omega (arith, l)))
+pub tables_ok : AcceptedIsSilent → (f : Frame) (cells : List Cell) (n : Names) → AreNames f cells n → All (IsPlaced f) cells → AreSingle cells → (r : Result App AppEnd) → IfOk r (λ a. JudgedCells n f.limit cells (Ok a))
+    → IfOk r (λ a. AreLawfullyTyped a.names) → IfOk r (λ a. HaveLawfulTrees a.cells) → IfOk r (λ a. IsLawful a.names) → IfOk r (λ a. HoldsTables a.names)
+tables_ok law f cells n are placed single (Ok a) judged types trees lawful = (law f cells f.limit a (accepted f cells n a are placed single judged types trees lawful)).tables
+tables_ok law f cells n are placed single (Err e) judged types trees lawful = tt
 
-no_breaks : (bs : List Broken) → nat_eq (length bs) 0 ≡ true → bs ≡ []
-no_breaks [] e = refl
-no_breaks (b ∷ bs) e = let past : length (b ∷ bs) ≡ 0 = eqb-true (length (b ∷ bs)) 0 e in absurd (omega (arith, past))
+pub screens_ok : (f : Frame) (cells : List Cell) (n : Names) → AreNames f cells n → (r : Result App AppEnd) → IfOk r (λ a. JudgedCells n f.limit cells (Ok a)) → IfOk r (λ a. a.names.screens ≡ f.screens)
+screens_ok f cells n are = ok_weaker (λ a. JudgedCells n f.limit cells (Ok a)) (λ a. a.names.screens ≡ f.screens)
+    (λ a h. let same = final_same (map cell_of cells) n a.names (app_parts h).settled.final in sym same.screens ∙ are.screens)
 
-pub are_loaded : (m : Names) (lines : List Named) (i : ℕ) (now : Names) (fs : List Formula) (bs : List Broken) → AreLoadedSo m lines i now fs bs → length lines ≤ i → nat_eq (length bs) 0 ≡ true → AreLoaded m lines fs
-are_loaded m lines i now fs bs so l e = subst (λ (ns : List Named). AreLoadedFrom m 0 ns fs) (all_taken lines i l) (so.fine (no_breaks bs e)).loaded
+-- ---- what a file holds
+pub unparsed_end : (a : AppFile) (e : AppEnd) → TellsBreaks (λ bs. IsReading a (Err bs)) e → Tells (λ bs. JudgedFile a (Err bs)) e
+unparsed_end a (end.Refused all) h = judge.unparsed a all.items h
+unparsed_end a end.Memory h = tt
 
-broken_lines : (m : Names) (lines : List Named) (bs : List Broken) → AreTypedLines lines m → AreRefused m lines [] → AreUnordered m lines bs → nat_eq (length bs) 0 ≡ false → JudgedLines lines (Err bs)
-broken_lines m lines [] t fine h e = let past : true ≡ false = e in absurd cc
-broken_lines m lines (b ∷ bs) t fine h e = judge.unordered lines m b bs t fine h
+pub parsed_ok : (a : AppFile) (f : Frame) (cells : List Cell) → IsReading a (Ok (f, cells)) → (r : Result App AppEnd) → IfOk r (λ b. JudgedFormulas f cells (Ok b)) → IfOk r (λ b. JudgedFile a (Ok b))
+parsed_ok a f cells h = ok_weaker (λ b. JudgedFormulas f cells (Ok b)) (λ b. JudgedFile a (Ok b)) (λ b j. judge.parsed a f cells (Ok b) h j)
 
-pub unordered : (m : Names) (lines : List Named) (i : ℕ) (now : Names) (fs : List Formula) (bs : List Broken) → AreTypedLines lines m → AreRefused m lines [] → AreLoadedSo m lines i now fs bs → length lines ≤ i →
-    nat_eq (length bs) 0 ≡ false → JudgedLines lines (Err bs)
-unordered m lines i now fs bs t fine so l e =
-    broken_lines m lines bs t fine (subst (λ (ns : List Named). AreBreaks (λ k. IsAdmitted (names_before k m)) (UsesLater m) 0 ns bs) (all_taken lines i l) so.breaks) e
+pub parsed_err : (a : AppFile) (f : Frame) (cells : List Cell) → IsReading a (Ok (f, cells)) → (r : Result App AppEnd) → IfErr r (Tells (λ bs. JudgedFormulas f cells (Err bs))) → IfErr r (Tells (λ bs. JudgedFile a (Err bs)))
+parsed_err a f cells h = err_weaker (λ bs. JudgedFormulas f cells (Err bs)) (λ bs. JudgedFile a (Err bs)) (λ bs j. judge.parsed a f cells (Err bs) h j)
+
+-- ---- files
+pub read_ok : (file : List ℕ) (a : AppFile) → IsRead file (Ok a) → (r : Result App AppEnd) → IfOk r (λ b. JudgedFile a (Ok b)) → IfOk r (λ b. JudgedApp file (Ok b))
+read_ok file a h = ok_weaker (λ b. JudgedFile a (Ok b)) (λ b. JudgedApp file (Ok b)) (λ b j. judge.read file a (Ok b) h j)
+
+pub read_err : (file : List ℕ) (a : AppFile) → IsRead file (Ok a) → (r : Result App AppEnd) → IfErr r (Tells (λ bs. JudgedFile a (Err bs))) → IfErr r (Tells (λ bs. JudgedApp file (Err bs)))
+read_err file a h = err_weaker (λ bs. JudgedFile a (Err bs)) (λ bs. JudgedApp file (Err bs)) (λ bs j. judge.read file a (Err bs) h j)
+
+pub unread_end : (file : List ℕ) (b : FileBreak) (c : Broken) → IsRead file (Err b) → c ≡ broken_of b → (e : AppEnd) → Tells (λ bs. bs ≡ c ∷ []) e → Tells (λ bs. JudgedApp file (Err bs)) e
+unread_end file b c h same = tells_this (λ bs. JudgedApp file (Err bs)) c (broken_of b) same (judge.unread file b h)
+
+pub opens_ok : (k : ℕ) → 0 < k → (r : Result App AppEnd) → IfOk r (λ a. length a.names.screens ≡ k) → IfOk r (λ a. 0 < length a.names.screens)
+opens_ok k l = ok_weaker (λ a. length a.names.screens ≡ k) (λ a. 0 < length a.names.screens) (λ a e. subst (λ n. 0 < n) (sym e) l)
+
+-- ---- texts of named formulas
+pub text_end : (source : List ℕ) (e : AppEnd) → TellsBreaks (λ bs. IsNamedReading source (Err bs)) e → Tells (λ bs. JudgedText source (Err bs)) e
+text_end source (end.Refused all) h = judge.unparsed source all.items h
+text_end source end.Memory h = tt
+
+pub text_ok : (source : List ℕ) (f : Frame) (cells : List Cell) → IsNamedReading source (Ok (f, cells)) → (r : Result App AppEnd) → IfOk r (λ b. JudgedFormulas f cells (Ok b)) → IfOk r (λ b. JudgedText source (Ok b))
+text_ok source f cells h = ok_weaker (λ b. JudgedFormulas f cells (Ok b)) (λ b. JudgedText source (Ok b)) (λ b j. judge.parsed source f cells (Ok b) h j)
+
+pub text_err : (source : List ℕ) (f : Frame) (cells : List Cell) → IsNamedReading source (Ok (f, cells)) → (r : Result App AppEnd) → IfErr r (Tells (λ bs. JudgedFormulas f cells (Err bs)))
+    → IfErr r (Tells (λ bs. JudgedText source (Err bs)))
+text_err source f cells h = err_weaker (λ bs. JudgedFormulas f cells (Err bs)) (λ bs. JudgedText source (Err bs)) (λ bs j. judge.parsed source f cells (Err bs) h j)
+
+-- ---- bytes
+as_text : (bytes source : List ℕ) (v : Result App (List Broken)) → length bytes ≤ longest → source ≡ bytes → IsUtf8 bytes → JudgedText source v → Judged bytes v
+as_text bytes source v l e u h = judge.text bytes v l u (subst (λ (s : List ℕ). JudgedText s v) e h)
+
+pub bytes_ok : (bytes source : List ℕ) → length bytes ≤ longest → source ≡ bytes → IsUtf8 bytes → (r : Result App AppEnd) → IfOk r (λ a. JudgedText source (Ok a)) → IfOk r (λ a. Judged bytes (Ok a))
+bytes_ok bytes source l e u = ok_weaker (λ a. JudgedText source (Ok a)) (λ a. Judged bytes (Ok a)) (λ a h. as_text bytes source (Ok a) l e u h)
+
+pub bytes_err : (bytes source : List ℕ) → length bytes ≤ longest → source ≡ bytes → IsUtf8 bytes → (r : Result App AppEnd) → IfErr r (Tells (λ bs. JudgedText source (Err bs))) → IfErr r (Tells (λ bs. Judged bytes (Err bs)))
+bytes_err bytes source l e u = err_weaker (λ bs. JudgedText source (Err bs)) (λ bs. Judged bytes (Err bs)) (λ bs k. as_text bytes source (Err bs) l e u k)
+
+pub tells_long : (P : List Broken → Type 0) → P (in_app rule.LimitPassed (codes "named 262145") ∷ []) → (e : AppEnd)
+    → Tells (λ bs. bs ≡ in_app rule.LimitPassed (chars (codes "named 262145")) ∷ []) e → Tells P e
+unfolding chars
+tells_long P h e k = tells_this P _ (in_app rule.LimitPassed (codes "named 262145")) refl h e k
+
+pub tells_bytes : (P : List Broken → Type 0) → P (in_app rule.BadShape (codes "utf-8") ∷ []) → (e : AppEnd)
+    → Tells (λ bs. bs ≡ in_app rule.BadShape (chars (codes "utf-8")) ∷ []) e → Tells P e
+unfolding chars
+tells_bytes P h e k = tells_this P _ (in_app rule.BadShape (codes "utf-8")) refl h e k

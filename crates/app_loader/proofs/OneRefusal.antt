@@ -1,39 +1,74 @@
--- Of a text that is refused the same breaks are told.
-use Rattle.std.proofs.Common.{inl, inr, ◌≡◌, ℕ, suc, ◌<◌, ◌≤◌, ◌++◌, ◌==◌, List, [], ◌∷◌, false, codes, length, take, drop, map, None, Result, Ok, Err, refl, ap, sym, subst, ◌∙◌, arith, append_assoc, take-append-drop, if◌then◌else◌}
+-- Of a file or a text that is refused the same breaks are told.
+use Rattle.std.proofs.Common.{inl, inr, ◌≡◌, ℕ, suc, ◌<◌, ◌≤◌, ◌++◌, ◌==◌, List, [], ◌∷◌, codes, length, take, drop, map, option_map, Result, Ok, Err, refl, ap, sym, subst, ◌∙◌, arith, append_assoc, take-append-drop, if◌then◌else◌}
 use Rattle.std.proofs.lemmas.Bool.{cases_lt}
 use Rattle.std.proofs.lemmas.List.{length-take-le, take-take}
+use Rattle.std.specs.Prelude.{encode_utf8_all}
 use Rattle.std.specs.Str.{chars}
-use Rattle.app_loader.specs.Laws.{alone}
-use Rattle.app_loader.specs.Admitted.{AreBreaks, AreRefused, AreUnordered, Breaks, IsAdmitted, UsesLater, judged, names_before}
-use Rattle.app_loader.specs.Cells.{cell_of}
-use Rattle.app_loader.specs.Judged.{AreNamedLines, AreTypedLines, Judged, JudgedLines, JudgedText, Unread, bad_token, in_formulas, loaded, misnamed, no_formulas, no_text, read, refused, text, too_deep, too_long, unordered, unread, unsettling}
-use Rattle.app_loader.specs.declared.app.App.{App}
-use Rattle.app_names.specs.NameRules.{in_formula, name_breaks}
-use Rattle.app_loader.specs.Verdicts.{AreSameBreaks, IsOneRefusalOfAText}
-use Rattle.app_loader.proofs.Functions.{breaks_alike}
-use Rattle.app_loader.proofs.OneText.{lexed_of, not_unread, one_text}
-use Rattle.app_loader.proofs.OneVerdict.{judged_at, judged_before, not_both, not_some, same_names}
-use Rattle.app_loader.proofs.Rounds.{AreAlike, functions_at, settles_alike}
-use Rattle.app_loader.proofs.Told.{whole_once, whole_told_alike}
+use Rattle.fx_data.specs.TypeView.{shape}
 use Rattle.fx_data.specs.Types.{Shape}
-use Rattle.fx_trees.specs.declared.signatures.Signature.{Signature}
-use Rattle.fx_grammar.specs.declared.item.Item.{Item}
-use Rattle.fx_typing.specs.Details.{IsToldBrokenWhole}
-use Rattle.fx_typing.specs.Rounds.{StillChanges}
-use Rattle.fx_lexer.proofs.Readings.{bad_one, lexed_one}
-use Rattle.fx_lexer.specs.declared.token.LexErr.{LexErr}
 use Rattle.fx_grammar.proofs.Meanings.{one_items}
-use Rattle.fx_trees.specs.declared.names.Names.{Names}
+use Rattle.fx_grammar.specs.declared.item.Item.{Item}
+use Rattle.fx_lexer.proofs.Readings.{bad_one}
+use Rattle.fx_lexer.specs.declared.token.LexErr.{LexErr}
 use Rattle.fx_parser.specs.Details.{bad_token_words, unexpected_words}
-use Rattle.fx_parser.specs.Texts.{IsSyntaxAt, place_or}
-use Rattle.fx_parser.specs.declared.entries.Named.{Named}
-use Rattle.fx_parser.specs.Trees.{HasEntries, Stops}
+use Rattle.fx_parser.specs.Texts.{IsEnd, IsSyntaxAt, place_or}
+use Rattle.fx_parser.specs.Trees.{Stops}
+use Rattle.fx_parser.specs.declared.end.ParseEnd.{ParseEnd}
+use Rattle.fx_parser.specs.declared.end.ParseEnd.TheVariants.{Lex, Syntax, TooDeep, Memory}
 use Rattle.fx_trees.specs.Rules.{number_of}
+use Rattle.fx_trees.specs.Term.{Term}
 use Rattle.fx_trees.specs.declared.broken.Broken.{Broken}
+use Rattle.fx_trees.specs.declared.names.Names.{Names}
 use Rattle.fx_trees.specs.declared.rule.Rule.{Rule}
 use Rattle.fx_trees.specs.declared.rule.Rule.TheVariants as rule
-use Rattle.fx_sig.specs.Entries.{entries, entry}
-use Rattle.fx_trees.specs.Term.{Term}
+use Rattle.fx_typing.specs.Details.{IsToldBrokenWhole}
+use Rattle.fx_typing.specs.Rounds.{IsFinal, StillChanges}
+use Rattle.app_file.specs.Files.{IsBadPart, IsOneBreak, IsOneReading, broken_of}
+use Rattle.app_file.specs.declared.breaks.FileBreak.{FileBreak}
+use Rattle.app_file.specs.declared.breaks.FileBreak.TheVariants as why
+use Rattle.app_file.specs.declared.file.AppFile.{AppFile}
+use Rattle.app_cells.specs.declared.app.App.{App}
+use Rattle.app_cells.specs.declared.app.CellInfo.{CellInfo}
+use Rattle.app_cells.specs.declared.cell.Cell.{Cell}
+use Rattle.app_cells.specs.declared.frame.Frame.{Frame}
+use Rattle.app_cells.specs.Spots.{address}
+use Rattle.app_names.specs.AppNames.{AreNames}
+use Rattle.app_names.specs.NameRules.{in_app, name_breaks}
+use Rattle.app_texts.specs.declared.file_texts.Text.{Text}
+use Rattle.app_texts.specs.Files.{frame_of, texts_of}
+use Rattle.app_texts.specs.Texts.{AreFormulasOf, AreNamedAt, AreReadAt, IsNamedReading, IsReading, IsTold, bare, broken, formulas, in_text, named_broken, named_formulas}
+use Rattle.app_typing.specs.Admitted.{AreRefused, Breaks, in_cell}
+use Rattle.app_typing.specs.Cells.{cell_of, judged, place_of}
+use Rattle.app_typing.specs.Infos.{unbuilt_breaks}
+use Rattle.app_typing.specs.Judged.{AreSettled, JudgedCells, app, cyclic, refused, unbuilt, unsettled, unsettling}
+use Rattle.app_loader.specs.Judged as judge
+use Rattle.app_loader.specs.Judged.{AreNamed, Judged, JudgedApp, JudgedFile, JudgedFormulas, JudgedText, misnamed, named, no_text, text, too_long}
+use Rattle.app_loader.specs.Verdicts.{AreSameBreaks, IsOneRefusalOfAFile, IsOneRefusalOfAText, IsSameBreak, bad_part, circle, same, too_deep}
+use Rattle.app_loader.proofs.Functions.{breaks_alike}
+use Rattle.app_loader.proofs.Infos.{infos_one, judged_at, none_refused}
+use Rattle.app_loader.proofs.OneReading.{named_reading_one, not_both, not_both_named, reading_one}
+use Rattle.app_loader.proofs.OneText.{lexed_of}
+use Rattle.app_loader.proofs.OneVerdict.{held_same, not_held, not_read, read_same, some_broken}
+use Rattle.app_loader.proofs.Rounds.{AreAlike, final_names, functions_at, settles_alike}
+use Rattle.app_loader.proofs.Singles.{named_parts, reading_parts}
+use Rattle.app_loader.proofs.Told.{whole_once, whole_told_alike}
+
+-- ---- breaks that are one are the same
+from_equal : (b c : Broken) → b ≡ c → IsSameBreak b c
+from_equal b c e = subst (IsSameBreak b) e (same b)
+
+all_same : (bs : List Broken) → AreSameBreaks bs bs
+all_same [] = tt
+all_same (b ∷ bs) = (same b, all_same bs)
+
+all_equal : (bs cs : List Broken) → bs ≡ cs → AreSameBreaks bs cs
+all_equal bs cs e = subst (AreSameBreaks bs) e (all_same bs)
+
+same_behind : (as_one as_other bs cs : List Broken) → AreSameBreaks as_one as_other → AreSameBreaks bs cs → AreSameBreaks (as_one ++ bs) (as_other ++ cs)
+same_behind [] [] bs cs h k = k
+same_behind [] (y ∷ ys) bs cs h k = absurd h
+same_behind (x ∷ xs) [] bs cs h k = absurd h
+same_behind (x ∷ xs) (y ∷ ys) bs cs h k = (h.0, same_behind xs ys bs cs h.1 k)
 
 -- ---- texts that are no formulas
 -- tokens stop at one place
@@ -50,30 +85,59 @@ one_stop P xs i j a b = elim (cases_lt i j) [
   | inl less ↦ absurd (no_later P xs i j a b less)
   | inr more ↦ elim (cases_lt j i) [
     | inl less ↦ absurd (no_later P xs j i b a less)
-    | inr same ↦ omega arith
+    | inr equal ↦ omega arith
   ]
 ]
 
-syntax_one : (xs : List Item) (end at bt : ℕ) → IsSyntaxAt HasEntries xs end at → IsSyntaxAt HasEntries xs end bt → at ≡ bt
-syntax_one xs end at bt a b = a.begins ∙ ap (λ i. place_or end (drop i xs)) (one_stop HasEntries xs a.place b.place a.stops b.stops) ∙ sym b.begins
+syntax_one : (P : List Item → Type 0) (xs : List Item) (end at bt : ℕ) → IsSyntaxAt P xs end at → IsSyntaxAt P xs end bt → at ≡ bt
+syntax_one P xs end at bt a b = a.begins ∙ ap (λ i. place_or end (drop i xs)) (one_stop P xs a.place b.place a.stops b.stops) ∙ sym b.begins
 
-unread_one : {source : List ℕ} {a b : Broken} → Unread source a → Unread source b → AreSameBreaks (a ∷ []) (b ∷ [])
-unread_one (bad_token source x p) (bad_token _ y q) =
-    let same = bad_one (chars source) x y p.0 q.0 in inl (ap (λ (z : LexErr). in_formulas rule.BadToken z.at (bad_token_words z.what) ∷ []) same)
-unread_one (bad_token source x p) (no_formulas _ at ts q l) = absurd (p.1 ts l)
-unread_one (bad_token source x p) (too_deep _ at q) = let l = lexed_of source q.0 q.1 in absurd (p.1 l.0 l.1)
-unread_one (no_formulas source at ts p l) (bad_token _ y q) = absurd (q.1 ts l)
-unread_one (no_formulas source at ts p l) (no_formulas _ bt us q r) =
+ends_same : (P Deeper : List Item → Type 0) (cell source : List ℕ) (e g : ParseEnd) (b c : Broken) → IsEnd P Deeper source e → IsEnd P Deeper source g → IsTold cell source e b → IsTold cell source g c → IsSameBreak b c
+ends_same P Deeper cell source (Lex x) (Lex y) b c p q s t =
+    let one = bad_one (chars source) x y p.0 q.0 in
+    from_equal b c (s ∙ ap (λ (z : LexErr). in_text cell rule.BadToken z.at (bad_token_words z.what)) one ∙ sym t)
+ends_same P Deeper cell source (Lex x) (Syntax bt) b c p q s t = let l = lexed_of source q.0 q.1 in absurd (p.1 l.0 l.1)
+ends_same P Deeper cell source (Lex x) (TooDeep bt) b c p q s t = let l = lexed_of source q.0 q.1 in absurd (p.1 l.0 l.1)
+ends_same P Deeper cell source (Syntax at) (Lex y) b c p q s t = let l = lexed_of source p.0 p.1 in absurd (q.1 l.0 l.1)
+ends_same P Deeper cell source (Syntax at) (Syntax bt) b c p q s t =
     let items = one_items (chars source) p.0 q.0 p.1 q.1 in
-    let places = syntax_one q.0 (length source) at bt (subst (λ xs. IsSyntaxAt HasEntries xs (length source) at) items p.2) q.2 in
-    let tokens = lexed_one (chars source) ts us l r in
-    inl (λ i. in_formulas rule.Syntax (places i) (unexpected_words source (places i) (tokens i)) ∷ [])
-unread_one (no_formulas source at ts p l) (too_deep _ bt q) =
-    let items = one_items (chars source) p.0 q.0 p.1 q.1 in absurd (p.2.stops.none (subst HasEntries (sym items) q.2.has_tree))
-unread_one (too_deep source at p) (bad_token _ y q) = let l = lexed_of source p.0 p.1 in absurd (q.1 l.0 l.1)
-unread_one (too_deep source at p) (no_formulas _ bt us q r) =
-    let items = one_items (chars source) p.0 q.0 p.1 q.1 in absurd (q.2.stops.none (subst HasEntries items p.2.has_tree))
-unread_one (too_deep source at p) (too_deep _ bt q) = inr (in_formulas rule.TooDeep at (codes "deeper than 64"), bt, refl, refl, refl)
+    let places = syntax_one P q.0 (length source) at bt (subst (λ xs. IsSyntaxAt P xs (length source) at) items p.2) q.2 in
+    let l = lexed_of source q.0 q.1 in
+    from_equal b c (s l.0 l.1 ∙ ap (λ (i : ℕ). in_text cell rule.Syntax i (unexpected_words source i l.0)) places ∙ sym (t l.0 l.1))
+ends_same P Deeper cell source (Syntax at) (TooDeep bt) b c p q s t =
+    let items = one_items (chars source) p.0 q.0 p.1 q.1 in absurd (p.2.stops.none (subst P (sym items) q.2.has_tree))
+ends_same P Deeper cell source (TooDeep at) (Lex y) b c p q s t = let l = lexed_of source p.0 p.1 in absurd (q.1 l.0 l.1)
+ends_same P Deeper cell source (TooDeep at) (Syntax bt) b c p q s t =
+    let items = one_items (chars source) p.0 q.0 p.1 q.1 in absurd (q.2.stops.none (subst P items p.2.has_tree))
+ends_same P Deeper cell source (TooDeep at) (TooDeep bt) b c p q s t =
+    subst (λ (z : Broken). IsSameBreak z c) (sym s) (subst (IsSameBreak (in_text cell rule.TooDeep at (codes "deeper than 64"))) (sym t) (too_deep (in_text cell rule.TooDeep at (codes "deeper than 64")) bt refl))
+ends_same P Deeper cell source Memory g b c p q s t = absurd s
+ends_same P Deeper cell source e Memory b c p q s t = absurd t
+
+read_same_breaks : (f : Frame) (ts : List Text) (cs ds : List Cell) (bs es : List Broken) → AreReadAt f ts cs bs → AreReadAt f ts ds es → AreSameBreaks bs es
+read_same_breaks f [] cs ds bs es h k = all_equal bs es (h.1 ∙ sym k.1)
+read_same_breaks f (t ∷ ts) cs ds bs es (inl h) (inl k) = read_same_breaks f ts h.1 k.1 bs es h.4 k.4
+read_same_breaks f (t ∷ ts) cs ds bs es (inl h) (inr k) = absurd (not_both f t.spot t.text h.0 k.0 h.3 k.3)
+read_same_breaks f (t ∷ ts) cs ds bs es (inr h) (inl k) = absurd (not_both f t.spot t.text k.0 h.0 k.3 h.3)
+read_same_breaks f (t ∷ ts) cs ds bs es (inr h) (inr k) =
+    let first = ends_same _ _ (address f t.spot) (encode_utf8_all t.text) h.3.end k.3.end h.0 k.0 h.3.ends k.3.ends h.3.told k.3.told in
+    let others = read_same_breaks f ts cs ds h.1 k.1 h.4 k.4 in
+    subst (λ (xs : List Broken). AreSameBreaks xs es) (sym h.2) (subst (AreSameBreaks (h.0 ∷ h.1)) (sym k.2) (first, others))
+
+named_same_breaks : (f : Frame) (source : List ℕ) (cs ds : List Cell) (bs es : List Broken) → AreNamedAt f source cs bs → AreNamedAt f source ds es → AreSameBreaks bs es
+named_same_breaks f source cs ds bs es (inl h) (inl k) = all_equal bs es (h.3 ∙ sym k.3)
+named_same_breaks f source cs ds bs es (inl h) (inr k) = absurd (not_both_named (codes "App.Formulas") source h.0 k.0 h.1 k.1)
+named_same_breaks f source cs ds bs es (inr h) (inl k) = absurd (not_both_named (codes "App.Formulas") source k.0 h.0 k.1 h.1)
+named_same_breaks f source cs ds bs es (inr h) (inr k) =
+    let first = ends_same _ _ (codes "App.Formulas") source h.1.end k.1.end h.0 k.0 h.1.ends k.1.ends h.1.told k.1.told in
+    subst (λ (xs : List Broken). AreSameBreaks xs es) (sym h.3) (subst (AreSameBreaks (h.0 ∷ [])) (sym k.3) (first, tt))
+
+file_same_breaks : (a : AppFile) (f : Frame) (cs ds : List Cell) (bs es : List Broken) → AreFormulasOf a f cs bs → AreFormulasOf a f ds es → AreSameBreaks bs es
+file_same_breaks a f cs ds bs es h k =
+    let first = named_same_breaks f (encode_utf8_all a.formulas) h.named_cells k.named_cells h.named_breaks k.named_breaks h.named k.named in
+    let others = read_same_breaks f (texts_of a) h.other_cells k.other_cells h.other_breaks k.other_breaks h.others k.others in
+    subst (λ (xs : List Broken). AreSameBreaks xs es) (sym h.breaks)
+    (subst (AreSameBreaks (h.named_breaks ++ h.other_breaks)) (sym k.breaks) (same_behind h.named_breaks k.named_breaks h.other_breaks k.other_breaks first others))
 
 -- ---- breaks of formulas
 -- the rule of a number
@@ -121,128 +185,159 @@ rule_one r q e = sym (numbered r) ∙ ap rule_at e ∙ numbered q
 one_break : (r q : Result (Term × Shape) (ℕ × ℕ)) (w v : ℕ × ℕ) → r ≡ q → r ≡ Err w → q ≡ Err v → w ≡ v
 one_break r q w v e x y = let both : ◌≡◌ {A = Result (Term × Shape) (ℕ × ℕ)} (Err w) (Err v) = sym x ∙ e ∙ y in cc
 
--- lists of breaks of the same formulas are one, where each formula's is
-breaks_one : (F G : ℕ → Named → Type 0) (B C : ℕ → Named → Broken → Type 0) → ((k : ℕ) (n : Named) (c : Broken) → F k n → C k n c → ⊥) → ((k : ℕ) (n : Named) (b : Broken) → G k n → B k n b → ⊥)
-    → ((k : ℕ) (n : Named) (b c : Broken) → B k n b → C k n c → b ≡ c) → (k : ℕ) (ns : List Named) (bs cs : List Broken) → AreBreaks F B k ns bs → AreBreaks G C k ns cs → bs ≡ cs
-breaks_one F G B C f g h k [] bs cs x y = x ∙ sym y
-breaks_one F G B C f g h k (n ∷ ns) bs cs (inl x) (inl y) = breaks_one F G B C f g h (suc k) ns bs cs x.1 y.1
-breaks_one F G B C f g h k (n ∷ ns) bs cs (inl x) (inr y) = absurd (f k n y.0 x.0 y.3)
-breaks_one F G B C f g h k (n ∷ ns) bs cs (inr x) (inl y) = absurd (g k n x.0 y.0 x.3)
-breaks_one F G B C f g h k (n ∷ ns) bs cs (inr x) (inr y) =
-    let rest = breaks_one F G B C f g h (suc k) ns x.1 y.1 x.4 y.4 in
-    let first = h k n x.0 y.0 x.3 y.3 in
-    x.2 ∙ (λ i. first i ∷ rest i) ∙ sym y.2
+no_break : (x : Term × Shape) (w : ℕ × ℕ) (r q : Result (Term × Shape) (ℕ × ℕ)) → r ≡ q → r ≡ Ok x → q ≡ Err w → ⊥
+no_break x w r q e y z = let both : ◌≡◌ {A = Result (Term × Shape) (ℕ × ℕ)} (Ok x) (Err w) = sym y ∙ e ∙ z in cc
 
--- two names that differ in the place of the table of functions alone
+-- names that differ in the place of the table of functions alone
 module _ (m k : Names) (e : k ≡ functions_at m k.signatures) (alike : AreAlike k.signatures m.signatures) where
-  told_at : (n : Named) (w r : ℕ) (said : List ℕ) → IsToldBrokenWhole (alone k) false None n.expr w r said → IsToldBrokenWhole (alone m) false None n.expr w r said
-  told_at n w r said x =
-      whole_told_alike m k.signatures m.signatures alike n.expr w r said (subst (λ (z : Names). IsToldBrokenWhole (alone z) false None n.expr w r said) e x)
+  told_at : (c : Cell) (w r : ℕ) (said : List ℕ) → IsToldBrokenWhole (place_of k c) c.acts (option_map shape c.wanted) c.expr w r said → IsToldBrokenWhole (place_of m c) c.acts (option_map shape c.wanted) c.expr w r said
+  told_at c w r said x =
+      whole_told_alike m k.signatures m.signatures alike c.screen c.item c.acts (option_map shape c.wanted) c.expr w r said
+      (subst (λ (z : Names). IsToldBrokenWhole (place_of z c) c.acts (option_map shape c.wanted) c.expr w r said) e x)
 
-  break_one : (n : Named) (b c : Broken) → Breaks m n b → Breaks k n c → b ≡ c
-  break_one n b c x y =
+  break_one : (c : Cell) (b d : Broken) → Breaks m c b → Breaks k c d → b ≡ d
+  break_one c b d x y =
       let place : ◌≡◌ {A = ℕ × ℕ} (x.1, number_of x.0) (y.1, number_of y.0) =
-      one_break (judged m n) (judged k n) (x.1, number_of x.0) (y.1, number_of y.0) (sym (judged_at m k n e alike)) x.3 y.3 in
+      one_break (judged m c) (judged k c) (x.1, number_of x.0) (y.1, number_of y.0) (sym (judged_at m k e alike c)) x.3 y.3 in
       let at : x.1 ≡ y.1 = ap (λ (w : ℕ × ℕ). w.0) place in
       let number : number_of x.0 ≡ number_of y.0 = ap (λ (w : ℕ × ℕ). w.1) place in
-      let told : IsToldBrokenWhole (alone m) false None n.expr y.1 (number_of y.0) x.2 =
-      subst (λ (w : ℕ × ℕ). IsToldBrokenWhole (alone m) false None n.expr w.0 w.1 x.2) place x.4 in
-      let said : x.2 ≡ y.2 = whole_once (alone m) false None n.expr y.1 (number_of y.0) x.2 y.2 told (told_at n y.1 (number_of y.0) y.2 y.4) in
-      x.5 ∙ (λ i. in_formula n (rule_one x.0 y.0 number i) (at i) (said i)) ∙ sym y.5
+      let told : IsToldBrokenWhole (place_of m c) c.acts (option_map shape c.wanted) c.expr y.1 (number_of y.0) x.2 =
+      subst (λ (w : ℕ × ℕ). IsToldBrokenWhole (place_of m c) c.acts (option_map shape c.wanted) c.expr w.0 w.1 x.2) place x.4 in
+      let said : x.2 ≡ y.2 = whole_once (place_of m c) c.acts (option_map shape c.wanted) c.expr y.1 (number_of y.0) x.2 y.2 told (told_at c y.1 (number_of y.0) y.2 y.4) in
+      x.5 ∙ (λ i. in_cell c (rule_one x.0 y.0 number i) (at i) (said i)) ∙ sym y.5
 
-  later_judged : (i : ℕ) (n : Named) → judged (names_before i k) n ≡ judged (names_before i m) n
-  later_judged i n = judged_before m k i n e alike
-
-  later_one : (i : ℕ) (n : Named) (b c : Broken) → UsesLater m i n b → UsesLater k i n c → b ≡ c
-  later_one i n b c x y =
-      let place : ◌≡◌ {A = ℕ × ℕ} (x.0, x.1) (y.0, y.1) = one_break (judged (names_before i m) n) (judged (names_before i k) n) (x.0, x.1) (y.0, y.1) (sym (later_judged i n)) x.2 y.2 in
-      x.3 ∙ ap (λ (w : ℕ × ℕ). in_formula n rule.NotBuilt w.0 (codes "name")) place ∙ sym y.3
-
-  refused_one : (lines : List Named) (bs cs : List Broken) → AreRefused m lines bs → AreRefused k lines cs → bs ≡ cs
-  refused_one lines bs cs =
-      breaks_one (λ i. IsAdmitted m) (λ i. IsAdmitted k) (λ i. Breaks m) (λ i. Breaks k)
-      (λ i n c x y. not_both x.0 (y.1, number_of y.0) (judged k n) (judged_at m k n e alike ∙ x.1) y.3)
-      (λ i n b x y. not_both x.0 (y.1, number_of y.0) (judged m n) (sym (judged_at m k n e alike) ∙ x.1) y.3)
-      (λ i. break_one) 0 lines bs cs
-
-  unordered_one : (lines : List Named) (bs cs : List Broken) → AreUnordered m lines bs → AreUnordered k lines cs → bs ≡ cs
-  unordered_one lines bs cs =
-      breaks_one (λ i. IsAdmitted (names_before i m)) (λ i. IsAdmitted (names_before i k)) (UsesLater m) (UsesLater k)
-      (λ i n c x y. not_both x.0 (y.0, y.1) (judged (names_before i k) n) (later_judged i n ∙ x.1) y.2)
-      (λ i n b x y. not_both x.0 (y.0, y.1) (judged (names_before i m) n) (sym (later_judged i n) ∙ x.1) y.2)
-      later_one 0 lines bs cs
+  refused_one : (cs : List Cell) (bs ds : List Broken) → AreRefused m cs bs → AreRefused k cs ds → bs ≡ ds
+  refused_one [] bs ds x y = x ∙ sym y
+  refused_one (c ∷ cs) bs ds (inl x) (inl y) = refused_one cs bs ds x.1 y.1
+  refused_one (c ∷ cs) bs ds (inl x) (inr y) = absurd (no_break x.0.0 (y.3.1, number_of y.3.0) (judged m c) (judged k c) (sym (judged_at m k e alike c)) x.0.1 y.3.3)
+  refused_one (c ∷ cs) bs ds (inr x) (inl y) = absurd (no_break y.0.0 (x.3.1, number_of x.3.0) (judged k c) (judged m c) (judged_at m k e alike c) y.0.1 x.3.3)
+  refused_one (c ∷ cs) bs ds (inr x) (inr y) =
+      let first = break_one c x.0 y.0 x.3 y.3 in
+      let others = refused_one cs x.1 y.1 x.4 y.4 in
+      x.2 ∙ (λ i. first i ∷ others i) ∙ sym y.2
 
 -- ---- stages
 -- two refusals tell the same
 abbrev SameRefusal : Result App (List Broken) → Result App (List Broken) → Type 0
 SameRefusal (Ok a) w = Unit {0}
 SameRefusal (Err bs) (Ok a) = Unit {0}
-SameRefusal (Err bs) (Err cs) = bs ≡ cs
+SameRefusal (Err bs) (Err cs) = AreSameBreaks bs cs
 
--- nothing is broken among names of which nothing is, wherever the table of functions stands
-unbroken : (lines : List Named) (functions : List Signature) (b : Broken) (bs : List Broken) (n : Names) → map entry functions ≡ entries → name_breaks functions lines ≡ b ∷ bs → AreNamedLines lines n → ⊥
-unbroken lines functions b bs n f e h = not_some b bs (name_breaks n.signatures.now lines) h.unbroken (breaks_alike n.signatures.now functions (h.named.signatures ∙ sym f) lines ∙ e)
+no_refusal : (v : Result App (List Broken)) (a : App) → SameRefusal v (Ok a)
+no_refusal (Ok b) a = tt
+no_refusal (Err bs) a = tt
 
-settles : (lines : List Named) (n m : Names) → AreNamedLines lines n → StillChanges (map cell_of lines) n → AreTypedLines lines m → ⊥
-settles lines n m h still t = settles_alike (map cell_of lines) lines t.first n m t.named.named h.named t.final still
+module _ (f : Frame) (cells : List Cell) (n k : Names) (x : AreNames f cells n) (y : AreNames f cells k) where
+  never_settles : (m : Names) → StillChanges (map cell_of cells) n → IsFinal (map cell_of cells) k m → ⊥
+  never_settles m still final = settles_alike f (map cell_of cells) cells k n m y x final still
 
-both_refused : (lines : List Named) (m k : Names) (bs cs : List Broken) → AreTypedLines lines m → AreTypedLines lines k → AreRefused m lines bs → AreRefused k lines cs → bs ≡ cs
-both_refused lines m k bs cs t u x y = let same = same_names lines m k t u in refused_one m k same.0 same.1 lines bs cs x y
+  one_names : (m l : Names) → IsFinal (map cell_of cells) n m → IsFinal (map cell_of cells) k l → (l ≡ functions_at m l.signatures) × AreAlike l.signatures m.signatures
+  one_names m l s t = final_names f (map cell_of cells) cells n k m l x y s t
 
-both_unordered : (lines : List Named) (m k : Names) (bs cs : List Broken) → AreTypedLines lines m → AreTypedLines lines k → AreUnordered m lines bs → AreUnordered k lines cs → bs ≡ cs
-both_unordered lines m k bs cs t u x y = let same = same_names lines m k t u in unordered_one m k same.0 same.1 lines bs cs x y
+  both_refused : (m l : Names) (bs ds : List Broken) → IsFinal (map cell_of cells) n m → IsFinal (map cell_of cells) k l → AreRefused m cells bs → AreRefused l cells ds → bs ≡ ds
+  both_refused m l bs ds s t p q = let one = one_names m l s t in refused_one m l one.0 one.1 cells bs ds p q
 
-lines_refused : {lines : List Named} {v w : Result App (List Broken)} → JudgedLines lines v → JudgedLines lines w → SameRefusal v w
-lines_refused (misnamed lines f b bs g e) (misnamed _ k d ds j q) = sym e ∙ breaks_alike f k (g ∙ sym j) lines ∙ q
-lines_refused (misnamed lines f b bs g e) (unsettling _ k h still) = absurd (unbroken lines f b bs k g e h)
-lines_refused (misnamed lines f b bs g e) (refused _ k d ds u y) = absurd (unbroken lines f b bs u.first g e u.named)
-lines_refused (misnamed lines f b bs g e) (unordered _ k d ds u fine y) = absurd (unbroken lines f b bs u.first g e u.named)
-lines_refused (misnamed lines f b bs g e) (loaded _ a u y w) = tt
-lines_refused (unsettling lines n h still) (misnamed _ k d ds j q) = absurd (unbroken lines k d ds n j q h)
-lines_refused (unsettling lines n h still) (unsettling _ k g also) = refl
-lines_refused (unsettling lines n h still) (refused _ k d ds u y) = absurd (settles lines n k h still u)
-lines_refused (unsettling lines n h still) (unordered _ k d ds u fine y) = absurd (settles lines n k h still u)
-lines_refused (unsettling lines n h still) (loaded _ a u y w) = tt
-lines_refused (refused lines m b bs t x) (misnamed _ k d ds j q) = absurd (unbroken lines k d ds t.first j q t.named)
-lines_refused (refused lines m b bs t x) (unsettling _ k h still) = absurd (settles lines k m h still t)
-lines_refused (refused lines m b bs t x) (refused _ k d ds u y) = both_refused lines m k (b ∷ bs) (d ∷ ds) t u x y
-lines_refused (refused lines m b bs t x) (unordered _ k d ds u fine y) = absurd (not_some b bs (b ∷ bs) (both_refused lines m k (b ∷ bs) [] t u x fine) refl)
-lines_refused (refused lines m b bs t x) (loaded _ a u y w) = tt
-lines_refused (unordered lines m b bs t fine x) (misnamed _ k d ds j q) = absurd (unbroken lines k d ds t.first j q t.named)
-lines_refused (unordered lines m b bs t fine x) (unsettling _ k h still) = absurd (settles lines k m h still t)
-lines_refused (unordered lines m b bs t fine x) (refused _ k d ds u y) = absurd (not_some d ds (d ∷ ds) (both_refused lines k m (d ∷ ds) [] u t y fine) refl)
-lines_refused (unordered lines m b bs t fine x) (unordered _ k d ds u also y) = both_unordered lines m k (b ∷ bs) (d ∷ ds) t u x y
-lines_refused (unordered lines m b bs t fine x) (loaded _ a u y w) = tt
-lines_refused (loaded lines a t l w) q = tt
+  settled_first : (m l : Names) (is : List CellInfo) (b : Broken) (bs : List Broken) → AreSettled n cells m is → IsFinal (map cell_of cells) k l → AreRefused l cells (b ∷ bs) → ⊥
+  settled_first m l is b bs s t q =
+      let one = one_names m l s.final t in some_broken b bs (b ∷ bs) refl (none_refused m l one.0 one.1 cells is (b ∷ bs) s.elaborated q)
 
--- ---- texts and bytes
-abbrev AlikeRefusal : Result App (List Broken) → Result App (List Broken) → Type 0
-AlikeRefusal (Ok a) w = Unit {0}
-AlikeRefusal (Err bs) (Ok a) = Unit {0}
-AlikeRefusal (Err bs) (Err cs) = AreSameBreaks bs cs
+  same_infos : (m l : Names) (is js : List CellInfo) → AreSettled n cells m is → AreSettled k cells l js → is ≡ js
+  same_infos m l is js s t = let one = one_names m l s.final t.final in infos_one m l one.0 one.1 cells is js s.elaborated t.elaborated
 
-as_alike : (v w : Result App (List Broken)) → SameRefusal v w → AlikeRefusal v w
-as_alike (Ok a) w e = tt
-as_alike (Err bs) (Ok a) e = tt
-as_alike (Err bs) (Err cs) e = inl e
+cells_same : {n k : Names} {limit most : ℕ} {cells : List Cell} {v w : Result App (List Broken)} → JudgedCells n limit cells v → JudgedCells k most cells w → (f : Frame) → AreNames f cells n → AreNames f cells k → SameRefusal v w
+cells_same (app n limit cells a p) q f x y = tt
+cells_same {v = v} p (app k most cells a q) f x y = no_refusal v a
+cells_same (unsettling n limit cells p) (unsettling k most _ q) f x y = all_same (unsettled ∷ [])
+cells_same (unsettling n limit cells p) (refused k most _ l d ds t q) f x y = absurd (never_settles f cells n k x y l p t)
+cells_same (unsettling n limit cells p) (unbuilt k most _ l js d ds t q) f x y = absurd (never_settles f cells n k x y l p t.final)
+cells_same (unsettling n limit cells p) (cyclic k most _ l js d t u q) f x y = absurd (never_settles f cells n k x y l p t.final)
+cells_same (refused n limit cells m b bs s p) (unsettling k most _ q) f x y = absurd (never_settles f cells k n y x m q s)
+cells_same (refused n limit cells m b bs s p) (refused k most _ l d ds t q) f x y = all_equal (b ∷ bs) (d ∷ ds) (both_refused f cells n k x y m l (b ∷ bs) (d ∷ ds) s t p q)
+cells_same (refused n limit cells m b bs s p) (unbuilt k most _ l js d ds t q) f x y = absurd (settled_first f cells k n y x l m js b bs t s p)
+cells_same (refused n limit cells m b bs s p) (cyclic k most _ l js d t u q) f x y = absurd (settled_first f cells k n y x l m js b bs t s p)
+cells_same (unbuilt n limit cells m is b bs s p) (unsettling k most _ q) f x y = absurd (never_settles f cells k n y x m q s.final)
+cells_same (unbuilt n limit cells m is b bs s p) (refused k most _ l d ds t q) f x y = absurd (settled_first f cells n k x y m l is d ds s t q)
+cells_same (unbuilt n limit cells m is b bs s p) (unbuilt k most _ l js d ds t q) f x y = all_equal (b ∷ bs) (d ∷ ds) (sym p ∙ ap unbuilt_breaks (same_infos f cells n k x y m l is js s t) ∙ q)
+cells_same (unbuilt n limit cells m is b bs s p) (cyclic k most _ l js d t u q) f x y = absurd (some_broken b bs (unbuilt_breaks is) p (ap unbuilt_breaks (same_infos f cells n k x y m l is js s t) ∙ u))
+cells_same (cyclic n limit cells m is b s o p) (unsettling k most _ q) f x y = absurd (never_settles f cells k n y x m q s.final)
+cells_same (cyclic n limit cells m is b s o p) (refused k most _ l d ds t q) f x y = absurd (settled_first f cells n k x y m l is d ds s t q)
+cells_same (cyclic n limit cells m is b s o p) (unbuilt k most _ l js d ds t q) f x y = absurd (some_broken d ds (unbuilt_breaks js) q (ap unbuilt_breaks (sym (same_infos f cells n k x y m l is js s t)) ∙ o))
+cells_same (cyclic n limit cells m is b s o p) (cyclic k most _ l js d t u q) f x y = (circle b d (ap (λ (z : Broken). z.rule) p.2) (ap (λ (z : Broken). z.rule) q.2), tt)
 
-text_refused : {source : List ℕ} {v w : Result App (List Broken)} → JudgedText source v → JudgedText source w → AlikeRefusal v w
-text_refused (unread source b x) (unread _ c y) = unread_one x y
-text_refused (unread source b x) (read _ lines w n j) = absurd (not_unread x lines n)
-text_refused (read source lines v n j) (unread _ c y) = absurd (not_unread y lines n)
-text_refused (read source lines v n j) (read _ others w k h) =
-    as_alike v w (lines_refused j (subst (λ (ls : List Named). JudgedLines ls w) (one_text source others lines k n) h))
+formulas_same : {f : Frame} {cells : List Cell} {v w : Result App (List Broken)} → JudgedFormulas f cells v → JudgedFormulas f cells w → SameRefusal v w
+formulas_same (misnamed f cells ss b bs e p) (misnamed _ _ rs d ds g q) = all_equal (b ∷ bs) (d ∷ ds) (sym p ∙ breaks_alike ss rs (e ∙ sym g) f cells ∙ q)
+formulas_same (misnamed f cells ss b bs e p) (named _ _ k w x q) =
+    absurd (some_broken b bs (name_breaks ss f cells) p (breaks_alike ss k.signatures.now (e ∙ sym x.named.signatures) f cells ∙ x.unbroken))
+formulas_same (named f cells n v x p) (misnamed _ _ rs d ds g q) =
+    absurd (some_broken d ds (name_breaks rs f cells) q (breaks_alike rs n.signatures.now (g ∙ sym x.named.signatures) f cells ∙ x.unbroken))
+formulas_same (named f cells n v x p) (named _ _ k w y q) = cells_same p q f x.named y.named
 
-refused_alike : {bytes : List ℕ} {v w : Result App (List Broken)} → Judged bytes v → Judged bytes w → AlikeRefusal v w
-refused_alike (too_long bytes l) (too_long _ k) = inl refl
-refused_alike (too_long bytes l) (no_text _ k other) = absurd (omega arith)
-refused_alike (too_long bytes l) (text _ w k u j) = absurd (omega arith)
-refused_alike (no_text bytes l other) (too_long _ k) = absurd (omega arith)
-refused_alike (no_text bytes l other) (no_text _ k also) = inl refl
-refused_alike (no_text bytes l other) (text _ w k u j) = absurd (other u)
-refused_alike (text bytes v l u j) (too_long _ k) = absurd (omega arith)
-refused_alike (text bytes v l u j) (no_text _ k other) = absurd (other u)
-refused_alike (text bytes v l u j) (text _ w k r h) = text_refused j h
+-- ---- what a file holds
+abbrev IfBroken : AppFile → Result (Frame × List Cell) (List Broken) → Type 0
+IfBroken a (Ok r) = Unit {0}
+IfBroken a (Err bs) = (cs : List Cell) × AreFormulasOf a (frame_of a) cs bs
 
-pub one_refusal : IsOneRefusalOfAText
-one_refusal bytes bs cs p q = refused_alike p q
+broken_parts : {a : AppFile} {v : Result (Frame × List Cell) (List Broken)} → IsReading a v → IfBroken a v
+broken_parts (formulas cs h) = tt
+broken_parts (broken cs b bs h) = (cs, h)
+
+file_same : {a : AppFile} {v w : Result App (List Broken)} → JudgedFile a v → JudgedFile a w → SameRefusal v w
+file_same (judge.unparsed a bs p) (judge.unparsed _ cs q) = let x = broken_parts p in let y = broken_parts q in file_same_breaks a (frame_of a) x.0 y.0 bs cs x.1 y.1
+file_same (judge.unparsed a bs p) (judge.parsed _ f cells w q j) = let y = reading_parts q in absurd (not_read (f, cells) bs (reading_one p f cells y.0 y.1))
+file_same (judge.parsed a f cells v p j) (judge.unparsed _ cs q) = let x = reading_parts p in absurd (not_read (f, cells) cs (reading_one q f cells x.0 x.1))
+file_same {w = w} (judge.parsed a f cells v p j) (judge.parsed _ g others _ q k) =
+    let x = reading_parts p in
+    let one : ◌≡◌ {A = Frame × List Cell} (g, others) (f, cells) = read_same (g, others) (f, cells) (reading_one q f cells x.0 x.1) in
+    formulas_same j (subst (λ (z : Frame × List Cell). JudgedFormulas z.0 z.1 w) one k)
+
+-- ---- files
+told_same : (b c : FileBreak) → b ≡ c → AreSameBreaks (broken_of b ∷ []) (broken_of c ∷ [])
+told_same b c e = (from_equal (broken_of b) (broken_of c) (ap broken_of e), tt)
+
+parts_same : (b c : FileBreak) → IsBadPart b → IsBadPart c → AreSameBreaks (broken_of b ∷ []) (broken_of c ∷ [])
+parts_same (why.BadPart p) (why.BadPart q) h k = (bad_part (broken_of (why.BadPart p)) q refl, tt)
+parts_same (why.BadPart p) c h k = absurd k
+parts_same b c h k = absurd h
+
+app_same : IsOneReading → IsOneBreak → {file : List ℕ} {v w : Result App (List Broken)} → JudgedApp file v → JudgedApp file w → SameRefusal v w
+app_same law one (judge.unread file b p) (judge.unread _ c q) = elim (one file b c p q) [ inl e ↦ told_same b c e | inr h ↦ parts_same b c h.0 h.1 ]
+app_same law one (judge.unread file b p) (judge.read _ a w q j) = absurd (not_held a b (law file a (Err b) q p))
+app_same law one (judge.read file a v p j) (judge.unread _ c q) = absurd (not_held a c (law file a (Err c) p q))
+app_same law one {w = w} (judge.read file a v p j) (judge.read _ b _ q k) =
+    let e : b ≡ a = held_same b a (law file a (Ok b) p q) in
+    file_same j (subst (λ (z : AppFile). JudgedFile z w) e k)
+
+pub one_refusal_of_a_file : IsOneReading → IsOneBreak → IsOneRefusalOfAFile
+one_refusal_of_a_file law one file bs cs p q = app_same law one p q
+
+-- ---- texts of named formulas
+abbrev IfUnnamed : List ℕ → Result (Frame × List Cell) (List Broken) → Type 0
+IfUnnamed source (Ok r) = Unit {0}
+IfUnnamed source (Err bs) = (cs : List Cell) × AreNamedAt bare source cs bs
+
+unnamed_parts : {source : List ℕ} {v : Result (Frame × List Cell) (List Broken)} → IsNamedReading source v → IfUnnamed source v
+unnamed_parts (named_formulas cs h) = tt
+unnamed_parts (named_broken cs b bs h) = (cs, h)
+
+text_same : {source : List ℕ} {v w : Result App (List Broken)} → JudgedText source v → JudgedText source w → SameRefusal v w
+text_same (judge.unparsed source bs p) (judge.unparsed _ cs q) = let x = unnamed_parts p in let y = unnamed_parts q in named_same_breaks bare source x.0 y.0 bs cs x.1 y.1
+text_same (judge.unparsed source bs p) (judge.parsed _ f cells w q j) = let y = named_parts q in absurd (not_read (f, cells) bs (named_reading_one p f cells y.0 y.1))
+text_same (judge.parsed source f cells v p j) (judge.unparsed _ cs q) = let x = named_parts p in absurd (not_read (f, cells) cs (named_reading_one q f cells x.0 x.1))
+text_same {w = w} (judge.parsed source f cells v p j) (judge.parsed _ g others _ q k) =
+    let x = named_parts p in
+    let one : ◌≡◌ {A = Frame × List Cell} (g, others) (f, cells) = read_same (g, others) (f, cells) (named_reading_one q f cells x.0 x.1) in
+    formulas_same j (subst (λ (z : Frame × List Cell). JudgedFormulas z.0 z.1 w) one k)
+
+bytes_same : {bytes : List ℕ} {v w : Result App (List Broken)} → Judged bytes v → Judged bytes w → SameRefusal v w
+bytes_same (too_long bytes l) (too_long _ m) = all_same (in_app rule.LimitPassed (codes "named 262145") ∷ [])
+bytes_same (too_long bytes l) (no_text _ m o) = absurd (omega (arith, l, m))
+bytes_same (too_long bytes l) (text _ w m u k) = absurd (omega (arith, l, m))
+bytes_same (no_text bytes l o) (too_long _ m) = absurd (omega (arith, l, m))
+bytes_same (no_text bytes l o) (no_text _ m p) = all_same (in_app rule.BadShape (codes "utf-8") ∷ [])
+bytes_same (no_text bytes l o) (text _ w m u k) = absurd (o u)
+bytes_same (text bytes v l u j) (too_long _ m) = absurd (omega (arith, l, m))
+bytes_same (text bytes v l u j) (no_text _ m o) = absurd (o u)
+bytes_same (text bytes v l u j) (text _ w m t k) = text_same j k
+
+pub one_refusal_of_a_text : IsOneRefusalOfAText
+one_refusal_of_a_text bytes bs cs p q = bytes_same p q

@@ -12,18 +12,16 @@ use Rattle.fx_grammar.specs.declared.item.Meaning.{Meaning}
 use Rattle.fx_grammar.specs.declared.item.Meaning.TheVariants as m
 use Rattle.fx_grammar.specs.declared.line.Join.TheVariants as join
 use Rattle.fx_grammar.specs.declared.line.Line.TheVariants.{Several}
-use Rattle.fx_grammar.specs.Formulas.{Entry, entry, AreNamed, no_entries, last_entry, further_entry, AreDeeper, AreEntriesOf, HasItems}
+use Rattle.fx_grammar.specs.Formulas.{Entry, entry, AreNamed, no_entries, last_entry, further_entry, AreDeeper, AreEntriesOf, HasItems, HasTree, IsDeeper}
 use Rattle.fx_grammar.specs.Reading.{Seen, line_at}
 use Rattle.fx_grammar.proofs.Complete.{complete}
 use Rattle.fx_grammar.proofs.Meanings.{one_items}
 use Rattle.fx_parser.specs.declared.entries.Named.{Named}
-use Rattle.fx_parser.specs.Texts.{AreNamedEnd, IsNamedText, named_of}
+use Rattle.fx_parser.specs.Texts.{AreNamedEnd, IsFormulaEnd, IsNamedText, named_of}
 use Rattle.fx_parser.specs.declared.end.ParseEnd.{ParseEnd}
 use Rattle.fx_parser.specs.declared.end.ParseEnd.TheVariants.{Lex, Syntax, TooDeep, Memory}
-use Rattle.fx_parser.specs.Trees.{HasEntries}
+use Rattle.fx_parser.specs.Trees.{HasEntries, HasFormula}
 use Rattle.fx_parser.proofs.Firsts.{semicolon_below}
-use Rattle.fx_trees.specs.declared.broken.Broken.{Broken}
-use Rattle.app_loader.specs.Judged.{Unread, bad_token, no_formulas, too_deep}
 
 -- a name and `=`, and the tokens behind them
 head_by : Meaning → Meaning → List Item → Option (List ℕ × List Item)
@@ -134,30 +132,40 @@ pub lexed_of : (source : List ℕ) (xs : List Item) → HasItems (chars source) 
 lexed_of source xs h = (map token_of h.0, (h.0, h.1, refl))
 
 -- a text that is named formulas has no end of another kind
-not_both : (source : List ℕ) (ns : List Named) (e : ParseEnd) → IsNamedText 64 source ns → AreNamedEnd source e → (e ≡ Memory → ⊥) → ⊥
-not_both source ns (Lex bad) p h other = let l = lexed_of source p.1.0 p.1.1 in h.1 l.0 l.1
-not_both source ns (Syntax at) p h other =
+pub not_named : (source : List ℕ) (ns : List Named) (e : ParseEnd) → IsNamedText 64 source ns → AreNamedEnd source e → (e ≡ Memory → ⊥) → ⊥
+not_named source ns (Lex bad) p h other = let l = lexed_of source p.1.0 p.1.1 in h.1 l.0 l.1
+not_named source ns (Syntax at) p h other =
     let items = one_items (chars source) p.1.0 h.0 p.1.1 h.1 in
     let are = p.1.2 in
     h.2.stops.none (subst HasEntries items (are.0, p.0, are.2))
-not_both source ns (TooDeep at) p h other =
+not_named source ns (TooDeep at) p h other =
     let items = one_items (chars source) p.1.0 h.0 p.1.1 h.1 in
     let are = p.1.2 in
     let deep = subst (AreDeeper 64) (sym items) h.2.deeper are.0 p.0 are.2 in
     let flat = are.1 in
     omega arith
-not_both source ns Memory p h other = other refl
+not_named source ns Memory p h other = other refl
 
-not_memory_lex : (bad : LexErr) → Lex bad ≡ Memory → ⊥
+-- and a text that is a formula has none
+pub not_formula : (source : List ℕ) (t : Tree) (e : ParseEnd) → HasTree 64 (chars source) t → IsFormulaEnd source e → (e ≡ Memory → ⊥) → ⊥
+not_formula source t (Lex bad) p h other = let l = lexed_of source p.0 p.1 in h.1 l.0 l.1
+not_formula source t (Syntax at) p h other =
+    let items = one_items (chars source) p.0 h.0 p.1 h.1 in
+    let is = p.2 in
+    h.2.stops.none (subst HasFormula items (is.0, t, is.2))
+not_formula source t (TooDeep at) p h other =
+    let items = one_items (chars source) p.0 h.0 p.1 h.1 in
+    let is = p.2 in
+    let deep = subst (IsDeeper 64) (sym items) h.2.deeper is.0 t is.2 in
+    let flat = is.1 in
+    omega arith
+not_formula source t Memory p h other = other refl
+
+pub not_memory_lex : (bad : LexErr) → Lex bad ≡ Memory → ⊥
 not_memory_lex bad e = cc
 
-not_memory_syntax : (at : ℕ) → Syntax at ≡ Memory → ⊥
+pub not_memory_syntax : (at : ℕ) → Syntax at ≡ Memory → ⊥
 not_memory_syntax at e = cc
 
-not_memory_deep : (at : ℕ) → TooDeep at ≡ Memory → ⊥
+pub not_memory_deep : (at : ℕ) → TooDeep at ≡ Memory → ⊥
 not_memory_deep at e = cc
-
-pub not_unread : {source : List ℕ} {b : Broken} → Unread source b → (ns : List Named) → IsNamedText 64 source ns → ⊥
-not_unread (bad_token source bad end) ns p = not_both source ns (Lex bad) p end (not_memory_lex bad)
-not_unread (no_formulas source at ts end lexed) ns p = not_both source ns (Syntax at) p end (not_memory_syntax at)
-not_unread (too_deep source at end) ns p = not_both source ns (TooDeep at) p end (not_memory_deep at)

@@ -1,154 +1,224 @@
--- A text has one verdict, and an app that is accepted is one.
-use Rattle.std.proofs.Common.{inl, inr, ◌≡◌, ℕ, suc, ◌≤◌, List, [], ◌∷◌, length, map, None, false, Result, Ok, Err, refl, ap, sym, subst, ◌∙◌, arith}
+-- No file and no text is both accepted and refused, and what is accepted is one app.
+use Rattle.std.proofs.Common.{◌≡◌, ℕ, ◌≤◌, List, [], ◌∷◌, length, map, Result, Ok, Err, refl, ap, sym, subst, ◌∙◌, arith}
 use Rattle.std.specs.Str.{IsUtf8}
-use Rattle.app_names.specs.declared.formula.Formula.{Formula}
-use Rattle.app_loader.specs.Admitted.{AreBreaks, AreLoaded, AreLoadedFrom, AreRefused, AreUnordered, Breaks, IsAdmitted, IsLoaded, UsesLater, judged, names_before}
-use Rattle.app_loader.specs.Cells.{cell_of}
-use Rattle.app_loader.specs.Judged.{AreTypedLines, IsWithoutTables, Judged, JudgedLines, JudgedText, loaded, longest, misnamed, no_text, read, refused, text, too_long, unordered, unread, unsettling}
-use Rattle.app_loader.specs.declared.app.App.{App}
-use Rattle.app_names.specs.NameRules.{name_breaks}
-use Rattle.app_loader.specs.Verdicts.{IsOneAppOfAText, IsOneVerdict, IsSameApp}
-use Rattle.app_loader.proofs.Functions.{breaks_alike}
-use Rattle.app_loader.proofs.Judging.{judged_alike}
-use Rattle.app_loader.proofs.OneText.{not_unread, one_text}
-use Rattle.app_loader.proofs.Rounds.{AreAlike, final_names, functions_at, settles_alike}
-use Rattle.fx_data.specs.TypeView.{shape}
-use Rattle.fx_data.specs.Types.{Shape}
-use Rattle.fx_trees.specs.declared.names.Names.{Names}
-use Rattle.fx_parser.specs.Texts.{IsNamedText}
-use Rattle.fx_parser.specs.declared.entries.Named.{Named}
-use Rattle.fx_trees.specs.Rules.{number_of}
 use Rattle.fx_trees.specs.declared.broken.Broken.{Broken}
-use Rattle.fx_trees.specs.Term.{Term}
-use Rattle.fx_infer.proofs.Only.{ty_one}
+use Rattle.fx_trees.specs.declared.names.Names.{Names}
+use Rattle.app_file.specs.Files.{IsOneReading, IsRead}
+use Rattle.app_file.specs.declared.breaks.FileBreak.{FileBreak}
+use Rattle.app_file.specs.declared.file.AppFile.{AppFile}
+use Rattle.app_cells.specs.Leaning.{edges_of}
+use Rattle.app_cells.specs.declared.app.App.{App}
+use Rattle.app_cells.specs.declared.app.CellInfo.{CellInfo}
+use Rattle.app_cells.specs.declared.cell.Cell.{Cell}
+use Rattle.app_cells.specs.declared.frame.Frame.{Frame}
+use Rattle.app_names.specs.AppNames.{AreNames}
+use Rattle.app_names.specs.NameRules.{name_breaks}
+use Rattle.app_soundness.proofs.Soundness.{IfApp, app_parts}
+use Rattle.app_texts.specs.Files.{frame_of}
+use Rattle.app_texts.specs.Texts.{AreFormulasOf, AreNamedAt, bare}
+use Rattle.app_typing.specs.Admitted.{AreRefused}
+use Rattle.app_typing.specs.Cells.{cell_of}
+use Rattle.app_typing.specs.Cycles.{IsCycle}
+use Rattle.app_typing.specs.Infos.{unbuilt_breaks}
+use Rattle.app_typing.specs.Judged.{AreSettled, IsAppOf, JudgedCells, app, cyclic, refused, unbuilt, unsettling}
+use Rattle.app_loader.specs.Judged as judge
+use Rattle.app_loader.specs.Judged.{AreNamed, Judged, JudgedApp, JudgedFile, JudgedFormulas, JudgedText, longest, misnamed, named, no_text, text, too_long}
+use Rattle.app_loader.specs.Verdicts.{IsOneApp, IsOneAppOfAFile, IsOneAppOfAText, IsOneVerdict, IsSameApp}
+use Rattle.app_loader.proofs.Circles.{edges_alike, no_circle}
+use Rattle.app_loader.proofs.Functions.{breaks_alike}
+use Rattle.app_loader.proofs.Infos.{infos_one, none_refused}
+use Rattle.app_loader.proofs.OneReading.{named_reading_one, reading_one}
+use Rattle.app_loader.proofs.Rounds.{AreAlike, final_names, functions_at, settles_alike}
+use Rattle.app_loader.proofs.Singles.{named_parts, reading_parts}
+use Rattle.depend_graph.specs.Order.{IsClosedPath}
+use Rattle.fx_typing.specs.Rounds.{IsFinal, StillChanges}
 
--- ---- lines with their types
-pub same_names : (lines : List Named) (a b : Names) → AreTypedLines lines a → AreTypedLines lines b → (b ≡ functions_at a b.signatures) × AreAlike b.signatures a.signatures
-same_names lines a b t u = final_names (map cell_of lines) lines t.first u.first a b t.named.named u.named.named t.final u.final
-
--- where the table of functions stands doesn't matter
-pub judged_at : (m : Names) (b : Names) (n : Named) → b ≡ functions_at m b.signatures → AreAlike b.signatures m.signatures → judged b n ≡ judged m n
-judged_at m b n e alike = ap (λ (z : Names). judged z n) e ∙ judged_alike m b.signatures m.signatures alike false None n.expr
-
-pub judged_before : (m : Names) (b : Names) (k : ℕ) (n : Named) → b ≡ functions_at m b.signatures → AreAlike b.signatures m.signatures → judged (names_before k b) n ≡ judged (names_before k m) n
-judged_before m b k n e alike = judged_at (names_before k m) (names_before k b) n (ap (names_before k) e) alike
-
--- ---- stages that refuse
-pub not_both : (x : Term × Shape) (w : ℕ × ℕ) (r : Result (Term × Shape) (ℕ × ℕ)) → r ≡ Ok x → r ≡ Err w → ⊥
-not_both x w r e k = let both : ◌≡◌ {A = Result (Term × Shape) (ℕ × ℕ)} (Ok x) (Err w) = sym e ∙ k in cc
-
-pub not_some : (b : Broken) (bs cs : List Broken) → cs ≡ [] → cs ≡ b ∷ bs → ⊥
-not_some b bs cs e k = let both : [] ≡ b ∷ bs = sym e ∙ k in cc
-
--- of formulas that are loaded nothing is broken
-none_broken : (m : Names) (F : ℕ → Named → Type 0) (B : ℕ → Named → Broken → Type 0) → ((k : ℕ) (n : Named) (f : Formula) (b : Broken) → IsLoaded m k n f → B k n b → ⊥) →
-    (k : ℕ) (ns : List Named) (fs : List Formula) (bs : List Broken) → AreLoadedFrom m k ns fs → AreBreaks F B k ns bs → bs ≡ []
-none_broken m F B go k [] fs bs l h = h
-none_broken m F B go k (n ∷ ns) [] bs l h = absurd l
-none_broken m F B go k (n ∷ ns) (f ∷ fs) bs l (inl h) = none_broken m F B go (suc k) ns fs bs l.1 h.1
-none_broken m F B go k (n ∷ ns) (f ∷ fs) bs l (inr h) = absurd (go k n f h.0 l.0 h.3)
-
-not_refused : (lines : List Named) (a : App) (m : Names) (b : Broken) (bs : List Broken) → AreTypedLines lines a.names → AreLoaded a.names lines a.lines → AreTypedLines lines m → AreRefused m lines (b ∷ bs) → ⊥
-not_refused lines a m b bs t l u h =
-    let same = same_names lines a.names m t u in
-    not_some b bs (b ∷ bs) (none_broken a.names (λ k. IsAdmitted m) (λ k. Breaks m)
-    (λ k n f c x y. not_both (f.core, shape f.ty) (y.1, number_of y.0) (judged m n) (judged_at a.names m n same.0 same.1 ∙ x.anywhere) y.3) 0 lines a.lines (b ∷ bs) l h) refl
-
-not_unordered : (lines : List Named) (a : App) (m : Names) (b : Broken) (bs : List Broken) → AreTypedLines lines a.names → AreLoaded a.names lines a.lines → AreTypedLines lines m → AreUnordered m lines (b ∷ bs) → ⊥
-not_unordered lines a m b bs t l u h =
-    let same = same_names lines a.names m t u in
-    not_some b bs (b ∷ bs) (none_broken a.names (λ k. IsAdmitted (names_before k m)) (UsesLater m)
-    (λ k n f c x y. not_both (f.core, shape f.ty) (y.0, y.1) (judged (names_before k m) n) (judged_before a.names m k n same.0 same.1 ∙ x.here) y.2) 0 lines a.lines (b ∷ bs) l h) refl
-
--- ---- the same formulas
-same_formula : (m b : Names) (k : ℕ) (n : Named) (f g : Formula) → b ≡ functions_at m b.signatures → AreAlike b.signatures m.signatures → IsLoaded m k n f → IsLoaded b k n g → f ≡ g
-same_formula m b k n f g e alike x y =
-    let trees : ◌≡◌ {A = Result (Term × Shape) (ℕ × ℕ)} (Ok (f.core, shape f.ty)) (Ok (g.core, shape g.ty)) = sym x.anywhere ∙ sym (judged_at m b n e alike) ∙ y.anywhere in
-    let pair : ◌≡◌ {A = Term × Shape} (f.core, shape f.ty) (g.core, shape g.ty) = cc in
-    λ i. record {
-      name = (x.name ∙ sym y.name) i;
-      cell = (x.number ∙ sym y.number) i;
-      core = (pair i).0;
-      ty = ty_one f.ty g.ty (ap (λ (z : Term × Shape). z.1) pair) i;
-    }
-
-same_from : (m b : Names) (k : ℕ) (ns : List Named) (fs gs : List Formula) → b ≡ functions_at m b.signatures → AreAlike b.signatures m.signatures → AreLoadedFrom m k ns fs → AreLoadedFrom b k ns gs → fs ≡ gs
-same_from m b k [] fs gs e alike x y = x ∙ sym y
-same_from m b k (n ∷ ns) [] gs e alike x y = absurd x
-same_from m b k (n ∷ ns) (f ∷ fs) [] e alike x y = absurd y
-same_from m b k (n ∷ ns) (f ∷ fs) (g ∷ gs) e alike x y =
-    λ i. same_formula m b k n f g e alike x.0 y.0 i ∷ same_from m b (suc k) ns fs gs e alike x.1 y.1 i
-
-same_app : (lines : List Named) (a b : App) → AreTypedLines lines a.names → AreLoaded a.names lines a.lines → AreTypedLines lines b.names → AreLoaded b.names lines b.lines
-    → IsWithoutTables a → IsWithoutTables b → IsSameApp b a
-same_app lines a b t l u k w x =
-    let same = same_names lines a.names b.names t u in
-    record {
-      lines = sym (same_from a.names b.names 0 lines a.lines b.lines same.0 same.1 l k);
-      names = same.0;
-      functions = same.1;
-      schema = ap (λ ts. record { tables = ts }) (x.tables ∙ sym w.tables);
-      limit = x.limit ∙ sym w.limit;
-    }
-
--- ---- verdicts
 -- a verdict is this app
 abbrev Agree : App → Result App (List Broken) → Type 0
-Agree a (Ok b) = IsSameApp b a
+Agree a (Ok b) = IsSameApp a b
 Agree a (Err bs) = ⊥
 
--- lines that are loaded are refused by no stage
-not_broken : {lines : List Named} {v : Result App (List Broken)} → JudgedLines lines v → (a : App) → AreTypedLines lines a.names → AreLoaded a.names lines a.lines → IsWithoutTables a → Agree a v
-not_broken (misnamed lines functions b bs f e) a t l w =
-    not_some b bs (name_breaks functions lines) (breaks_alike functions t.first.signatures.now (f ∙ sym t.named.named.signatures) lines ∙ t.named.unbroken) e
-not_broken (unsettling lines n named still) a t l w = settles_alike (map cell_of lines) lines t.first n a.names t.named.named named.named t.final still
-not_broken (refused lines m b bs u h) a t l w = not_refused lines a m b bs t l u h
-not_broken (unordered lines m b bs u fine h) a t l w = not_unordered lines a m b bs t l u h
-not_broken (loaded lines b u k x) a t l w = same_app lines a b t l u k w x
+pub some_broken : (b : Broken) (bs cs : List Broken) → cs ≡ b ∷ bs → cs ≡ [] → ⊥
+some_broken b bs cs e k = let both : b ∷ bs ≡ [] = sym e ∙ k in cc
 
--- bytes that are accepted as an app
-record IsAccepted (bytes : List ℕ) (a : App) : Type 0 where
+-- ---- formulas under names
+module _ (f : Frame) (cells : List Cell) (first : Names) (are : AreNames f cells first) (most : ℕ) (a : App) (h : IsAppOf first most cells a) where
+  same_names : (n m : Names) (is : List CellInfo) → AreNames f cells n → AreSettled n cells m is → (m ≡ functions_at a.names m.signatures) × AreAlike m.signatures a.names.signatures
+  same_names n m is its s = final_names f (map cell_of cells) cells first n a.names m are its h.settled.final s.final
+
+  same_infos : (n m : Names) (is : List CellInfo) → AreNames f cells n → AreSettled n cells m is → a.cells ≡ is
+  same_infos n m is its s =
+      let same = same_names n m is its s in
+      infos_one a.names m same.0 same.1 cells a.cells is h.settled.elaborated s.elaborated
+
+  not_unbuilt : (n m : Names) (is : List CellInfo) (b : Broken) (bs : List Broken) → AreNames f cells n → AreSettled n cells m is → unbuilt_breaks is ≡ b ∷ bs → ⊥
+  not_unbuilt n m is b bs its s u = some_broken b bs (unbuilt_breaks is) u (ap unbuilt_breaks (sym (same_infos n m is its s)) ∙ h.built)
+
+  not_cyclic : (n m : Names) (is : List CellInfo) (b : Broken) → AreNames f cells n → AreSettled n cells m is → IsCycle m is b → ⊥
+  not_cyclic n m is b its s k =
+      let same = same_names n m is its s in
+      let edges : edges_of m is ≡ edges_of a.names a.cells =
+      ap (λ (z : Names). edges_of z is) same.0 ∙ edges_alike a.names m.signatures is ∙ ap (edges_of a.names) (sym (same_infos n m is its s)) in
+      no_circle a.names a.cells a.order k.0 h.order (subst (λ (es : List (ℕ × ℕ)). IsClosedPath es k.0) edges k.1)
+
+  -- a verdict on them that is no other
+  pub cells_agree : {n : Names} {limit : ℕ} {own : List Cell} {v : Result App (List Broken)} → JudgedCells n limit own v → own ≡ cells → limit ≡ most → AreNames f cells n → Agree a v
+  cells_agree (app n limit own b k) e l its =
+      let settled : AreSettled n cells b.names b.cells = subst (λ (cs : List Cell). AreSettled n cs b.names b.cells) e k.settled in
+      let same = same_names n b.names b.cells its settled in
+      record { cells = same_infos n b.names b.cells its settled; names = same.0; functions = same.1; limit = h.limit ∙ sym l ∙ sym k.limit }
+  cells_agree (unsettling n limit own still) e l its =
+      settles_alike f (map cell_of cells) cells first n a.names are its h.settled.final (subst (λ (cs : List Cell). StillChanges (map cell_of cs) n) e still)
+  cells_agree (refused n limit own m b bs final r) e l its =
+      let settled : IsFinal (map cell_of cells) n m = subst (λ (cs : List Cell). IsFinal (map cell_of cs) n m) e final in
+      let same = final_names f (map cell_of cells) cells first n a.names m are its h.settled.final settled in
+      some_broken b bs (b ∷ bs) refl (none_refused a.names m same.0 same.1 cells a.cells (b ∷ bs) h.settled.elaborated (subst (λ (cs : List Cell). AreRefused m cs (b ∷ bs)) e r))
+  cells_agree (unbuilt n limit own m is b bs s u) e l its = not_unbuilt n m is b bs its (subst (λ (cs : List Cell). AreSettled n cs m is) e s) u
+  cells_agree (cyclic n limit own m is b s u k) e l its = not_cyclic n m is b its (subst (λ (cs : List Cell). AreSettled n cs m is) e s) k
+
+-- ---- formulas beside a frame
+record IsAccepted (f : Frame) (cells : List Cell) (a : App) : Type 0 where
+  first : Names
+  are : AreNamed f cells first
+  parts : IsAppOf first f.limit cells a
+
+abbrev IfAccepted : Frame → List Cell → Result App (List Broken) → Type 0
+IfAccepted f cells (Ok a) = IsAccepted f cells a
+IfAccepted f cells (Err bs) = Unit {0}
+
+by_parts : (f : Frame) (cells : List Cell) (n : Names) (v : Result App (List Broken)) → AreNamed f cells n → IfApp n f.limit cells v → IfAccepted f cells v
+by_parts f cells n (Ok a) are h = record { first = n; are = are; parts = h }
+by_parts f cells n (Err bs) are h = tt
+
+formulas_accepted : {f : Frame} {cells : List Cell} {v : Result App (List Broken)} → JudgedFormulas f cells v → IfAccepted f cells v
+formulas_accepted (misnamed f cells functions b bs e k) = tt
+formulas_accepted (named f cells n v are j) = by_parts f cells n v are (app_parts j)
+
+formulas_agree : {f : Frame} {cells : List Cell} {v : Result App (List Broken)} → JudgedFormulas f cells v → (a : App) → IsAccepted f cells a → Agree a v
+formulas_agree (misnamed f cells functions b bs e k) a h =
+    some_broken b bs (name_breaks functions f cells) k (breaks_alike functions h.first.signatures.now (e ∙ sym h.are.named.signatures) f cells ∙ h.are.unbroken)
+formulas_agree (named f cells n v are j) a h = cells_agree f cells h.first h.are.named f.limit a h.parts j refl refl are.named
+
+-- ---- what a file holds
+record IsFileOf (a : AppFile) (b : App) : Type 0 where
+  frame : Frame
+  cells : List Cell
+  is_frame : frame ≡ frame_of a
+  are : AreFormulasOf a frame cells []
+  accepted : IsAccepted frame cells b
+
+abbrev IfFile : AppFile → Result App (List Broken) → Type 0
+IfFile a (Ok b) = IsFileOf a b
+IfFile a (Err bs) = Unit {0}
+
+file_by : (a : AppFile) (f : Frame) (cells : List Cell) (v : Result App (List Broken)) → f ≡ frame_of a → AreFormulasOf a f cells [] → IfAccepted f cells v → IfFile a v
+file_by a f cells (Ok b) e are h = record { frame = f; cells = cells; is_frame = e; are = are; accepted = h }
+file_by a f cells (Err bs) e are h = tt
+
+file_accepted : {a : AppFile} {v : Result App (List Broken)} → JudgedFile a v → IfFile a v
+file_accepted (judge.unparsed a bs r) = tt
+file_accepted (judge.parsed a f cells v r j) = let parts = reading_parts r in file_by a f cells v parts.0 parts.1 (formulas_accepted j)
+
+pub not_read : (r : Frame × List Cell) (bs : List Broken) → ◌≡◌ {A = Result (Frame × List Cell) (List Broken)} (Err bs) (Ok r) → ⊥
+not_read r bs e = cc
+
+pub read_same : (r q : Frame × List Cell) → ◌≡◌ {A = Result (Frame × List Cell) (List Broken)} (Ok r) (Ok q) → r ≡ q
+read_same r q e = cc
+
+file_agree : {a : AppFile} {v : Result App (List Broken)} → JudgedFile a v → (b : App) → IsFileOf a b → Agree b v
+file_agree (judge.unparsed a bs r) b h = absurd (not_read (h.frame, h.cells) bs (reading_one r h.frame h.cells h.is_frame h.are))
+file_agree (judge.parsed a f cells v r j) b h =
+    let same : ◌≡◌ {A = Frame × List Cell} (f, cells) (h.frame, h.cells) = read_same (f, cells) (h.frame, h.cells) (reading_one r h.frame h.cells h.is_frame h.are) in
+    formulas_agree (subst (λ (z : Frame × List Cell). JudgedFormulas z.0 z.1 v) same j) b h.accepted
+
+-- ---- files
+record IsAppFile (file : List ℕ) (b : App) : Type 0 where
+  held : AppFile
+  is_read : IsRead file (Ok held)
+  is_of : IsFileOf held b
+
+abbrev IfAppFile : List ℕ → Result App (List Broken) → Type 0
+IfAppFile file (Ok b) = IsAppFile file b
+IfAppFile file (Err bs) = Unit {0}
+
+app_by : (file : List ℕ) (a : AppFile) (v : Result App (List Broken)) → IsRead file (Ok a) → IfFile a v → IfAppFile file v
+app_by file a (Ok b) r h = record { held = a; is_read = r; is_of = h }
+app_by file a (Err bs) r h = tt
+
+app_accepted : {file : List ℕ} {v : Result App (List Broken)} → JudgedApp file v → IfAppFile file v
+app_accepted (judge.unread file b r) = tt
+app_accepted (judge.read file a v r j) = app_by file a v r (file_accepted j)
+
+pub not_held : (a : AppFile) (b : FileBreak) → ◌≡◌ {A = Result AppFile FileBreak} (Err b) (Ok a) → ⊥
+not_held a b e = cc
+
+pub held_same : (a b : AppFile) → ◌≡◌ {A = Result AppFile FileBreak} (Ok a) (Ok b) → a ≡ b
+held_same a b e = cc
+
+app_agree : IsOneReading → {file : List ℕ} {v : Result App (List Broken)} → JudgedApp file v → (b : App) → IsAppFile file b → Agree b v
+app_agree law (judge.unread file c r) b h = absurd (not_held h.held c (law file h.held (Err c) h.is_read r))
+app_agree law (judge.read file a v r j) b h =
+    let same : a ≡ h.held = held_same a h.held (law file h.held (Ok a) h.is_read r) in
+    file_agree (subst (λ (z : AppFile). JudgedFile z v) same j) b h.is_of
+
+pub one_app : IsOneReading → IsOneApp
+one_app law file a bs p q = app_agree law q a (app_accepted p)
+
+pub one_app_of_a_file : IsOneReading → IsOneAppOfAFile
+one_app_of_a_file law file a b p q = app_agree law q a (app_accepted p)
+
+-- ---- texts of named formulas
+record IsTextOf (source : List ℕ) (b : App) : Type 0 where
+  frame : Frame
+  cells : List Cell
+  is_bare : frame ≡ bare
+  are : AreNamedAt bare source cells []
+  accepted : IsAccepted frame cells b
+
+abbrev IfText : List ℕ → Result App (List Broken) → Type 0
+IfText source (Ok b) = IsTextOf source b
+IfText source (Err bs) = Unit {0}
+
+text_by : (source : List ℕ) (f : Frame) (cells : List Cell) (v : Result App (List Broken)) → f ≡ bare → AreNamedAt bare source cells [] → IfAccepted f cells v → IfText source v
+text_by source f cells (Ok b) e are h = record { frame = f; cells = cells; is_bare = e; are = are; accepted = h }
+text_by source f cells (Err bs) e are h = tt
+
+text_accepted : {source : List ℕ} {v : Result App (List Broken)} → JudgedText source v → IfText source v
+text_accepted (judge.unparsed source bs r) = tt
+text_accepted (judge.parsed source f cells v r j) = let parts = named_parts r in text_by source f cells v parts.0 parts.1 (formulas_accepted j)
+
+text_agree : {source : List ℕ} {v : Result App (List Broken)} → JudgedText source v → (b : App) → IsTextOf source b → Agree b v
+text_agree (judge.unparsed source bs r) b h = absurd (not_read (h.frame, h.cells) bs (named_reading_one r h.frame h.cells h.is_bare h.are))
+text_agree (judge.parsed source f cells v r j) b h =
+    let same : ◌≡◌ {A = Frame × List Cell} (f, cells) (h.frame, h.cells) = read_same (f, cells) (h.frame, h.cells) (named_reading_one r h.frame h.cells h.is_bare h.are) in
+    formulas_agree (subst (λ (z : Frame × List Cell). JudgedFormulas z.0 z.1 v) same j) b h.accepted
+
+-- bytes that are accepted
+record AreBytesOf (bytes : List ℕ) (b : App) : Type 0 where
   short : length bytes ≤ longest
   utf8 : IsUtf8 bytes
-  lines : List Named
-  named : IsNamedText 64 bytes lines
-  typed : AreTypedLines lines a.names
-  are_loaded : AreLoaded a.names lines a.lines
-  without_tables : IsWithoutTables a
+  is_of : IsTextOf bytes b
 
-abbrev IfAccepted : List ℕ → Result App (List Broken) → Type 0
-IfAccepted bytes (Ok a) = IsAccepted bytes a
-IfAccepted bytes (Err bs) = Unit {0}
+abbrev IfBytes : List ℕ → Result App (List Broken) → Type 0
+IfBytes bytes (Ok b) = AreBytesOf bytes b
+IfBytes bytes (Err bs) = Unit {0}
 
-lines_accepted : {lines : List Named} {v : Result App (List Broken)} → JudgedLines lines v → (bytes : List ℕ) → length bytes ≤ longest → IsUtf8 bytes → IsNamedText 64 bytes lines → IfAccepted bytes v
-lines_accepted (loaded lines a t l w) bytes s u n = record { short = s; utf8 = u; lines = lines; named = n; typed = t; are_loaded = l; without_tables = w }
-lines_accepted (misnamed lines functions b bs f e) bytes s u n = tt
-lines_accepted (unsettling lines m h k) bytes s u n = tt
-lines_accepted (refused lines m b bs t h) bytes s u n = tt
-lines_accepted (unordered lines m b bs t h k) bytes s u n = tt
+bytes_by : (bytes : List ℕ) (v : Result App (List Broken)) → length bytes ≤ longest → IsUtf8 bytes → IfText bytes v → IfBytes bytes v
+bytes_by bytes (Ok b) l u h = record { short = l; utf8 = u; is_of = h }
+bytes_by bytes (Err bs) l u h = tt
 
-text_accepted : {source : List ℕ} {v : Result App (List Broken)} → JudgedText source v → length source ≤ longest → IsUtf8 source → IfAccepted source v
-text_accepted (unread source b h) s u = tt
-text_accepted (read source lines v n j) s u = lines_accepted j source s u n
+bytes_accepted : {bytes : List ℕ} {v : Result App (List Broken)} → Judged bytes v → IfBytes bytes v
+bytes_accepted (too_long bytes l) = tt
+bytes_accepted (no_text bytes l other) = tt
+bytes_accepted (text bytes v l u j) = bytes_by bytes v l u (text_accepted j)
 
-accepted : {bytes : List ℕ} {v : Result App (List Broken)} → Judged bytes v → IfAccepted bytes v
-accepted (too_long bytes l) = tt
-accepted (no_text bytes l other) = tt
-accepted (text bytes v s u j) = text_accepted j s u
-
--- each verdict on them is that app
-text_agrees : {source : List ℕ} {v : Result App (List Broken)} → JudgedText source v → (a : App) → IsAccepted source a → Agree a v
-text_agrees (unread source b h) a x = absurd (not_unread h x.lines x.named)
-text_agrees (read source others v n j) a x =
-    not_broken (subst (λ (ls : List Named). JudgedLines ls v) (one_text source others x.lines n x.named) j) a x.typed x.are_loaded x.without_tables
-
-agrees : {bytes : List ℕ} {v : Result App (List Broken)} → Judged bytes v → (a : App) → IsAccepted bytes a → Agree a v
-agrees (too_long bytes l) a x = let s : length bytes ≤ longest = x.short in absurd (omega (arith, l, s))
-agrees (no_text bytes l other) a x = absurd (other x.utf8)
-agrees (text bytes v s u j) a x = text_agrees j a x
+bytes_agree : {bytes : List ℕ} {v : Result App (List Broken)} → Judged bytes v → (b : App) → AreBytesOf bytes b → Agree b v
+bytes_agree (too_long bytes l) b h = let short : length bytes ≤ longest = h.short in absurd (omega (arith, l, short))
+bytes_agree (no_text bytes l other) b h = absurd (other h.utf8)
+bytes_agree (text bytes v l u j) b h = text_agree j b h.is_of
 
 pub one_verdict : IsOneVerdict
-one_verdict bytes a bs p q = agrees q a (accepted p)
+one_verdict bytes a bs p q = bytes_agree q a (bytes_accepted p)
 
-pub one_app : IsOneAppOfAText
-one_app bytes a b p q = agrees p b (accepted q)
+pub one_app_of_a_text : IsOneAppOfAText
+one_app_of_a_text bytes a b p q = bytes_agree q a (bytes_accepted p)

@@ -2,18 +2,21 @@
 use Rattle.std.proofs.Common.{inl, inr, ◌≡◌, ℕ, zero, suc, ◌+◌, ◌-◌, ◌≤◌, List, map, refl, ap, sym, subst, ◌∙◌, arith}
 use Rattle.std.proofs.lemmas.Bool.{cases_lt}
 use Rattle.std.specs.Borrow.{Bor}
-use Rattle.std.specs.List.{filter}
-use Rattle.app_names.specs.AppNames.{AreNames, as_collection, as_variable, is_collection, is_variable}
-use Rattle.app_names.specs.declared.declarations.Declared.{Declared}
+use Rattle.app_cells.specs.declared.cell.Cell.{Cell as Formula}
+use Rattle.app_cells.specs.declared.frame.Frame.{Frame}
+use Rattle.app_names.specs.AppNames.{AreNames, collections_among, variables_among}
 use Rattle.app_loader.proofs.Functions.{things_alike}
 use Rattle.app_loader.proofs.Judging.{round_alike}
-use Rattle.app_loader.proofs.Known.{same_after}
+use Rattle.app_typing.proofs.Below.{final_same}
 use Rattle.fx_trees.specs.declared.signatures.Signature.{Signature}
 use Rattle.fx_typing.specs.Rounds.{AfterRounds, Cell, IsFinal, SameNames, StillChanges, next_types, types_in}
 use Rattle.fx_trees.specs.declared.names.Names.{Names}
-use Rattle.fx_parser.specs.declared.entries.Named.{Named}
 use Rattle.fx_sig.specs.Entries.{entry}
 use Rattle.fx_infer.proofs.Only.{after_one, final_settles}
+
+same_after : (cs : List Cell) (n : Names) (k : ℕ) (m : Names) → AfterRounds cs n k m → SameNames n m
+same_after cs n zero m a = a.0
+same_after cs n (suc k) m a = a.0
 
 -- types that a round keeps are kept by all further ones
 kept : (cs : List Cell) (n m : Names) (k d : ℕ) → AfterRounds cs n k m → next_types cs m ≡ types_in m → (j : ℕ) → j ≡ k + d → AfterRounds cs n j m
@@ -67,35 +70,36 @@ final_alike cs n s m e x =
     (x.0, x.1, after_alike cs n s x.0 m e x.2, sym (round_alike m m.signatures n.signatures functions cs) ∙ x.3)
 
 -- ---- the names of cells
-names_alike : (cells : List Named) (n k : Names) → AreNames cells n → AreNames cells k → k ≡ functions_at n k.signatures
-names_alike cells n k a b =
-    let things = things_alike k.signatures.now n.signatures.now (b.signatures ∙ sym a.signatures) cells in
+names_alike : (f : Frame) (cells : List Formula) (n k : Names) → AreNames f cells n → AreNames f cells k → k ≡ functions_at n k.signatures
+names_alike f cells n k a b =
+    let things = things_alike k.signatures.now n.signatures.now (b.signatures ∙ sym a.signatures) f cells in
     λ i. record {
       signatures = k.signatures;
-      schema = record { tables = (b.tables ∙ sym a.tables) i };
+      schema = (b.schema ∙ sym a.schema) i;
       screens = (b.screens ∙ sym a.screens) i;
       controls = (b.controls ∙ sym a.controls) i;
       properties = (b.properties ∙ sym a.properties) i;
       formulas = (b.formulas ∙ sym a.formulas) i;
-      variables = (b.variables ∙ ap (λ (ds : List Declared). map as_variable (filter is_variable ds)) things ∙ sym a.variables) i;
-      collections = (b.collections ∙ ap (λ (ds : List Declared). map as_collection (filter is_collection ds)) things ∙ sym a.collections) i;
+      variables = (b.variables ∙ ap variables_among things ∙ sym a.variables) i;
+      collections = (b.collections ∙ ap collections_among things ∙ sym a.collections) i;
     }
 
 -- final names of the same cells
-pub final_names : (cs : List Cell) (cells : List Named) (n k a b : Names) → AreNames cells n → AreNames cells k → IsFinal cs n a → IsFinal cs k b → (b ≡ functions_at a b.signatures) × AreAlike b.signatures a.signatures
-final_names cs cells n k a b x y f g =
+pub final_names : (f : Frame) (cs : List Cell) (cells : List Formula) (n k a b : Names) → AreNames f cells n → AreNames f cells k → IsFinal cs n a → IsFinal cs k b
+    → (b ≡ functions_at a b.signatures) × AreAlike b.signatures a.signatures
+final_names f cs cells n k a b x y s t =
     let alike : AreAlike k.signatures n.signatures = y.signatures ∙ sym x.signatures in
-    let moved : IsFinal cs (functions_at n k.signatures) b = subst (λ (z : Names). IsFinal cs z b) (names_alike cells n k x y) g in
-    let one : functions_at b n.signatures ≡ a = final_one cs n (functions_at b n.signatures) a (final_alike cs n k.signatures b alike moved) f in
-    let first = same_after cs n f.0 a f.2 in
-    let second = same_after cs k g.0 b g.2 in (
+    let moved : IsFinal cs (functions_at n k.signatures) b = subst (λ (z : Names). IsFinal cs z b) (names_alike f cells n k x y) t in
+    let one : functions_at b n.signatures ≡ a = final_one cs n (functions_at b n.signatures) a (final_alike cs n k.signatures b alike moved) s in
+    let first = final_same cs n a s in
+    let second = final_same cs k b t in (
       ap (λ (z : Names). functions_at z b.signatures) one,
       ap (λ (r : Bor (List Signature)). map entry r.now) (sym second.signatures) ∙ alike ∙ ap (λ (r : Bor (List Signature)). map entry r.now) first.signatures,
     )
 
 -- names that settle don't change in each round
-pub settles_alike : (cs : List Cell) (cells : List Named) (n k a : Names) → AreNames cells n → AreNames cells k → IsFinal cs n a → StillChanges cs k → ⊥
-settles_alike cs cells n k a x y f g =
+pub settles_alike : (f : Frame) (cs : List Cell) (cells : List Formula) (n k a : Names) → AreNames f cells n → AreNames f cells k → IsFinal cs n a → StillChanges cs k → ⊥
+settles_alike f cs cells n k a x y s t =
     let alike : AreAlike n.signatures k.signatures = x.signatures ∙ sym y.signatures in
-    let moved : IsFinal cs (functions_at k n.signatures) a = subst (λ (z : Names). IsFinal cs z a) (names_alike cells k n y x) f in
-    final_settles cs k (functions_at a k.signatures) (final_alike cs k n.signatures a alike moved) g
+    let moved : IsFinal cs (functions_at k n.signatures) a = subst (λ (z : Names). IsFinal cs z a) (names_alike f cells k n y x) s in
+    final_settles cs k (functions_at a k.signatures) (final_alike cs k n.signatures a alike moved) t

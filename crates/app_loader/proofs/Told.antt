@@ -1,5 +1,5 @@
 -- Of a broken formula one thing is said, wherever the table of functions stands.
-use Rattle.std.proofs.Common.{inl, inr, ◌≡◌, ◌++◌, ℕ, List, [], ◌∷◌, Bool, true, false, map, length, ◌==◌, suc, codes, Option, None, Result, Ok, Err, refl, ap, sym, subst, ◌∙◌, if◌then◌else◌}
+use Rattle.std.proofs.Common.{inl, inr, ◌≡◌, ◌++◌, ℕ, List, [], ◌∷◌, Bool, true, map, length, ◌==◌, suc, codes, Option, Result, Ok, Err, refl, ap, sym, subst, ◌∙◌, if◌then◌else◌}
 use Rattle.std.specs.Borrow.{Bor}
 use Rattle.app_loader.proofs.Judging.{admit_alike, as_called, deep_alike, node_alike, part_alike, parts_alike, setting_alike}
 use Rattle.fx_data.specs.Types.{Shape}
@@ -100,7 +100,7 @@ module _ (m : Names) (s t : Bor (List Signature)) (same : map entry s.now ≡ ma
       among_alike u h n done (more k ks) w r said (inr x) =
           inr (x.0, sym (part_alike m s t same screen gallery settled u h n done k) ∙ x.1, among_alike u h n (done ++ x.0 ∷ []) ks w r said x.2)
 
-  pub whole_told_alike : (e : Tree) (w r : ℕ) (said : List ℕ) →
-      IsToldBrokenWhole (record { names = one; screen = None; gallery = None; settled = true }) false None e w r said → IsToldBrokenWhole (record { names = other; screen = None; gallery = None; settled = true }) false None e w r said
-  whole_told_alike e w r said (inl x) = inl (told_alike None None true (outermost false) e w r said x)
-  whole_told_alike e w r said (inr x) = inr (x.0, x.1, sym (node_alike m s t same None None true (outermost false) e) ∙ x.2, x.3, x.4)
+  pub whole_told_alike : (screen gallery : Option ℕ) (acts : Bool) (wanted : Option Shape) (e : Tree) (w r : ℕ) (said : List ℕ) →
+      IsToldBrokenWhole (record { names = one; screen = screen; gallery = gallery; settled = true }) acts wanted e w r said → IsToldBrokenWhole (record { names = other; screen = screen; gallery = gallery; settled = true }) acts wanted e w r said
+  whole_told_alike screen gallery acts wanted e w r said (inl x) = inl (told_alike screen gallery true (outermost acts) e w r said x)
+  whole_told_alike screen gallery acts wanted e w r said (inr x) = inr (x.0, x.1, sym (node_alike m s t same screen gallery true (outermost acts) e) ∙ x.2, x.3, x.4)

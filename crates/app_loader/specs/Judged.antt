@@ -1,89 +1,62 @@
--- Texts of named formulas, judged: they are these formulas, or these are the breaks of the first stage that has any.
+-- Files and texts, judged: they are these apps, or these are the breaks of the first stage that has any.
 use Rattle.std.specs.Prelude.{◌≡◌, ◌<◌, ◌≤◌, ℕ, List, [], ◌∷◌, map, Result, Ok, Err, length, codes}
-use Rattle.std.specs.Str.{chars, IsUtf8}
-use Rattle.fx_typing.specs.Rounds.{IsFinal, StillChanges}
-use Rattle.fx_lexer.specs.declared.token.LexErr.{LexErr}
-use Rattle.fx_lexer.specs.declared.token.Token.{Token}
-use Rattle.fx_lexer.specs.Lexed.{Lexed}
-use Rattle.fx_trees.specs.declared.names.Names.{Names}
-use Rattle.fx_parser.specs.Details.{bad_token_words, unexpected_words}
-use Rattle.fx_parser.specs.Texts.{AreNamedEnd, IsNamedText}
-use Rattle.fx_parser.specs.declared.end.ParseEnd.TheVariants.{Lex, Syntax, TooDeep}
-use Rattle.fx_parser.specs.declared.entries.Named.{Named}
-use Rattle.fx_trees.specs.declared.broken.Broken.{Broken}
-use Rattle.fx_trees.specs.declared.app_end.AppEnd.{AppEnd}
-use Rattle.fx_trees.specs.declared.app_end.AppEnd.TheVariants as end
-use Rattle.fx_trees.specs.declared.rule.Rule.{Rule}
-use Rattle.fx_trees.specs.declared.rule.Rule.TheVariants as rule
+use Rattle.std.specs.Str.{IsUtf8}
 use Rattle.fx_sig.specs.Entries.{entries, entry}
+use Rattle.fx_trees.specs.declared.broken.Broken.{Broken}
+use Rattle.fx_trees.specs.declared.names.Names.{Names}
+use Rattle.fx_trees.specs.declared.rule.Rule.TheVariants as rule
 use Rattle.fx_trees.specs.declared.signatures.Signature.{Signature}
-use Rattle.app_loader.specs.declared.app.App.{App}
-use Rattle.app_loader.specs.Admitted.{AreLoaded, AreRefused, AreUnordered}
+use Rattle.app_file.specs.Files.{IsRead, broken_of}
+use Rattle.app_file.specs.declared.breaks.FileBreak.{FileBreak}
+use Rattle.app_file.specs.declared.file.AppFile.{AppFile}
+use Rattle.app_cells.specs.declared.app.App.{App}
+use Rattle.app_cells.specs.declared.cell.Cell.{Cell}
+use Rattle.app_cells.specs.declared.frame.Frame.{Frame}
+use Rattle.app_texts.specs.Texts.{IsNamedReading, IsReading}
 use Rattle.app_names.specs.AppNames.{AreNames}
-use Rattle.app_loader.specs.Cells.{cell_of}
 use Rattle.app_names.specs.NameRules.{in_app, name_breaks}
+use Rattle.app_soundness.specs.Accepted.{AreSingle}
+use Rattle.app_typing.specs.Judged.{JudgedCells}
 
 -- the most bytes of a text of named formulas
 abbrev pub longest : ℕ
 longest = 262144
 
--- a rule that the text of named formulas breaks, counted from its start
-abbrev pub in_formulas : Rule → ℕ → List ℕ → Broken
-in_formulas r at detail = record { cell = codes "App.Formulas"; rule = r; at = at; detail = detail }
+-- these are the names of formulas, of which nothing is broken
+pub record AreNamed (f : Frame) (cells : List Cell) (n : Names) : Type 0 where
+  pub named : AreNames f cells n
+  pub unbroken : name_breaks n.signatures.now f cells ≡ []
 
--- The text is no named formulas, and this says why: a bad token, tokens that are none, or formulas that are too deep.
-pub data Unread : List ℕ → Broken → Type 0 where
-  bad_token : (source : List ℕ) (bad : LexErr) → AreNamedEnd source (Lex bad) → Unread source (in_formulas rule.BadToken bad.at (bad_token_words bad.what))
-  no_formulas : (source : List ℕ) (at : ℕ) (ts : List Token) → AreNamedEnd source (Syntax at) → Lexed (chars source) ts → Unread source (in_formulas rule.Syntax at (unexpected_words source at ts))
-  too_deep : (source : List ℕ) (at : ℕ) → AreNamedEnd source (TooDeep at) → Unread source (in_formulas rule.TooDeep at (codes "deeper than 64"))
+-- FORMULAS BESIDE A FRAME, judged: something is broken among their names, or under their names they are judged so.
+pub data JudgedFormulas : Frame → List Cell → Result App (List Broken) → Type 0 where
+  misnamed : (f : Frame) (cells : List Cell) (functions : List Signature) (b : Broken) (bs : List Broken) → map entry functions ≡ entries
+      → name_breaks functions f cells ≡ b ∷ bs → JudgedFormulas f cells (Err (b ∷ bs))
+  named : (f : Frame) (cells : List Cell) (n : Names) (v : Result App (List Broken)) → AreNamed f cells n → JudgedCells n f.limit cells v
+      → JudgedFormulas f cells v
 
--- such a break stands alone
-abbrev pub AreUnread : List ℕ → List Broken → Type 0
-AreUnread source bs = (b : Broken) × (bs ≡ b ∷ []) × Unread source b
+-- What a file holds, judged: some of its texts are no formulas, or its formulas are judged so.
+pub data JudgedFile : AppFile → Result App (List Broken) → Type 0 where
+  unparsed : (a : AppFile) (bs : List Broken) → IsReading a (Err bs) → JudgedFile a (Err bs)
+  parsed : (a : AppFile) (f : Frame) (cells : List Cell) (v : Result App (List Broken)) → IsReading a (Ok (f, cells)) → JudgedFormulas f cells v
+      → JudgedFile a v
 
--- each of 256 rounds changes a type
-abbrev pub unsettled : Broken
-unsettled = in_app rule.LimitPassed (codes "rounds 256")
+-- however its texts are read, no gallery has two formulas of its items
+abbrev pub HasSingles : AppFile → Type 0
+HasSingles a = (f : Frame) (cells : List Cell) → IsReading a (Ok (f, cells)) → AreSingle cells
 
--- these are the names of lines, of which nothing is broken
-pub record AreNamedLines (lines : List Named) (n : Names) : Type 0 where
-  pub named : AreNames lines n
-  pub unbroken : name_breaks n.signatures.now lines ≡ []
+-- THE BYTES OF AN APP FILE, judged: they aren't read, and why is told; or what they hold is judged so.
+pub data JudgedApp : List ℕ → Result App (List Broken) → Type 0 where
+  unread : (file : List ℕ) (b : FileBreak) → IsRead file (Err b) → JudgedApp file (Err (broken_of b ∷ []))
+  read : (file : List ℕ) (a : AppFile) (v : Result App (List Broken)) → IsRead file (Ok a) → JudgedFile a v → JudgedApp file v
 
--- besides, these are the names with their final types
-pub record AreTypedLines (lines : List Named) (m : Names) : Type 0 where
-  pub first : Names
-  pub named : AreNamedLines lines first
-  pub final : IsFinal (map cell_of lines) first m
-
--- an app that has no tables, and the row limit of one of which nothing else is said
-pub record IsWithoutTables (a : App) : Type 0 where
-  pub tables : a.schema.tables ≡ []
-  pub limit : a.limit ≡ 500
-
--- Lines of named formulas, judged: something is broken among their names; their types don't settle; some aren't
--- admitted; some use a name that no line before them gives; or they are loaded.
-pub data JudgedLines : List Named → Result App (List Broken) → Type 0 where
-  misnamed : (lines : List Named) (functions : List Signature) (b : Broken) (bs : List Broken) → map entry functions ≡ entries
-      → name_breaks functions lines ≡ b ∷ bs → JudgedLines lines (Err (b ∷ bs))
-  unsettling : (lines : List Named) (n : Names) → AreNamedLines lines n → StillChanges (map cell_of lines) n → JudgedLines lines (Err (unsettled ∷ []))
-  refused : (lines : List Named) (m : Names) (b : Broken) (bs : List Broken) → AreTypedLines lines m → AreRefused m lines (b ∷ bs) → JudgedLines lines (Err (b ∷ bs))
-  unordered : (lines : List Named) (m : Names) (b : Broken) (bs : List Broken) → AreTypedLines lines m → AreRefused m lines [] → AreUnordered m lines (b ∷ bs)
-      → JudgedLines lines (Err (b ∷ bs))
-  loaded : (lines : List Named) (a : App) → AreTypedLines lines a.names → AreLoaded a.names lines a.lines → IsWithoutTables a → JudgedLines lines (Ok a)
-
--- The same of a text, which is parsed before.
+-- a text of named formulas, judged
 pub data JudgedText : List ℕ → Result App (List Broken) → Type 0 where
-  unread : (source : List ℕ) (b : Broken) → Unread source b → JudgedText source (Err (b ∷ []))
-  read : (source : List ℕ) (lines : List Named) (v : Result App (List Broken)) → IsNamedText 64 source lines → JudgedLines lines v → JudgedText source v
+  unparsed : (source : List ℕ) (bs : List Broken) → IsNamedReading source (Err bs) → JudgedText source (Err bs)
+  parsed : (source : List ℕ) (f : Frame) (cells : List Cell) (v : Result App (List Broken)) → IsNamedReading source (Ok (f, cells))
+      → JudgedFormulas f cells v → JudgedText source v
 
--- Bytes, judged: the length comes first, then whether they are UTF-8.
+-- BYTES OF NAMED FORMULAS, judged: the length comes first, then whether they are UTF-8.
 pub data Judged : List ℕ → Result App (List Broken) → Type 0 where
   too_long : (bytes : List ℕ) → longest < length bytes → Judged bytes (Err (in_app rule.LimitPassed (codes "named 262145") ∷ []))
   no_text : (bytes : List ℕ) → length bytes ≤ longest → (IsUtf8 bytes → ⊥) → Judged bytes (Err (in_app rule.BadShape (codes "utf-8") ∷ []))
   text : (bytes : List ℕ) (v : Result App (List Broken)) → length bytes ≤ longest → IsUtf8 bytes → JudgedText bytes v → Judged bytes v
-
--- an end tells of breaks of which this holds; of want of memory nothing is said
-abbrev pub Tells : (List Broken → Type 0) → AppEnd → Type 0
-Tells P (end.Refused all) = P all.items
-Tells P end.Memory = Unit {0}

@@ -1,7 +1,4 @@
-pub mod Laws
-pub mod Cells
-pub mod Writing
-pub mod Admitted
-pub mod Bare
+-- what is said of typing stands in the contracts of loading, so it is passed on
+pub use Rattle.app_typing.specs as app_typing
 pub mod Judged
 pub mod Verdicts

@@ -1,32 +1,74 @@
-//! From a text of named formulas to its app.
-ghost use Rattle.std.specs.Prelude.{◌≤◌, All, Err, IfErr, IfOk, Ok, length};
-ghost use Rattle.app_loader.specs.Judged.{AreNamedLines, AreTypedLines, Judged, JudgedLines, JudgedText, Tells, longest};
-ghost use Rattle.fx_infer.specs.Below.{tree_depth};
-ghost use Rattle.fx_trees.specs.Lawful.{IsLawful};
+//! From the bytes of an app to the app.
+ghost use Rattle.std.specs.Prelude.{◌≡◌, ◌<◌, ◌≤◌, ◌∷◌, [], All, Err, IfErr, IfOk, Ok, length};
+ghost use Rattle.app_cells.specs.Spots.{IsFrame, IsPlaced};
+ghost use Rattle.app_loader.specs.Judged.{HasSingles, Judged, JudgedApp, JudgedFile, JudgedFormulas, JudgedText, longest};
+ghost use Rattle.app_names.specs.NameRules as rules;
+ghost use Rattle.app_semantics.specs.Sound.{IsSound};
+ghost use Rattle.app_soundness.specs.Accepted.{AreSingle};
+ghost use Rattle.app_texts.specs.Files as files;
+ghost use Rattle.app_typing.specs.Cells.{AreShallow};
+ghost use Rattle.app_typing.specs.Judged.{Tells};
+ghost use Rattle.fx_data.specs.Words.{scalars_of};
+ghost use Rattle.session_state.specs.Changes.{HoldsTables};
 
-use crate::admitting::rule_breaks;
-use crate::app::App;
-use crate::lining::load_lines;
-use crate::refusing::{in_app, only, unread_text};
-use crate::writing::written_formulas;
-use app_names::{name_breaks, names_of};
-use fx_base::{InOrder, Memory};
-use fx_infer::{InferEnd, no_deeper, type_rounds};
-use fx_parser::{Named, parse_named};
-use fx_trees::{AppEnd, Names, Rule, Schema};
+use app_cells::{App, Cell, Frame};
+use app_file::AppFile;
+use app_names::{broken, name_breaks, names_of};
+use app_soundness::{accepted_is_silent, accepted_is_sound};
+use app_texts::{read_is_sound, read_named, read_texts};
+use app_typing::{app_of, only};
+use fx_base::{Memory, OrMemory};
+use fx_data::Words;
+use fx_infer::no_deeper;
+use fx_trees::{AppEnd, Broken, Rule};
 use std::alloc::Global;
 
 /// The most bytes of a text of named formulas.
 const LONGEST: usize = 262_144;
 
-/// The most rows of a query that isn't delegated, where nothing else is said.
-const ROW_LIMIT: u32 = 500;
+/// The app of an app file. A file that breaks a rule is refused with the breaks of the first stage that has any: its form and
+/// its own limits, the texts of its formulas, its names, the rounds of its types, its formulas, and circles among them.
+pub fn load(alloc: Global, bytes: &[u8]) -> Result<App, AppEnd>
+    ensures app { IfOk result (λ a. JudgedApp bytes.now (Ok a)) }
+    ensures sound { IfOk result IsSound }
+    ensures opens { IfOk result (λ a. 0 < length a.names.screens) }
+    ensures tables { IfOk result (λ a. HoldsTables a.names) }
+    ensures refused { IfErr result (Tells (λ bs. JudgedApp bytes.now (Err bs))) }
+{
+    // The law is called for what it says of what is read of a file.
+    read_is_sound();
+    match app_file::read(alloc, bytes) {
+        Ok(file) => load_file(alloc, file),
+        Err(OrMemory::Refused(broken)) => {
+            let broken = broken.broken(alloc)?;
+            Err(only(alloc, broken))
+        }
+        Err(OrMemory::Memory) => Err(AppEnd::Memory),
+    }
+}
 
-/// The app of a text of named formulas, `A = 1; B = A + 1;`, which has no tables. A text that breaks a rule is refused with the
-/// breaks of the first stage that has any: its length, its bytes, its tokens and trees, its names, the
-/// rounds of its types, its formulas, and their order.
+// The app of what an app file holds.
+fn load_file(alloc: Global, file: AppFile) -> Result<App, AppEnd>
+    requires sound { files.IsSound file }
+    requires single { HasSingles file }
+    ensures app { IfOk result (λ a. JudgedFile file (Ok a)) }
+    ensures sound { IfOk result IsSound }
+    ensures screens { IfOk result (λ a. length a.names.screens ≡ length file.screens) }
+    ensures tables { IfOk result (λ a. HoldsTables a.names) }
+    ensures refused { IfErr result (Tells (λ bs. JudgedFile file (Err bs))) }
+{
+    no_deeper();
+    let (frame, cells) = read_texts(alloc, file)?;
+    load_formulas(alloc, frame, cells)
+}
+
+/// The app of a text of named formulas, `A = 1; B = A + 1;`, which has no tables and no screens. A text that breaks a rule is
+/// refused with the breaks of the first stage that has any: its length, its bytes, its tokens and trees, its names, the rounds
+/// of its types, its formulas, and circles among them.
 pub fn load_named(alloc: Global, bytes: &[u8]) -> Result<App, AppEnd>
     ensures app { IfOk result (λ a. Judged bytes.now (Ok a)) }
+    ensures sound { IfOk result IsSound }
+    ensures tables { IfOk result (λ a. HoldsTables a.names) }
     ensures refused { IfErr result (Tells (λ bs. Judged bytes.now (Err bs))) }
 {
     if bytes.len() > LONGEST {
@@ -43,66 +85,53 @@ pub fn load_named(alloc: Global, bytes: &[u8]) -> Result<App, AppEnd>
 fn load_text(alloc: Global, source: &str) -> Result<App, AppEnd>
     requires { length source.now ≤ longest }
     ensures app { IfOk result (λ a. JudgedText source.now (Ok a)) }
+    ensures sound { IfOk result IsSound }
+    ensures tables { IfOk result (λ a. HoldsTables a.names) }
     ensures refused { IfErr result (Tells (λ bs. JudgedText source.now (Err bs))) }
 {
     no_deeper();
-    match parse_named(alloc, source) {
-        Ok(lines) => named_app(alloc, &lines),
-        Err(end) => Err(unread_text(alloc, source, end)),
-    }
+    let (frame, cells) = read_named(alloc, source)?;
+    load_formulas(alloc, frame, cells)
 }
 
-// The app of lines, by their names.
-fn named_app(alloc: Global, lines: &[Named]) -> Result<App, AppEnd>
-    requires shallow { All (λ n. tree_depth n.expr ≤ 256) lines.now }
-    ensures app { IfOk result (λ a. JudgedLines lines.now (Ok a)) }
-    ensures refused { IfErr result (Tells (λ bs. JudgedLines lines.now (Err bs))) }
+// The app of formulas beside a frame, by their names.
+fn load_formulas(alloc: Global, frame: Frame, cells: Vec<Cell>) -> Result<App, AppEnd>
+    requires frame { IsFrame frame }
+    requires placed { All (IsPlaced frame) cells.items }
+    requires shallow { AreShallow cells.items }
+    requires single { AreSingle cells.items }
+    ensures app { IfOk result (λ a. JudgedFormulas frame cells.items (Ok a)) }
+    ensures sound { IfOk result IsSound }
+    ensures screens { IfOk result (λ a. a.names.screens ≡ frame.screens) }
+    ensures tables { IfOk result (λ a. HoldsTables a.names) }
+    ensures refused { IfErr result (Tells (λ bs. JudgedFormulas frame cells.items (Err bs))) }
 {
+    // The laws are called for what they say of the app.
+    accepted_is_sound();
+    accepted_is_silent();
     let functions = fx_sig::all();
-    let breaks = name_breaks(alloc, functions, lines)?;
+    let breaks = name_breaks(alloc, functions, &frame, &cells)?;
     if !breaks.is_empty() {
         return Err(AppEnd::Refused(breaks));
     }
-    let names = names_of(alloc, functions, lines)?;
-    typed_app(alloc, lines, names)
+    let limit = frame.limit;
+    let names = names_of(alloc, functions, frame, &cells)?;
+    app_of(alloc, names, limit, cells)
 }
 
-// The app of lines of whose names nothing is broken, by the rounds of their types.
-fn typed_app(alloc: Global, lines: &[Named], first: Names) -> Result<App, AppEnd>
-    requires named { AreNamedLines lines.now first }
-    requires lawful { IsLawful first }
-    requires shallow { All (λ n. tree_depth n.expr ≤ 256) lines.now }
-    ensures app { IfOk result (λ a. JudgedLines lines.now (Ok a)) }
-    ensures refused { IfErr result (Tells (λ bs. JudgedLines lines.now (Err bs))) }
+// A rule that the whole app breaks, alone.
+fn in_app(alloc: Global, rule: Rule, detail: &str) -> AppEnd
+    ensures { Tells (λ bs. bs ≡ rules.in_app rule (scalars_of detail.now) ∷ []) result }
 {
-    let written = written_formulas(alloc, lines)?;
-    match type_rounds(alloc, first, &written) {
-        Ok(names) => judged_app(alloc, lines, names),
-        Err(InferEnd::Broken(broken)) => Err(only(alloc, broken)),
-        Err(InferEnd::Memory) => Err(AppEnd::Memory),
+    match app_break(alloc, rule, detail) {
+        Ok(broken) => only(alloc, broken),
+        Err(Memory) => AppEnd::Memory,
     }
 }
 
-// The app of lines whose types are settled, by their formulas and then by their order.
-fn judged_app(alloc: Global, lines: &[Named], names: Names) -> Result<App, AppEnd>
-    requires settled { AreTypedLines lines.now names }
-    requires lawful { IsLawful names }
-    requires shallow { All (λ n. tree_depth n.expr ≤ 256) lines.now }
-    ensures app { IfOk result (λ a. JudgedLines lines.now (Ok a)) }
-    ensures refused { IfErr result (Tells (λ bs. JudgedLines lines.now (Err bs))) }
+fn app_break(alloc: Global, rule: Rule, detail: &str) -> Result<Broken, Memory>
+    ensures { IfOk result (λ b. b ≡ rules.in_app rule (scalars_of detail.now)) }
 {
-    // Only the breaks are kept: `load_lines` makes the trees anew, each under the names before it alone.
-    let breaks = rule_breaks(alloc, &names, lines)?;
-    if !breaks.is_empty() {
-        return Err(AppEnd::Refused(breaks));
-    }
-    let lines = load_lines(alloc, &names, lines)?;
-    Ok(App {
-        lines,
-        names,
-        schema: Schema {
-            tables: InOrder::new(alloc),
-        },
-        limit: ROW_LIMIT,
-    })
+    let detail = Words::of(alloc, detail)?;
+    broken::in_app(alloc, rule, detail)
 }

@@ -1,8 +1,7 @@
-use Rattle.app_loader.proofs.Ended.{bytes_err, bytes_ok}
-use Rattle.app_loader.proofs.Tellings.{tells_bytes, tells_long}
+use Rattle.std.proofs.Common.{Err}
+use Rattle.app_loader.proofs.Loads.{bytes_err, bytes_ok, tells_bytes, tells_long}
 use Rattle.app_loader.specs.Judged.{Judged}
 use Rattle.app_loader.specs.Judged as judge
-use Rattle.std.proofs.Common.{Err}
 use Rattle.app_loader.proofs.loading.load_named.Goals as goal
 
 pub returns-then-bytes-gt-LONGEST-clause-refused : goal.returns-then-bytes-gt-LONGEST-clause-refused

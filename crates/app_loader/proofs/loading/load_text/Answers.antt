@@ -1,20 +1,22 @@
-use Rattle.app_loader.proofs.Ended.{AreShallow, read_ok, read_err, shallow_lines, unread_end}
-use Rattle.std.proofs.Common.{subst, sym}
-use Rattle.fx_parser.specs.Texts.{IsNamedText}
+use Rattle.std.proofs.lemmas.Result.{err_from_is_err_and}
+use Rattle.app_loader.proofs.Loads.{text_end, text_err, text_ok}
+use Rattle.app_loader.proofs.Shallow.{named_shallow}
+use Rattle.app_loader.proofs.Singles.{named_single}
 use Rattle.app_loader.proofs.loading.load_text.Goals as goal
 
-pub named_app-requires : goal.named_app-requires
-named_app-requires c = record {
-  shallow = subst AreShallow (sym c.deref.ensures.value) (shallow_lines c.no_deeper.ensures.named c.args.source.now c.in-Ok.lines.items c.in-Ok.ensures.named);
-}
+pub returns-in_err-frame-clause-refused : goal.returns-in_err-frame-clause-refused
+returns-in_err-frame-clause-refused c =
+    let p = err_from_is_err_and c.from_residual.result c.from_residual.ensures.1 in
+    rw (p.1, p.2) (text_end c.args.source.now c.in_err-frame.field-0.0 c.in_err-frame.ensures.broken)
 
-pub returns-in-Ok-clause-app : goal.returns-in-Ok-clause-app
-returns-in-Ok-clause-app c =
-    read_ok c.args.source.now c.deref.result.now (subst (IsNamedText 64 c.args.source.now) (sym c.deref.ensures.value) c.in-Ok.ensures.named) c.named_app.result c.named_app.ensures.app
+pub load_formulas-requires-clause-shallow : goal.load_formulas-requires-clause-shallow
+load_formulas-requires-clause-shallow c = named_shallow c.no_deeper.ensures.named c.args.source.now c.in_ok-frame.frame c.in_ok-frame.cells.items c.in_ok-frame.ensures.formulas
 
-pub returns-in-Ok-clause-refused : goal.returns-in-Ok-clause-refused
-returns-in-Ok-clause-refused c =
-    read_err c.args.source.now c.deref.result.now (subst (IsNamedText 64 c.args.source.now) (sym c.deref.ensures.value) c.in-Ok.ensures.named) c.named_app.result c.named_app.ensures.refused
+pub load_formulas-requires-clause-single : goal.load_formulas-requires-clause-single
+load_formulas-requires-clause-single c = named_single c.args.source.now c.in_ok-frame.frame c.in_ok-frame.cells.items c.in_ok-frame.ensures.formulas
 
-pub returns-in-Err-clause-refused : goal.returns-in-Err-clause-refused
-returns-in-Err-clause-refused c = unread_end c.args.source.now c.unread_text.result c.unread_text.ensures
+pub returns-clause-app : goal.returns-clause-app
+returns-clause-app c = text_ok c.args.source.now c.in_ok-frame.frame c.in_ok-frame.cells.items c.in_ok-frame.ensures.formulas c.load_formulas.result c.load_formulas.ensures.app
+
+pub returns-clause-refused : goal.returns-clause-refused
+returns-clause-refused c = text_err c.args.source.now c.in_ok-frame.frame c.in_ok-frame.cells.items c.in_ok-frame.ensures.formulas c.load_formulas.result c.load_formulas.ensures.refused

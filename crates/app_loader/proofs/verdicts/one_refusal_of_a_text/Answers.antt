@@ -1,5 +1,5 @@
-use Rattle.app_loader.proofs.OneRefusal.{one_refusal}
+use Rattle.app_loader.proofs.OneRefusal.{one_refusal_of_a_text}
 use Rattle.app_loader.proofs.verdicts.one_refusal_of_a_text.Goals as goal
 
 pub returns : goal.returns
-returns c = one_refusal
+returns c = one_refusal_of_a_text

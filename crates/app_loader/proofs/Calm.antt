@@ -1,1 +1,0 @@
--- The parts of a node that may not act may not act.
