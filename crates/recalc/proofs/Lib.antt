@@ -1,1 +1,3 @@
-pub mod Keeps
+pub mod Kept
+pub mod Selecting
+pub mod Tellings

@@ -1,2 +1,3 @@
-pub mod Keeping
-pub mod Valued
+pub mod Holds
+pub mod Reading
+pub mod Values

@@ -1,6 +1,11 @@
-//! The values of named formulas, each kept once it is known.
+//! The values of an app's formulas, over a session and a day.
 #![tactic(auto)]
 
-pub mod values;
+mod choosing;
+mod evaluating;
+mod reading;
+pub mod sources;
+pub mod valued;
 
-pub use values::{NamedValue, values_of};
+pub use sources::cell_of_property;
+pub use valued::{Valued, evaluate};

@@ -1,0 +1,56 @@
+use Rattle.std.proofs.Common.{◌≡◌, ℕ, List, Option, Some, None, ap, map, subst, sym}
+use Rattle.std.specs.Prelude.{option_map}
+use Rattle.app_cells.specs.declared.app.CellInfo.{CellInfo}
+use Rattle.app_semantics.specs.Present.{Present, present}
+use Rattle.app_semantics.specs.Telling.{told_on}
+use Rattle.fx_data.specs.TypeView.{shape}
+use Rattle.fx_data.specs.ValueView.{view}
+use Rattle.fx_data.specs.Values.{Data}
+use Rattle.fx_data.specs.declared.values.Value.{Value}
+use Rattle.fx_eval.specs.Scopes.{CanEvaluate, Held, IsReady, around, held}
+use Rattle.fx_eval.specs.Telling.{Told}
+use Rattle.fx_semantics.specs.Fresh.{IsValue}
+use Rattle.fx_trees.specs.declared.sources.Source.{Source}
+use Rattle.recalc.specs.Reading.{cell_value, types_on}
+use Rattle.recalc.proofs.Tellings.{is_ready, is_value, outermost}
+use Rattle.recalc.proofs.evaluating.formula_value.Goals as goal
+
+pub eval-requires : goal.eval-requires
+eval-requires g c =
+    let p : Present = present c.args.app.now c.args.session.now c.requires.day.0 in
+    let values : ℕ → Data = cell_value (map view c.args.values.now) in
+    let day : Data = view c.args.day.now in
+    let info : CellInfo = c.args.info.now in
+    let told : Source → Data = told_on day c.args.app.now.names c.args.session.now values in
+    let ready = is_ready p values day info (option_map view c.args.item) c.requires.day.1 c.requires.sound c.requires.holds c.requires.cell c.requires.quiet c.requires.fits c.requires.item in
+    let empty : held c.new-2.result.items c.args.item None ≡ outermost (option_map view c.args.item) = ap (λ (vs : List Value). held vs c.args.item None) c.new-2.ensures.items in
+    subst (λ (rs : List Source). CanEvaluate (types_on c.args.app.now.names rs told) (held c.new-2.result.items c.args.item None) info.core) (sym c.as_slice.ensures)
+    (subst (λ (h : Held). CanEvaluate (types_on c.args.app.now.names info.reads told) h info.core) (sym empty) (shape info.ty, ready))
+
+pub returns-in-Ok-clause-value : goal.returns-in-Ok-clause-value
+returns-in-Ok-clause-value g c = λ moment today.
+    let p : Present = present c.args.app.now c.args.session.now moment in
+    let values : ℕ → Data = cell_value (map view c.args.values.now) in
+    let day : Data = view c.args.day.now in
+    let info : CellInfo = c.args.info.now in
+    let told : Source → Data = told_on day c.args.app.now.names c.args.session.now values in
+    let v : Data = view c.in-Ok.value in
+    let empty : held c.new-2.result.items c.args.item None ≡ outermost (option_map view c.args.item) = ap (λ (vs : List Value). held vs c.args.item None) c.new-2.ensures.items in
+    is_value p values day info (option_map view c.args.item) v today
+    (subst (λ (rs : List Source). IsValue (around (types_on c.args.app.now.names rs told) (Some told) (outermost (option_map view c.args.item))) info.core v) c.as_slice.ensures
+    (subst (λ (h : Held). IsValue (around (types_on c.args.app.now.names c.as_slice.result.now told) (Some told) h) info.core v) empty
+    (subst (λ (t : Told (Unit {0})). IsValue (around (types_on c.args.app.now.names c.as_slice.result.now told) (Some t.values) (held c.new-2.result.items c.args.item None)) info.core v) c.in-Ok.ensures.told
+    c.in-Ok.ensures.value)))
+
+pub returns-in-Ok-clause-fits : goal.returns-in-Ok-clause-fits
+returns-in-Ok-clause-fits g c =
+    let p : Present = present c.args.app.now c.args.session.now c.requires.day.0 in
+    let values : ℕ → Data = cell_value (map view c.args.values.now) in
+    let day : Data = view c.args.day.now in
+    let info : CellInfo = c.args.info.now in
+    let told : Source → Data = told_on day c.args.app.now.names c.args.session.now values in
+    let ready = is_ready p values day info (option_map view c.args.item) c.requires.day.1 c.requires.sound c.requires.holds c.requires.cell c.requires.quiet c.requires.fits c.requires.item in
+    let empty : held c.new-2.result.items c.args.item None ≡ outermost (option_map view c.args.item) = ap (λ (vs : List Value). held vs c.args.item None) c.new-2.ensures.items in
+    c.in-Ok.ensures.fits (shape info.ty)
+    (subst (λ (rs : List Source). IsReady (types_on c.args.app.now.names rs told) (held c.new-2.result.items c.args.item None) info.core (shape info.ty)) (sym c.as_slice.ensures)
+    (subst (λ (h : Held). IsReady (types_on c.args.app.now.names info.reads told) h info.core (shape info.ty)) (sym empty) ready))

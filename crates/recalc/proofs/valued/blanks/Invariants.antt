@@ -1,0 +1,8 @@
+use Rattle.std.proofs.Common.{◌≡◌, map}
+use Rattle.std.specs.Prelude.{replicate}
+use Rattle.fx_data.specs.Values.{blank}
+use Rattle.fx_data.specs.ValueView.{view}
+use Rattle.recalc.proofs.valued.blanks.Given as goal
+
+abbrev pub invariant-loop : goal.invariant-loop
+invariant-loop l = map view l.all.items ≡ replicate l.counter blank

@@ -1,0 +1,32 @@
+use Rattle.std.proofs.Common.{◌≡◌, ℕ, List, None, map, rules, subst, sym, true}
+use Rattle.app_cells.specs.declared.app.CellInfo.{CellInfo}
+use Rattle.app_semantics.specs.Fresh.{IsCellValue, IsValueOf}
+use Rattle.app_semantics.specs.Present.{Present, present}
+use Rattle.fx_data.specs.ValueView.{view}
+use Rattle.fx_data.specs.Values.{Data}
+use Rattle.fx_data.specs.declared.values.Value.{Value}
+use Rattle.recalc.specs.Reading.{cell_value}
+use Rattle.recalc.specs.Values.{stands_alone}
+use Rattle.recalc.proofs.Kept.{own_value, set_fits, set_other, set_same}
+use Rattle.recalc.proofs.valued.keep_formula.Goals as goal
+
+pub formula_value-requires-clause-cell : goal.formula_value-requires-clause-cell
+formula_value-requires-clause-cell g c = c.requires.sound.cells c.args.number c.args.info.now c.requires.there
+
+pub returns-clause-fits : goal.returns-clause-fits
+returns-clause-fits g c =
+    set_fits c.args.app.now c.args.values.now.items c.args.number c.in_ok-value.value c.args.info.now c.requires.number c.requires.fits c.requires.there c.in_ok-value.ensures.fits
+
+pub returns-clause-others : goal.returns-clause-others
+returns-clause-others g c = λ k n. set_other c.args.values.now.items c.args.number k c.in_ok-value.value n
+
+pub returns-clause-value : goal.returns-clause-value
+returns-clause-value g c = λ moment today.
+    let p : Present = present c.args.app.now c.args.session.now moment in
+    let info : CellInfo = c.args.info.now in
+    let items : List Value = c.args.values.now.items in
+    let value : Value = c.in_ok-value.value in
+    let alone : stands_alone info ≡ true = search rules in
+    subst (λ (d : Data). IsCellValue p (cell_value (map view items)) info d) (sym (set_same items c.args.number value c.requires.number))
+    (own_value p (cell_value (map view items)) info (view value) alone
+    (subst (λ (vs : List Value). IsValueOf p (cell_value (map view vs)) None info (view value)) c.as_slice-slice.ensures.value (c.in_ok-value.ensures.value moment today)))

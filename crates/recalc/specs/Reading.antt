@@ -1,0 +1,49 @@
+-- What a formula reads: the types and values of the sources that stand in it.
+use Rattle.std.specs.Prelude.{ℕ, List, [], Bool, true, false, ◌&&◌, nat_eq, Option, Some, None, slice_index_or}
+use Rattle.std.specs.List.{list_any}
+use Rattle.app_semantics.specs.Telling.{told_on}
+use Rattle.fx_data.specs.Types.{Shape}
+use Rattle.fx_data.specs.Values.{Data, blank}
+use Rattle.fx_eval.specs.Kept.{fitted}
+use Rattle.fx_eval.specs.Scopes.{Fixed}
+use Rattle.fx_eval.specs.Telling.{Told}
+use Rattle.fx_trees.specs.Reads.{number_of, rank_of}
+use Rattle.fx_trees.specs.SourceTypes.{sources}
+use Rattle.fx_trees.specs.declared.names.Names.{Names}
+use Rattle.fx_trees.specs.declared.schema.Schema.{Schema}
+use Rattle.fx_trees.specs.declared.sources.Source.{Source}
+use Rattle.fx_trees.specs.declared.sources.Source.TheVariants as source
+use Rattle.fx_value.specs.Fits.{fits_in}
+use Rattle.session_state.specs.Sessions.{SessionState}
+
+-- the value of a cell by its number
+abbrev pub cell_value : List Data → ℕ → Data
+cell_value values k = slice_index_or values k blank
+
+-- one source is another, and is among these
+abbrev pub is_source : Source → Source → Bool
+is_source x y = nat_eq (rank_of x) (rank_of y) && nat_eq (number_of x) (number_of y)
+
+abbrev pub is_among : Source → List Source → Bool
+is_among x reads = list_any (is_source x) reads
+
+-- a source that is read has its type, where its value fits that
+abbrev pub type_by : Bool → Option Shape → Data → Option Shape
+type_by true (Some t) d = fitted (fits_in d t) t
+type_by read t d = None
+
+-- the types of the sources that are read. Tables have none yet.
+abbrev pub types_on : Names → List Source → (Source → Data) → Source → Option Shape
+types_on n reads told (source.Table k) = None
+types_on n reads told x = type_by (is_among x reads) (sources n x) (told x)
+
+abbrev pub fixed_on : Names → List Source → (Source → Data) → Schema → ℕ → Fixed
+fixed_on n reads told schema limit = record { types = types_on n reads told; schema = schema; limit = limit }
+
+-- values alone are told
+abbrev pub told_values : (Source → Data) → Told (Unit {0})
+told_values told = record { values = told; tables = []; beside = tt }
+
+-- what sources are worth on this day, where cells have these values
+abbrev pub told_by : Data → Names → SessionState → List Data → Source → Data
+told_by day n s values = told_on day n s (cell_value values)

@@ -1,0 +1,102 @@
+// The environment of a formula: what the sources that it reads are worth.
+ghost use Rattle.std.specs.Prelude.{◌≡◌, IfOk, IsSome, Some, length, map};
+ghost use Rattle.app_semantics.specs.Holding.{HoldsFitting};
+ghost use Rattle.fx_data.specs.ValueView.{view};
+ghost use Rattle.fx_eval.specs.Kept.{unmarked};
+ghost use Rattle.std.proofs.Math.Bool.{Bool-set};
+ghost use Rattle.recalc.specs.Holds.{holds_prop};
+ghost use Rattle.recalc.specs.Reading.{fixed_on, told_by, told_values, types_on};
+
+use crate::sources::{chosen_item, input, value_of};
+use fx_base::Memory;
+use fx_data::{Totals, Value};
+use fx_eval::Steps;
+use fx_eval::environment::{Env, Stop};
+use fx_trees::{Names, Schema, Source};
+use row_queries::Query;
+use session_state::Session;
+use std::alloc::Global;
+use std::sync::ledger::Ledger;
+
+/// What a formula reads: the values of cells by their numbers, a session whose values fit, and the day. There are no
+/// tables.
+#[derive(Drop)]
+pub(crate) struct Reading<'a> {
+    pub(crate) alloc: Global,
+    pub(crate) names: &'a Names,
+    pub(crate) session: &'a Session,
+    pub(crate) values: &'a [Value],
+    pub(crate) today: &'a Value,
+    /// The sources that stand in the formula.
+    pub(crate) reads: &'a [Source],
+    pub(crate) schema: &'a Schema,
+    pub(crate) limit: u32,
+    ghost has_no_tables: { length schema.now.tables ≡ 0 },
+    ghost holds: { HoldsFitting names.now session.now } by { Prim.hlevel (holds_prop, Bool-set) },
+}
+
+impl Reading<'_> {
+    ghost use Rattle.std.specs.Prelude.{◌≡◌, IfOk, IsSome, map};
+    ghost use Rattle.fx_data.specs.ValueView.{view};
+    ghost use Rattle.recalc.specs.Reading.{told_by, types_on};
+
+    // The value of a source that has a type here.
+    #[tactic(auto, using(crate::proofs::Tellings::is_held, crate::proofs::Tellings::input_held))]
+    fn value(&self, source: Source) -> Result<Value, Memory>
+        requires { IsSome (types_on self.now.names.now self.now.reads.now (told_by (view self.now.today.now) self.now.names.now self.now.session.now (map view self.now.values.now)) source) }
+        ensures { IfOk result (λ v. view v ≡ told_by (view self.now.today.now) self.now.names.now self.now.session.now (map view self.now.values.now) source) }
+    {
+        match source {
+            Source::Cell(cell) => value_of(self.alloc, self.values, cell),
+            Source::Global(_) => self.session.get(source),
+            Source::Context(_) => self.session.get(source),
+            Source::Gathered(_) => self.session.get(source),
+            Source::Input(control) => {
+                input(self.alloc, self.names, self.session, self.values, control)
+            }
+            Source::Chosen(gallery) => {
+                chosen_item(self.alloc, self.names, self.session, self.values, gallery)
+            }
+            Source::Table(_) => unreachable!(),
+            Source::Today => self.today.copy(self.alloc),
+        }
+    }
+}
+
+impl Env for Reading<'_> {
+    ghost fixed = { λ r. fixed_on r.names.now r.reads.now (told_by (view r.today.now) r.names.now r.session.now (map view r.values.now)) r.schema.now r.limit };
+
+    ghost told = { λ r. Some (told_values (told_by (view r.today.now) r.names.now r.session.now (map view r.values.now))) };
+
+    ghost marks = { λ r. unmarked };
+
+    ghost ticked = { λ r. 0 };
+
+    ghost visited = { λ r. 0 };
+
+    #[tactic(auto, using(crate::proofs::Tellings::given_typed))]
+    fn read<L: Ledger>(&mut self, source: Source, _steps: &mut Steps<L>) -> Result<Value, Stop> {
+        Ok(self.value(source)?)
+    }
+
+    fn schema(&self) -> &Schema {
+        self.schema
+    }
+
+    fn limit(&self) -> u32 {
+        self.limit
+    }
+
+    // There are no tables, so that no query can be asked.
+    fn scan(&mut self, _query: &Query) -> Result<Value, Stop> {
+        unreachable!()
+    }
+
+    fn count(&mut self, _query: &Query) -> Result<u32, Stop> {
+        unreachable!()
+    }
+
+    fn total(&mut self, _query: &Query, _column: u16) -> Result<Totals, Stop> {
+        unreachable!()
+    }
+}

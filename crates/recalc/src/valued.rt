@@ -1,0 +1,263 @@
+//! The values of an app's formulas.
+ghost use Rattle.std.specs.Prelude.{◌≡◌, ◌≢◌, ◌+◌, ◌<◌, ℕ, false, true, IfOk, OnOk, Option, Some, if◌then◌else◌, length, map, replicate, slice_get};
+ghost use Rattle.std.specs.List.{count_by};
+ghost use Rattle.app_cells.specs.declared.app.CellInfo.{CellInfo as Info};
+ghost use Rattle.app_semantics.specs.Fresh.{IsCellValue, IsFresh, IsValueOf};
+ghost use Rattle.app_semantics.specs.Holding.{HoldsFitting};
+ghost use Rattle.app_semantics.specs.Present.{present};
+ghost use Rattle.app_semantics.specs.Sound.{IsSound};
+ghost use Rattle.fx_data.specs.ValueView.{view};
+ghost use Rattle.fx_scalar.specs.ScalarFunctions.{IsToday};
+ghost use Rattle.fx_data.specs.Values.{blank};
+ghost use Rattle.recalc.specs.Reading.{cell_value};
+ghost use Rattle.recalc.specs.Values.{CellsFit, is_alone, stands_alone as is_by_itself, value_of};
+
+use crate::evaluating::formula_value;
+use crate::sources;
+use app_cells::{App, CellInfo};
+use fx_base::Memory;
+use fx_data::values::Value;
+use fx_eval::Steps;
+use fx_scalar::today;
+use fx_trees::Names;
+use session_state::Session;
+use std::alloc::Global;
+use std::marker::Model;
+use std::sync::ledger::Ledger;
+
+/// The value of each cell of an app, by its number, and the day. Of a formula that acts, or that sees an item, it is blank.
+#[derive(Drop)]
+pub struct Valued {
+    values: Vec<Value>,
+    day: Value,
+}
+
+impl Model for Valued {
+    ghost use Rattle.std.specs.Prelude.{map};
+    ghost use Rattle.std.specs.Coded.{codes};
+    ghost use Rattle.fx_data.specs.ValueCode.{data_code};
+    ghost use Rattle.fx_data.specs.ValueView.{view as value_view};
+    ghost use Rattle.recalc.specs.Values.{Values};
+
+    ghost Value = { Values };
+
+    ghost coded = { Prim.hlevel (codes, data_code) };
+
+    ghost view = { λ v. record { cells = map value_view v.values.items; day = value_view v.day } };
+}
+
+impl Valued {
+    ghost use Rattle.std.specs.Prelude.{◌≡◌, ◌+◌, ℕ, false, true, IfOk, Some, map, slice_get};
+    ghost use Rattle.app_semantics.specs.Fresh.{IsValueOf};
+    ghost use Rattle.app_semantics.specs.Holding.{HoldsFitting};
+    ghost use Rattle.app_semantics.specs.Present.{input_of, items_of, present};
+    ghost use Rattle.app_semantics.specs.Sound.{IsSound};
+    ghost use Rattle.fx_data.specs.TypeView.{shape};
+    ghost use Rattle.fx_data.specs.ValueView.{view};
+    ghost use Rattle.fx_scalar.specs.ScalarFunctions.{IsToday};
+    ghost use Rattle.fx_semantics.specs.Sound.{IsItemFit};
+    ghost use Rattle.fx_trees.specs.declared.sources.Source.TheVariants as source;
+    ghost use Rattle.fx_typing.specs.Typing.{item_of};
+    ghost use Rattle.fx_value.specs.Fits.{fits_in};
+    ghost use Rattle.recalc.specs.Values.{CellsFit, value_of};
+    ghost use Rattle.session_state.specs.Sessions.{Holds};
+
+    /// The value of each cell, by its number.
+    pub fn as_slice(&self) -> &[Value]
+        ensures { map view result.now ≡ self.now.cells }
+    {
+        self.values.as_slice()
+    }
+
+    /// The value of a cell, and blank for one that isn't there.
+    pub fn value(&self, alloc: Global, cell: u32) -> Result<Value, Memory>
+        ensures { IfOk result (λ v. view v ≡ value_of self.now cell) }
+    {
+        sources::value_of(alloc, self.values.as_slice(), cell)
+    }
+
+    /// The value of an input: the user's, else that of the formula of its default, else that of its kind.
+    pub fn input(
+        &self,
+        alloc: Global,
+        names: &Names,
+        session: &Session,
+        control: u32,
+    ) -> Result<Value, Memory>
+        requires { Holds session.now (source.Input control) }
+        ensures { IfOk result (λ v. view v ≡ input_of names.now session.now (value_of self.now) control) }
+    {
+        sources::input(alloc, names, session, self.values.as_slice(), control)
+    }
+
+    /// The items of a gallery.
+    pub fn items(&self, alloc: Global, names: &Names, gallery: u32) -> Result<Value, Memory>
+        ensures { IfOk result (λ v. view v ≡ items_of names.now (value_of self.now) gallery) }
+    {
+        sources::items(alloc, names, self.values.as_slice(), gallery)
+    }
+
+    /// The value of a formula of a template for an item of its gallery, in one step.
+    pub fn in_item<L: Ledger>(
+        &self,
+        alloc: Global,
+        app: &App,
+        session: &Session,
+        info: &CellInfo,
+        item: Value,
+        steps: &mut Steps<L>,
+    ) -> Result<Value, Memory>
+        requires sound { IsSound app.now }
+        requires holds { HoldsFitting app.now.names session.now }
+        requires fits { CellsFit app.now (value_of self.now) }
+        requires day { (moment : ℕ) × IsToday moment self.now.day }
+        requires cell { (k : ℕ) × (slice_get app.now.cells k ≡ Some info.now) }
+        requires quiet { info.now.cell.acts ≡ false }
+        requires item { IsItemFit (Some (view item)) (item_of app.now.names info.now.cell.item) }
+        ensures value { IfOk result (λ v. (moment : ℕ) → IsToday moment self.now.day →
+            IsValueOf (present app.now session.now moment) (value_of self.now) (Some (view item)) info.now (view v)) }
+        ensures fits { IfOk result (λ v. fits_in (view v) (shape info.now.ty) ≡ true) }
+        ensures steps { IfOk result (λ v. steps.new ≡ steps.old + 1) }
+    {
+        let values = self.values.as_slice();
+        formula_value(
+            alloc,
+            app,
+            session,
+            values,
+            &self.day,
+            info,
+            Some(item),
+            steps,
+        )
+    }
+}
+
+/// The fresh values of an app's formulas over a session, at a moment in seconds since 1970-01-01 UTC. Each formula that
+/// has a value by itself is evaluated once.
+pub fn evaluate<L: Ledger>(
+    alloc: Global,
+    app: &App,
+    session: &Session,
+    moment: u64,
+    steps: &mut Steps<L>,
+) -> Result<Valued, Memory>
+    requires sound { IsSound app.now }
+    requires holds { HoldsFitting app.now.names session.now }
+    ensures fresh { IfOk result (λ v. IsFresh (present app.now session.now moment) (value_of v)) }
+    ensures long { IfOk result (λ v. length v.cells ≡ length app.now.cells) }
+    ensures fits { IfOk result (λ v. CellsFit app.now (value_of v)) }
+    ensures day { IfOk result (λ v. IsToday moment v.day) }
+    ensures steps { IfOk result (λ v. steps.new ≡ steps.old + count_by (is_alone app.now.cells) app.now.order) }
+{
+    let day = today(alloc, moment)?;
+    let values = keep_values(alloc, app, session, &day, steps)?;
+    Ok(Valued { values, day })
+}
+
+// The values of all cells on a day, one after another.
+fn keep_values<L: Ledger>(
+    alloc: Global,
+    app: &App,
+    session: &Session,
+    day: &Value,
+    steps: &mut Steps<L>,
+) -> Result<Vec<Value>, Memory>
+    requires sound { IsSound app.now }
+    requires holds { HoldsFitting app.now.names session.now }
+    requires day { (moment : ℕ) × IsToday moment (view day.now) }
+    ensures fresh { IfOk result (λ v. (moment : ℕ) → IsToday moment (view day.now) → IsFresh (present app.now session.now moment) (cell_value (map view v.items))) }
+    ensures long { IfOk result (λ v. length v.items ≡ length app.now.cells) }
+    ensures fits { IfOk result (λ v. CellsFit app.now (cell_value (map view v.items))) }
+    ensures steps { IfOk result (λ v. steps.new ≡ steps.old + count_by (is_alone app.now.cells) app.now.order) }
+{
+    let mut values = blanks(alloc, app.cells.len())?;
+    let order = app.order.as_slice();
+    for number in order {
+        keep_value(alloc, app, session, &mut values, day, *number, steps)?;
+    }
+    Ok(values)
+}
+
+// So many blanks.
+fn blanks(alloc: Global, count: usize) -> Result<Vec<Value>, Memory>
+    ensures { IfOk result (λ v. map view v.items ≡ replicate count blank) }
+{
+    let mut all = Vec::with_capacity(alloc, count)?;
+    for _ in 0..count {
+        all.push(Value::Blank)?;
+    }
+    Ok(all)
+}
+
+// Whether a formula has a value by itself.
+fn stands_alone(info: &CellInfo) -> bool
+    ensures { result ≡ is_by_itself info.now }
+{
+    !info.cell.acts && info.cell.item.is_none()
+}
+
+// Keeps the value of a cell whose value is still blank, where the cells on which it leans have theirs.
+fn keep_value<L: Ledger>(
+    alloc: Global,
+    app: &App,
+    session: &Session,
+    values: &mut Vec<Value>,
+    day: &Value,
+    number: u32,
+    steps: &mut Steps<L>,
+) -> Result<(), Memory>
+    requires sound { IsSound app.now }
+    requires holds { HoldsFitting app.now.names session.now }
+    requires day { (moment : ℕ) × IsToday moment (view day.now) }
+    requires number { number < length app.now.cells }
+    requires long { length values.old.items ≡ length app.now.cells }
+    requires fits { CellsFit app.now (cell_value (map view values.old.items)) }
+    requires blank { cell_value (map view values.old.items) number ≡ blank }
+    ensures long { OnOk result (length values.new.items ≡ length app.now.cells) }
+    ensures fits { OnOk result (CellsFit app.now (cell_value (map view values.new.items))) }
+    ensures others { OnOk result ((k : ℕ) → k ≢ number → cell_value (map view values.new.items) k ≡ cell_value (map view values.old.items) k) }
+    ensures value { OnOk result ((moment : ℕ) (c : Info) → IsToday moment (view day.now) → slice_get app.now.cells number ≡ Some c →
+        IsCellValue (present app.now session.now moment) (cell_value (map view values.old.items)) c (cell_value (map view values.new.items) number)) }
+    ensures steps { OnOk result (steps.new ≡ steps.old + (if is_alone app.now.cells number then 1 else 0)) }
+{
+    match app.cells.get(number as usize) {
+        Some(info) => keep_formula(alloc, app, session, values, day, number, info, steps),
+        None => unreachable!(),
+    }
+}
+
+// The same, of the formula of this number.
+fn keep_formula<L: Ledger>(
+    alloc: Global,
+    app: &App,
+    session: &Session,
+    values: &mut Vec<Value>,
+    day: &Value,
+    number: u32,
+    info: &CellInfo,
+    steps: &mut Steps<L>,
+) -> Result<(), Memory>
+    requires sound { IsSound app.now }
+    requires holds { HoldsFitting app.now.names session.now }
+    requires day { (moment : ℕ) × IsToday moment (view day.now) }
+    requires there { slice_get app.now.cells number ≡ Some info.now }
+    requires number { number < length values.old.items }
+    requires long { length values.old.items ≡ length app.now.cells }
+    requires fits { CellsFit app.now (cell_value (map view values.old.items)) }
+    requires blank { cell_value (map view values.old.items) number ≡ blank }
+    ensures long { OnOk result (length values.new.items ≡ length app.now.cells) }
+    ensures fits { OnOk result (CellsFit app.now (cell_value (map view values.new.items))) }
+    ensures others { OnOk result ((k : ℕ) → k ≢ number → cell_value (map view values.new.items) k ≡ cell_value (map view values.old.items) k) }
+    ensures value { OnOk result ((moment : ℕ) → IsToday moment (view day.now) →
+        IsCellValue (present app.now session.now moment) (cell_value (map view values.old.items)) info.now (cell_value (map view values.new.items) number)) }
+    ensures steps { OnOk result (steps.new ≡ steps.old + (if is_by_itself info.now then 1 else 0)) }
+{
+    if !stands_alone(info) {
+        return Ok(());
+    }
+    let slice = values.as_slice();
+    let value = formula_value(alloc, app, session, slice, day, info, None, steps)?;
+    values[number as usize] = value;
+    Ok(())
+}
