@@ -1,0 +1,123 @@
+-- Whether a control in a gallery is visible for an item.
+use Rattle.std.proofs.Common.{◌≡◌, ℕ, ◌<◌, Bool, true, false, List, Option, Some, None, refl, ap, sym, ◌∙◌, subst, length, map}
+use Rattle.std.specs.Prelude.{IfSome, codes, option_and_then, slice_get}
+use Rattle.std.proofs.lemmas.Option.{slice_get_within}
+use Rattle.app_cells.specs.Leaning.{cell_of_property}
+use Rattle.app_cells.specs.Spots.{item_or}
+use Rattle.app_cells.specs.declared.app.App.{App}
+use Rattle.app_cells.specs.declared.app.CellInfo.{CellInfo}
+use Rattle.app_semantics.specs.Chosen.{row_at}
+use Rattle.app_semantics.specs.Fresh.{IsValueOf}
+use Rattle.app_semantics.specs.Present.{Present, items_of}
+use Rattle.app_semantics.specs.Properties.{IsForItem, is_true}
+use Rattle.app_semantics.specs.Sound.{IsSound}
+use Rattle.fx_data.specs.ValueView.{view}
+use Rattle.fx_data.specs.Values.{Data, boolean}
+use Rattle.fx_data.specs.declared.values.Value.{Value}
+use Rattle.fx_semantics.specs.Around.{record_of}
+use Rattle.fx_semantics.specs.Rows.{rows_in}
+use Rattle.fx_semantics.specs.Sound.{IsItemFit}
+use Rattle.fx_tables.specs.Columns.{Row}
+use Rattle.fx_trees.specs.declared.names.ControlName.{ControlName}
+use Rattle.fx_trees.specs.declared.names.Names.{Names}
+use Rattle.fx_typing.specs.Typing.{item_of}
+use Rattle.recalc.specs.Reading.{cell_value}
+use Rattle.recalc.specs.Values.{CellsFit, Values, value_of}
+use Rattle.session_requests.specs.Posting.{IsShownFor, IsVisibleFor, gallery_around}
+use Rattle.session_requests.specs.Shown.{cell_values}
+use Rattle.session_requests.specs.Targets.{IsItemOf, IsTarget, gallery_of, is_gallery}
+use Rattle.session_requests.specs.declared.target.Item.{Item}
+use Rattle.session_requests.specs.declared.target.Target.{Target}
+use Rattle.session_requests.proofs.Items.{is_one, row_fits, visible_in}
+
+-- ---- the item of a target
+
+-- a target's item is one of its control's gallery
+item_is : (n : Names) (values : ℕ → Data) (t : Target) (i : Item) (h : IsTarget n values t) → t.item ≡ Some i → IsItemOf n values (gallery_of t.control h.control) i
+item_is n values t i h e = subst (λ o. IfSome o (IsItemOf n values (gallery_of t.control h.control))) e h.item
+
+in_same : (o : Option ℕ) (own : Bool) (k g j : ℕ) → o ≡ Some g → item_or o own k ≡ Some j → g ≡ j
+in_same None own k g j e f = absurd cc
+in_same (Some h) own k g j e f = cc
+
+around : (n : Names) (k : ℕ) (c : ControlName) → slice_get n.controls k ≡ Some c → option_and_then (λ (x : ControlName). x.gallery) (slice_get n.controls k) ≡ c.gallery
+around n k c there = ap (option_and_then (λ (x : ControlName). x.gallery)) there
+
+-- the gallery that the control stands in is that of the item
+pub same_gallery : (n : Names) (values : ℕ → Data) (t : Target) (g : ℕ) (i : Item) → IsTarget n values t → option_and_then (λ (x : ControlName). x.gallery) (slice_get n.controls t.control) ≡ Some g → t.item ≡ Some i → g ≡ i.gallery
+same_gallery n values t g i h own e =
+    in_same (h.control).gallery (is_gallery (h.control).kind) t.control g i.gallery (sym (around n t.control h.control h.there) ∙ own) (item_is n values t i h e).gallery_is
+
+pub stands_in : (n : Names) (values : ℕ → Data) (t : Target) (g : ℕ) (i : Item) → IsTarget n values t → option_and_then (λ (x : ControlName). x.gallery) (slice_get n.controls t.control) ≡ Some g → t.item ≡ Some i
+    → (c : ControlName) × (slice_get n.controls t.control ≡ Some c) × (c.gallery ≡ Some i.gallery)
+stands_in n values t g i h own e =
+    (h.control, h.there, sym (around n t.control h.control h.there) ∙ own ∙ ap (λ (j : ℕ). Some j) (same_gallery n values t g i h own e))
+
+pub has_row : (n : Names) (values : ℕ → Data) (t : Target) (i : Item) → IsTarget n values t → t.item ≡ Some i → (row : Row) × (row_at i.at (rows_in (items_of n values i.gallery)) ≡ Some row)
+has_row n values t i h e = let it = item_is n values t i h e in (it.row, it.there)
+
+pub shown_in : (p : Present) (values : ℕ → Data) (t : Target) (g : ℕ) (i : Item) (b : Bool) → IsTarget p.app.names values t → gallery_around p.app t.control ≡ Some g → t.item ≡ Some i → IsVisibleFor p values t.control i.gallery i.at b
+    → IsShownFor p values t.control (gallery_around p.app t.control) t.item b
+shown_in p values t g i b h own e visible =
+    subst (λ o. IsShownFor p values t.control o t.item b) (sym own)
+    (subst (λ o. IsShownFor p values t.control (Some g) o b) (sym e)
+    (subst (λ j. IsVisibleFor p values t.control j i.at b) (sym (same_gallery p.app.names values t g i h own e)) visible))
+
+pub outside : (p : Present) (values : ℕ → Data) (t : Target) → gallery_around p.app t.control ≡ None → IsShownFor p values t.control (gallery_around p.app t.control) t.item true
+outside p values t e = subst (λ o. IsShownFor p values t.control o t.item true) (sym e) refl
+
+pub itemless : (p : Present) (values : ℕ → Data) (t : Target) → t.item ≡ None → IsShownFor p values t.control (gallery_around p.app t.control) t.item true
+itemless p values t e = by (gallery_around p.app t.control)
+  where
+    by : (o : Option ℕ) → IsShownFor p values t.control o t.item true
+    by None = refl
+    by (Some g) = subst (λ o. IsShownFor p values t.control (Some g) o true) (sym e) refl
+
+-- ---- a formula of a template
+
+-- the row that is read of the values as they are lent
+pub row_read : (n : Names) (vs : List Value) (w : Values) (g at : ℕ) (r copy : Row) → map view vs ≡ w.cells → Some r ≡ row_at at (rows_in (items_of n (cell_values vs) g)) → copy ≡ r
+    → row_at at (rows_in (items_of n (value_of w) g)) ≡ Some copy
+row_read n vs w g at r copy same is e = ap (λ (ds : List Data). row_at at (rows_in (items_of n (cell_value ds) g))) (sym same) ∙ sym is ∙ ap (λ (x : Row). Some x) (sym e)
+
+-- the cell of a control in a gallery doesn't act, and sees the items of the gallery
+pub record IsTemplateCell (g : ℕ) (info : CellInfo) : Type 0 where
+  pub quiet : info.cell.acts ≡ false
+  pub item : info.cell.item ≡ Some g
+
+pub template_within : (a : App) (k d g : ℕ) (c : ControlName) → IsSound a → cell_of_property a.names k (codes "Visible") ≡ Some d → slice_get a.names.controls k ≡ Some c → c.gallery ≡ Some g → d < length a.cells
+template_within a k d g c sound e there own = let at = visible_in a k d g c sound e there own in slice_get_within a.cells d at.cell at.there
+
+pub template_cell : (a : App) (k d g : ℕ) (c : ControlName) (info : CellInfo) → IsSound a → cell_of_property a.names k (codes "Visible") ≡ Some d → slice_get a.names.controls k ≡ Some c → c.gallery ≡ Some g
+    → slice_get a.cells d ≡ Some info → IsTemplateCell g info
+template_cell a k d g c info sound e there own found =
+    let at = visible_in a k d g c sound e there own in
+    let both : Some at.cell ≡ Some info = sym at.there ∙ found in
+    let same : at.cell ≡ info = cc in
+    subst (IsTemplateCell g) same (record { quiet = at.quiet; item = at.item })
+
+pub template_fits : (a : App) (values : ℕ → Data) (k d g at : ℕ) (c : ControlName) (info : CellInfo) (r : Row) → IsSound a → CellsFit a values → cell_of_property a.names k (codes "Visible") ≡ Some d → slice_get a.names.controls k ≡ Some c → c.gallery ≡ Some g
+    → slice_get a.cells d ≡ Some info → row_at at (rows_in (items_of a.names values g)) ≡ Some r → IsItemFit (Some (record_of r)) (item_of a.names info.cell.item)
+template_fits a values k d g at c info r sound fits e there own found row =
+    subst (λ o. IsItemFit (Some (record_of r)) (item_of a.names o)) (sym (template_cell a k d g c info sound e there own found).item)
+    (row_fits a values g at r sound fits (is_one a k g c sound there own) row)
+
+pub unwritten : (p : Present) (values : ℕ → Data) (k g at : ℕ) (r : Row) → row_at at (rows_in (items_of p.app.names values g)) ≡ Some r → cell_of_property p.app.names k (codes "Visible") ≡ None
+    → IsVisibleFor p values k g at true
+unwritten p values k g at r there none = record {
+  row = r;
+  there = there;
+  value = boolean true;
+  is_value = subst (λ o. IsForItem p values (record_of r) (boolean true) o (boolean true)) (sym none) refl;
+  is = refl;
+}
+
+pub written : (p : Present) (values : ℕ → Data) (k d g at : ℕ) (r : Row) (info : CellInfo) (v : Data) (b : Bool) → row_at at (rows_in (items_of p.app.names values g)) ≡ Some r → cell_of_property p.app.names k (codes "Visible") ≡ Some d
+    → slice_get p.app.cells d ≡ Some info → IsValueOf p values (Some (record_of r)) info v → b ≡ is_true v → IsVisibleFor p values k g at b
+written p values k d g at r info v b there some found value is = record {
+  row = r;
+  there = there;
+  value = v;
+  is_value = subst (λ o. IsForItem p values (record_of r) (boolean true) o v) (sym some) (info, found, value);
+  is = is;
+}

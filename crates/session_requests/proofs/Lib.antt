@@ -1,0 +1,10 @@
+pub mod Endings
+pub mod Fitting
+pub mod ForItems
+pub mod Items
+pub mod Judging
+pub mod Outcomes
+pub mod Passing
+pub mod Posted
+pub mod PostedEvents
+pub mod Sending

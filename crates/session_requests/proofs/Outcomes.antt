@@ -1,0 +1,152 @@
+-- What a session sends has one outcome.
+use Rattle.std.proofs.Common.{◌≡◌, ℕ, Bool, true, List, [], Option, Some, None, Result, Ok, Err, ap, sym, ◌∙◌, subst}
+use Rattle.std.specs.Prelude.{codes, slice_get}
+use Rattle.app_cells.specs.Leaning.{cell_of_property}
+use Rattle.app_cells.specs.declared.app.App.{App}
+use Rattle.app_cells.specs.declared.app.CellInfo.{CellInfo}
+use Rattle.app_semantics.proofs.Freshness.{AllFit, given_in, given_told, today_is}
+use Rattle.app_semantics.specs.Fresh.{IsFresh, IsValueOf, standing}
+use Rattle.app_semantics.specs.Holding.{HoldsFitting}
+use Rattle.app_semantics.specs.Laws.{FreshFits, OneFresh}
+use Rattle.app_semantics.specs.Present.{Present, present}
+use Rattle.app_semantics.specs.Properties.{IsForItem, IsPropertyForItem, is_true}
+use Rattle.app_semantics.specs.Sound.{IsSound, IsSoundCell}
+use Rattle.app_semantics.specs.Telling.{told_on}
+use Rattle.fx_data.specs.Values.{Data, boolean}
+use Rattle.fx_eval.proofs.Wider.{stays}
+use Rattle.fx_semantics.specs.Around.{record_of}
+use Rattle.fx_semantics.specs.Sources.{Gives as GivesTold}
+use Rattle.fx_semantics.specs.Unique.{OneValue}
+use Rattle.fx_tables.specs.Columns.{Row}
+use Rattle.fx_trees.specs.SourceTypes.{sources}
+use Rattle.fx_trees.specs.declared.sources.Source.{Source}
+use Rattle.session_state.specs.Sessions.{SessionState}
+use Rattle.view_text.specs.declared.refused.Refusal.{Refusal}
+use Rattle.request_checks.specs.Checks.{checks, if_live, session_of}
+use Rattle.request_checks.specs.Directory.{find, put}
+use Rattle.request_checks.specs.declared.directory.Named.{Named}
+use Rattle.session_requests.specs.Acting.{Ends, answered, with_input, with_target}
+use Rattle.session_requests.specs.Bodies.{event_in, input_in}
+use Rattle.session_requests.specs.Laws.{IsOneOutcome}
+use Rattle.session_requests.specs.Posting.{IsShownFor, IsVerdict, IsVisibleFor, JudgesEvent, JudgesInput, PostsEventChecked, PostsInputChecked, gallery_around}
+use Rattle.session_requests.specs.Targets.{Given, event_target, input_target, or_refused}
+use Rattle.session_requests.specs.declared.event.Event.{Event}
+use Rattle.session_requests.specs.declared.input.Input.{Input}
+use Rattle.session_requests.specs.declared.target.Item.{Item}
+use Rattle.session_requests.specs.declared.target.Target.{Target}
+
+-- what is said is the same, and what becomes of the sessions where they were the same
+abbrev Alike : List ℕ → List ℕ → (a a' b b' : List (Named SessionState)) → Type 0
+Alike said said' a a' b b' = (said ≡ said') × (a ≡ b → a' ≡ b')
+
+-- an app and a session of it of which the laws hold
+record IsGood (p : Present) : Type 0 where
+  sound : IsSound p.app
+  holds : HoldsFitting p.app.names p.session
+
+-- ---- a formula of a template has one value for an item
+
+one_for_item : OneValue → FreshFits → (p : Present) (values : ℕ → Data) (item : Data) (k : ℕ) (c : CellInfo) (v w : Data) → IsGood p → IsFresh p values → slice_get p.app.cells k ≡ Some c
+    → IsValueOf p values (Some item) c v → IsValueOf p values (Some item) c w → v ≡ w
+one_for_item one fit p values item k c v w good fresh there x y =
+    let day = today_is p.moment in
+    let T : Source → Data = told_on day.0 p.app.names p.session values in
+    let cell : IsSoundCell p.app.names c = good.sound.cells k c there in
+    let led : AllFit p.app values c.reads = λ r among d e behind at. fit p values good.sound good.holds fresh d e at in
+    one (sources p.app.names) T [] (Some item) None c.core v w
+    (stays (GivesTold (sources p.app.names) (Some T)) c.core (standing p values c.reads (Some item)) v
+    (λ r d g. (given_in p values c r d good.sound good.holds cell led g.0 g.1, given_told p values day.0 r d day.1 g.1)) x)
+    (stays (GivesTold (sources p.app.names) (Some T)) c.core (standing p values c.reads (Some item)) w
+    (λ r d g. (given_in p values c r d good.sound good.holds cell led g.0 g.1, given_told p values day.0 r d day.1 g.1)) y)
+
+one_property : OneValue → FreshFits → (p : Present) (values : ℕ → Data) (item : Data) (k : ℕ) (name : List ℕ) (unwritten v w : Data) → IsGood p → IsFresh p values
+    → IsPropertyForItem p values item k name unwritten v → IsPropertyForItem p values item k name unwritten w → v ≡ w
+one_property one fit p values item k name unwritten v w good fresh = by (cell_of_property p.app.names k name)
+  where
+    by : (o : Option ℕ) → IsForItem p values item unwritten o v → IsForItem p values item unwritten o w → v ≡ w
+    by None x y = x ∙ sym y
+    by (Some d) x y =
+        let both : Some x.0 ≡ Some y.0 = sym x.1 ∙ y.1 in
+        let same : y.0 ≡ x.0 = cc in
+        one_for_item one fit p values item d x.0 v w good fresh x.1 x.2 (subst (λ (c : CellInfo). IsValueOf p values (Some item) c w) same y.2)
+
+one_visible : OneValue → FreshFits → (p : Present) (values : ℕ → Data) (k g at : ℕ) (b b' : Bool) → IsGood p → IsFresh p values
+    → IsVisibleFor p values k g at b → IsVisibleFor p values k g at b' → b ≡ b'
+one_visible one fit p values k g at b b' good fresh x y =
+    let both : Some x.row ≡ Some y.row = sym x.there ∙ y.there in
+    let same : y.row ≡ x.row = cc in
+    let value = one_property one fit p values (record_of x.row) k (codes "Visible") (boolean true) x.value y.value good fresh x.is_value
+    (subst (λ (r : Row). IsPropertyForItem p values (record_of r) k (codes "Visible") (boolean true) y.value) same y.is_value) in
+    x.is ∙ ap is_true value ∙ sym y.is
+
+one_shown : OneValue → FreshFits → (p : Present) (values : ℕ → Data) (k : ℕ) (gallery : Option ℕ) (item : Option Item) (b b' : Bool) → IsGood p → IsFresh p values
+    → IsShownFor p values k gallery item b → IsShownFor p values k gallery item b' → b ≡ b'
+one_shown one fit p values k (Some g) (Some i) b b' good fresh x y = one_visible one fit p values k g i.at b b' good fresh x y
+one_shown one fit p values k (Some g) None b b' good fresh x y = x ∙ sym y
+one_shown one fit p values k None item b b' good fresh x y = x ∙ sym y
+
+-- ---- one verdict
+
+one_verdict : OneValue → FreshFits → (p : Present) (values : ℕ → Data) (r v w : Result Target Refusal) → IsGood p → IsFresh p values → IsVerdict p values r v → IsVerdict p values r w → v ≡ w
+one_verdict one fit p values (Err r) v w good fresh x y = x ∙ sym y
+one_verdict one fit p values (Ok t) v w good fresh x y =
+    x.2 ∙ ap (λ (b : Bool). or_refused b 17 (Ok t)) (one_shown one fit p values t.control (gallery_around p.app t.control) t.item x.0 y.0 good fresh x.1 y.1) ∙ sym y.2
+
+one_event : OneValue → FreshFits → OneFresh → (app : App) (moment : ℕ) (s : SessionState) (e : Event) (v w : Result Target Refusal) → IsGood (present app s moment) → JudgesEvent app moment s e v → JudgesEvent app moment s e w → v ≡ w
+one_event one fit once app moment s e v w good x y =
+    let p : Present = present app s moment in
+    let same : y.values ≡ x.values = once p y.values x.values good.sound good.holds y.fresh x.fresh in
+    one_verdict one fit p x.values (event_target app.names s x.values e) v w good x.fresh x.is
+    (subst (λ (values : ℕ → Data). IsVerdict p values (event_target app.names s values e) w) same y.is)
+
+one_input : OneFresh → (app : App) (moment : ℕ) (s : SessionState) (i : Input) (v w : Result Given Refusal) → IsGood (present app s moment) → JudgesInput app moment s i v → JudgesInput app moment s i w → v ≡ w
+one_input once app moment s i v w good x y =
+    let p : Present = present app s moment in
+    let same : x.values ≡ y.values = once p x.values y.values good.sound good.holds x.fresh y.fresh in
+    x.is ∙ ap (λ (values : ℕ → Data). input_target app.names s values i) same ∙ sym y.is
+
+-- ---- one outcome
+
+ends_alike : (T : Type 0) (change : T → SessionState → SessionState) (name body : List ℕ) (seq : ℕ) (s : SessionState) (v : Result T Refusal) (said said' : List ℕ) (a a' b b' : List (Named SessionState))
+    → Ends change name body seq s v a said a' → Ends change name body seq s v b said' b' → Alike said said' a a' b b'
+ends_alike T change name body seq s (Err r) said said' a a' b b' x y = (x.0 ∙ sym y.0, λ e. x.1 ∙ e ∙ sym y.1)
+ends_alike T change name body seq s (Ok t) said said' a a' b b' x y =
+    (x.0 ∙ sym y.0, λ e. x.1 ∙ ap (λ (l : List (Named SessionState)). put name (answered seq body (change t s)) l) e ∙ sym y.1)
+
+-- the same of a session and a verdict that are the same
+ends_of : (T : Type 0) (change : T → SessionState → SessionState) (name body : List ℕ) (seq : ℕ) (s s' : SessionState) (v v' : Result T Refusal) (said said' : List ℕ) (a a' b b' : List (Named SessionState))
+    → s' ≡ s → v' ≡ v → Ends change name body seq s v a said a' → Ends change name body seq s' v' b said' b' → Alike said said' a a' b b'
+ends_of T change name body seq s s' v v' said said' a a' b b' e f x y =
+    ends_alike T change name body seq s v said said' a a' b b' x
+    (subst (λ (z : SessionState). Ends change name body seq z v b said' b') e (subst (λ (w : Result T Refusal). Ends change name body seq s' w b said' b') f y))
+
+one_session : (name : List ℕ) (a b : List (Named SessionState)) (s s' : SessionState) → find name a ≡ find name b → find name a ≡ Some s → find name b ≡ Some s' → s' ≡ s
+one_session name a b s s' same e f = let both : Some s' ≡ Some s = sym f ∙ sym same ∙ e in cc
+
+inputs_alike : OneFresh → (app : App) (moment : ℕ) (name body : List ℕ) (r : Result Input (List ℕ)) (said said' : List ℕ) (a a' b b' : List (Named SessionState))
+    → IsSound app → ((s : SessionState) → find name a ≡ Some s → HoldsFitting app.names s) → find name a ≡ find name b
+    → PostsInputChecked app moment name body r a said a' → PostsInputChecked app moment name body r b said' b' → Alike said said' a a' b b'
+inputs_alike once app moment name body (Err words) said said' a a' b b' sound holds same x y = (x.0 ∙ sym y.0, λ e. x.1 ∙ e ∙ sym y.1)
+inputs_alike once app moment name body (Ok i) said said' a a' b b' sound holds same x y =
+    let one : y.session ≡ x.session = one_session name a b x.session y.session same x.found y.found in
+    let good : IsGood (present app x.session moment) = record { sound = sound; holds = holds x.session x.found } in
+    let verdict : y.verdict ≡ x.verdict = one_input once app moment x.session i y.verdict x.verdict good (subst (λ (s : SessionState). JudgesInput app moment s i y.verdict) one y.judged) x.judged in
+    ends_of Given with_input name body i.seq x.session y.session x.verdict y.verdict said said' a a' b b' one verdict x.ends y.ends
+
+events_alike : OneValue → FreshFits → OneFresh → (app : App) (moment : ℕ) (name body : List ℕ) (r : Result Event (List ℕ)) (said said' : List ℕ) (a a' b b' : List (Named SessionState))
+    → IsSound app → ((s : SessionState) → find name a ≡ Some s → HoldsFitting app.names s) → find name a ≡ find name b
+    → PostsEventChecked app moment name body r a said a' → PostsEventChecked app moment name body r b said' b' → Alike said said' a a' b b'
+events_alike value fit once app moment name body (Err words) said said' a a' b b' sound holds same x y = (x.0 ∙ sym y.0, λ e. x.1 ∙ e ∙ sym y.1)
+events_alike value fit once app moment name body (Ok e) said said' a a' b b' sound holds same x y =
+    let one : y.session ≡ x.session = one_session name a b x.session y.session same x.found y.found in
+    let good : IsGood (present app x.session moment) = record { sound = sound; holds = holds x.session x.found } in
+    let verdict : y.verdict ≡ x.verdict = one_event value fit once app moment x.session e y.verdict x.verdict good (subst (λ (s : SessionState). JudgesEvent app moment s e y.verdict) one y.judged) x.judged in
+    ends_of Target with_target name body e.seq x.session y.session x.verdict y.verdict said said' a a' b b' one verdict x.ends y.ends
+
+pub one_outcome : OneValue → FreshFits → OneFresh → IsOneOutcome
+one_outcome value fit once app moment name body said said' a a' b b' sound holds same = (
+  λ x y. inputs_alike once app moment name body (checks input_in (λ (i : Input). i.seq) (session_of name a) body) said said' a a' b b' sound holds same x
+      (subst (λ (o : Option SessionState). PostsInputChecked app moment name body (checks input_in (λ (i : Input). i.seq) (if_live o) body) b said' b') (sym same) y),
+  λ x y. events_alike value fit once app moment name body (checks event_in (λ (e : Event). e.seq) (session_of name a) body) said said' a a' b b' sound holds same x
+      (subst (λ (o : Option SessionState). PostsEventChecked app moment name body (checks event_in (λ (e : Event). e.seq) (if_live o) body) b said' b') (sym same) y),
+)

@@ -1,0 +1,54 @@
+-- What is sent by a session, when it comes again and beside other sessions.
+use Rattle.std.proofs.Common.{◌≡◌, ◌≢◌, ℕ, List, Some, Result, Ok, Err, ap, ◌∙◌, subst}
+use Rattle.app_cells.specs.declared.app.App.{App}
+use Rattle.session_state.specs.Once.{Kept}
+use Rattle.session_state.specs.Sessions.{SessionState}
+use Rattle.view_text.specs.declared.refused.Refusal.{Refusal}
+use Rattle.request_checks.specs.Checks.{IsLastAsked, checks, if_live, session_of}
+use Rattle.request_checks.specs.Directory.{find}
+use Rattle.request_checks.specs.declared.directory.Named.{Named}
+use Rattle.request_checks.proofs.Again.{comes_again}
+use Rattle.request_checks.proofs.Directories.{find_other}
+use Rattle.session_requests.specs.Acting.{Ends, answered, with_input, with_target}
+use Rattle.session_requests.specs.Bodies.{event_in, input_in}
+use Rattle.session_requests.specs.Posting.{PostsEvent, PostsEventChecked, PostsInput, PostsInputChecked}
+use Rattle.session_requests.specs.declared.event.Event.{Event}
+use Rattle.session_requests.specs.declared.input.Input.{Input}
+
+ends_leave : (T : Type 0) (change : T → SessionState → SessionState) (name other body : List ℕ) (seq : ℕ) (s : SessionState) (v : Result T Refusal) (sessions : List (Named SessionState)) (said : List ℕ) (sessions' : List (Named SessionState))
+    → name ≢ other → Ends change name body seq s v sessions said sessions' → find other sessions' ≡ find other sessions
+ends_leave T change name other body seq s (Err r) sessions said sessions' differ h = ap (λ (l : List (Named SessionState)). find other l) h.1
+ends_leave T change name other body seq s (Ok t) sessions said sessions' differ h =
+    ap (λ (l : List (Named SessionState)). find other l) h.1 ∙ find_other SessionState name other (answered seq body (change t s)) sessions differ
+
+input_leaves : (app : App) (moment : ℕ) (name other body : List ℕ) (r : Result Input (List ℕ)) (sessions : List (Named SessionState)) (said : List ℕ) (sessions' : List (Named SessionState))
+    → name ≢ other → PostsInputChecked app moment name body r sessions said sessions' → find other sessions' ≡ find other sessions
+input_leaves app moment name other body (Err words) sessions said sessions' differ h = ap (λ (l : List (Named SessionState)). find other l) h.1
+input_leaves app moment name other body (Ok i) sessions said sessions' differ h = ends_leave _ with_input name other body i.seq h.session h.verdict sessions said sessions' differ h.ends
+
+event_leaves : (app : App) (moment : ℕ) (name other body : List ℕ) (r : Result Event (List ℕ)) (sessions : List (Named SessionState)) (said : List ℕ) (sessions' : List (Named SessionState))
+    → name ≢ other → PostsEventChecked app moment name body r sessions said sessions' → find other sessions' ≡ find other sessions
+event_leaves app moment name other body (Err words) sessions said sessions' differ h = ap (λ (l : List (Named SessionState)). find other l) h.1
+event_leaves app moment name other body (Ok e) sessions said sessions' differ h = ends_leave _ with_target name other body e.seq h.session h.verdict sessions said sessions' differ h.ends
+
+pub others_left : (app : App) (moment : ℕ) (name other body said : List ℕ) (sessions sessions' : List (Named SessionState)) → name ≢ other
+    → (PostsInput app moment name body sessions said sessions' → find other sessions' ≡ find other sessions)
+    × (PostsEvent app moment name body sessions said sessions' → find other sessions' ≡ find other sessions)
+others_left app moment name other body said sessions sessions' differ = (
+  input_leaves app moment name other body (checks input_in (λ (i : Input). i.seq) (session_of name sessions) body) sessions said sessions' differ,
+  event_leaves app moment name other body (checks event_in (λ (e : Event). e.seq) (session_of name sessions) body) sessions said sessions' differ,
+)
+
+-- a live session is the caller that is kept of it
+live : (name : List ℕ) (s : SessionState) (sessions : List (Named SessionState)) → find name sessions ≡ Some s → session_of name sessions ≡ Ok s.kept
+live name s sessions e = ap if_live e
+
+pub once : (app : App) (moment : ℕ) (name said : List ℕ) (s : SessionState) (sessions sessions' : List (Named SessionState)) → find name sessions ≡ Some s
+    → (IsLastAsked Input input_in (λ (i : Input). i.seq) s.kept → PostsInput app moment name s.kept.body sessions said sessions' → (said ≡ s.kept.reply) × (sessions' ≡ sessions))
+    × (IsLastAsked Event event_in (λ (e : Event). e.seq) s.kept → PostsEvent app moment name s.kept.body sessions said sessions' → (said ≡ s.kept.reply) × (sessions' ≡ sessions))
+once app moment name said s sessions sessions' e = (
+  λ last h. subst (λ (r : Result Input (List ℕ)). PostsInputChecked app moment name s.kept.body r sessions said sessions')
+      (ap (λ (c : Result Kept ℕ). checks input_in (λ (i : Input). i.seq) c s.kept.body) (live name s sessions e) ∙ comes_again Input input_in (λ (i : Input). i.seq) s.kept last) h,
+  λ last h. subst (λ (r : Result Event (List ℕ)). PostsEventChecked app moment name s.kept.body r sessions said sessions')
+      (ap (λ (c : Result Kept ℕ). checks event_in (λ (e : Event). e.seq) c s.kept.body) (live name s sessions e) ∙ comes_again Event event_in (λ (e : Event). e.seq) s.kept last) h,
+)

@@ -1,0 +1,5 @@
+use Rattle.session_requests.proofs.Sending.{once}
+use Rattle.session_requests.proofs.laws.acts_once.Goals as goal
+
+pub returns : goal.returns
+returns c = once

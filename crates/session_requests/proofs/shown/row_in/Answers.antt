@@ -1,0 +1,10 @@
+use Rattle.std.proofs.Common.{◌∙◌, ap, sym}
+use Rattle.app_semantics.specs.Chosen.{row_at}
+use Rattle.fx_data.specs.ValueView.{view}
+use Rattle.fx_data.specs.declared.values.Value.{Value}
+use Rattle.fx_eval.proofs.Turns.{rows_back}
+use Rattle.fx_semantics.specs.Rows.{rows_in}
+use Rattle.session_requests.proofs.shown.row_in.Goals as goal
+
+pub returns-in-Tab : goal.returns-in-Tab
+returns-in-Tab c = c.row_at.ensures ∙ ap (row_at c.args.at) (c.as_slice.ensures ∙ rows_back c.in-Tab.rows ∙ ap (λ (v : Value). rows_in (view v)) (sym c.in-Tab.is))

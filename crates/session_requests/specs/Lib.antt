@@ -1,0 +1,6 @@
+pub mod Acting
+pub mod Bodies
+pub mod Laws
+pub mod Posting
+pub mod Shown
+pub mod Targets

@@ -1,0 +1,104 @@
+-- A session sends events and inputs.
+use Rattle.std.specs.Prelude.{◌≡◌, ℕ, Bool, true, List, codes, Option, Some, None, Result, Ok, Err, slice_get, option_and_then}
+use Rattle.std.specs.List.{AllByRecursion}
+use Rattle.app_cells.specs.declared.app.App.{App}
+use Rattle.app_semantics.specs.Chosen.{row_at}
+use Rattle.app_semantics.specs.Fresh.{IsFresh}
+use Rattle.app_semantics.specs.Present.{Present, items_of, present}
+use Rattle.app_semantics.specs.Properties.{IsPropertyForItem, is_true}
+use Rattle.fx_data.specs.Values.{Data, boolean}
+use Rattle.fx_semantics.specs.Around.{record_of}
+use Rattle.fx_semantics.specs.Rows.{rows_in}
+use Rattle.fx_tables.specs.Columns.{Row}
+use Rattle.fx_trees.specs.declared.names.ControlName.{ControlName}
+use Rattle.fx_trees.specs.declared.names.Names.{Names}
+use Rattle.request_checks.specs.Checks.{checks, session_of}
+use Rattle.request_checks.specs.Directory.{find}
+use Rattle.request_checks.specs.declared.directory.Named.{Named}
+use Rattle.session_state.specs.Changes.{FitsNames}
+use Rattle.session_state.specs.Sessions.{SessionState}
+use Rattle.view_text.specs.declared.refused.Refusal.{Refusal}
+use Rattle.session_requests.specs.Acting.{Ends, with_input, with_target}
+use Rattle.session_requests.specs.Bodies.{event_in, input_in}
+use Rattle.session_requests.specs.Targets.{Given, event_target, input_target, or_refused}
+use Rattle.session_requests.specs.declared.event.Event.{Event}
+use Rattle.session_requests.specs.declared.input.Input.{Input}
+use Rattle.session_requests.specs.declared.target.Item.{Item}
+use Rattle.session_requests.specs.declared.target.Target.{Target}
+
+-- each session fits the names of an app
+abbrev pub SessionsFit : Names → List (Named SessionState) → Type 0
+SessionsFit n sessions = AllByRecursion (λ (x : Named SessionState). FitsNames n x.it) sessions
+
+-- ---- inputs
+
+-- what becomes of an input of a session whose formulas have fresh values
+pub record JudgesInput (app : App) (moment : ℕ) (s : SessionState) (i : Input) (v : Result Given Refusal) : Type 0 where
+  pub values : ℕ → Data
+  pub fresh : IsFresh (present app s moment) values
+  pub is : v ≡ input_target app.names s values i
+
+-- an input that passed the checks of numbered requests: its session is live
+pub record SendsInput (app : App) (moment : ℕ) (name body : List ℕ) (i : Input) (sessions : List (Named SessionState)) (said : List ℕ) (sessions' : List (Named SessionState)) : Type 0 where
+  pub session : SessionState
+  pub found : find name sessions ≡ Some session
+  pub verdict : Result Given Refusal
+  pub judged : JudgesInput app moment session i verdict
+  pub ends : Ends with_input name body i.seq session verdict sessions said sessions'
+
+abbrev pub PostsInputChecked : App → ℕ → List ℕ → List ℕ → Result Input (List ℕ) → List (Named SessionState) → List ℕ → List (Named SessionState) → Type 0
+PostsInputChecked app moment name body (Err words) sessions said sessions' = (said ≡ words) × (sessions' ≡ sessions)
+PostsInputChecked app moment name body (Ok i) sessions said sessions' = SendsInput app moment name body i sessions said sessions'
+
+-- THE route of inputs
+abbrev pub PostsInput : App → ℕ → List ℕ → List ℕ → List (Named SessionState) → List ℕ → List (Named SessionState) → Type 0
+PostsInput app moment name body sessions said sessions' =
+    PostsInputChecked app moment name body (checks input_in (λ (i : Input). i.seq) (session_of name sessions) body) sessions said sessions'
+
+-- ---- events
+
+-- the control is visible for the item at this position of the gallery
+pub record IsVisibleFor (p : Present) (values : ℕ → Data) (k gallery at : ℕ) (b : Bool) : Type 0 where
+  pub row : Row
+  pub there : row_at at (rows_in (items_of p.app.names values gallery)) ≡ Some row
+  pub value : Data
+  pub is_value : IsPropertyForItem p values (record_of row) k (codes "Visible") (boolean true) value
+  pub is : b ≡ is_true value
+
+-- whether a control that stands in a gallery is visible for the item; of another control nothing is left to ask
+abbrev pub IsShownFor : Present → (ℕ → Data) → ℕ → Option ℕ → Option Item → Bool → Type 0
+IsShownFor p values k (Some gallery) (Some item) b = IsVisibleFor p values k gallery item.at b
+IsShownFor p values k (Some gallery) None b = b ≡ true
+IsShownFor p values k None item b = b ≡ true
+
+-- the gallery that a control stands in
+abbrev pub gallery_around : App → ℕ → Option ℕ
+gallery_around app k = option_and_then (λ (c : ControlName). c.gallery) (slice_get app.names.controls k)
+
+-- the last check of an event: the control is shown for the item (17)
+abbrev pub IsVerdict : Present → (ℕ → Data) → Result Target Refusal → Result Target Refusal → Type 0
+IsVerdict p values (Err r) v = v ≡ Err r
+IsVerdict p values (Ok t) v = (b : Bool) × IsShownFor p values t.control (gallery_around p.app t.control) t.item b × (v ≡ or_refused b 17 (Ok t))
+
+-- what becomes of an event of a session whose formulas have fresh values
+pub record JudgesEvent (app : App) (moment : ℕ) (s : SessionState) (e : Event) (v : Result Target Refusal) : Type 0 where
+  pub values : ℕ → Data
+  pub fresh : IsFresh (present app s moment) values
+  pub is : IsVerdict (present app s moment) values (event_target app.names s values e) v
+
+-- an event that passed the checks of numbered requests
+pub record SendsEvent (app : App) (moment : ℕ) (name body : List ℕ) (e : Event) (sessions : List (Named SessionState)) (said : List ℕ) (sessions' : List (Named SessionState)) : Type 0 where
+  pub session : SessionState
+  pub found : find name sessions ≡ Some session
+  pub verdict : Result Target Refusal
+  pub judged : JudgesEvent app moment session e verdict
+  pub ends : Ends with_target name body e.seq session verdict sessions said sessions'
+
+abbrev pub PostsEventChecked : App → ℕ → List ℕ → List ℕ → Result Event (List ℕ) → List (Named SessionState) → List ℕ → List (Named SessionState) → Type 0
+PostsEventChecked app moment name body (Err words) sessions said sessions' = (said ≡ words) × (sessions' ≡ sessions)
+PostsEventChecked app moment name body (Ok e) sessions said sessions' = SendsEvent app moment name body e sessions said sessions'
+
+-- THE route of events
+abbrev pub PostsEvent : App → ℕ → List ℕ → List ℕ → List (Named SessionState) → List ℕ → List (Named SessionState) → Type 0
+PostsEvent app moment name body sessions said sessions' =
+    PostsEventChecked app moment name body (checks event_in (λ (e : Event). e.seq) (session_of name sessions) body) sessions said sessions'

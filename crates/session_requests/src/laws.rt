@@ -1,0 +1,24 @@
+//! Laws of sessions' requests.
+ghost use Rattle.session_requests.specs.Laws.{ActsOnce, IsOneOutcome, LeavesOthers};
+
+use app_semantics::{fresh_fits, one_fresh};
+use fx_semantics::one_value;
+
+/// A law, and no work: what is sent by a session leaves every other as it was.
+pub fn leaves_others()
+    ensures { LeavesOthers }
+{}
+
+/// A law, and no work: the last accepted request of a session, when it comes again, gets the kept reply and acts no more.
+pub fn acts_once()
+    ensures { ActsOnce }
+{}
+
+/// A law, and no work: what a session sends has one outcome, and the reply hangs on no other session.
+pub fn one_outcome()
+    ensures { IsOneOutcome }
+{
+    fresh_fits();
+    one_fresh();
+    one_value();
+}
