@@ -3,3 +3,4 @@ pub mod Replays
 pub mod Reported
 pub mod Said
 pub mod Written
+pub mod ViewedSession

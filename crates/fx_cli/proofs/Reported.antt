@@ -1,17 +1,16 @@
 -- How a run ends where the first bytes of its file are told.
 use Rattle.std.proofs.Common.{◌≡◌, ℕ, inl, inr, List, [], Option, Some, None, Result, Ok, Err, String, refl, ap, sym, ◌∙◌, subst}
 use Rattle.std.specs.declared.alloc.Global.{Global}
-use Rattle.app_loader.specs.declared.app.App.{App}
-use Rattle.app_loader.specs.Judged.{Judged}
-use Rattle.app_loader.specs.Judged as judged
-use Rattle.app_loader.specs.Verdicts.{IsOneVerdict}
+use Rattle.app_cells.specs.declared.app.App.{App}
+use Rattle.app_loader.specs.Judged.{Judged, JudgedApp}
+use Rattle.app_loader.specs.app_typing.Judged as judged
+use Rattle.app_loader.specs.Verdicts.{IsOneApp, IsOneVerdict}
 use Rattle.fx_base.specs.Faults.{Rose}
 use Rattle.fx_base.specs.Silence.{Marks}
 use Rattle.fx_trees.specs.declared.broken.Broken.{Broken as Break}
 use Rattle.fx_trees.specs.declared.app_end.AppEnd.{AppEnd}
 use Rattle.fx_trees.specs.declared.app_end.AppEnd.TheVariants as end
 use Rattle.row_keeper.specs.Tables.{Tables}
-use Rattle.office.specs.AppFile.{IsOneApp, JudgedApp}
 use Rattle.fx_cli.specs.Held.{Standing}
 use Rattle.fx_cli.specs.declared.replay.ReplayEnd.{ReplayEnd}
 use Rattle.fx_cli.specs.declared.replay.ReplayEnd.TheVariants as replay

@@ -1,7 +1,7 @@
 -- What a status says of the report.
 use Rattle.std.proofs.Common.{◌≡◌, ℕ, inl, inr, List, Option, Some, String, refl, sym, ◌∙◌, subst, false, true, nat_eq, eq-eqb}
 use Rattle.std.specs.declared.alloc.Global.{Global}
-use Rattle.app_loader.specs.declared.app.App.{App}
+use Rattle.app_cells.specs.declared.app.App.{App}
 use Rattle.fx_base.specs.Telling.{Tells}
 use Rattle.fx_cli.specs.declared.replay.ReplayEnd.{ReplayEnd}
 use Rattle.fx_cli.specs.declared.replay.ReplayEnd.TheVariants as replay

@@ -6,7 +6,7 @@ use Rattle.fx_base.specs.Telling.{Stays}
 use Rattle.fx_trees.specs.declared.schema.Schema.{Schema}
 use Rattle.row_keeper.specs.Changes.{Shapes}
 use Rattle.row_keeper.specs.Tables.{Tables}
-use Rattle.app_loader.specs.declared.app.App.{App}
+use Rattle.app_cells.specs.declared.app.App.{App}
 use Rattle.office.specs.State.{State, schema_of, started}
 use Rattle.fx_cli.specs.Held.{Standing}
 

@@ -4,8 +4,8 @@ use Rattle.std.specs.declared.alloc.Global.{Global}
 use Rattle.fx_base.specs.Faults.{Rose}
 use Rattle.fx_base.specs.Silence.{Marks}
 use Rattle.fx_base.specs.Telling.{Tells}
-use Rattle.app_loader.specs.declared.app.App.{App}
-use Rattle.app_loader.specs.Judged.{Judged, longest}
+use Rattle.app_cells.specs.declared.app.App.{App}
+use Rattle.app_loader.specs.Judged.{Judged, JudgedApp, longest}
 use Rattle.app_wire.specs.Moments.{Tick}
 use Rattle.fx_trees.specs.BrokenText.{ended_line}
 use Rattle.fx_trees.specs.declared.broken.Broken.{Broken as Break}
@@ -13,7 +13,7 @@ use Rattle.fx_trees.specs.declared.app_end.AppEnd.{AppEnd}
 use Rattle.fx_trees.specs.declared.app_end.AppEnd.TheVariants as end
 use Rattle.fx_trees.specs.declared.schema.Schema.{Schema}
 use Rattle.row_keeper.specs.Tables.{Tables}
-use Rattle.office.specs.AppFile.{JudgedApp, most_bytes}
+use Rattle.app_file.specs.Files.{most_bytes}
 use Rattle.office.specs.State.{schema_of}
 use Rattle.fx_cli.specs.Held.{Standing}
 use Rattle.fx_cli.specs.Opening.{Counted, IsAsked, IsServed, IsStopped}

@@ -2,8 +2,8 @@
 #![tactic(auto)]
 
 ghost use Rattle.std.specs.Prelude.{◌≡◌, ◌≤◌, [], ℕ, Err, List, Ok, Some, false, string_bytes};
-ghost use Rattle.app_loader.specs.Judged.{Judged};
-ghost use Rattle.app_loader.specs.declared.app.App.{App};
+ghost use Rattle.app_loader.specs.Judged.{Judged, JudgedApp};
+ghost use Rattle.app_cells.specs.declared.app.App.{App};
 ghost use Rattle.fx_base.specs.Faults.{Rose};
 ghost use Rattle.fx_base.specs.Silence.{IsLater};
 ghost use Rattle.fx_base.specs.Telling.{Tells};
@@ -17,8 +17,7 @@ ghost use Rattle.fx_cli.specs.declared.words.Form.{Form};
 ghost use Rattle.fx_cli.specs.declared.words.Form.TheVariants.{Replay, View};
 ghost use Rattle.fx_trees.specs.declared.broken.Broken.{Broken};
 ghost use Rattle.fx_trees.specs.declared.schema.Schema.{Schema};
-ghost use Rattle.office.specs.AppFile.{JudgedApp};
-ghost use Rattle.office.specs.State.{formulas_of, schema_of};
+ghost use Rattle.office.specs.State.{schema_of};
 
 pub mod files;
 pub mod memory;
@@ -33,14 +32,13 @@ pub mod words;
 use crate::replay::ReplayEnd;
 use crate::report::{Report, carry_out};
 use crate::sink::write_all;
-use app_loader::one_verdict;
+use app_loader::{one_app, one_verdict};
 use app_wire::clock::Clock;
 use app_wire::doors::Doors;
 pub use files::{FileEnd, Files};
 use fx_base::Failed;
 use fx_eval::Steps;
 pub use memory::{MemoryFiles, MemorySink};
-use office::laws::one_app;
 use row_keeper::Keeper;
 pub use sink::Sink;
 use std::alloc::Global;
@@ -78,7 +76,7 @@ pub fn run<D: Doors, K: Keeper, F: Files, O: Sink, C: Clock, L: Ledger>(
     // part. `Reports` says when a run comes to each, and `Leaves` what it left alone then.
     ensures ends { (report : Report)
         × Reports F.told F.asked F.faults files.old files.new
-        (λ app text. IsShownNow (C.told clock.old) (C.told clock.new) (formulas_of app) (string_bytes text))
+        (λ app text. IsShownNow (C.told clock.old) (C.told clock.new) app (string_bytes text))
         (EndsOver K.told K.attached K.marks K.attaches keeper.old keeper.new
         (λ end old new. Replayed (D.single doors.old) old new (D.faults doors.old) (D.faults doors.new) (C.told clock.old) (C.told clock.new) (D.told doors.old) (D.told doors.new) end)) (wanted words.now) report
         × Leaves (wanted words.now) (files.new ≡ files.old) (doors.new ≡ doors.old) (clock.new ≡ clock.old) (IsReadOnceAtMost C.told clock.old clock.new)

@@ -2,9 +2,11 @@
 ghost use Rattle.std.specs.Prelude.{◌≡◌, ◌≤◌, Some, false, string_bytes};
 ghost use Rattle.fx_base.specs.Faults.{Rose};
 ghost use Rattle.fx_base.specs.Silence.{IsLater};
-ghost use Rattle.fx_trees.specs.Lawful.{IsLawfulSchema};
-ghost use Rattle.office.specs.State.{State, formulas_of, schema_of, started};
+ghost use Rattle.app_semantics.specs.Sound.{IsSound};
+ghost use Rattle.office.specs.Ready.{CanOpen};
+ghost use Rattle.office.specs.State.{State, schema_of, started};
 ghost use Rattle.row_requests.specs.Sound.{AreSound};
+ghost use Rattle.session_state.specs.Changes.{HoldsTables};
 ghost use Rattle.fx_cli.specs.Held.{Replayed};
 ghost use Rattle.fx_cli.specs.Opening.{IsStopped, Unsaid};
 ghost use Rattle.fx_cli.specs.Plain.{IsShown, IsShownNow};
@@ -17,14 +19,15 @@ use crate::opening::open_keeper;
 use crate::replay::{ReplayEnd, replay};
 use crate::view::view_text;
 use crate::words::{Form, form_of};
-use app_loader::{App, load_named};
+use app_cells::App;
+use app_loader::{load, load_named};
 use app_wire::clock::Clock;
 use app_wire::doors::Doors;
 use app_wire::routes::Routes;
 use fx_base::Memory;
 use fx_eval::Steps;
 use fx_trees::{AppEnd, lines};
-use office::{Office, load};
+use office::Office;
 use row_keeper::{Keeper, KeeperEnd};
 use std::alloc::Global;
 use std::sync::ledger::Ledger;
@@ -165,7 +168,7 @@ pub fn carry_out<D: Doors, K: Keeper, F: Files, C: Clock, L: Ledger>(
 ) -> Report
     requires idle { K.in_transaction keeper.old ≡ false }
     ensures reports { Reports F.told F.asked F.faults files.old files.new
-        (λ app text. IsShownNow (C.told clock.old) (C.told clock.new) (formulas_of app) (string_bytes text))
+        (λ app text. IsShownNow (C.told clock.old) (C.told clock.new) app (string_bytes text))
         (EndsOver K.told K.attached K.marks K.attaches keeper.old keeper.new
         (λ end old new. Replayed (D.single doors.old) old new (D.faults doors.old) (D.faults doors.new) (C.told clock.old) (C.told clock.new) (D.told doors.old) (D.told doors.new) end)) (wanted words.now) result }
     ensures cause { result ≡ Report.Replayed ReplayEnd.Fault → Rose (D.faults doors.old) (D.faults doors.new) }
@@ -193,7 +196,7 @@ fn view_file<F: Files, C: Clock, L: Ledger>(
     steps: &mut Steps<L>,
 ) -> Report
     ensures reports { Reports F.told F.asked F.faults files.old files.new
-        (λ app text. IsShownNow (C.told clock.old) (C.told clock.new) (formulas_of app) (string_bytes text)) no_replay (Some (View, name.now)) result }
+        (λ app text. IsShownNow (C.told clock.old) (C.told clock.new) app (string_bytes text)) no_replay (Some (View, name.now)) result }
     ensures timeless { IsTimeless result → clock.new ≡ clock.old }
     ensures clock { IsReadOnceAtMost C.told clock.old clock.new }
     ensures later { F.faults files.old ≤ F.faults files.new }
@@ -212,9 +215,11 @@ fn view_file<F: Files, C: Clock, L: Ledger>(
 
 /// The values of an app's formulas at a moment.
 fn show<L: Ledger>(alloc: Global, app: &App, moment: u64, steps: &mut Steps<L>) -> Report
-    ensures { IsShowing (IsShown moment (formulas_of app.now)) result }
+    requires sound { IsSound app.now }
+    requires tables { HoldsTables app.now.names }
+    ensures { IsShowing (IsShown moment app.now) result }
 {
-    match view_text(alloc, &app.lines, moment, steps) {
+    match view_text(alloc, app, moment, steps) {
         Ok(text) => Report::Shown(text),
         Err(Memory) => Report::OutOfMemory,
     }
@@ -264,7 +269,8 @@ fn replay_app<D: Doors, K: Keeper, C: Clock, L: Ledger>(
     steps: &mut Steps<L>,
 ) -> Report
     requires idle { K.in_transaction keeper.old ≡ false }
-    requires lawful { IsLawfulSchema (schema_of app) }
+    requires app { IsSound app }
+    requires opens { CanOpen app.names }
     ensures ends { EndsOver K.told K.attached K.marks K.attaches keeper.old keeper.new
         (λ end old new. Replayed (D.single doors.old) old new (D.faults doors.old) (D.faults doors.new) (C.told clock.old) (C.told clock.new) (D.told doors.old) (D.told doors.new) end) app result }
     ensures cause { result ≡ Report.Replayed ReplayEnd.Fault → Rose (D.faults doors.old) (D.faults doors.new) }
@@ -279,7 +285,7 @@ fn replay_app<D: Doors, K: Keeper, C: Clock, L: Ledger>(
         Ok(routes) => routes,
         Err(Memory) => return Report::OutOfMemory,
     };
-    match open_keeper(keeper, &app.schema) {
+    match open_keeper(keeper, &app.names.schema) {
         Ok(None) => {
             Report::Replayed(replay_over(alloc, app, routes, doors, keeper, clock, steps))
         }
@@ -301,7 +307,8 @@ fn replay_over<D: Doors, K: Keeper, C: Clock, L: Ledger>(
 ) -> ReplayEnd
     requires idle { K.in_transaction keeper.old ≡ false }
     requires shaped { K.shaped keeper.old ≡ Some (schema_of app) }
-    requires lawful { IsLawfulSchema (schema_of app) }
+    requires app { IsSound app }
+    requires opens { CanOpen app.names }
     requires sound { AreSound (schema_of app) (K.told keeper.old) }
     ensures replayed { (state : State) × (state.tables ≡ K.told keeper.new)
         × Replayed (D.single doors.old) (record { state = started app (K.told keeper.old); marks = K.marks keeper.old }) (record { state = state; marks = K.marks keeper.new })

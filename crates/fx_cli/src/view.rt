@@ -1,32 +1,39 @@
-//! What `view` prints: each formula of a text with its value.
+//! What `view` prints: each named formula of an app with its value.
 ghost use Rattle.std.specs.Prelude.{◌≡◌, ◌++◌, IfOk, OnOk, flat_map, map, string_bytes};
+ghost use Rattle.app_semantics.specs.Sound.{IsSound};
+ghost use Rattle.session_state.specs.Changes.{HoldsTables};
+ghost use Rattle.office.specs.NamedReply.{shown};
 ghost use Rattle.fx_cli.specs.Plain.{IsShown, line_of};
-ghost use Rattle.recalc.specs.Valued.{seen};
 
-use app_names::Lines;
+use app_cells::App;
 use fx_base::Memory;
 use fx_eval::Steps;
-use recalc::{NamedValue, values_of};
+use office::named_list;
+use session_state::Session;
 use std::alloc::Global;
 use std::sync::ledger::Ledger;
-use view_text::plain;
+use view_text::{Named, plain};
 
-/// A line for each formula, in order: its name and its value at a moment, in seconds since 1970-01-01 UTC.
+/// A line for each named formula, in order: its name and its value at a moment, in seconds since 1970-01-01 UTC.
+#[tactic(auto, using(crate::proofs::ViewedSession::opened_holds))]
 pub fn view_text<L: Ledger>(
     alloc: Global,
-    lines: &Lines,
+    app: &App,
     moment: u64,
     steps: &mut Steps<L>,
 ) -> Result<String, Memory>
-    ensures { IfOk result (λ text. IsShown moment lines.now (string_bytes text)) }
+    requires sound { IsSound app.now }
+    requires tables { HoldsTables app.now.names }
+    ensures { IfOk result (λ text. IsShown moment app.now (string_bytes text)) }
 {
-    let values = values_of(alloc, lines, moment, steps)?;
+    let session = Session::new(alloc, &app.names)?;
+    let values = named_list(alloc, app, &session, moment, steps)?;
     values_text(alloc, &values)
 }
 
 /// The lines of values.
-fn values_text(alloc: Global, values: &[NamedValue]) -> Result<String, Memory>
-    ensures { IfOk result (λ text. string_bytes text ≡ flat_map line_of (map seen values.now)) }
+fn values_text(alloc: Global, values: &[Named]) -> Result<String, Memory>
+    ensures { IfOk result (λ text. string_bytes text ≡ flat_map line_of (map shown values.now)) }
 {
     let mut text = String::new(alloc);
     for named in values {
@@ -36,8 +43,8 @@ fn values_text(alloc: Global, values: &[NamedValue]) -> Result<String, Memory>
 }
 
 /// One line more.
-fn push_line(alloc: Global, text: &mut String, named: &NamedValue) -> Result<(), Memory>
-    ensures { OnOk result (string_bytes text.new ≡ string_bytes text.old ++ line_of (seen named.now)) }
+fn push_line(alloc: Global, text: &mut String, named: &Named) -> Result<(), Memory>
+    ensures { OnOk result (string_bytes text.new ≡ string_bytes text.old ++ line_of (shown named.now)) }
 {
     let name = named.name.as_str();
     let value = plain(alloc, &named.value)?;

@@ -1,29 +1,40 @@
--- Requests of desks that come again.
+-- Posted requests that come again.
+use Rattle.serde_json.specs.Data as json
 use Rattle.std.proofs.Common.{◌≡◌, ◌≢◌, ◌⊎◌, inl, inr, ℕ, Bool, true, false, List, Option, Some, None, Result, Ok, Err, refl, ap, sym, ◌∙◌, subst}
 use Rattle.fx_base.specs.Silence.{IsLost, Marks}
 use Rattle.fx_trees.specs.declared.schema.TableShape.{TableShape}
 use Rattle.row_keeper.specs.Tables.{Tables}
 use Rattle.app_wire.specs.Framing.{Asked}
 use Rattle.app_wire.specs.ReplyBytes.{refusal}
-use Rattle.app_wire.specs.Routing.{IsOneRoute}
+use Rattle.app_wire.specs.Routing.{IsOneRoute, method_of}
+use Rattle.app_wire.specs.declared.head.Method.TheVariants.{Post}
+use Rattle.app_cells.specs.declared.app.App.{App}
 use Rattle.app_wire.specs.declared.route.Route.{Route}
 use Rattle.app_wire.specs.declared.route.Route.TheVariants.{Begin, End, View, Named as Shown, Items, Event, Input, Rows, Edit, Page, Plan, Graph}
 use Rattle.session_state.specs.Once.{Kept}
 use Rattle.row_requests.specs.Bodies.{posted_in}
-use Rattle.request_checks.specs.Checks.{desk_of}
+use Rattle.request_checks.specs.Checks.{IsLastAsked, checks, desk_of, session_of}
+use Rattle.session_state.specs.Sessions.{SessionState}
+use Rattle.session_requests.specs.Acting.{Ends, accepted_reply as session_reply, answered, with_input, with_target}
+use Rattle.session_requests.specs.Bodies.{event_in, input_in}
+use Rattle.session_requests.specs.Laws as laws
+use Rattle.session_requests.specs.Posting.{PostsEvent, PostsEventChecked, PostsInput, PostsInputChecked}
+use Rattle.session_requests.specs.declared.event.Event.{Event as Sent}
+use Rattle.session_requests.specs.declared.input.Input.{Input as Given}
+use Rattle.view_text.specs.declared.refused.Refusal.{Refusal}
 use Rattle.row_requests.specs.DeskRows.{Outcome, PostsChecked, PostsRows, accepted_reply, desk_checks, desks_after, outcome_reply}
 use Rattle.request_checks.specs.Directory.{find}
 use Rattle.row_requests.specs.Laws.{IsLast}
 use Rattle.row_requests.specs.declared.bodies.Posted.{Posted}
 use Rattle.request_checks.specs.declared.directory.Named.{Named}
 use Rattle.office.specs.Answers.{Exchange, Plays}
-use Rattle.office.specs.Isolation.{AreOfOthers, IsOf, caller_of, desk}
+use Rattle.office.specs.Isolation.{AreOfOthers, Caller, IsOf, caller_of, desk, kept_of, kept_of_session, session}
 use Rattle.office.specs.State.{State, schema_of}
 use Rattle.office.specs.Step.{Answered, Does, Left, Reaches}
 use Rattle.row_requests.proofs.Again.{checks_again}
-use Rattle.request_checks.proofs.Again.{passed}
+use Rattle.request_checks.proofs.Again.{Asks, passed}
 use Rattle.request_checks.proofs.Directories.{find_put}
-use Rattle.office.proofs.Isolation.{does_of, plays_leave, route_is}
+use Rattle.office.proofs.Isolation.{does_of, plays_leave_desk, plays_leave_session, route_is}
 use Rattle.office.proofs.Steps.{left_all}
 
 -- it is the last of its desk, and what was said is kept
@@ -53,75 +64,168 @@ accepted lost shapes name body tables tables' desks desks' said h differ = by (d
     by (Err words) e k = absurd (differ (ap (find name) k.2))
     by (Ok p) e k = kept p e k.outcome k.keeps k.replied
 
-does_keep : (lost : Type 0) (moment : ℕ) (route : Route) (body : List ℕ) (s new : State) (said name : List ℕ)
-    → caller_of route ≡ Some (desk name) → Does lost moment route body s said new → find name new.desks ≢ find name s.desks
-    → (route ≡ Rows name) × IsKept new.desks name body said
-unfolding Does
-does_keep lost moment (Rows n) body s new said name is does differ =
-    let named : n ≡ name = cc in (
-      ap Rows named,
-      accepted lost (schema_of s.app).tables name body s.tables new.tables s.desks new.desks said
-          (subst (λ m. PostsRows lost (schema_of s.app).tables m body s.tables s.desks said new.tables new.desks) named does.0) differ,
-    )
-does_keep lost moment (Edit n) body s new said name is does differ = absurd (differ (ap (λ (x : State). find name x.desks) does.1))
-does_keep lost moment (Begin n) body s new said name is does differ = absurd (cc)
-does_keep lost moment (End n) body s new said name is does differ = absurd (cc)
-does_keep lost moment (View n) body s new said name is does differ = absurd (cc)
-does_keep lost moment (Shown n) body s new said name is does differ = absurd (cc)
-does_keep lost moment (Items n gallery from) body s new said name is does differ = absurd (cc)
-does_keep lost moment (Event n) body s new said name is does differ = absurd (cc)
-does_keep lost moment (Input n) body s new said name is does differ = absurd (cc)
-does_keep lost moment (Page table after) body s new said name is does differ = absurd (cc)
-does_keep lost moment Plan body s new said name is does differ = absurd (cc)
-does_keep lost moment Graph body s new said name is does differ = absurd (cc)
+-- ---- sessions
 
-answered_keeps : IsOneRoute → (s t : State) (k l : Marks) (moment : ℕ) (request : Asked) (said name : List ℕ) (of : IsOf (desk name) request)
-    → Answered s k moment request said l t → find name t.desks ≢ find name s.desks → (of.route ≡ Rows name) × IsKept t.desks name request.body said
-answered_keeps one s t k l moment request said name of (inl step) differ =
-    does_keep (IsLost k l) moment of.route request.body s t said name of.caller_is (does_of one (IsLost k l) (desk name) s t moment request said of step) differ
-answered_keeps one s t k l moment request said name of (inr (inl h)) differ = absurd (differ (ap (λ (x : State). find name x.desks) h.1.others))
-answered_keeps one s t k l moment request said name of (inr (inr h)) differ = absurd (differ (ap (λ (x : State). find name x.desks) h.3.others))
+abbrev event_number : Sent → ℕ
+event_number e = e.seq
+
+abbrev input_number : Given → ℕ
+input_number i = i.seq
+
+-- the last request that was accepted of a session is one of these, and what was said is kept
+pub record IsKeptOf (T : Type 0) (asked : json.Data → Option T) (number : T → ℕ) (sessions : List (Named SessionState)) (name body said : List ℕ) : Type 0 where
+  pub state : SessionState
+  pub found : find name sessions ≡ Some state
+  pub last : IsLastAsked T asked number state.kept
+  pub body_is : state.kept.body ≡ body
+  pub reply_is : state.kept.reply ≡ said
+
+-- what is kept is the same where the session is
+same_kept : (name : List ℕ) (xs ys : List (Named SessionState)) → xs ≡ ys → kept_of_session (find name xs) ≡ kept_of_session (find name ys)
+same_kept name xs ys e = ap (λ (l : List (Named SessionState)). kept_of_session (find name l)) e
+
+-- an accepted request is kept
+ends_kept : (T U : Type 0) (asked : json.Data → Option T) (number : T → ℕ) (change : U → SessionState → SessionState) (name body said : List ℕ) (it : T) (s : SessionState)
+    (r : Result U Refusal) (sessions sessions' : List (Named SessionState)) → Asks T asked body it → Ends change name body (number it) s r sessions said sessions'
+    → kept_of_session (find name sessions') ≢ kept_of_session (find name sessions) → IsKeptOf T asked number sessions' name body said
+ends_kept T U asked number change name body said it s (Err r) sessions sessions' asks h differ = absurd (differ (same_kept name sessions' sessions h.1))
+ends_kept T U asked number change name body said it s (Ok u) sessions sessions' asks h differ = record {
+  state = answered (number it) body (change u s);
+  found = ap (find name) h.1 ∙ find_put SessionState name (answered (number it) body (change u s)) sessions;
+  last = record { value = asks.value; is_json = asks.is_json; it = it; shape = asks.shape; last = refl };
+  body_is = refl;
+  reply_is = sym h.0;
+}
+
+event_kept : (app : App) (moment : ℕ) (name body said : List ℕ) (xs ys : List (Named SessionState)) → PostsEvent app moment name body xs said ys
+    → kept_of_session (find name ys) ≢ kept_of_session (find name xs) → IsKeptOf Sent event_in event_number ys name body said
+event_kept app moment name body said xs ys h differ = by (checks event_in event_number (session_of name xs) body) refl h
+  where
+    by : (r : Result Sent (List ℕ)) → checks event_in event_number (session_of name xs) body ≡ r → PostsEventChecked app moment name body r xs said ys → IsKeptOf Sent event_in event_number ys name body said
+    by (Err words) e k = absurd (differ (same_kept name ys xs k.1))
+    by (Ok it) e k =
+        ends_kept Sent _ event_in event_number with_target name body said it k.session k.verdict xs ys (passed Sent event_in event_number (session_of name xs) body it e) k.ends differ
+
+input_kept : (app : App) (moment : ℕ) (name body said : List ℕ) (xs ys : List (Named SessionState)) → PostsInput app moment name body xs said ys
+    → kept_of_session (find name ys) ≢ kept_of_session (find name xs) → IsKeptOf Given input_in input_number ys name body said
+input_kept app moment name body said xs ys h differ = by (checks input_in input_number (session_of name xs) body) refl h
+  where
+    by : (r : Result Given (List ℕ)) → checks input_in input_number (session_of name xs) body ≡ r → PostsInputChecked app moment name body r xs said ys → IsKeptOf Given input_in input_number ys name body said
+    by (Err words) e k = absurd (differ (same_kept name ys xs k.1))
+    by (Ok it) e k =
+        ends_kept Given _ input_in input_number with_input name body said it k.session _ xs ys (passed Given input_in input_number (session_of name xs) body it e) k.ends differ
+
+-- ---- the last request of a caller
+
+-- it came by this route, with this body, and this was said
+data IsLastOf : Caller → Route → State → List ℕ → List ℕ → Type 0 where
+  rows : (name body said : List ℕ) (s : State) → IsKept s.desks name body said → IsLastOf (desk name) (Rows name) s body said
+  event : (name body said : List ℕ) (s : State) → IsKeptOf Sent event_in event_number s.sessions name body said → IsLastOf (session name) (Event name) s body said
+  input : (name body said : List ℕ) (s : State) → IsKeptOf Given input_in input_number s.sessions name body said → IsLastOf (session name) (Input name) s body said
+
+-- after a posted request that changed what is kept of its caller
+does_keep : (lost : Type 0) (moment : ℕ) (route : Route) (body : List ℕ) (s new : State) (said : List ℕ) (caller : Caller)
+    → caller_of route ≡ Some caller → method_of route ≡ Post → Does lost moment route body s said new → kept_of caller new ≢ kept_of caller s
+    → IsLastOf caller route new body said
+unfolding Does
+does_keep lost moment (Rows n) body s new said caller is posted does differ =
+    let named : desk n ≡ caller = cc in
+    subst (λ c. IsLastOf c (Rows n) new body said) named
+    (rows n body said new (accepted lost (schema_of s.app).tables n body s.tables new.tables s.desks new.desks said does.0
+    (subst (λ c. kept_of c new ≢ kept_of c s) (sym named) differ)))
+does_keep lost moment (Event n) body s new said caller is posted does differ =
+    let named : session n ≡ caller = cc in
+    subst (λ c. IsLastOf c (Event n) new body said) named
+    (event n body said new (event_kept s.app moment n body said s.sessions new.sessions does.0 (subst (λ c. kept_of c new ≢ kept_of c s) (sym named) differ)))
+does_keep lost moment (Input n) body s new said caller is posted does differ =
+    let named : session n ≡ caller = cc in
+    subst (λ c. IsLastOf c (Input n) new body said) named
+    (input n body said new (input_kept s.app moment n body said s.sessions new.sessions does.0 (subst (λ c. kept_of c new ≢ kept_of c s) (sym named) differ)))
+does_keep lost moment (Edit n) body s new said caller is posted does differ = absurd (differ (ap (kept_of caller) does.1))
+does_keep lost moment (Begin n) body s new said caller is posted does differ = absurd (cc)
+does_keep lost moment (End n) body s new said caller is posted does differ = absurd (cc)
+does_keep lost moment (View n) body s new said caller is posted does differ = absurd (cc)
+does_keep lost moment (Shown n) body s new said caller is posted does differ = absurd (cc)
+does_keep lost moment (Items n gallery from) body s new said caller is posted does differ = absurd (cc)
+does_keep lost moment (Page table after) body s new said caller is posted does differ = absurd (cc)
+does_keep lost moment Plan body s new said caller is posted does differ = absurd (cc)
+does_keep lost moment Graph body s new said caller is posted does differ = absurd (cc)
+
+kept_left : (lost : Type 0) (caller : Caller) (s new : State) → Left lost s new → kept_of caller new ≡ kept_of caller s
+kept_left lost (desk name) s new h = ap (λ (x : State). find name x.desks) h.others
+kept_left lost (session name) s new h = ap (λ (x : State). kept_of_session (find name x.sessions)) h.others
+
+answered_keeps : IsOneRoute → (s t : State) (k l : Marks) (moment : ℕ) (request : Asked) (said : List ℕ) (caller : Caller) (of : IsOf caller request)
+    → request.method ≡ Post → Answered s k moment request said l t → kept_of caller t ≢ kept_of caller s → IsLastOf caller of.route t request.body said
+answered_keeps one s t k l moment request said caller of posted (inl step) differ =
+    does_keep (IsLost k l) moment of.route request.body s t said caller of.caller_is (of.routed.1 ∙ posted) (does_of one (IsLost k l) caller s t moment request said of step) differ
+answered_keeps one s t k l moment request said caller of posted (inr (inl h)) differ = absurd (differ (kept_left (IsLost k l) caller s t h.1))
+answered_keeps one s t k l moment request said caller of posted (inr (inr h)) differ = absurd (differ (kept_left (IsLost k l) caller s t h.3))
 
 -- ---- that comes again
 
-says_again : (lost : Type 0) (moment : ℕ) (name : List ℕ) (k : Kept) (s new : State) (said : List ℕ) → IsLast s.desks name k
-    → Does lost moment (Rows name) k.body s said new → (said ≡ k.reply) × (new ≡ s)
+says_again : laws.ActsOnce → (lost : Type 0) (moment : ℕ) (route : Route) (caller : Caller) (s new : State) (body said reply : List ℕ) → IsLastOf caller route s body reply
+    → Does lost moment route body s said new → (said ≡ reply) × (new ≡ s)
 unfolding Does
-says_again lost moment name k s new said is does =
-    let h = subst (λ r. PostsChecked lost (schema_of s.app).tables name k.body r s.tables s.desks said new.tables new.desks) (checks_again s.desks name k is) does.0 in
-    (h.0, does.1 ∙ ap (λ (t : Option Tables). record s { tables = t; desks = new.desks }) h.1 ∙ ap (λ (d : List (Named Kept)). record s { desks = d }) h.2)
+says_again once lost moment _ _ s new body said reply (rows name _ _ _ is) does =
+    let h = subst (λ r. PostsChecked lost (schema_of s.app).tables name is.kept.body r s.tables s.desks said new.tables new.desks) (checks_again s.desks name is.kept is.last)
+    (subst (λ b. PostsRows lost (schema_of s.app).tables name b s.tables s.desks said new.tables new.desks) (sym is.body_is) does.0) in
+    (h.0 ∙ is.reply_is, does.1 ∙ ap (λ (t : Option Tables). record s { tables = t; desks = new.desks }) h.1 ∙ ap (λ (d : List (Named Kept)). record s { desks = d }) h.2)
+says_again once lost moment _ _ s new body said reply (event name _ _ _ is) does =
+    let h = (once s.app moment name said is.state s.sessions new.sessions is.found).1 is.last
+    (subst (λ b. PostsEvent s.app moment name b s.sessions said new.sessions) (sym is.body_is) does.0) in
+    (h.0 ∙ is.reply_is, does.1 ∙ ap (λ (x : List (Named SessionState)). record s { sessions = x }) h.1)
+says_again once lost moment _ _ s new body said reply (input name _ _ _ is) does =
+    let h = (once s.app moment name said is.state s.sessions new.sessions is.found).0 is.last
+    (subst (λ b. PostsInput s.app moment name b s.sessions said new.sessions) (sym is.body_is) does.0) in
+    (h.0 ∙ is.reply_is, does.1 ∙ ap (λ (x : List (Named SessionState)). record s { sessions = x }) h.1)
 
-never_reached : (name : List ℕ) (k : Kept) (s : State) → IsLast s.desks name k → Reaches (Rows name) k.body s → ⊥
+never_reached : (route : Route) (caller : Caller) (s : State) (body reply : List ℕ) → IsLastOf caller route s body reply → Reaches route body s → ⊥
 unfolding Reaches
-never_reached name k s is reaches = let e : Err k.reply ≡ Ok reaches.0 = sym (checks_again s.desks name k is) ∙ reaches.1 in absurd (cc)
+never_reached _ _ s body reply (rows name _ _ _ is) reaches =
+    let passes = subst (λ b. desk_checks s.desks name b ≡ Ok reaches.0) (sym is.body_is) reaches.1 in
+    let e : Err is.kept.reply ≡ Ok reaches.0 = sym (checks_again s.desks name is.kept is.last) ∙ passes in absurd (cc)
+never_reached _ _ s body reply (event name _ _ _ is) reaches = reaches
+never_reached _ _ s body reply (input name _ _ _ is) reaches = reaches
 
-answered_again : IsOneRoute → (u v : State) (m n : Marks) (moment : ℕ) (request : Asked) (said name : List ℕ) (k : Kept) (of : IsOf (desk name) request)
-    → of.route ≡ Rows name → IsLast u.desks name k → k.body ≡ request.body → Answered u m moment request said n v
-    → ((said ≡ k.reply) ⊎ (said ≡ refusal 26)) × Left (IsLost m n) u v
-answered_again one u v m n moment request said name k of route is same (inl step) =
-    let does = does_of one (IsLost m n) (desk name) u v moment request said of step in
-    let h = says_again (IsLost m n) moment name k u v said is
-    (subst (λ b. Does (IsLost m n) moment (Rows name) b u said v) (sym same) (subst (λ r. Does (IsLost m n) moment r request.body u said v) route does)) in
+answered_again : laws.ActsOnce → IsOneRoute → (u v : State) (m n : Marks) (moment : ℕ) (request : Asked) (said reply : List ℕ) (caller : Caller) (of : IsOf caller request)
+    → IsLastOf caller of.route u request.body reply → Answered u m moment request said n v
+    → ((said ≡ reply) ⊎ (said ≡ refusal 26)) × Left (IsLost m n) u v
+answered_again once one u v m n moment request said reply caller of is (inl step) =
+    let h = says_again once (IsLost m n) moment of.route caller u v request.body said reply is (does_of one (IsLost m n) caller u v moment request said of step) in
     (inl h.0, left_all (IsLost m n) u v h.1)
-answered_again one u v m n moment request said name k of route is same (inr (inl h)) = (inr h.0, h.1)
-answered_again one u v m n moment request said name k of route is same (inr (inr h)) =
-    let routed = route_is one (desk name) request of (Ok h.2.route) (λ e. cc) h.2.routed in
-    let rows : h.2.route ≡ Rows name = cc in
-    absurd (never_reached name k u is (subst (λ b. Reaches (Rows name) b u) (sym same) (subst (λ r. Reaches r request.body u) rows h.2.reaches)))
+answered_again once one u v m n moment request said reply caller of is (inr (inl h)) = (inr h.0, h.1)
+answered_again once one u v m n moment request said reply caller of is (inr (inr h)) =
+    let routed = route_is one caller request of (Ok h.2.route) (λ e. cc) h.2.routed in
+    let same : h.2.route ≡ of.route = cc in
+    absurd (never_reached of.route caller u request.body reply is (subst (λ r. Reaches r request.body u) same h.2.reaches))
 
-still_last : (a b : List (Named Kept)) (name : List ℕ) (k : Kept) → find name b ≡ find name a → IsLast a name k → IsLast b name k
-still_last a b name k same is = record { found = same ∙ is.found; value = is.value; is_json = is.is_json; posted = is.posted; shape = is.shape; number = is.number }
+desk_still : (t u : State) (name body said : List ℕ) → find name u.desks ≡ find name t.desks → IsKept t.desks name body said → IsKept u.desks name body said
+desk_still t u name body said same is = record {
+  kept = is.kept;
+  last = record { found = same ∙ is.last.found; value = is.last.value; is_json = is.last.is_json; posted = is.last.posted; shape = is.last.shape; number = is.last.number };
+  body_is = is.body_is;
+  reply_is = is.reply_is;
+}
 
-pub acts_once : IsOneRoute → (s t u v : State) (k l m n : Marks) (moment moment' : ℕ) (request : Asked) (said said' name : List ℕ) (between : List Exchange)
-    → IsOf (desk name) request → Answered s k moment request said l t → find name t.desks ≢ find name s.desks
-    → Plays t l between u m → AreOfOthers (desk name) between → Answered u m moment' request said' n v
+session_still : (T : Type 0) (asked : json.Data → Option T) (number : T → ℕ) (t u : State) (name body said : List ℕ) → find name u.sessions ≡ find name t.sessions
+    → IsKeptOf T asked number t.sessions name body said → IsKeptOf T asked number u.sessions name body said
+session_still T asked number t u name body said same is = record { state = is.state; found = same ∙ is.found; last = is.last; body_is = is.body_is; reply_is = is.reply_is }
+
+-- requests of others leave it the last
+still_last : laws.LeavesOthers → (caller : Caller) (route : Route) (t u : State) (l m : Marks) (body said : List ℕ) (between : List Exchange)
+    → Plays t l between u m → AreOfOthers caller between → IsLastOf caller route t body said → IsLastOf caller route u body said
+still_last leaves _ _ t u l m body said between plays others (rows name _ _ _ is) =
+    rows name body said u (desk_still t u name body said (plays_leave_desk t l between u m name plays others) is)
+still_last leaves _ _ t u l m body said between plays others (event name _ _ _ is) =
+    event name body said u (session_still Sent event_in event_number t u name body said (plays_leave_session leaves t l between u m name plays others) is)
+still_last leaves _ _ t u l m body said between plays others (input name _ _ _ is) =
+    input name body said u (session_still Given input_in input_number t u name body said (plays_leave_session leaves t l between u m name plays others) is)
+
+pub acts_once : laws.LeavesOthers → laws.ActsOnce → IsOneRoute → (s t u v : State) (k l m n : Marks) (moment moment' : ℕ) (request : Asked) (said said' : List ℕ) (caller : Caller) (between : List Exchange)
+    → IsOf caller request → request.method ≡ Post → Answered s k moment request said l t → kept_of caller t ≢ kept_of caller s
+    → Plays t l between u m → AreOfOthers caller between → Answered u m moment' request said' n v
     → ((said' ≡ said) ⊎ (said' ≡ refusal 26)) × Left (IsLost m n) u v
-acts_once one s t u v k l m n moment moment' request said said' name between of first differ plays others second =
-    let kept = answered_keeps one s t k l moment request said name of first differ in
-    let is = still_last t.desks u.desks name kept.1.kept (plays_leave t l between u m name plays others) kept.1.last in
-    let h = answered_again one u v m n moment' request said' name kept.1.kept of kept.0 is kept.1.body_is second in
-    (by h.0 kept.1.reply_is, h.1)
-  where
-    by : {x y z : List ℕ} → (x ≡ y) ⊎ (x ≡ refusal 26) → y ≡ z → (x ≡ z) ⊎ (x ≡ refusal 26)
-    by (inl e) f = inl (e ∙ f)
-    by (inr e) f = inr e
+acts_once leaves once one s t u v k l m n moment moment' request said said' caller between of posted first differ plays others second =
+    answered_again once one u v m n moment' request said' said caller of
+    (still_last leaves caller of.route t u l m request.body said between plays others (answered_keeps one s t k l moment request said caller of posted first differ)) second

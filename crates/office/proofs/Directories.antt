@@ -1,26 +1,17 @@
 -- Things by their names: which are found, and which are left.
-use Rattle.std.proofs.Common.{◌≡◌, ◌≢◌, ℕ, suc, Bool, true, false, is_some, List, [], ◌∷◌, Option, Some, None, option_map, refl, ap, sym, ◌∙◌, arith}
-use Rattle.std.specs.List.{position}
+use Rattle.std.proofs.Common.{◌≡◌, ◌≢◌, ℕ, zero, suc, ◌<◌, Bool, true, false, List, [], ◌∷◌, ◌++◌, length, get_or, Option, Some, None, refl, ap, sym, ◌∙◌, subst, arith}
+use Rattle.std.specs.Prelude.{option_map, slice_get, slice_set}
+use Rattle.std.proofs.lemmas.Option.{slice_get_read}
 use Rattle.std.proofs.lemmas.Grind.{common_steps}
-use Rattle.request_checks.specs.Directory.{find, is_among, is_named}
+use Rattle.request_checks.specs.Directory.{find, is_among, is_named, it_at, put, put_at}
 use Rattle.request_checks.specs.declared.directory.Named.{Named}
-use Rattle.request_checks.proofs.Directories.{find_here, find_past, position_here, position_past, same_bytes}
+use Rattle.request_checks.proofs.Directories.{find_here, find_past, same_bytes}
+use Rattle.std.specs.List.{AllByRecursion, position}
+use Rattle.fx_trees.specs.declared.names.Names.{Names}
+use Rattle.session_state.specs.Changes.{FitsNames}
+use Rattle.session_state.specs.Sessions.{SessionState}
+use Rattle.office.specs.Ready.{AreFit}
 use Rattle.office.specs.Sessions.{without}
-
--- a thing is among them where it is found
-pub found_among : (T : Type 0) (name : List ℕ) (list : List (Named T)) → is_some (find name list) ≡ is_among name list
-found_among T name [] = refl
-found_among T name (n ∷ ns) = by (is_named name n) refl (found_among T name ns)
-  where
-    mapped : (o : Option ℕ) → is_some (option_map suc o) ≡ is_some o
-    mapped None = refl
-    mapped (Some k) = refl
-
-    by : (b : Bool) → is_named name n ≡ b → is_some (find name ns) ≡ is_among name ns → is_some (find name (n ∷ ns)) ≡ is_among name (n ∷ ns)
-    by true e rest = ap (λ (o : Option T). is_some o) (find_here T name n ns e) ∙ sym (ap (λ (o : Option ℕ). is_some o) (position_here T name n ns e))
-    by false e rest =
-        ap (λ (o : Option T). is_some o) (find_past T name n ns e) ∙ rest
-        ∙ sym (ap (λ (o : Option ℕ). is_some o) (position_past T name n ns e) ∙ mapped (position (is_named name) ns))
 
 without_here : (T : Type 0) (name : List ℕ) (n : Named T) (ns : List (Named T)) → is_named name n ≡ true → without name (n ∷ ns) ≡ without name ns
 without_here T name n ns e = grind (arith, common_steps, e)
@@ -38,3 +29,51 @@ find_without T name other (n ∷ ns) differ = by (is_named name n) refl (is_name
     by true e false f rest = ap (λ (l : List (Named T)). find other l) (without_here T name n ns e) ∙ rest ∙ sym (find_past T other n ns f)
     by false e true f rest = ap (λ (l : List (Named T)). find other l) (without_past T name n ns e) ∙ find_here T other n (without name ns) f ∙ sym (find_here T other n ns f)
     by false e false f rest = ap (λ (l : List (Named T)). find other l) (without_past T name n ns e) ∙ find_past T other n (without name ns) f ∙ rest ∙ sym (find_past T other n ns f)
+
+-- ---- all of them
+
+-- what holds of all things holds of the one that is found
+pub holds_of_found : (T : Type 0) (P : Named T → Type 0) (name : List ℕ) (list : List (Named T)) (it : T) → AllByRecursion P list → find name list ≡ Some it
+    → (n : Named T) × P n × (n.it ≡ it)
+holds_of_found T P name [] it all found = cc
+holds_of_found T P name (n ∷ ns) it all found = by (is_named name n) refl (λ past. holds_of_found T P name ns it all.1 past)
+  where
+    by : (b : Bool) → is_named name n ≡ b → (find name ns ≡ Some it → (x : Named T) × P x × (x.it ≡ it)) → (x : Named T) × P x × (x.it ≡ it)
+    by true e rest = (n, all.0, let same : Some n.it ≡ Some it = sym (find_here T name n ns e) ∙ found in cc)
+    by false e rest = rest (sym (find_past T name n ns e) ∙ found)
+
+pub found_fits : (names : Names) (sessions : List (Named SessionState)) (name : List ℕ) (s : SessionState) → AreFit names sessions → find name sessions ≡ Some s → FitsNames names s
+found_fits names sessions name s fit found =
+    let h = holds_of_found SessionState (λ (n : Named SessionState). FitsNames names n.it) name sessions s fit found in
+    subst (λ (x : SessionState). FitsNames names x) h.2 h.1
+
+-- what holds of all holds of those that are left
+pub without_all : (T : Type 0) (P : Named T → Type 0) (name : List ℕ) (list : List (Named T)) → AllByRecursion P list → AllByRecursion P (without name list)
+without_all T P name [] all = all
+without_all T P name (n ∷ ns) all = by (is_named name n) refl (without_all T P name ns all.1)
+  where
+    by : (b : Bool) → is_named name n ≡ b → AllByRecursion P (without name ns) → AllByRecursion P (without name (n ∷ ns))
+    by true e rest = subst (λ (l : List (Named T)). AllByRecursion P l) (sym (without_here T name n ns e)) rest
+    by false e rest = subst (λ (l : List (Named T)). AllByRecursion P l) (sym (without_past T name n ns e)) (all.0, rest)
+
+-- what holds of all and of a thing holds of all with this thing
+all_more : (T : Type 0) (P : Named T → Type 0) (xs : List (Named T)) (x : Named T) → AllByRecursion P xs → P x → AllByRecursion P (xs ++ x ∷ [])
+all_more T P [] x h p = (p, tt)
+all_more T P (y ∷ ys) x h p = (h.0, all_more T P ys x h.1 p)
+
+all_set : (T : Type 0) (P : Named T → Type 0) (xs : List (Named T)) (k : ℕ) (x : Named T) → AllByRecursion P xs → P x → AllByRecursion P (slice_set xs k x)
+all_set T P [] k x h p = h
+all_set T P (y ∷ ys) zero x h p = (p, h.1)
+all_set T P (y ∷ ys) (suc k) x h p = (h.0, all_set T P ys k x h.1 p)
+
+all_at : (T : Type 0) (P : Named T → Type 0) (o : Option ℕ) (x : Named T) (xs : List (Named T)) → AllByRecursion P xs → P x → AllByRecursion P (put_at o x xs)
+all_at T P None x xs h p = all_more T P xs x h p
+all_at T P (Some k) x xs h p = all_set T P xs k x h p
+
+pub put_all : (T : Type 0) (P : Named T → Type 0) (name : List ℕ) (it : T) (list : List (Named T)) → AllByRecursion P list → P (record { name = name; it = it }) → AllByRecursion P (put name it list)
+put_all T P name it list all is = all_at T P (position (is_named name) list) (record { name = name; it = it }) list all is
+
+-- what is found is what stands at its place
+pub find_at : (T : Type 0) (place : ℕ) (name : List ℕ) (list : List (Named T)) (x : Named T) → position (is_named name) list ≡ Some place → place < length list → x ≡ get_or list place x → find name list ≡ Some x.it
+find_at T place name list x first within e =
+    ap (λ o. it_at o list) first ∙ ap (option_map (λ (n : Named T). n.it)) (slice_get_read list (length list) place x refl within e)

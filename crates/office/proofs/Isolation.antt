@@ -1,7 +1,11 @@
 -- What callers have to do with one another.
-use Rattle.std.proofs.Common.{◌≡◌, ◌≢◌, ℕ, inl, inr, Bool, true, false, MatchBool, cond, nat_le, is_some, List, [], ◌∷◌, length, Option, Some, Result, Ok, Err, refl, ap, sym, ◌∙◌, subst}
+use Rattle.std.proofs.Common.{◌≡◌, ◌≢◌, ℕ, inl, inr, Bool, true, false, cond, nat_le, List, [], ◌∷◌, length, Option, None, Some, Result, Ok, Err, refl, ap, sym, ◌∙◌, subst}
 use Rattle.fx_base.specs.Silence.{IsLost, Marks}
-use Rattle.app_names.specs.declared.formula.Formula.{Formula}
+use Rattle.app_cells.specs.declared.app.App.{App}
+use Rattle.app_semantics.specs.Holding.{FittingHolds, HoldsFitting}
+use Rattle.app_semantics.specs.Laws.{OneFresh}
+use Rattle.app_semantics.specs.Present.{present}
+use Rattle.app_semantics.specs.Sound.{IsSound}
 use Rattle.app_wire.specs.Framing.{Asked}
 use Rattle.app_wire.specs.ReplyBytes.{refusal, reply}
 use Rattle.app_wire.specs.Routing.{IsOneRoute, Routing, method_of}
@@ -10,8 +14,8 @@ use Rattle.app_wire.specs.declared.route.Route.{Route}
 use Rattle.app_wire.specs.declared.route.Route.TheVariants.{Begin, End, View, Named as Shown, Items, Event, Input, Rows, Edit, Page, Plan, Graph}
 use Rattle.app_wire.specs.declared.route.RouteEnd.{RouteEnd}
 use Rattle.app_wire.specs.declared.route.RouteEnd.TheVariants.{NoRoute, WrongMethod, Memory}
-use Rattle.fx_semantics.specs.Unique.{OneNaming}
 use Rattle.fx_trees.specs.declared.names.Names.{Names}
+use Rattle.session_state.specs.Changes.{FitsNames}
 use Rattle.session_state.specs.Sessions.{SessionState, opened}
 use Rattle.view_text.specs.ReplyText.{ok_text}
 use Rattle.row_requests.specs.DeskRows.{desk_checks}
@@ -19,13 +23,15 @@ use Rattle.request_checks.specs.Directory.{find, is_among, put}
 use Rattle.request_checks.specs.declared.directory.Named.{Named}
 use Rattle.office.specs.Answers.{Exchange, Plays}
 use Rattle.office.specs.Isolation.{AreOfOthers, Caller, IsOf, caller_of, desk, session}
-use Rattle.office.specs.NamedReply.{IsNamedBody}
-use Rattle.office.specs.Sessions.{ShowsNamed, begins, most_sessions}
-use Rattle.office.specs.State.{State, formulas_of, schema_of}
+use Rattle.session_requests.specs.Posting.{PostsEvent, PostsInput}
+use Rattle.session_requests.specs.Laws.{IsOneOutcome, LeavesOthers}
+use Rattle.office.specs.Ready.{AreFit, IsSettled}
+use Rattle.office.specs.Sessions.{ShowsNamed, ShowsNamedTo, begins, most_sessions}
+use Rattle.office.specs.State.{State, schema_of}
 use Rattle.office.specs.Step.{Answered, Does, DoesAt, Step}
 use Rattle.row_requests.proofs.Again.{posts_others}
 use Rattle.request_checks.proofs.Directories.{find_other}
-use Rattle.office.proofs.Directories.{find_without, found_among}
+use Rattle.office.proofs.Directories.{find_without, found_fits}
 use Rattle.office.proofs.Replies.{one_body}
 
 -- ---- the records of others
@@ -45,24 +51,26 @@ desks_of : (s new : State) → new ≡ s → new.desks ≡ s.desks
 desks_of s new e = ap (λ (x : State). x.desks) e
 
 -- a route leaves the sessions but the one that it is of
-pub does_session : (lost : Type 0) (moment : ℕ) (route : Route) (body : List ℕ) (s new : State) (said name : List ℕ)
+pub does_session : LeavesOthers → (lost : Type 0) (moment : ℕ) (route : Route) (body : List ℕ) (s new : State) (said name : List ℕ)
     → Does lost moment route body s said new → caller_of route ≢ Some (session name) → find name new.sessions ≡ find name s.sessions
 unfolding Does
-does_session lost moment (Begin n) body s new said name does other =
+does_session others lost moment (Begin n) body s new said name does other =
     ap (λ (p : List (Named SessionState) × List ℕ). find name p.0) does.0
     ∙ begins_others s.app.names n name s.sessions (λ e. other (ap (λ (m : List ℕ). Some (session m)) e))
-does_session lost moment (End n) body s new said name does other =
+does_session others lost moment (End n) body s new said name does other =
     ap (λ (x : State). find name x.sessions) does.1 ∙ find_without SessionState n name s.sessions (λ e. other (ap (λ (m : List ℕ). Some (session m)) e))
-does_session lost moment (View n) body s new said name does other = ap (find name) (sessions_of s new does.1)
-does_session lost moment (Shown n) body s new said name does other = ap (find name) (sessions_of s new does.1)
-does_session lost moment (Items n gallery from) body s new said name does other = ap (find name) (sessions_of s new does.1)
-does_session lost moment (Event n) body s new said name does other = ap (find name) (sessions_of s new does.1)
-does_session lost moment (Input n) body s new said name does other = ap (find name) (sessions_of s new does.1)
-does_session lost moment (Rows n) body s new said name does other = ap (λ (x : State). find name x.sessions) does.1
-does_session lost moment (Edit n) body s new said name does other = ap (find name) (sessions_of s new does.1)
-does_session lost moment (Page table after) body s new said name does other = ap (λ (x : State). find name x.sessions) does.1
-does_session lost moment Plan body s new said name does other = ap (find name) (sessions_of s new does.1)
-does_session lost moment Graph body s new said name does other = ap (find name) (sessions_of s new does.1)
+does_session others lost moment (View n) body s new said name does other = ap (find name) (sessions_of s new does.1)
+does_session others lost moment (Shown n) body s new said name does other = ap (find name) (sessions_of s new does.1)
+does_session others lost moment (Items n gallery from) body s new said name does other = ap (find name) (sessions_of s new does.1)
+does_session others lost moment (Event n) body s new said name does other =
+    (others s.app moment n name body said s.sessions new.sessions (λ e. other (ap (λ (m : List ℕ). Some (session m)) e))).1 does.0
+does_session others lost moment (Input n) body s new said name does other =
+    (others s.app moment n name body said s.sessions new.sessions (λ e. other (ap (λ (m : List ℕ). Some (session m)) e))).0 does.0
+does_session others lost moment (Rows n) body s new said name does other = ap (λ (x : State). find name x.sessions) does.1
+does_session others lost moment (Edit n) body s new said name does other = ap (find name) (sessions_of s new does.1)
+does_session others lost moment (Page table after) body s new said name does other = ap (λ (x : State). find name x.sessions) does.1
+does_session others lost moment Plan body s new said name does other = ap (find name) (sessions_of s new does.1)
+does_session others lost moment Graph body s new said name does other = ap (find name) (sessions_of s new does.1)
 
 -- and the desks but the one that it is of
 pub does_desk : (lost : Type 0) (moment : ℕ) (route : Route) (body : List ℕ) (s new : State) (said name : List ℕ)
@@ -73,8 +81,8 @@ does_desk lost moment (End n) body s new said name does other = ap (λ (x : Stat
 does_desk lost moment (View n) body s new said name does other = ap (find name) (desks_of s new does.1)
 does_desk lost moment (Shown n) body s new said name does other = ap (find name) (desks_of s new does.1)
 does_desk lost moment (Items n gallery from) body s new said name does other = ap (find name) (desks_of s new does.1)
-does_desk lost moment (Event n) body s new said name does other = ap (find name) (desks_of s new does.1)
-does_desk lost moment (Input n) body s new said name does other = ap (find name) (desks_of s new does.1)
+does_desk lost moment (Event n) body s new said name does other = ap (λ (x : State). find name x.desks) does.1
+does_desk lost moment (Input n) body s new said name does other = ap (λ (x : State). find name x.desks) does.1
 does_desk lost moment (Rows n) body s new said name does other =
     posts_others lost (schema_of s.app).tables n name body (desk_checks s.desks n body) s.tables new.tables s.desks new.desks said
     (λ e. other (ap (λ (m : List ℕ). Some (desk m)) e)) does.0
@@ -83,18 +91,18 @@ does_desk lost moment (Page table after) body s new said name does other = ap (�
 does_desk lost moment Plan body s new said name does other = ap (find name) (desks_of s new does.1)
 does_desk lost moment Graph body s new said name does other = ap (find name) (desks_of s new does.1)
 
-pub leaves_session : (old new : State) (before now : Marks) (moment : ℕ) (request : Asked) (said name : List ℕ)
+pub leaves_session : LeavesOthers → (old new : State) (before now : Marks) (moment : ℕ) (request : Asked) (said name : List ℕ)
     → Answered old before moment request said now new → (IsOf (session name) request → ⊥) → find name new.sessions ≡ find name old.sessions
 unfolding DoesAt
-leaves_session old new before now moment request said name (inl step) other = by step.route step.routed step.does
+leaves_session law old new before now moment request said name (inl step) other = by step.route step.routed step.does
   where
     by : (r : Result Route RouteEnd) → Routing request.method request.path r → DoesAt (IsLost before now) moment r request.body old said new → find name new.sessions ≡ find name old.sessions
-    by (Ok route) routed does = does_session (IsLost before now) moment route request.body old new said name does (λ e. other (record { route = route; routed = routed; caller_is = e }))
+    by (Ok route) routed does = does_session law (IsLost before now) moment route request.body old new said name does (λ e. other (record { route = route; routed = routed; caller_is = e }))
     by (Err NoRoute) routed does = ap (find name) (sessions_of old new does.1)
     by (Err WrongMethod) routed does = ap (find name) (sessions_of old new does.1)
     by (Err Memory) routed does = absurd does
-leaves_session old new before now moment request said name (inr (inl h)) other = ap (λ (x : State). find name x.sessions) h.1.others
-leaves_session old new before now moment request said name (inr (inr h)) other = ap (λ (x : State). find name x.sessions) h.3.others
+leaves_session law old new before now moment request said name (inr (inl h)) other = ap (λ (x : State). find name x.sessions) h.1.others
+leaves_session law old new before now moment request said name (inr (inr h)) other = ap (λ (x : State). find name x.sessions) h.3.others
 
 pub leaves_desk : (old new : State) (before now : Marks) (moment : ℕ) (request : Asked) (said name : List ℕ)
     → Answered old before moment request said now new → (IsOf (desk name) request → ⊥) → find name new.desks ≡ find name old.desks
@@ -110,12 +118,19 @@ leaves_desk old new before now moment request said name (inr (inl h)) other = ap
 leaves_desk old new before now moment request said name (inr (inr h)) other = ap (λ (x : State). find name x.desks) h.3.others
 
 -- and so do many requests of others
-pub plays_leave : (old : State) (before : Marks) (xs : List Exchange) (new : State) (now : Marks) (name : List ℕ)
+pub plays_leave_desk : (old : State) (before : Marks) (xs : List Exchange) (new : State) (now : Marks) (name : List ℕ)
     → Plays old before xs new now → AreOfOthers (desk name) xs → find name new.desks ≡ find name old.desks
-plays_leave old before [] new now name plays others = ap (find name) (desks_of old new plays.0)
-plays_leave old before (x ∷ xs) new now name plays others =
-    plays_leave x.state x.marks xs new now name plays.2 others.1
+plays_leave_desk old before [] new now name plays others = ap (find name) (desks_of old new plays.0)
+plays_leave_desk old before (x ∷ xs) new now name plays others =
+    plays_leave_desk x.state x.marks xs new now name plays.2 others.1
     ∙ leaves_desk old x.state before x.marks x.moment x.asked x.said name plays.1 others.0
+
+pub plays_leave_session : LeavesOthers → (old : State) (before : Marks) (xs : List Exchange) (new : State) (now : Marks) (name : List ℕ)
+    → Plays old before xs new now → AreOfOthers (session name) xs → find name new.sessions ≡ find name old.sessions
+plays_leave_session law old before [] new now name plays others = ap (find name) (sessions_of old new plays.0)
+plays_leave_session law old before (x ∷ xs) new now name plays others =
+    plays_leave_session law x.state x.marks xs new now name plays.2 others.1
+    ∙ leaves_session law old x.state before x.marks x.moment x.asked x.said name plays.1 others.0
 
 -- ---- a caller's route
 
@@ -142,46 +157,52 @@ does_of one lost caller old new moment request said of step =
 
 -- ---- replies to sessions
 
--- what is shown of one app, at one moment
-pub shows_alike : OneNaming → (moment : ℕ) (fs gs : List Formula) (name : List ℕ) (a b : List (Named SessionState)) (said said' : List ℕ) → fs ≡ gs → is_among name a ≡ is_among name b
-    → ShowsNamed moment fs name a said → ShowsNamed moment gs name b said' → said ≡ said'
-shows_alike once moment fs gs name a b said said' app live = by (is_among name a) (is_among name b) live
-  where
-    by : (v w : Bool) → v ≡ w
-        → MatchBool v ((body : List ℕ) × IsNamedBody moment fs body × (said ≡ reply 200 body)) (said ≡ refusal 11)
-        → MatchBool w ((body : List ℕ) × IsNamedBody moment gs body × (said' ≡ reply 200 body)) (said' ≡ refusal 11)
-        → said ≡ said'
-    by true true e h k = h.2 ∙ ap (reply 200) (one_body once moment fs h.0 k.0 h.1 (subst (λ xs. IsNamedBody moment xs k.0) (sym app) k.1)) ∙ sym k.2
-    by false false e h k = h ∙ sym k
-    by true false e h k = cc
-    by false true e h k = cc
+-- what is shown of one app to one session, at one moment
+pub shows_alike : OneFresh → FittingHolds → (moment : ℕ) (a : App) (o : Option SessionState) (said said' : List ℕ)
+    → IsSound a → ((s : SessionState) → o ≡ Some s → FitsNames a.names s)
+    → ShowsNamedTo a moment o said → ShowsNamedTo a moment o said' → said ≡ said'
+shows_alike once holds moment a None said said' sound fit h k = h ∙ sym k
+shows_alike once holds moment a (Some s) said said' sound fit h k =
+    h.2 ∙ ap (reply 200) (one_body once (present a s moment) h.0 k.0 sound (holds a.names s (fit s refl)) h.1 k.1) ∙ sym k.2
 
-among_alike : (name : List ℕ) (a b : List (Named SessionState)) → find name a ≡ find name b → is_among name a ≡ is_among name b
-among_alike name a b same = sym (found_among SessionState name a) ∙ ap (λ (o : Option SessionState). is_some o) same ∙ found_among SessionState name b
+-- a session that is found fits, and so it holds what fits
+pub holds_found : FittingHolds → (a : State) (name : List ℕ) → IsSettled a → (s : SessionState) → find name a.sessions ≡ Some s → HoldsFitting a.app.names s
+holds_found holds a name settled s found = holds a.app.names s (found_fits a.app.names a.sessions name s settled.fit found)
 
-does_alike : OneNaming → (lost lost' : Type 0) (moment : ℕ) (route : Route) (body : List ℕ) (a b new new' : State) (said said' name : List ℕ)
-    → caller_of route ≡ Some (session name) → method_of route ≢ Put → formulas_of a.app ≡ formulas_of b.app → find name a.sessions ≡ find name b.sessions
+shown_with : (app app' : App) (moment : ℕ) (o o' : Option SessionState) (said : List ℕ) → app ≡ app' → o ≡ o' → ShowsNamedTo app' moment o' said → ShowsNamedTo app moment o said
+shown_with app app' moment o o' said e f h =
+    subst (λ (x : Option SessionState). ShowsNamedTo app moment x said) (sym f) (subst (λ (x : App). ShowsNamedTo x moment o' said) (sym e) h)
+
+does_alike : OneFresh → FittingHolds → IsOneOutcome → (lost lost' : Type 0) (moment : ℕ) (route : Route) (body : List ℕ) (a b new new' : State) (said said' name : List ℕ)
+    → caller_of route ≡ Some (session name) → method_of route ≢ Put → IsSettled a → a.app ≡ b.app → find name a.sessions ≡ find name b.sessions
     → Does lost moment route body a said new → Does lost' moment route body b said' new' → said ≡ said'
 unfolding Does
-does_alike once lost lost' moment (Begin n) body a b new new' said said' name is other app same h k = absurd (other refl)
-does_alike once lost lost' moment (End n) body a b new new' said said' name is other app same h k = h.0 ∙ sym k.0
-does_alike once lost lost' moment (View n) body a b new new' said said' name is other app same h k = h.0 ∙ sym k.0
-does_alike once lost lost' moment (Shown n) body a b new new' said said' name is other app same h k =
+does_alike once holds outcome lost lost' moment (Begin n) body a b new new' said said' name is other settled app same h k = absurd (other refl)
+does_alike once holds outcome lost lost' moment (End n) body a b new new' said said' name is other settled app same h k = h.0 ∙ sym k.0
+does_alike once holds outcome lost lost' moment (View n) body a b new new' said said' name is other settled app same h k = h.0 ∙ sym k.0
+does_alike once holds outcome lost lost' moment (Shown n) body a b new new' said said' name is other settled app same h k =
     let named : name ≡ n = cc in
-    shows_alike once moment (formulas_of a.app) (formulas_of b.app) n a.sessions b.sessions said said' app
-    (among_alike n a.sessions b.sessions (subst (λ m. find m a.sessions ≡ find m b.sessions) named same)) h.0 k.0
-does_alike once lost lost' moment (Items n gallery from) body a b new new' said said' name is other app same h k = h.0 ∙ sym k.0
-does_alike once lost lost' moment (Event n) body a b new new' said said' name is other app same h k = h.0 ∙ sym k.0
-does_alike once lost lost' moment (Input n) body a b new new' said said' name is other app same h k = h.0 ∙ sym k.0
-does_alike once lost lost' moment (Rows n) body a b new new' said said' name is other app same h k = cc
-does_alike once lost lost' moment (Edit n) body a b new new' said said' name is other app same h k = cc
-does_alike once lost lost' moment (Page table after) body a b new new' said said' name is other app same h k = cc
-does_alike once lost lost' moment Plan body a b new new' said said' name is other app same h k = cc
-does_alike once lost lost' moment Graph body a b new new' said said' name is other app same h k = cc
+    shows_alike once holds moment a.app (find n a.sessions) said said' settled.app
+    (λ s e. found_fits a.app.names a.sessions n s settled.fit e) h.0
+    (shown_with a.app b.app moment (find n a.sessions) (find n b.sessions) said' app (subst (λ m. find m a.sessions ≡ find m b.sessions) named same) k.0)
+does_alike once holds outcome lost lost' moment (Items n gallery from) body a b new new' said said' name is other settled app same h k = h.0 ∙ sym k.0
+does_alike once holds outcome lost lost' moment (Event n) body a b new new' said said' name is other settled app same h k =
+    let named : name ≡ n = cc in
+    ((outcome a.app moment n body said said' a.sessions new.sessions b.sessions new'.sessions settled.app (holds_found holds a n settled)
+    (subst (λ m. find m a.sessions ≡ find m b.sessions) named same)).1 h.0 (subst (λ (x : App). PostsEvent x moment n body b.sessions said' new'.sessions) (sym app) k.0)).0
+does_alike once holds outcome lost lost' moment (Input n) body a b new new' said said' name is other settled app same h k =
+    let named : name ≡ n = cc in
+    ((outcome a.app moment n body said said' a.sessions new.sessions b.sessions new'.sessions settled.app (holds_found holds a n settled)
+    (subst (λ m. find m a.sessions ≡ find m b.sessions) named same)).0 h.0 (subst (λ (x : App). PostsInput x moment n body b.sessions said' new'.sessions) (sym app) k.0)).0
+does_alike once holds outcome lost lost' moment (Rows n) body a b new new' said said' name is other settled app same h k = cc
+does_alike once holds outcome lost lost' moment (Edit n) body a b new new' said said' name is other settled app same h k = cc
+does_alike once holds outcome lost lost' moment (Page table after) body a b new new' said said' name is other settled app same h k = cc
+does_alike once holds outcome lost lost' moment Plan body a b new new' said said' name is other settled app same h k = cc
+does_alike once holds outcome lost lost' moment Graph body a b new new' said said' name is other settled app same h k = cc
 
-pub is_alone : OneNaming → IsOneRoute → (k l m n : Marks) (a b new new' : State) (moment : ℕ) (request : Asked) (said said' name : List ℕ)
-    → IsOf (session name) request → request.method ≢ Put → formulas_of a.app ≡ formulas_of b.app → find name a.sessions ≡ find name b.sessions
+pub is_alone : OneFresh → FittingHolds → IsOneOutcome → IsOneRoute → (k l m n : Marks) (a b new new' : State) (moment : ℕ) (request : Asked) (said said' name : List ℕ)
+    → IsOf (session name) request → request.method ≢ Put → IsSettled a → a.app ≡ b.app → find name a.sessions ≡ find name b.sessions
     → Step (IsLost k l) a moment request said new → Step (IsLost m n) b moment request said' new' → said ≡ said'
-is_alone once one k l m n a b new new' moment request said said' name of other app same first second =
-    does_alike once (IsLost k l) (IsLost m n) moment of.route request.body a b new new' said said' name of.caller_is (λ e. other (sym of.routed.1 ∙ e)) app same
+is_alone once holds outcome one k l m n a b new new' moment request said said' name of other settled app same first second =
+    does_alike once holds outcome (IsLost k l) (IsLost m n) moment of.route request.body a b new new' said said' name of.caller_is (λ e. other (sym of.routed.1 ∙ e)) settled app same
     (does_of one (IsLost k l) (session name) a new moment request said of first) (does_of one (IsLost m n) (session name) b new' moment request said' of second)

@@ -1,6 +1,5 @@
 pub mod Again
 pub mod Directories
-pub mod Files
 pub mod Isolation
 pub mod OneAnswer
 pub mod Plays

@@ -7,7 +7,8 @@ use Rattle.app_wire.specs.declared.route.Route.{Route}
 use Rattle.app_wire.specs.declared.route.Route.TheVariants.{Begin, End, View, Named as Shown, Items, Event, Input, Rows, Edit, Page, Plan, Graph}
 use Rattle.app_wire.specs.declared.route.RouteEnd.{RouteEnd}
 use Rattle.app_wire.specs.declared.route.RouteEnd.TheVariants.{NoRoute, WrongMethod, Memory}
-use Rattle.fx_semantics.specs.Unique.{OneNaming}
+use Rattle.app_semantics.specs.Holding.{FittingHolds}
+use Rattle.app_semantics.specs.Laws.{OneFresh}
 use Rattle.fx_trees.specs.declared.schema.TableShape.{TableShape}
 use Rattle.row_keeper.specs.Tables.{Tables}
 use Rattle.session_state.specs.Once.{Kept}
@@ -18,10 +19,14 @@ use Rattle.row_requests.specs.DeskRows.{Acts, Outcome, PostsChecked, PostsRows, 
 use Rattle.row_requests.specs.Page.{ShowsPage, ShowsTable}
 use Rattle.row_requests.specs.declared.bodies.Change.{Change}
 use Rattle.row_requests.specs.declared.bodies.Posted.{Posted}
+use Rattle.request_checks.specs.Directory.{find}
 use Rattle.request_checks.specs.declared.directory.Named.{Named}
-use Rattle.office.specs.State.{State, formulas_of, schema_of}
+use Rattle.session_requests.specs.Laws.{IsOneOutcome}
+use Rattle.office.specs.Ready.{IsSettled}
+use Rattle.office.specs.State.{State, schema_of}
 use Rattle.office.specs.Step.{Does, DoesAt, Step}
-use Rattle.office.proofs.Isolation.{is_known, shows_alike}
+use Rattle.office.proofs.Directories.{found_fits}
+use Rattle.office.proofs.Isolation.{holds_found, is_known, shows_alike}
 
 one_ok : (x y : List ℕ × Tables) (r : Result (List ℕ × Tables) Refusal) → r ≡ Ok x → r ≡ Ok y → x ≡ y
 one_ok x y r h k = cc
@@ -77,23 +82,27 @@ page_alike lost lost' shapes name after t u u' said said' = by (place_of name sh
     by (Some n) h k = (h.0.0 ∙ sym k.0.0, ap (λ (x : Tables). Some x) (h.0.1 ∙ sym k.0.1))
 
 -- a route does one thing
-does_one : OneNaming → (lost lost' : Type 0) (moment : ℕ) (route : Route) (body : List ℕ) (s new new' : State) (said said' : List ℕ) (t u u' : Tables)
-    → s.tables ≡ Some t → new.tables ≡ Some u → new'.tables ≡ Some u'
+does_one : OneFresh → FittingHolds → IsOneOutcome → (lost lost' : Type 0) (moment : ℕ) (route : Route) (body : List ℕ) (s new new' : State) (said said' : List ℕ) (t u u' : Tables)
+    → IsSettled s → s.tables ≡ Some t → new.tables ≡ Some u → new'.tables ≡ Some u'
     → Does lost moment route body s said new → Does lost' moment route body s said' new' → (new ≡ new') × (said ≡ said')
 unfolding Does
-does_one once lost lost' moment (Begin n) body s new new' said said' t u u' e f g h k =
+does_one once holds outcome lost lost' moment (Begin n) body s new new' said said' t u u' settled e f g h k =
     let same : (new.sessions, said) ≡ (new'.sessions, said') = h.0 ∙ sym k.0 in (
       h.1 ∙ ap (λ (p : List (Named SessionState) × List ℕ). record s { sessions = p.0 }) same ∙ sym k.1,
       ap (λ (p : List (Named SessionState) × List ℕ). p.1) same,
     )
-does_one once lost lost' moment (End n) body s new new' said said' t u u' e f g h k = (h.1 ∙ sym k.1, h.0 ∙ sym k.0)
-does_one once lost lost' moment (View n) body s new new' said said' t u u' e f g h k = (h.1 ∙ sym k.1, h.0 ∙ sym k.0)
-does_one once lost lost' moment (Shown n) body s new new' said said' t u u' e f g h k =
-    (h.1 ∙ sym k.1, shows_alike once moment (formulas_of s.app) (formulas_of s.app) n s.sessions s.sessions said said' refl refl h.0 k.0)
-does_one once lost lost' moment (Items n gallery from) body s new new' said said' t u u' e f g h k = (h.1 ∙ sym k.1, h.0 ∙ sym k.0)
-does_one once lost lost' moment (Event n) body s new new' said said' t u u' e f g h k = (h.1 ∙ sym k.1, h.0 ∙ sym k.0)
-does_one once lost lost' moment (Input n) body s new new' said said' t u u' e f g h k = (h.1 ∙ sym k.1, h.0 ∙ sym k.0)
-does_one once lost lost' moment (Rows n) body s new new' said said' t u u' e f g h k =
+does_one once holds outcome lost lost' moment (End n) body s new new' said said' t u u' settled e f g h k = (h.1 ∙ sym k.1, h.0 ∙ sym k.0)
+does_one once holds outcome lost lost' moment (View n) body s new new' said said' t u u' settled e f g h k = (h.1 ∙ sym k.1, h.0 ∙ sym k.0)
+does_one once holds outcome lost lost' moment (Shown n) body s new new' said said' t u u' settled e f g h k =
+    (h.1 ∙ sym k.1, shows_alike once holds moment s.app (find n s.sessions) said said' settled.app (λ x e'. found_fits s.app.names s.sessions n x settled.fit e') h.0 k.0)
+does_one once holds outcome lost lost' moment (Items n gallery from) body s new new' said said' t u u' settled e f g h k = (h.1 ∙ sym k.1, h.0 ∙ sym k.0)
+does_one once holds outcome lost lost' moment (Event n) body s new new' said said' t u u' settled e f g h k =
+    let same = (outcome s.app moment n body said said' s.sessions new.sessions s.sessions new'.sessions settled.app (holds_found holds s n settled) refl).1 h.0 k.0 in
+    (h.1 ∙ ap (λ (x : List (Named SessionState)). record s { sessions = x }) (same.1 refl) ∙ sym k.1, same.0)
+does_one once holds outcome lost lost' moment (Input n) body s new new' said said' t u u' settled e f g h k =
+    let same = (outcome s.app moment n body said said' s.sessions new.sessions s.sessions new'.sessions settled.app (holds_found holds s n settled) refl).0 h.0 k.0 in
+    (h.1 ∙ ap (λ (x : List (Named SessionState)). record s { sessions = x }) (same.1 refl) ∙ sym k.1, same.0)
+does_one once holds outcome lost lost' moment (Rows n) body s new new' said said' t u u' settled e f g h k =
     let shapes = (schema_of s.app).tables in
     let same = posts_alike lost lost' shapes n body t u u' s.desks new.desks new'.desks said said'
     (subst (λ x. PostsRows lost shapes n body x s.desks said (Some u) new.desks) e (subst (λ x. PostsRows lost shapes n body s.tables s.desks said x new.desks) f h.0))
@@ -102,8 +111,8 @@ does_one once lost lost' moment (Rows n) body s new new' said said' t u u' e f g
           ∙ ap (λ (d : List (Named Kept)). record s { tables = new'.tables; desks = d }) same.desks_are ∙ sym k.1,
       same.reply_is,
     )
-does_one once lost lost' moment (Edit n) body s new new' said said' t u u' e f g h k = (h.1 ∙ sym k.1, h.0 ∙ sym k.0)
-does_one once lost lost' moment (Page table after) body s new new' said said' t u u' e f g h k =
+does_one once holds outcome lost lost' moment (Edit n) body s new new' said said' t u u' settled e f g h k = (h.1 ∙ sym k.1, h.0 ∙ sym k.0)
+does_one once holds outcome lost lost' moment (Page table after) body s new new' said said' t u u' settled e f g h k =
     let shapes = (schema_of s.app).tables in
     let same = page_alike lost lost' shapes table after t u u' said said'
     (subst (λ x. ShowsPage lost shapes table after x said (Some u)) e (subst (λ x. ShowsPage lost shapes table after s.tables said x) f h.0))
@@ -111,23 +120,23 @@ does_one once lost lost' moment (Page table after) body s new new' said said' t 
       h.1 ∙ ap (λ (x : Option Tables). record s { tables = x }) (f ∙ same.1 ∙ sym g) ∙ sym k.1,
       same.0,
     )
-does_one once lost lost' moment Plan body s new new' said said' t u u' e f g h k = (h.1 ∙ sym k.1, h.0 ∙ sym k.0)
-does_one once lost lost' moment Graph body s new new' said said' t u u' e f g h k = (h.1 ∙ sym k.1, h.0 ∙ sym k.0)
+does_one once holds outcome lost lost' moment Plan body s new new' said said' t u u' settled e f g h k = (h.1 ∙ sym k.1, h.0 ∙ sym k.0)
+does_one once holds outcome lost lost' moment Graph body s new new' said said' t u u' settled e f g h k = (h.1 ∙ sym k.1, h.0 ∙ sym k.0)
 
-does_one_at : OneNaming → (lost lost' : Type 0) (moment : ℕ) (r : Result Route RouteEnd) (body : List ℕ) (s new new' : State) (said said' : List ℕ) (t u u' : Tables)
-    → s.tables ≡ Some t → new.tables ≡ Some u → new'.tables ≡ Some u'
+does_one_at : OneFresh → FittingHolds → IsOneOutcome → (lost lost' : Type 0) (moment : ℕ) (r : Result Route RouteEnd) (body : List ℕ) (s new new' : State) (said said' : List ℕ) (t u u' : Tables)
+    → IsSettled s → s.tables ≡ Some t → new.tables ≡ Some u → new'.tables ≡ Some u'
     → DoesAt lost moment r body s said new → DoesAt lost' moment r body s said' new' → (new ≡ new') × (said ≡ said')
 unfolding DoesAt
-does_one_at once lost lost' moment (Ok route) body s new new' said said' t u u' e f g h k = does_one once lost lost' moment route body s new new' said said' t u u' e f g h k
-does_one_at once lost lost' moment (Err NoRoute) body s new new' said said' t u u' e f g h k = (h.1 ∙ sym k.1, h.0 ∙ sym k.0)
-does_one_at once lost lost' moment (Err WrongMethod) body s new new' said said' t u u' e f g h k = (h.1 ∙ sym k.1, h.0 ∙ sym k.0)
-does_one_at once lost lost' moment (Err Memory) body s new new' said said' t u u' e f g h k = absurd h
+does_one_at once holds outcome lost lost' moment (Ok route) body s new new' said said' t u u' settled e f g h k = does_one once holds outcome lost lost' moment route body s new new' said said' t u u' settled e f g h k
+does_one_at once holds outcome lost lost' moment (Err NoRoute) body s new new' said said' t u u' settled e f g h k = (h.1 ∙ sym k.1, h.0 ∙ sym k.0)
+does_one_at once holds outcome lost lost' moment (Err WrongMethod) body s new new' said said' t u u' settled e f g h k = (h.1 ∙ sym k.1, h.0 ∙ sym k.0)
+does_one_at once holds outcome lost lost' moment (Err Memory) body s new new' said said' t u u' settled e f g h k = absurd h
 
-pub one_answer : OneNaming → IsOneRoute → (k l m n : Marks) (old new new' : State) (moment : ℕ) (request : Asked) (said said' : List ℕ) (t u u' : Tables)
-    → old.tables ≡ Some t → new.tables ≡ Some u → new'.tables ≡ Some u'
+pub one_answer : OneFresh → FittingHolds → IsOneOutcome → IsOneRoute → (k l m n : Marks) (old new new' : State) (moment : ℕ) (request : Asked) (said said' : List ℕ) (t u u' : Tables)
+    → IsSettled old → old.tables ≡ Some t → new.tables ≡ Some u → new'.tables ≡ Some u'
     → Step (IsLost k l) old moment request said new → Step (IsLost m n) old moment request said' new' → (new ≡ new') × (said ≡ said')
-one_answer once one k l m n old new new' moment request said said' t u u' e f g a b =
+one_answer once holds outcome one k l m n old new new' moment request said said' t u u' settled e f g a b =
     let same = one request.method request.path a.route b.route (is_known (IsLost k l) moment a.route request.body said old new a.does)
     (is_known (IsLost m n) moment b.route request.body said' old new' b.does) a.routed b.routed in
-    does_one_at once (IsLost k l) (IsLost m n) moment b.route request.body old new new' said said' t u u' e f g
+    does_one_at once holds outcome (IsLost k l) (IsLost m n) moment b.route request.body old new new' said said' t u u' settled e f g
     (subst (λ r. DoesAt (IsLost k l) moment r request.body old said new) same a.does) b.does

@@ -3,15 +3,15 @@ use Rattle.std.proofs.Common.{◌≡◌, ℕ, List, [], ◌∷◌, map, refl, ap
 use Rattle.serde_json.specs.Data.{array}
 use Rattle.serde_json.specs.View.{items_of}
 use Rattle.serde_json.specs.Written.{compact_text}
-use Rattle.app_names.specs.ReadyLines.{trees_of}
-use Rattle.app_names.specs.declared.formula.Formula.{Formula}
+use Rattle.app_semantics.specs.Holding.{HoldsFitting}
+use Rattle.app_semantics.specs.Laws.{OneFresh}
+use Rattle.app_semantics.specs.Present.{Present}
+use Rattle.app_semantics.specs.Sound.{IsSound}
 use Rattle.fx_data.specs.Values.{Data}
-use Rattle.fx_semantics.specs.Unique.{OneNaming}
-use Rattle.recalc.specs.Valued.{AreValues, by_name}
 use Rattle.view_text.specs.JsonText.{tagged}
 use Rattle.view_text.specs.ReplyText.{named_data, named_text}
 use Rattle.view_text.specs.declared.replies.Named.{Named}
-use Rattle.office.specs.NamedReply.{IsNamedBody, named_body, pair_data, shown}
+use Rattle.office.specs.NamedReply.{IsNamedBody, IsNamedList, named_body, named_values, pair_data, shown}
 
 by_pairs : (rows : List Named) → map named_data rows ≡ map pair_data (map shown rows)
 by_pairs [] = refl
@@ -22,10 +22,11 @@ pub named_is : (rows : List Named) (values : List (List ℕ × Data)) → map sh
 unfolding named_body
 named_is rows values h = ap (λ ds. compact_text (tagged (110 ∷ 97 ∷ 109 ∷ 101 ∷ 100 ∷ []) (array (items_of ds)))) (by_pairs rows ∙ ap (map pair_data) h)
 
--- formulas have one list of values at a moment
-one_list : OneNaming → (moment : ℕ) (app : List Formula) (vs ws : List (List ℕ × Data)) → AreValues moment app vs → AreValues moment app ws → vs ≡ ws
-one_list once moment app vs ws h k = h.2 ∙ ap (by_name app) (once moment (trees_of app) h.0 k.0 h.1 k.1) ∙ sym k.2
+-- where an app and a session are accepted, named formulas have one list of values at a moment
+pub one_list : OneFresh → (p : Present) (vs ws : List (List ℕ × Data)) → IsSound p.app → HoldsFitting p.app.names p.session → IsNamedList p vs → IsNamedList p ws → vs ≡ ws
+one_list once p vs ws sound holds h k =
+    h.2 ∙ ap (λ (v : ℕ → Data). named_values p.app v) (once p h.0 k.0 sound holds h.1 k.1) ∙ sym k.2
 
 -- and one body
-pub one_body : OneNaming → (moment : ℕ) (app : List Formula) (x y : List ℕ) → IsNamedBody moment app x → IsNamedBody moment app y → x ≡ y
-one_body once moment app x y h k = h.2 ∙ ap named_body (one_list once moment app h.0 k.0 h.1 k.1) ∙ sym k.2
+pub one_body : OneFresh → (p : Present) (x y : List ℕ) → IsSound p.app → HoldsFitting p.app.names p.session → IsNamedBody p x → IsNamedBody p y → x ≡ y
+one_body once p x y sound holds h k = h.2 ∙ ap named_body (one_list once p h.0 k.0 sound holds h.1 k.1) ∙ sym k.2

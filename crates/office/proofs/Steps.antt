@@ -9,7 +9,7 @@ use Rattle.app_wire.specs.Routing.{Routing}
 use Rattle.app_wire.specs.declared.route.Route.{Route}
 use Rattle.app_wire.specs.declared.route.Route.TheVariants.{Page}
 use Rattle.app_wire.specs.declared.route.RouteEnd.TheVariants.{NoRoute, WrongMethod}
-use Rattle.app_loader.specs.declared.app.App.{App}
+use Rattle.app_cells.specs.declared.app.App.{App}
 use Rattle.fx_trees.specs.declared.schema.Schema.{Schema}
 use Rattle.row_requests.specs.Page.{ReachesPage}
 use Rattle.office.specs.State.{State, schema_of}

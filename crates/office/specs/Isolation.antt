@@ -1,15 +1,18 @@
 -- What callers have to do with one another, and with requests that come again.
-use Rattle.std.specs.Prelude.{◌≡◌, ◌≢◌, ◌⊎◌, ℕ, List, [], ◌∷◌, Option, Some, None, Ok}
+use Rattle.std.specs.Prelude.{◌≡◌, ◌≢◌, ◌⊎◌, ℕ, List, [], ◌∷◌, Option, Some, None, option_map, Ok}
 use Rattle.fx_base.specs.Silence.{IsLost, Marks}
 use Rattle.app_wire.specs.Framing.{Asked}
 use Rattle.app_wire.specs.ReplyBytes.{refusal}
 use Rattle.app_wire.specs.Routing.{Routing}
-use Rattle.app_wire.specs.declared.head.Method.TheVariants.{Put}
+use Rattle.app_wire.specs.declared.head.Method.TheVariants.{Post, Put}
 use Rattle.app_wire.specs.declared.route.Route.{Route}
 use Rattle.app_wire.specs.declared.route.Route.TheVariants.{Begin, End, View, Named, Items, Event, Input, Rows, Edit}
 use Rattle.request_checks.specs.Directory.{find}
+use Rattle.session_state.specs.Once.{Kept}
+use Rattle.session_state.specs.Sessions.{SessionState}
 use Rattle.office.specs.Answers.{Exchange, Plays}
-use Rattle.office.specs.State.{State, formulas_of}
+use Rattle.office.specs.Ready.{IsSettled}
+use Rattle.office.specs.State.{State}
 use Rattle.office.specs.Step.{Answered, Left, Step}
 
 -- who sends requests: a session or a desk, of a name
@@ -50,13 +53,13 @@ LeavesDesk =
     → Answered old before moment request said now new → (IsOf (desk name) request → ⊥)
     → find name new.desks ≡ find name old.desks
 
--- Offices with the same named formulas, and with the same record of a session or with none, answer its requests alike at one
--- moment, PUT aside, which counts sessions.
+-- Offices with the same app, and with the same record of a session or with none, answer its requests alike at one moment, PUT
+-- aside, which counts sessions.
 abbrev pub IsAlone : Type 0
 IsAlone =
     (k l m n : Marks) (a b new new' : State) (moment : ℕ) (request : Asked) (said said' name : List ℕ)
     → IsOf (session name) request → request.method ≢ Put
-    → formulas_of a.app ≡ formulas_of b.app → find name a.sessions ≡ find name b.sessions
+    → IsSettled a → a.app ≡ b.app → find name a.sessions ≡ find name b.sessions
     → Step (IsLost k l) a moment request said new → Step (IsLost m n) b moment request said' new' → said ≡ said'
 
 -- none of these exchanges is one of this caller
@@ -64,13 +67,25 @@ abbrev pub AreOfOthers : Caller → List Exchange → Type 0
 AreOfOthers caller [] = Unit {0}
 AreOfOthers caller (x ∷ xs) = (IsOf caller x.asked → ⊥) × AreOfOthers caller xs
 
--- A request of a desk that was accepted comes again, after any requests of others: it gets the same reply, or want of memory, and
--- acts no more.
+-- what is kept of the requests of a caller
+abbrev pub kept_of_session : Option SessionState → Option Kept
+kept_of_session s = option_map (λ (x : SessionState). x.kept) s
+
+abbrev pub kept_of : Caller → State → Option Kept
+kept_of (session name) s = kept_of_session (find name s.sessions)
+kept_of (desk name) s = find name s.desks
+
+-- a request that is posted
+abbrev pub IsPosted : Asked → Type 0
+IsPosted request = request.method ≡ Post
+
+-- A posted request of a caller that was accepted, so that other things are kept of it, comes again, after any requests of
+-- others: it gets the same reply, or want of memory, and acts no more.
 abbrev pub ActsOnce : Type 0
 ActsOnce =
-    (s t u v : State) (k l m n : Marks) (moment moment' : ℕ) (request : Asked) (said said' name : List ℕ) (between : List Exchange)
-    → IsOf (desk name) request
-    → Answered s k moment request said l t → find name t.desks ≢ find name s.desks
-    → Plays t l between u m → AreOfOthers (desk name) between
+    (s t u v : State) (k l m n : Marks) (moment moment' : ℕ) (request : Asked) (said said' : List ℕ) (caller : Caller) (between : List Exchange)
+    → IsOf caller request → IsPosted request
+    → Answered s k moment request said l t → kept_of caller t ≢ kept_of caller s
+    → Plays t l between u m → AreOfOthers caller between
     → Answered u m moment' request said' n v
     → ((said' ≡ said) ⊎ (said' ≡ refusal 26)) × Left (IsLost m n) u v

@@ -1,5 +1,4 @@
 pub mod Answers
-pub mod AppFile
 pub mod Isolation
 pub mod NamedReply
 pub mod Ready

@@ -4,10 +4,12 @@ use Rattle.serde_json.specs.Data as json
 use Rattle.serde_json.specs.Data.{string, array, object, member, no_members}
 use Rattle.serde_json.specs.View.{items_of}
 use Rattle.serde_json.specs.Written.{compact_text}
-use Rattle.app_names.specs.declared.formula.Formula.{Formula}
+use Rattle.app_cells.specs.declared.app.App.{App}
+use Rattle.app_semantics.specs.Fresh.{IsFresh}
+use Rattle.app_semantics.specs.Present.{Present}
 use Rattle.fx_data.specs.Values.{Data}
 use Rattle.fx_data.specs.ValueView.{view}
-use Rattle.recalc.specs.Valued.{AreValues}
+use Rattle.fx_trees.specs.declared.names.FormulaName.{FormulaName}
 use Rattle.view_text.specs.JsonText.{tagged, value_data}
 use Rattle.view_text.specs.declared.replies.Named.{Named}
 
@@ -19,9 +21,20 @@ pair_data p = object (member (codes "name") (string (encode_utf8_all p.0)) (memb
 unfoldable pub named_body : List (List ℕ × Data) → List ℕ
 named_body values = compact_text (tagged (codes "named") (array (items_of (map pair_data values))))
 
--- the body at a moment: each named formula of the app with its value, evaluated afresh
-abbrev pub IsNamedBody : ℕ → List Formula → List ℕ → Type 0
-IsNamedBody moment app body = (values : List (List ℕ × Data)) × AreValues moment app values × (body ≡ named_body values)
+-- the named formulas by their names, where cells have these values
+abbrev pub by_name : (ℕ → Data) → FormulaName → List ℕ × Data
+by_name values f = (f.name, values f.cell)
+
+abbrev pub named_values : App → (ℕ → Data) → List (List ℕ × Data)
+named_values a values = map (by_name values) a.names.formulas
+
+-- each named formula of the app with its value, evaluated afresh
+abbrev pub IsNamedList : Present → List (List ℕ × Data) → Type 0
+IsNamedList p shown = (values : ℕ → Data) × IsFresh p values × (shown ≡ named_values p.app values)
+
+-- the body
+abbrev pub IsNamedBody : Present → List ℕ → Type 0
+IsNamedBody p body = (shown : List (List ℕ × Data)) × IsNamedList p shown × (body ≡ named_body shown)
 
 -- a row of the reply, as its name and its value
 abbrev pub shown : Named → List ℕ × Data

@@ -1,18 +1,42 @@
 -- What is true of an office between two requests.
-use Rattle.std.specs.Prelude.{◌≡◌, Bool, false, List, Option, Some}
-use Rattle.fx_trees.specs.Lawful.{IsLawfulSchema}
+use Rattle.std.specs.Prelude.{◌≡◌, ◌<◌, length, Bool, false, List, Option, Some}
+use Rattle.std.specs.List.{AllByRecursion}
+use Rattle.app_cells.specs.declared.app.App.{App}
+use Rattle.app_semantics.specs.Sound.{IsSound}
+use Rattle.fx_trees.specs.declared.names.Names.{Names}
 use Rattle.fx_trees.specs.declared.schema.Schema.{Schema}
 use Rattle.row_keeper.specs.Tables.{Tables}
+use Rattle.session_state.specs.Changes.{FitsNames, HoldsTables}
 use Rattle.session_state.specs.Once.{Kept}
+use Rattle.session_state.specs.Sessions.{SessionState}
+use Rattle.request_checks.specs.Checked.{SessionsKeepReplies}
 use Rattle.request_checks.specs.Replies.{KeepReplies}
 use Rattle.row_requests.specs.Sound.{AreSound}
 use Rattle.request_checks.specs.declared.directory.Named.{Named}
+use Rattle.office.specs.State.{State, schema_of}
+
+-- sessions fit the names of the app
+abbrev pub AreFit : Names → List (Named SessionState) → Type 0
+AreFit n sessions = AllByRecursion (λ (s : Named SessionState). FitsNames n s.it) sessions
+
+-- an office between two requests serves an accepted app, which its sessions fit
+pub record IsSettled (s : State) : Type 0 where
+  pub app : IsSound s.app
+  pub fit : AreFit s.app.names s.sessions
+
+-- a session can be opened: there is a screen, and an empty table fits each collection
+pub record CanOpen (n : Names) : Type 0 where
+  pub screen : 0 < length n.screens
+  pub tables : HoldsTables n
 
 -- No transaction is begun, the keeper is shaped by the app's schema, its tables, where they are told, are those of the schema,
--- and what is kept of desks are replies.
-pub record IsReady (schema : Schema) (in_transaction : Bool) (by : Option Schema) (told : Option Tables) (desks : List (Named Kept)) : Type 0 where
+-- what is kept of desks are replies, the app is an accepted one, and its sessions fit it.
+pub record IsReady (app : App) (in_transaction : Bool) (by : Option Schema) (told : Option Tables) (sessions : List (Named SessionState)) (desks : List (Named Kept)) : Type 0 where
   pub idle : in_transaction ≡ false
-  pub shaped : by ≡ Some schema
-  pub lawful : IsLawfulSchema schema
-  pub sound : AreSound schema told
+  pub shaped : by ≡ Some (schema_of app)
+  pub sound : AreSound (schema_of app) told
   pub kept : KeepReplies desks
+  pub accepted : IsSound app
+  pub opens : CanOpen app.names
+  pub fit : AreFit app.names sessions
+  pub replies : SessionsKeepReplies sessions

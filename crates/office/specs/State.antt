@@ -5,17 +5,12 @@ use Rattle.fx_trees.specs.declared.schema.Schema.{Schema}
 use Rattle.row_keeper.specs.Tables.{Tables}
 use Rattle.session_state.specs.Once.{Kept}
 use Rattle.session_state.specs.Sessions.{SessionState}
-use Rattle.app_names.specs.declared.formula.Formula.{Formula}
-use Rattle.app_loader.specs.declared.app.App.{App}
+use Rattle.app_cells.specs.declared.app.App.{App}
 use Rattle.request_checks.specs.declared.directory.Named.{Named}
 
--- the named formulas of an app, in the order of their lines
-abbrev pub formulas_of : App → List Formula
-formulas_of a = a.lines
-
--- its tables
+-- the tables of an app
 abbrev pub schema_of : App → Schema
-schema_of a = a.schema
+schema_of a = a.names.schema
 
 -- The app; the tables, where the keeper tells them; the live sessions; and the desks of which a request was accepted.
 pub record State : Type 0 where

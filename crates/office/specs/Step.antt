@@ -8,14 +8,16 @@ use Rattle.app_wire.specs.Framing.{Asked}
 use Rattle.app_wire.specs.ReplyBytes.{refusal, reply}
 use Rattle.app_wire.specs.Routing.{Routing}
 use Rattle.app_wire.specs.declared.route.Route.{Route}
-use Rattle.app_wire.specs.declared.route.Route.TheVariants.{Begin, End, Named, Rows, Page}
+use Rattle.app_wire.specs.declared.route.Route.TheVariants.{Begin, End, Event, Input, Named, Rows, Page}
 use Rattle.app_wire.specs.declared.route.RouteEnd.{RouteEnd}
 use Rattle.app_wire.specs.declared.route.RouteEnd.TheVariants.{NoRoute, WrongMethod, Memory}
 use Rattle.view_text.specs.ReplyText.{ok_text}
 use Rattle.row_requests.specs.DeskRows.{PostsRows, ReachesRows}
 use Rattle.row_requests.specs.Page.{ReachesPage, ShowsPage}
+use Rattle.session_requests.specs.Posting.{PostsEvent, PostsInput}
+use Rattle.office.specs.Ready.{IsSettled}
 use Rattle.office.specs.Sessions.{ShowsNamed, begins, without}
-use Rattle.office.specs.State.{State, formulas_of, schema_of}
+use Rattle.office.specs.State.{State, schema_of}
 
 -- THE step by a route, at a moment: what it says, and which parts of the state may change. All others stay. `lost` is why the
 -- keeper may have fallen silent. Routes that are not built yet are none (7).
@@ -24,7 +26,11 @@ Does lost moment (Begin name) body s said new =
     ((new.sessions, said) ≡ begins s.app.names name s.sessions) × (new ≡ record s { sessions = new.sessions })
 Does lost moment (End name) body s said new =
     (said ≡ reply 200 ok_text) × (new ≡ record s { sessions = without name s.sessions })
-Does lost moment (Named name) body s said new = ShowsNamed moment (formulas_of s.app) name s.sessions said × (new ≡ s)
+Does lost moment (Named name) body s said new = ShowsNamed moment s.app name s.sessions said × (new ≡ s)
+Does lost moment (Event name) body s said new =
+    PostsEvent s.app moment name body s.sessions said new.sessions × (new ≡ record s { sessions = new.sessions })
+Does lost moment (Input name) body s said new =
+    PostsInput s.app moment name body s.sessions said new.sessions × (new ≡ record s { sessions = new.sessions })
 Does lost moment (Rows name) body s said new =
     PostsRows lost (schema_of s.app).tables name body s.tables s.desks said new.tables new.desks
     × (new ≡ record s { tables = new.tables; desks = new.desks })
@@ -74,5 +80,5 @@ Answered old before moment request said now new =
 abbrev pub IsOneAnswer : Type 0
 IsOneAnswer =
     (k l m n : Marks) (old new new' : State) (moment : ℕ) (request : Asked) (said said' : List ℕ) (t u u' : Tables)
-    → old.tables ≡ Some t → new.tables ≡ Some u → new'.tables ≡ Some u'
+    → IsSettled old → old.tables ≡ Some t → new.tables ≡ Some u → new'.tables ≡ Some u'
     → Step (IsLost k l) old moment request said new → Step (IsLost m n) old moment request said' new' → (new ≡ new') × (said ≡ said')

@@ -3,15 +3,15 @@
 
 pub mod converse;
 pub mod laws;
-mod loader;
 pub mod machine;
-mod named;
+pub mod named;
 pub mod sessions;
 
-pub use app_loader::App;
+pub use app_cells::App;
+pub use app_loader::load;
 pub use converse::{ConvEnd, MOST_REQUESTS};
 pub use fx_trees::AppEnd;
-pub use loader::load;
 pub use machine::Office;
-pub use row_requests::Reply;
+pub use named::named_list;
+pub use request_checks::Reply;
 pub use sessions::MOST_SESSIONS;

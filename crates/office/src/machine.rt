@@ -1,26 +1,29 @@
 //! The office, one request at a time.
-ghost use Rattle.std.specs.Prelude.{◌≡◌, ◌≢◌, Err, IfOk, IsErrOf, Ok, OnErr, Some, false};
+ghost use Rattle.std.specs.Prelude.{◌≡◌, ◌≢◌, ◌<◌, Err, IfOk, IsErrOf, Ok, OnErr, Some, false, length};
 ghost use Rattle.fx_base.specs.Silence.{IsLater, IsLost};
-ghost use Rattle.fx_trees.specs.Lawful.{IsLawfulSchema};
+ghost use Rattle.app_semantics.specs.Sound.{IsSound};
 ghost use Rattle.row_keeper.specs.Causes.{HasCause};
 ghost use Rattle.row_keeper.specs.declared.keeper.KeeperEnd.TheVariants.{Failed};
 ghost use Rattle.app_wire.specs.Framing.{asked};
 ghost use Rattle.app_wire.specs.declared.route.RouteEnd.TheVariants.{Memory as NoMemory};
 ghost use Rattle.request_checks.specs.Replies.{IsReply, said};
 ghost use Rattle.row_requests.specs.Sound.{AreSound};
+ghost use Rattle.office.specs.Ready.{CanOpen};
 ghost use Rattle.office.specs.State.{schema_of, started};
 ghost use Rattle.office.specs.Step.{Answered, Does, Left, Reaches, ReachesKeeper, Step};
 
 use crate::sessions::{begin, end, show_named};
-use app_loader::App;
+use app_cells::App;
 use app_wire::framer::Request;
 use app_wire::route::{Route, RouteEnd};
 use app_wire::routes::Routes;
 use fx_base::Memory;
 use fx_eval::Steps;
 use fx_trees::Schema;
+use request_checks::{Named, Reply};
 use row_keeper::{Keeper, KeeperEnd};
-use row_requests::{Named, Reply, post_rows, show_page};
+use row_requests::{post_rows, show_page};
+use session_requests::{post_event, post_input};
 use session_state::{Desk, Session};
 use std::alloc::Global;
 use std::marker::Model;
@@ -39,7 +42,7 @@ pub struct Office<K: Keeper + Drop> {
 
 impl<K: Keeper + Drop> Model for Office<K> {
     ghost use Rattle.std.specs.Coded.{codes};
-    ghost use Rattle.app_loader.specs.contracts.app.App.{the_row as app_row};
+    ghost use Rattle.app_cells.specs.contracts.app.App.{the_row as app_row};
     ghost use Rattle.fx_data.specs.ValueCode.{data_code};
     ghost use Rattle.fx_trees.specs.contracts.schema.Schema.{the_row as schema_row};
     ghost use Rattle.row_queries.specs.contracts.rows.Row.{the_row as row_row};
@@ -56,14 +59,14 @@ impl<K: Keeper + Drop> Model for Office<K> {
       loan = K.loan o.keeper;
     } };
 
-    ghost invariant = { λ o. IsReady (schema_of o.app) (K.in_transaction o.keeper) (K.shaped o.keeper) (K.told o.keeper) o.desks.items };
+    ghost invariant = { λ o. IsReady o.app (K.in_transaction o.keeper) (K.shaped o.keeper) (K.told o.keeper) o.sessions.items o.desks.items };
 }
 
 /// The tables of an app.
 fn schema_of(app: &App) -> &Schema
     ensures { result.now ≡ schema_of app.now }
 {
-    &app.schema
+    &app.names.schema
 }
 
 impl<K: Keeper + Drop> Office<K> {
@@ -71,7 +74,8 @@ impl<K: Keeper + Drop> Office<K> {
     pub fn new(alloc: Global, app: App, keeper: K) -> Result<Office<K>, Memory>
         requires idle { K.in_transaction keeper ≡ false }
         requires shaped { K.shaped keeper ≡ Some (schema_of app) }
-        requires lawful { IsLawfulSchema (schema_of app) }
+        requires app { IsSound app }
+        requires opens { CanOpen app.names }
         requires sound { AreSound (schema_of app) (K.told keeper) }
         ensures state { IfOk result (λ o. o.state ≡ started app (K.told keeper)) }
         ensures marks { IfOk result (λ o. o.marks ≡ K.marks keeper) }
@@ -85,7 +89,8 @@ impl<K: Keeper + Drop> Office<K> {
     pub fn over(alloc: Global, app: App, routes: Routes, keeper: K) -> Office<K>
         requires idle { K.in_transaction keeper ≡ false }
         requires shaped { K.shaped keeper ≡ Some (schema_of app) }
-        requires lawful { IsLawfulSchema (schema_of app) }
+        requires app { IsSound app }
+        requires opens { CanOpen app.names }
         requires sound { AreSound (schema_of app) (K.told keeper) }
         ensures state { result.state ≡ started app (K.told keeper) }
         ensures marks { result.marks ≡ K.marks keeper }
@@ -176,6 +181,30 @@ impl<K: Keeper + Drop> Office<K> {
                     Err(Memory) => Err(KeeperEnd::Memory),
                 }
             }
+            Route::Event(name) => match post_event(
+                self.alloc,
+                &self.app,
+                &mut self.sessions,
+                &name,
+                &request.body,
+                moment,
+                steps,
+            ) {
+                Ok(reply) => Ok(reply),
+                Err(Memory) => Err(KeeperEnd::Memory),
+            },
+            Route::Input(name) => match post_input(
+                self.alloc,
+                &self.app,
+                &mut self.sessions,
+                &name,
+                &request.body,
+                moment,
+                steps,
+            ) {
+                Ok(reply) => Ok(reply),
+                Err(Memory) => Err(KeeperEnd::Memory),
+            },
             Route::Rows(name) => post_rows(
                 self.alloc,
                 &mut self.keeper,
@@ -192,13 +221,8 @@ impl<K: Keeper + Drop> Office<K> {
                 after,
             ),
             // Not built yet.
-            Route::View(_)
-            | Route::Items(_, _, _)
-            | Route::Event(_)
-            | Route::Input(_)
-            | Route::Edit(_)
-            | Route::Plan
-            | Route::Graph => Ok(Reply::fixed_refusal(self.alloc, 7, 404)),
+            Route::View(_) | Route::Items(_, _, _) | Route::Edit(_) | Route::Plan | Route::Graph =>
+                Ok(Reply::fixed_refusal(self.alloc, 7, 404)),
         }
     }
 

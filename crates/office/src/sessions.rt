@@ -1,18 +1,22 @@
 //! Sessions: they begin, end, and are shown the named formulas.
 ghost use Rattle.std.specs.Prelude.{◌≡◌, IfOk, OnErr};
 ghost use Rattle.app_wire.specs.ReplyBytes.{reply};
+ghost use Rattle.request_checks.specs.Checked.{SessionsKeepReplies};
 ghost use Rattle.request_checks.specs.Replies.{IsReply, said};
 ghost use Rattle.view_text.specs.ReplyText.{ok_text};
+ghost use Rattle.app_semantics.specs.Sound.{IsSound};
+ghost use Rattle.fx_trees.specs.declared.names.Names.{Names as Known};
+ghost use Rattle.office.specs.Ready.{AreFit, CanOpen};
 ghost use Rattle.office.specs.Sessions.{ShowsNamed, begins, without};
-ghost use Rattle.office.specs.State.{formulas_of};
 
 use crate::named::named_body;
-use app_loader::App;
+use app_cells::App;
+use app_semantics::fitting_holds;
 use fx_base::Memory;
 use fx_data::words::Words;
 use fx_eval::Steps;
 use fx_trees::Names;
-use row_requests::{Named, Reply, is_among, put};
+use request_checks::{Named, Reply, is_among, place_of, put};
 use session_state::Session;
 use std::alloc::Global;
 use std::sync::ledger::Ledger;
@@ -28,7 +32,12 @@ pub(crate) fn begin(
     sessions: &mut Vec<Named<Session>>,
     name: Words,
 ) -> Result<Reply, Memory>
+    requires opens { CanOpen names.now }
+    requires fit { AreFit names.now sessions.old.items }
+    requires replies { SessionsKeepReplies sessions.old.items }
     ensures done { IfOk result (λ r. (sessions.new.items, said r) ≡ begins names.now name sessions.old.items) }
+    ensures fit { AreFit names.now sessions.new.items }
+    ensures replies { SessionsKeepReplies sessions.new.items }
     ensures whole { IfOk result IsReply }
     ensures stopped { OnErr result (sessions.new.items ≡ sessions.old.items) }
 {
@@ -54,6 +63,8 @@ pub(crate) fn end(
 ) -> Result<Reply, Memory>
     ensures said { IfOk result (λ r. said r ≡ reply 200 ok_text) }
     ensures done { IfOk result (λ r. sessions.new.items ≡ without name.now sessions.old.items) }
+    ensures fit { (names : Known) → AreFit names sessions.old.items → AreFit names sessions.new.items }
+    ensures replies { SessionsKeepReplies sessions.old.items → SessionsKeepReplies sessions.new.items }
     ensures whole { IfOk result IsReply }
     ensures stopped { OnErr result (sessions.new.items ≡ sessions.old.items) }
 {
@@ -78,12 +89,16 @@ pub(crate) fn show_named<L: Ledger>(
     moment: u64,
     steps: &mut Steps<L>,
 ) -> Result<Reply, Memory>
-    ensures done { IfOk result (λ r. ShowsNamed moment (formulas_of app.now) name.now sessions.now (said r)) }
+    requires sound { IsSound app.now }
+    requires fit { AreFit app.now.names sessions.now }
+    ensures done { IfOk result (λ r. ShowsNamed moment app.now name.now sessions.now (said r)) }
     ensures whole { IfOk result IsReply }
 {
-    if !is_among(sessions, name) {
+    // The law is called for what it says of a session that fits.
+    fitting_holds();
+    let Some(place) = place_of(sessions, name) else {
         return Reply::refuse_plain(alloc, 11);
-    }
-    let body = named_body(alloc, app, moment, steps)?;
+    };
+    let body = named_body(alloc, app, &sessions[place].it, moment, steps)?;
     Reply::accept(alloc, &body)
 }

@@ -1,5 +1,5 @@
 use Rattle.std.proofs.Common.{Some, Err, refl, subst}
-use Rattle.app_loader.specs.Judged.{Tells}
+use Rattle.app_loader.specs.app_typing.Judged.{Tells}
 use Rattle.fx_cli.specs.Held.{Replayed}
 use Rattle.fx_cli.specs.Report.{EndsOver, JudgedAs, Takes, no_show}
 use Rattle.fx_cli.specs.declared.words.Form.TheVariants.{Replay}
