@@ -12,7 +12,7 @@ pub mod sketches;
 
 pub use filling::fill;
 pub use patterns::{Pattern, PatternNode, Patterns};
-pub use plans::{Sketch, plan};
+pub use plans::{Sketch, has_error, plan};
 pub use ranges::{Reach, no_row_is_missed, ranges_of};
-pub use site_list::{Site, sites};
-pub use sketches::sketch;
+pub use site_list::{Scoped, Site, formulas_of, is_update, sites, takes_whole};
+pub use sketches::{sketch, sketch_under};

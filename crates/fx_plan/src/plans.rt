@@ -77,8 +77,8 @@ fn reach_of(
     }
 }
 
-// Whether a constant is an error.
-fn has_error(constants: &[Value]) -> bool
+/// Whether a constant is an error.
+pub fn has_error(constants: &[Value]) -> bool
     ensures { result ≡ list_any is_error (map view constants.now) }
 {
     for constant in constants {

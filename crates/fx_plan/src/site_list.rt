@@ -39,19 +39,19 @@ struct Place {
     inner: bool,
 }
 
-// Which of several parts stand in a scope of their own.
+/// Which of several parts stand in a scope of their own.
 #[derive(Clone, Copy)]
-enum Scoped {
+pub enum Scoped {
     Nothing,
-    // All but the first, if any.
+    /// All but the first, if any.
     Others(bool),
-    // The formulas behind a table, by the function and the number of its parts.
+    /// The formulas behind a table, by the function and the number of its parts.
     Formulas(Fun, usize),
 }
 
 impl Scoped {
-    // Whether the part at a place does.
-    fn opens(self, at: usize) -> bool
+    /// Whether the part at a place does.
+    pub fn opens(self, at: usize) -> bool
         requires { at + 1 < 2 ^ 64 }
         ensures { result ≡ is_scoped self at }
     {
@@ -63,8 +63,8 @@ impl Scoped {
     }
 }
 
-// The formulas among the parts of a function behind its table.
-fn formulas_of(fun: Fun, parts: &[Core]) -> Scoped
+/// The formulas among the parts of a function behind its table.
+pub fn formulas_of(fun: Fun, parts: &[Core]) -> Scoped
     ensures { result ≡ Scoped.Formulas fun (length parts.now + 1) }
 {
     Scoped::Formulas(fun, parts.len() + 1)
@@ -317,14 +317,15 @@ fn is_formula(takes: Takes) -> bool
     )
 }
 
-fn is_update(deed: &Deed) -> bool
+/// Whether the parts of a deed behind the first are formulas in the scope of a row.
+pub fn is_update(deed: &Deed) -> bool
     ensures { result ≡ is_update_in deed.now }
 {
     matches!(deed, Deed::UpdateIf(_))
 }
 
-// Whether a tree takes the whole of the query expression that is its first part.
-fn takes_whole(alloc: Global, schema: &Schema, core: &Core, depth: u32) -> Result<bool, Memory>
+/// Whether a tree takes the whole of the query expression that is its first part.
+pub fn takes_whole(alloc: Global, schema: &Schema, core: &Core, depth: u32) -> Result<bool, Memory>
     requires { IsLawfulSchema schema.now }
     ensures { IfOk result (λ b. b ≡ takes_whole_in schema.now.tables depth core.now) }
 {

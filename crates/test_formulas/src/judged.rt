@@ -2,6 +2,7 @@
 ghost use Rattle.std.specs.Prelude.{◌≤◌};
 ghost use Rattle.fx_infer.specs.Below.{tree_depth};
 
+use crate::limits::limits_text;
 use crate::place::place_formula;
 use crate::queries::queries_text;
 use crate::rounds::rounds_text;
@@ -46,6 +47,9 @@ fn answer(alloc: Global, names: &Names, line: &str) -> Result<String, Stop> {
     }
     if place == "queries" {
         return queries_text(alloc, names, text);
+    }
+    if place == "limits" {
+        return limits_text(alloc, names, text);
     }
     let cell = place_formula(alloc, place, text)?;
     judge(alloc, names, &cell)
