@@ -1,7 +1,7 @@
 //! What keeps rows, with transactions.
 #![tactic(auto)]
 
-mod answers;
+pub mod answers;
 mod constants;
 mod index;
 pub mod keeper;
@@ -10,9 +10,9 @@ mod pages;
 mod picked;
 mod puts;
 pub mod rows;
-mod rules;
-mod scans;
-mod schemas;
+pub mod rules;
+pub mod scans;
+pub mod schemas;
 mod slots;
 mod store;
 mod table;

@@ -30,7 +30,7 @@ fn is_empty_text(text: &Words) -> bool
 }
 
 /// Whether a cell is blank or an empty text.
-fn is_empty(cell: &Value) -> bool
+pub fn is_empty(cell: &Value) -> bool
     ensures { result ≡ is_empty_data (view cell.now) }
 {
     match cell {
@@ -40,7 +40,8 @@ fn is_empty(cell: &Value) -> bool
     }
 }
 
-fn is_blank(cell: &Value) -> bool
+/// Whether a cell is blank.
+pub fn is_blank(cell: &Value) -> bool
     ensures { result ≡ is_blank_data (view cell.now) }
 {
     matches!(cell, Value::Blank)
