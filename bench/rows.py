@@ -11,10 +11,12 @@ rows must take no further one.
 import json
 import os
 import random
+import re
 import sqlite3
 import subprocess
 import sys
 import tempfile
+import threading
 import time
 
 TOP = os.path.dirname(os.path.dirname(os.path.abspath(__file__)))
@@ -46,21 +48,37 @@ def changing(rows, first, chance):
     return [post(first + place, [{"op": "change", "table": "Stock", "id": it, "row": {"Qty": place % 100}}]) for place, it in enumerate(ids)]
 
 
-def replay(app, requests, refused=()):
-    """Returns the seconds and the greatest memory, in bytes, of a run that accepts the requests and refuses those behind them."""
-    with tempfile.TemporaryFile() as stream, tempfile.TemporaryFile() as replies:
-        stream.writelines([*requests, *refused])
-        stream.seek(0)
+def replies(stream, count):
+    """Reads so many replies and returns how many were accepted, and how many found no room."""
+    accepted = full = 0
+    for _ in range(count):
+        head = b"".join(iter(lambda: stream.readline().rstrip(b"\r\n") + b"\n", b"\n"))
+        body = stream.read(int(re.search(rb"Content-Length: (\d+)", head)[1]))
+        accepted += b" 200 OK\n" in head
+        full += b'"rule":"full"' in body
+    return accepted, full
+
+
+def replay(app, parts):
+    """Returns the seconds that each part of a run took, from its first byte written to the last of its replies, and the
+    memory of the run after each. A part is its requests, and whether they are to be accepted or to find no room."""
+    made = subprocess.Popen([PROGRAM, "replay", app], stdin=subprocess.PIPE, stdout=subprocess.PIPE)
+    took, used = [], []
+    for requests, is_accepted in parts:
         began = time.monotonic()
-        made = subprocess.Popen([PROGRAM, "replay", app], stdin=stream, stdout=replies)
-        _, status, used = os.wait4(made.pid, 0)
-        took = time.monotonic() - began
-        replies.seek(0)
-        told = replies.read()
-        accepted, full = (told.count(it) for it in (b"HTTP/1.1 200 OK", b'"rule":"full"'))
-    if status or (accepted, full) != (len(requests), len(refused)):
-        sys.exit(f"{accepted} of {len(requests)} requests were accepted, {full} found no room, and the run ended with {status}")
-    return took, used.ru_maxrss * 1024
+        sending = threading.Thread(target=lambda: (made.stdin.writelines(requests), made.stdin.flush()))
+        sending.start()
+        told = replies(made.stdout, len(requests))
+        took.append(time.monotonic() - began)
+        sending.join()
+        if told != ((len(requests), 0) if is_accepted else (0, len(requests))):
+            sys.exit(f"{told[0]} of {len(requests)} requests were accepted, and {told[1]} found no room")
+        with open(f"/proc/{made.pid}/status") as file:
+            used.append(int(re.search(r"VmRSS:\s+(\d+)", file.read())[1]) * 1024)
+    made.stdin.close()
+    if made.wait():
+        sys.exit(f"the run ended with {made.returncode}")
+    return took, used
 
 
 def sqlite(rows, chance):
@@ -88,14 +106,14 @@ def sqlite(rows, chance):
 
 
 def measure(app, rows):
-    """Returns what adding, looking up and changing take, each as what it adds to a run without it, and the bytes of a row."""
+    """Returns the seconds that adding, looking up and changing take in one run, and the bytes of a row."""
     chance = random.Random(rows)
-    add, look, change = adding(rows), looking(rows, chance), changing(rows, rows // BATCH + 1, chance)
-    empty, least = replay(app, [])
-    adds, most = replay(app, add, [post(rows // BATCH + 1, [added(rows + 1)])] if rows == ROWS else [])
-    looks, _ = replay(app, add + look)
-    changes, _ = replay(app, add + change)
-    return (adds - empty, looks - adds, changes - adds), (most - least) // rows
+    begin = [b"GET /rows/Stock/0 HTTP/1.1\r\n\r\n"]
+    parts = [(begin, True), (adding(rows), True), (looking(rows, chance), True), (changing(rows, rows // BATCH + 1, chance), True)]
+    if rows == ROWS:
+        parts.append(([post(rows // BATCH + CHANGES + 1, [added(rows + 1)])], False))
+    took, used = replay(app, parts)
+    return took[1:4], (used[1] - used[0]) // rows
 
 
 def main():
