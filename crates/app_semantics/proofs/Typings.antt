@@ -6,6 +6,8 @@ use Rattle.fx_trees.specs.Reads.{IsAmong, read_by, sources_among, sources_in}
 use Rattle.fx_trees.specs.Term.{Term, Terms, of, nil, cons, Top, const, read, row, item, caught, dot, call, over, form, within, rec, list, coerce, chain, act}
 use Rattle.fx_trees.specs.declared.sources.Source.{Source}
 use Rattle.fx_typing.specs.Acts.{acts, any_acts, is_acting}
+use Rattle.fx_semantics.specs.Sound.{IsLawfulType}
+use Rattle.fx_semantics.proofs.Lawful.{constant_lawful}
 use Rattle.fx_typing.specs.WellTyped.{AreTyped, Context, IsRuled, IsTyped, Standing, bound, catching, context_for, inside, parts_count, plain, standing_at}
 
 -- ---- lists of sources
@@ -30,6 +32,9 @@ neither false b e = (refl, e)
 -- ---- other sources
 abbrev Types : Type 0
 Types = Source → Option Shape
+
+abbrev HaveLawfulTypes : Types → Type 0
+HaveLawfulTypes S = (s : Source) (t : Shape) → S s ≡ Some t → IsLawfulType t
 
 -- what is read has the type there that it has here
 abbrev pub Keeps : Types → Types → List Source → Type 0
@@ -98,39 +103,40 @@ ruled_within S c cs (booleans ∷ us) t r = absurd r
 ruled_within S c cs (dates ∷ us) t r = absurd r
 ruled_within S c cs (tables ds ∷ us) t r = absurd r
 
-ruled : (S : Types) (c : Context) (h : Top) (cs : Terms) (us : List Shape) (t : Shape) → is_acting h ≡ false → Keeps c.sources S (read_by h) → IsRuled c h cs us t → IsRuled (over_types S c) h cs us t
-ruled S c (const v) cs us t q k r = r
-ruled S c (read s) cs us t q k r = k s t (inl refl) r
-ruled S c (row i) cs us t q k r = r
-ruled S c item cs us t q k r = r
-ruled S c caught cs us t q k r = r
-ruled S c (dot x) cs [] t q k r = absurd r
-ruled S c (dot x) cs (u ∷ []) t q k r = r
-ruled S c (dot x) cs (u ∷ v ∷ us) t q k r = absurd r
-ruled S c (call f) cs us t q k r = r
-ruled S c (over f) cs us t q k r = r
-ruled S c (form f) cs us t q k r = r
-ruled S c within cs us t q k r = ruled_within S c cs us t r
-ruled S c (rec ns) cs us t q k r = r
-ruled S c (list r) cs us t q k w = ruled_list S c r cs us t w
-ruled S c (coerce to) cs us t q k r = ruled_coerce S c to cs us t r
-ruled S c chain cs us t q k r = absurd cc
-ruled S c (act d) cs us t q k r = absurd cc
+ruled : (S : Types) (c : Context) (h : Top) (cs : Terms) (us : List Shape) (t : Shape) → is_acting h ≡ false → HaveLawfulTypes c.sources → Keeps c.sources S (read_by h) →
+    IsRuled c h cs us t → IsRuled (over_types S c) h cs us t
+ruled S c (const v) cs us t q l k r = (r.0, inl (constant_lawful c t l r.1))
+ruled S c (read s) cs us t q l k r = k s t (inl refl) r
+ruled S c (row i) cs us t q l k r = r
+ruled S c item cs us t q l k r = r
+ruled S c caught cs us t q l k r = r
+ruled S c (dot x) cs [] t q l k r = absurd r
+ruled S c (dot x) cs (u ∷ []) t q l k r = r
+ruled S c (dot x) cs (u ∷ v ∷ us) t q l k r = absurd r
+ruled S c (call f) cs us t q l k r = r
+ruled S c (over f) cs us t q l k r = r
+ruled S c (form f) cs us t q l k r = r
+ruled S c within cs us t q l k r = ruled_within S c cs us t r
+ruled S c (rec ns) cs us t q l k r = r
+ruled S c (list r) cs us t q l k w = ruled_list S c r cs us t w
+ruled S c (coerce to) cs us t q l k r = ruled_coerce S c to cs us t r
+ruled S c chain cs us t q l k r = absurd cc
+ruled S c (act d) cs us t q l k r = absurd cc
 
 mutual
-  -- a typing over some types of sources is one over others that keep those of what is read
-  pub typed_over : (S : Types) (t : Term) (c : Context) (u : Shape) → acts t ≡ false → Keeps c.sources S (sources_in t) → IsTyped c t u → IsTyped (over_types S c) t u
-  typed_over S (of h ts) c u q k w =
+  -- a typing over some lawful types of sources is one over others that keep those of what is read
+  pub typed_over : (S : Types) (t : Term) (c : Context) (u : Shape) → acts t ≡ false → HaveLawfulTypes c.sources → Keeps c.sources S (sources_in t) → IsTyped c t u → IsTyped (over_types S c) t u
+  typed_over S (of h ts) c u q l k w =
       let calm : (is_acting h ≡ false) × (any_acts ts ≡ false) = neither (is_acting h) (any_acts ts) q in (
         w.0,
-        parts_over S ts h (parts_count ts) [] c w.0 calm.1 (λ s t a. k s t (among_right s (read_by h) (sources_among ts) a)) w.1,
-        ruled S c h ts w.0 u calm.0 (λ s t a. k s t (among_left s (read_by h) (sources_among ts) a)) w.2,
+        parts_over S ts h (parts_count ts) [] c w.0 calm.1 l (λ s t a. k s t (among_right s (read_by h) (sources_among ts) a)) w.1,
+        ruled S c h ts w.0 u calm.0 l (λ s t a. k s t (among_left s (read_by h) (sources_among ts) a)) w.2,
       )
 
-  parts_over : (S : Types) (ts : Terms) (h : Top) (n : ℕ) (done : List Shape) (c : Context) (us : List Shape) → any_acts ts ≡ false → Keeps c.sources S (sources_among ts) →
+  parts_over : (S : Types) (ts : Terms) (h : Top) (n : ℕ) (done : List Shape) (c : Context) (us : List Shape) → any_acts ts ≡ false → HaveLawfulTypes c.sources → Keeps c.sources S (sources_among ts) →
       AreTyped c h n done ts us → AreTyped (over_types S c) h n done ts us
-  parts_over S nil h n done c us q k w = w
-  parts_over S (cons t ts) h n done c us q k w =
+  parts_over S nil h n done c us q l k w = w
+  parts_over S (cons t ts) h n done c us q l k w =
       let calm : (acts t ≡ false) × (any_acts ts ≡ false) = neither (acts t) (any_acts ts) q in
       let st : Standing = standing_at h n (length done) in
       let kept : Keeps (context_for st c done).sources S (sources_in t) =
@@ -138,8 +144,8 @@ mutual
         w.0,
         w.1,
         w.2,
-        subst (λ d. IsTyped d t w.0) (standing_over S st c done) (typed_over S t (context_for st c done) w.0 calm.0 kept w.3),
-        parts_over S ts h n (done ++ w.0 ∷ []) c w.1 calm.1 (λ s x a. k s x (among_right s (sources_in t) (sources_among ts) a)) w.4,
+        subst (λ d. IsTyped d t w.0) (standing_over S st c done) (typed_over S t (context_for st c done) w.0 calm.0 (subst HaveLawfulTypes (sym (same_sources st c done)) l) kept w.3),
+        parts_over S ts h n (done ++ w.0 ∷ []) c w.1 calm.1 l (λ s x a. k s x (among_right s (sources_in t) (sources_among ts) a)) w.4,
       )
 
 -- ---- what is read has a type

@@ -1,12 +1,11 @@
 -- The types of a typing have rising columns where those around, and those that the tree names, have.
-use Rattle.std.proofs.Common.{◌≡◌, ℕ, zero, suc, List, [], ◌∷◌, ◌++◌, length, Bool, true, false, Some, Result, Ok, refl, sym, subst}
+use Rattle.std.proofs.Common.{◌≡◌, ℕ, zero, suc, List, [], ◌∷◌, ◌++◌, length, Bool, true, false, Some, Result, Ok, inl, inr, refl, sym, subst}
 use Rattle.std.specs.Prelude.{bytes_eq, slice_get, if◌then◌else◌}
 use Rattle.std.specs.Ordering.{nat_cmp, match_ordering}
 use Rattle.std.specs.Cmp.Lexicographic.{slice_cmp}
 use Rattle.std.specs.declared.cmp.Ordering.{Ordering}
 use Rattle.std.specs.declared.cmp.Ordering.TheVariants.{Less, Equal, Greater}
 use Rattle.fx_data.specs.Types.{Shape, blanks, numbers, texts, booleans, dates, records, tables, ColumnList, no_columns, column}
-use Rattle.fx_data.specs.Values.{Data, number, text, boolean, date}
 use Rattle.fx_trees.specs.Rows.{form_row, row_of, shape_of, takes_count}
 use Rattle.fx_trees.specs.declared.functions.Form.{Form}
 use Rattle.fx_trees.specs.declared.functions.Form.TheVariants as form
@@ -17,16 +16,17 @@ use Rattle.fx_trees.specs.declared.rows.Answer.TheVariants as answer
 use Rattle.fx_trees.specs.declared.rows.Scalar.{Scalar}
 use Rattle.fx_trees.specs.declared.rows.Scalar.TheVariants.{Blank, Number, Text, Boolean, Date}
 use Rattle.fx_trees.specs.declared.rows.Takes.{Takes}
+use Rattle.fx_trees.specs.declared.sources.Source.{Source}
 use Rattle.fx_trees.specs.SourceTypes.{put_column}
 use Rattle.fx_trees.specs.Term.{Term, Terms, of, nil, cons, Top}
 use Rattle.fx_trees.specs.Term as top
 use Rattle.fx_typing.specs.Columns.{added, dropped, field_in, if_there, is_one_of, label_of, names_there, row_columns, shown, value_column, with_new, with_renamed}
 use Rattle.fx_typing.specs.Columns as columns
-use Rattle.fx_typing.specs.WellTyped.{Context, Standing, plain, inside, bound, catching, Stands, AllStand, IsBelowNames, NamesRise, IsRuled, IsTyped, AreTyped, answered, as_table, columns_by, context_for, first_type, paired, parts_count, row_type, standing_at}
+use Rattle.fx_typing.specs.LawfulTypes.{AreLawfulColumns, IsLawfulType, IsUnder}
+use Rattle.fx_typing.specs.WellTyped.{Context, Standing, plain, inside, bound, catching, Stands, AllStand, IsBelowNames, NamesRise, IsConstantType, IsRuled, IsTyped, AreTyped, answered, as_table, columns_by, context_for, first_type, paired, parts_count, row_type, standing_at, target_source}
 use Rattle.fx_typing.proofs.Operators.{then_ok}
 use Rattle.fx_value.proofs.Unions.{Under, Rises}
-use Rattle.fx_value.specs.Fits.{fits_in}
-use Rattle.fx_semantics.specs.Sound.{AreLawfulColumns, AreLawfulTrees, AreLawfulTypes, AreLawfulTypings, IsLawfulContext, IsLawfulTree, IsLawfulType, IsLawfulTyping, IsPlain, IsUnder, NamesLawful, TypingsLawful}
+use Rattle.fx_semantics.specs.Sound.{AreLawfulTrees, AreLawfulTypes, AreLawfulTypings, IsLawfulContext, IsLawfulTree, IsLawfulTyping, NamesLawful, TypingsLawful}
 use Rattle.fx_semantics.proofs.Branches.{if_branch, switch_branch}
 use Rattle.fx_semantics.proofs.Columns.{fine, free_ok, label_ok, ok_is, rises_of, rises_without, there_ok}
 use Rattle.fx_semantics.proofs.Over.{table_ok}
@@ -244,21 +244,9 @@ common_branch form.IfError [] common n a l i = absurd cc
 common_branch form.IfError (u ∷ us) common n a l i = subst IsLawfulType a.0 l.0
 
 -- ---- each node
-plain_lawful : (d : Data) (t : Shape) → IsPlain d → fits_in d t ≡ true → IsLawfulType t
-plain_lawful d blanks p e = tt
-plain_lawful d numbers p e = tt
-plain_lawful d texts p e = tt
-plain_lawful d booleans p e = tt
-plain_lawful d dates p e = tt
-plain_lawful (number z) (records cs) p e = absurd cc
-plain_lawful (text x) (records cs) p e = absurd cc
-plain_lawful (boolean b) (records cs) p e = absurd cc
-plain_lawful (date z) (records cs) p e = absurd cc
-plain_lawful (number z) (tables cs) p e = absurd cc
-plain_lawful (text x) (tables cs) p e = absurd cc
-plain_lawful (boolean b) (tables cs) p e = absurd cc
-plain_lawful (date z) (tables cs) p e = absurd cc
-plain_lawful d t p e = absurd p
+pub constant_lawful : (c : Context) (t : Shape) → ((s : Source) (u : Shape) → c.sources s ≡ Some u → IsLawfulType u) → IsConstantType c t → IsLawfulType t
+constant_lawful c t k (inl l) = l
+constant_lawful c t k (inr r) = subst IsLawfulType (sym r.3) (k (target_source r.0) (tables r.1) r.2)
 
 lawful_at : (ts : List Shape) (k : ℕ) (t : Shape) → AreLawfulTypes ts → slice_get ts k ≡ Some t → IsLawfulType t
 lawful_at [] k t l e = absurd cc
@@ -305,7 +293,7 @@ coerced_lawful (tables cs) c ts (u ∷ []) t l r = subst IsLawfulType (sym r.1) 
 coerced_lawful q c ts us t l r = absurd r
 
 node_lawful : (c : Context) (h : Top) (ts : Terms) (us : List Shape) (t : Shape) → IsLawfulContext c → NamesLawful h → AreLawfulTypes us → IsRuled c h ts us t → IsLawfulType t
-node_lawful c (top.const d) ts us t k n l r = plain_lawful d t n r
+node_lawful c (top.const d) ts us t k n l r = constant_lawful c t k.of_sources r.1
 node_lawful c (top.read s) ts us t k n l r = k.of_sources s t r
 node_lawful c (top.row i) ts us t k n l r = lawful_at c.rows i t k.of_scopes r
 node_lawful c top.item ts us t k n l r = k.of_item t r

@@ -196,7 +196,7 @@ coerce_fits g c rows item caught s to ts us t l k r v h =
 -- ---- each node
 node_fits : (g : Giving) (c : Context) (h : Top) (ts : Terms) (us : List Shape) (t : Shape) → IsLawfulType t → AreLawfulTypes us →
     AllHold g c h (parts_count ts) [] (meanings ts) us → IsRuled c h ts us t → Holds g c (IsNode h (meanings ts)) t
-node_fits g c (top.const d) ts us t l ls k r = λ rows item caught v s p. given_fits v d t r p
+node_fits g c (top.const d) ts us t l ls k r = λ rows item caught v s p. given_fits v d t r.0 p
 node_fits g c (top.read x) ts us t l ls k r = λ rows item caught v s p. s.of_sources x t v r p
 node_fits g c (top.row i) ts us t l ls k r = λ rows item caught v s p. row_at rows c.rows i t v s.of_scopes r p
 node_fits g c top.item ts us t l ls k r = λ rows item caught v s p. item_at item c.item t v s.of_item r p

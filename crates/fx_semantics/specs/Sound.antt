@@ -1,34 +1,18 @@
 -- What the value of a well typed tree fits.
 use Rattle.std.specs.Prelude.{◌≡◌, ℕ, true, List, [], ◌∷◌, ◌++◌, length, Option, Some, None}
 use Rattle.fx_data.specs.declared.faults.Fault.{Fault}
-use Rattle.fx_data.specs.Rising.{IsBelow}
-use Rattle.fx_data.specs.Types.{Shape, records, tables, ColumnList, no_columns, column}
-use Rattle.fx_data.specs.Values.{Data, number, text, boolean, date}
+use Rattle.fx_data.specs.Types.{Shape}
+use Rattle.fx_data.specs.Values.{Data}
 use Rattle.fx_trees.specs.declared.sources.Source.{Source}
-use Rattle.fx_trees.specs.Term.{Term, Terms, of, nil, cons, Top, const, list, coerce, chain, act}
+use Rattle.fx_trees.specs.Term.{Term, Terms, of, nil, cons, Top, list, coerce, chain, act}
+pub use Rattle.fx_typing.specs.LawfulTypes.{AreLawfulColumns, IsLawfulType, IsUnder}
 use Rattle.fx_typing.specs.WellTyped.{Context, IsTyped, AreTyped, context_for, parts_count, standing_at}
 use Rattle.fx_value.specs.Fits.{fits_in}
 use Rattle.fx_semantics.specs.Fresh.{IsValue}
 use Rattle.fx_semantics.specs.Sources.{Gives}
 
--- the name is below that of each of these columns
-abbrev pub IsUnder : List ℕ → ColumnList → Type 0
-IsUnder n no_columns = Unit {0}
-IsUnder n (column m t cs) = IsBelow n m × IsUnder n cs
-
--- a type whose columns have rising names, at every depth
 abbrev mutual
-  pub IsLawfulType : Shape → Type 0
-  IsLawfulType (records cs) = AreLawfulColumns cs
-  IsLawfulType (tables cs) = AreLawfulColumns cs
-  IsLawfulType t = Unit {0}
-
-  pub AreLawfulColumns : ColumnList → Type 0
-  AreLawfulColumns no_columns = Unit {0}
-  AreLawfulColumns (column n t cs) = IsUnder n cs × IsLawfulType t × AreLawfulColumns cs
-
-abbrev mutual
-  -- the types of a tree and of all its parts are such, as a typing has them
+  -- the types of a tree and of all its parts are lawful, as a typing has them
   pub IsLawfulTyping : (c : Context) (t : Term) (s : Shape) → IsTyped c t s → Type 0
   IsLawfulTyping c (of h ts) s w = IsLawfulType s × AreLawfulTypings c h (parts_count ts) [] ts w.0 w.1
 
@@ -47,17 +31,8 @@ pub record IsLawfulContext (c : Context) : Type 0 where
   pub of_scopes : AreLawfulTypes c.rows
   pub of_item : (t : Shape) → c.item ≡ Some t → IsLawfulType t
 
--- a constant that has one type
-abbrev pub IsPlain : Data → Type 0
-IsPlain (number z) = Unit {0}
-IsPlain (text cs) = Unit {0}
-IsPlain (boolean b) = Unit {0}
-IsPlain (date z) = Unit {0}
-IsPlain d = ⊥
-
--- a tree that doesn't act, whose constants are such and whose named types are lawful
+-- a tree that doesn't act, and whose named types are lawful
 abbrev pub NamesLawful : Top → Type 0
-NamesLawful (const d) = IsPlain d
 NamesLawful (list t) = IsLawfulType t
 NamesLawful (coerce t) = IsLawfulType t
 NamesLawful chain = ⊥

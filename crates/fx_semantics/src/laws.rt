@@ -13,7 +13,7 @@ pub fn values_fit()
 {}
 
 /// A law, and no work: the columns of all types of a typing have rising names, where those of the types
-/// around and of those that the tree names have, and each constant is of one type.
+/// around and of those that the tree names have.
 pub fn typings_are_lawful()
     ensures { TypingsLawful }
 {}

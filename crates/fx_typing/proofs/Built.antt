@@ -1,5 +1,5 @@
 -- What `With`, `Table` and `Defaults` make of well typed parts is well typed.
-use Rattle.std.proofs.Common.{◌≡◌, ℕ, ◌++◌, List, [], ◌∷◌, Bool, true, false, ◌&&◌, not, nat_lt, length, bytes_eq, Result, Ok, Err, refl, ap, sym, subst, ◌∙◌, if◌then◌else◌}
+use Rattle.std.proofs.Common.{◌≡◌, ℕ, ◌++◌, List, [], ◌∷◌, Bool, true, false, ◌&&◌, not, nat_lt, length, bytes_eq, Result, Ok, Err, refl, ap, sym, subst, ◌∙◌, inr, if◌then◌else◌}
 use Rattle.std.specs.Prelude.{Option, Some, None}
 use Rattle.std.proofs.lemmas.Slice.Eq.{bytes_eq-Decides}
 use Rattle.fx_data.specs.Types.{Shape, blanks, records, tables, ColumnList, no_columns, column}
@@ -11,19 +11,21 @@ use Rattle.fx_typing.specs.Columns.{and_then, row_columns}
 use Rattle.fx_typing.specs.Local.{value, coerced, by_way, put_first, join_all, firsts}
 use Rattle.fx_typing.specs.Meaning.{Place, Scope}
 use Rattle.fx_typing.specs.Ways.{Way, same, changed, refused, way}
-use Rattle.fx_typing.specs.WellTyped.{Context, Standing, plain, bound, AreAll, IsRuled, parts_count, IsTyped, AreTyped}
+use Rattle.fx_typing.specs.WellTyped.{Context, Standing, plain, bound, AreAll, target_source, HasColumns, IsRuled, parts_count, IsTyped, AreTyped}
 use Rattle.fx_typing.proofs.Rules.{Typed, seconds}
 use Rattle.fx_typing.proofs.Same.{way_same}
 use Rattle.fx_typing.specs.Builds.{is_bounded, bounded, rows_to, list_by, list_as, table_of, as_record, with_of, blank_fields, blank_record}
 use Rattle.fx_typing.specs.Calls.{defaults_of}
-use Rattle.fx_typing.specs.Deeds.{by_name, by_rows}
-use Rattle.fx_typing.specs.Parts.{Part, piece, target, Setting, put_value, values, unless}
+use Rattle.fx_typing.specs.Deeds.{by_name}
+use Rattle.fx_typing.specs.Parts.{Part, piece, Setting, put_value, values, unless}
 use Rattle.fx_typing.specs.Plans.{plan_with, first_record, record_type}
 use Rattle.fx_typing.specs.Targets.{rows_named}
 use Rattle.fx_typing.specs.Typing.{context_of}
+use Rattle.fx_typing.proofs.Deeds.{Of, by_name_ok, by_rows_ok, has_columns}
 use Rattle.fx_typing.proofs.Frame.{AllTyped}
 use Rattle.fx_typing.proofs.Places.{PartsStand, or_false, flat_stood, map_one, stood}
 use Rattle.fx_typing.proofs.Operators.{plainly_placed, then_ok}
+use Rattle.fx_typing.proofs.RelatedSteps.{ok_is}
 
 put_value_ok : (x : Term × Shape) (r : Result (List (Term × Shape)) ℕ) (xs : List (Term × Shape)) → put_value x r ≡ Ok xs →
     (ys : List (Term × Shape)) × (r ≡ Ok ys) × (xs ≡ x ∷ ys)
@@ -186,13 +188,11 @@ blanks_fit : (cs : ColumnList) → fields_fit (blank_fields cs) cs ≡ true
 blanks_fit no_columns = refl
 blanks_fit (column n t cs) = own_name n (fields_fit (blank_fields cs) cs) (blanks_fit cs)
 
-blank_typed : (c : Context) (cs : ColumnList) → Typed c (blank_record cs)
-blank_typed c cs = ([], refl, blanks_fit cs)
+blank_typed : (c : Context) (t : Target) (cs : ColumnList) → HasColumns c t cs → Typed c (blank_record cs)
+blank_typed c t cs h = ([], refl, (blanks_fit cs, inr (t, cs, h, refl)))
 
-rows_defaults : (c : Context) (o : Option (Target × Shape)) (x : Term × Shape) → by_rows o (λ r. Ok (blank_record r.1)) ≡ Ok x → Typed c x
-rows_defaults c (Some (t, tables cs)) x e = let y : blank_record cs ≡ x = cc in subst (Typed c) y (blank_typed c cs)
-rows_defaults c o x e = absurd cc
-
-pub defaults_typed : (c : Context) (n : Names) (qs : List Part) (x : Term × Shape) → by_name qs (defaults_of n) ≡ Ok x → Typed c x
-defaults_typed c n (target None l ∷ qs) x e = rows_defaults c (rows_named n l) x e
-defaults_typed c n qs x e = absurd cc
+pub defaults_typed : (c : Context) (n : Names) (qs : List Part) (x : Term × Shape) → Of n c → by_name qs (defaults_of n) ≡ Ok x → Typed c x
+defaults_typed c n qs x here e =
+    let b = by_name_ok qs (defaults_of n) x e in
+    let r = by_rows_ok (rows_named n b.0) (λ (r : Target × ColumnList). Ok (blank_record r.1)) x b.3 in
+    subst (Typed c) (ok_is (blank_record r.1) x r.3) (blank_typed c r.0 r.1 (here (target_source r.0) ∙ has_columns n b.0 r.0 r.1 r.2))

@@ -202,7 +202,7 @@ shape_typed p s sig.With qs x t e acts = with_typed p s (may_act s.grant) qs x t
 shape_typed p s sig.Table qs x t e acts = table_typed p s qs x t e
 shape_typed p s sig.Today qs x t e acts =
     let y : (of (read source.Today) nil, dates) ≡ x = cc in subst (Typed (context_of p s)) y ([], refl, refl)
-shape_typed p s sig.Defaults qs x t e acts = defaults_typed (context_of p s) p.names qs x e
+shape_typed p s sig.Defaults qs x t e acts = defaults_typed (context_of p s) p.names qs x (λ r. refl) e
 shape_typed p s (sig.Act a) qs x t e acts = acts a refl
 
 -- what acting calls of this name, with these parts, make is well typed

@@ -1,5 +1,5 @@
 -- Constants, names, dots, aliases, records, lists and chains: what the local rule makes of well typed parts is well typed.
-use Rattle.std.proofs.Common.{◌≡◌, ℕ, List, [], ◌∷◌, Bool, true, false, not, length, Option, Some, None, Result, Ok, Err, refl, subst, if◌then◌else◌}
+use Rattle.std.proofs.Common.{◌≡◌, ℕ, List, [], ◌∷◌, Bool, true, false, not, length, Option, Some, None, Result, Ok, Err, refl, inl, subst, if◌then◌else◌}
 use Rattle.fx_data.specs.Types.{Shape, numbers, texts, booleans}
 use Rattle.fx_data.specs.Values.{Data, number, text, boolean}
 use Rattle.fx_value.specs.Fits.{fits_in}
@@ -8,6 +8,7 @@ use Rattle.fx_trees.specs.Tree.{Head}
 use Rattle.fx_trees.specs.Tree as tree
 use Rattle.fx_trees.specs.Term.{Term, of, nil, const}
 use Rattle.fx_typing.specs.Columns.{and_then}
+use Rattle.fx_typing.specs.LawfulTypes.{IsLawfulType}
 use Rattle.fx_typing.specs.Local.{value, label}
 use Rattle.fx_typing.specs.Meaning.{Place, Meaning, valued, controlled, screened, enumerated, in_globals, meaning_of, named}
 use Rattle.fx_typing.proofs.Rules.{Typed}
@@ -35,19 +36,19 @@ pub as_part_sound : (p : Place) (s : Setting) (r : Result (Term × Shape) ℕ) (
     ((x : Term × Shape) → r ≡ Ok x → Typed (context_of p s) x) → IsSound p s q
 as_part_sound p s r q e h = let a = as_part_ok r q e in subst (IsSound p s) a.2 (h a.0 a.1, tt)
 
-constant_sound : (p : Place) (s : Setting) (v : Data) (t : Shape) (q : Part) → fits_in v t ≡ true → constant v t ≡ Ok q → IsSound p s q
-constant_sound p s v t q f e = let k : plainly (of (const v) nil, t) ≡ q = cc in subst (IsSound p s) k (([], refl, f), tt)
+constant_sound : (p : Place) (s : Setting) (v : Data) (t : Shape) (q : Part) → fits_in v t ≡ true → IsLawfulType t → constant v t ≡ Ok q → IsSound p s q
+constant_sound p s v t q f l e = let k : plainly (of (const v) nil, t) ≡ q = cc in subst (IsSound p s) k (([], refl, (f, inl l)), tt)
 
 pub num_sound : (p : Place) (s : Setting) (qs : List Part) (q : Part) (z : _) → admit p s (tree.num z) qs ≡ Ok q → IsSound p s q
-num_sound p s [] q z e = constant_sound p s (number z) numbers q refl e
+num_sound p s [] q z e = constant_sound p s (number z) numbers q refl tt e
 num_sound p s (r ∷ qs) q z e = absurd cc
 
 pub text_sound : (p : Place) (s : Setting) (qs : List Part) (q : Part) (cs : List ℕ) → admit p s (tree.text cs) qs ≡ Ok q → IsSound p s q
-text_sound p s [] q cs e = constant_sound p s (text cs) texts q refl e
+text_sound p s [] q cs e = constant_sound p s (text cs) texts q refl tt e
 text_sound p s (r ∷ qs) q cs e = absurd cc
 
 pub truth_sound : (p : Place) (s : Setting) (qs : List Part) (q : Part) (b : Bool) → admit p s (tree.truth b) qs ≡ Ok q → IsSound p s q
-truth_sound p s [] q b e = constant_sound p s (boolean b) booleans q refl e
+truth_sound p s [] q b e = constant_sound p s (boolean b) booleans q refl tt e
 truth_sound p s (r ∷ qs) q b e = absurd cc
 
 -- names

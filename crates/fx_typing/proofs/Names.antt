@@ -2,7 +2,7 @@
 use Rattle.std.proofs.Common.{◌≡◌, ℕ, zero, suc, ◌++◌, List, [], ◌∷◌, Bool, true, false, ◌&&◌, nat_eq, ne_eqb, eq-eqb, eqb-true, pos, length, map, option_map, option_and_then, slice_get, codes, bytes_eq, encode_utf8_all, Option, Some, None, Ok, refl, ap, sym, subst, ◌∙◌, append_assoc, inl, inr, ◌⊎◌, if◌then◌else◌}
 use Rattle.fx_data.specs.TypeView.{shape}
 use Rattle.fx_data.specs.Types.{Shape, blanks, numbers, texts, booleans, dates, records, tables, no_columns}
-use Rattle.fx_data.specs.Values.{Data, text, boolean, number}
+use Rattle.fx_data.specs.Values.{Data, blank, text, boolean, number}
 use Rattle.fx_value.specs.Fits.{fits_in}
 use Rattle.fx_trees.specs.declared.literals.Enumeration.{Enumeration}
 use Rattle.fx_trees.specs.declared.sources.Source.{Source}
@@ -23,6 +23,7 @@ use Rattle.fx_trees.specs.SourceTypes.{columns_of, item_columns, item_type, prop
 use Rattle.fx_trees.specs.Term.{Term, of, nil, cons, const, read, row, item, caught}
 use Rattle.fx_trees.specs.Term as term
 use Rattle.fx_typing.specs.Columns.{field_in, field_of, fault_type}
+use Rattle.fx_typing.specs.LawfulTypes.{IsLawfulType}
 use Rattle.fx_typing.specs.Meaning.{Place, Scope, Meaning, valued, controlled, screened, enumerated, or_else, field_at, in_scope_by, in_scopes, whole_by, this_record, this_item, first_error, reserved, place_of, is_on, is_global, in_context, in_globals, behind_scopes, meaning_of, named, own_default, default_of, default_type, is_input, is_chosen, written_or, property_read, input_read, control_read, member_of, known_field, field_read, dotted}
 use Rattle.fx_typing.specs.WellTyped.{Context, IsTyped}
 use Rattle.fx_typing.proofs.Rules.{Typed}
@@ -331,12 +332,15 @@ named_typed n c (Some screened) y h e = absurd cc
 named_typed n c (Some (enumerated x)) y h e = absurd cc
 named_typed n c None y h e = absurd cc
 
--- a property that isn't written has its default, which fits
-abbrev Defaulted : Option Shape → Data → Type 0
-Defaulted o d = (t : Shape) → o ≡ Some t → fits_in d t ≡ true
+-- a property that isn't written has its default, which fits a lawful type
+abbrev Suits : Data → Shape → Type 0
+Suits d t = (fits_in d t ≡ true) × IsLawfulType t
 
-one_default : (b : Bool) (u : Shape) (d : Data) → fits_in d u ≡ true → Defaulted (if b then Some u else None) d
-one_default true u d h t e = let k : u ≡ t = cc in subst (λ v. fits_in d v ≡ true) k h
+abbrev Defaulted : Option Shape → Data → Type 0
+Defaulted o d = (t : Shape) → o ≡ Some t → Suits d t
+
+one_default : (b : Bool) (u : Shape) (d : Data) → Suits d u → Defaulted (if b then Some u else None) d
+one_default true u d h t e = let k : u ≡ t = cc in subst (Suits d) k h
 one_default false u d h t e = absurd cc
 
 slider_default : (b : Bool) → fits_in (if b then number (pos 1000000) else number (pos 0)) numbers ≡ true
@@ -344,24 +348,24 @@ slider_default true = refl
 slider_default false = refl
 
 checkbox_default : (a b : Bool) → Defaulted (if a then Some texts else (if b then Some booleans else None)) (if a then text [] else boolean false)
-checkbox_default true b t e = let k : texts ≡ t = cc in subst (λ v. fits_in (text []) v ≡ true) k refl
-checkbox_default false b t e = one_default b booleans (boolean false) refl t e
+checkbox_default true b t e = let k : texts ≡ t = cc in subst (Suits (text [])) k (refl, tt)
+checkbox_default false b t e = one_default b booleans (boolean false) (refl, tt) t e
 
-own_fits : (c : Control) (n : List ℕ) → Defaulted (own_type c n) (own_default c n)
-own_fits control.Label n t e = one_default (bytes_eq n (codes "Text")) texts (text []) refl t e
-own_fits control.Button n t e = one_default (bytes_eq n (codes "Text")) texts (text []) refl t e
-own_fits control.TextInput n t e = refl
-own_fits control.Slider n t e = one_default _ numbers _ (slider_default (bytes_eq n (codes "Max"))) t e
-own_fits control.Checkbox n t e = checkbox_default (bytes_eq n (codes "Text")) (bytes_eq n (codes "Default")) t e
-own_fits control.DatePicker n t e = refl
-own_fits control.Gallery n t e = absurd cc
+own_suits : (c : Control) (n : List ℕ) → Defaulted (own_type c n) (own_default c n)
+own_suits control.Label n t e = one_default (bytes_eq n (codes "Text")) texts (text []) (refl, tt) t e
+own_suits control.Button n t e = one_default (bytes_eq n (codes "Text")) texts (text []) (refl, tt) t e
+own_suits control.TextInput n t e = one_default (bytes_eq n (codes "Default")) texts blank (refl, tt) t e
+own_suits control.Slider n t e = one_default _ numbers _ (slider_default (bytes_eq n (codes "Max")), tt) t e
+own_suits control.Checkbox n t e = checkbox_default (bytes_eq n (codes "Text")) (bytes_eq n (codes "Default")) t e
+own_suits control.DatePicker n t e = one_default (bytes_eq n (codes "DefaultDate")) dates blank (refl, tt) t e
+own_suits control.Gallery n t e = absurd cc
 
 visible_or : (b : Bool) (o : Option Shape) (d : Data) → Defaulted o d → Defaulted (if b then Some booleans else o) (if b then boolean true else d)
-visible_or true o d h t e = let k : booleans ≡ t = cc in subst (λ v. fits_in (boolean true) v ≡ true) k refl
+visible_or true o d h t e = let k : booleans ≡ t = cc in subst (Suits (boolean true)) k (refl, tt)
 visible_or false o d h t e = h t e
 
-plain_fits : (c : Control) (n : List ℕ) → Defaulted (property_type c n) (default_of c n)
-plain_fits c n = visible_or (bytes_eq n (codes "Visible")) (own_type c n) (own_default c n) (own_fits c n)
+plain_suits : (c : Control) (n : List ℕ) → Defaulted (property_type c n) (default_of c n)
+plain_suits c n = visible_or (bytes_eq n (codes "Visible")) (own_type c n) (own_default c n) (own_suits c n)
 
 items_fit : (c : Control) (n : List ℕ) → is_items c n ≡ true → fits_in (default_of c n) (tables no_columns) ≡ true
 items_fit control.Gallery n e = subst (λ m. fits_in (default_of control.Gallery m) (tables no_columns) ≡ true) (sym (bytes_same n (codes "Items") e)) refl
@@ -372,13 +376,12 @@ items_fit control.Slider n e = absurd cc
 items_fit control.Checkbox n e = absurd cc
 items_fit control.DatePicker n e = absurd cc
 
-default_fits : (c : Control) (n : List ℕ) (i t : Shape) → (if is_items c n then Some i else property_type c n) ≡ Some t →
-    fits_in (default_of c n) (default_type c n t) ≡ true
-default_fits c n i t e = by_test (is_items c n) refl e
+default_suits : (c : Control) (n : List ℕ) (i t : Shape) → (if is_items c n then Some i else property_type c n) ≡ Some t → Suits (default_of c n) (default_type c n t)
+default_suits c n i t e = by_test (is_items c n) refl e
   where
-    by_test : (b : Bool) → is_items c n ≡ b → (if b then Some i else property_type c n) ≡ Some t → fits_in (default_of c n) (if b then tables no_columns else t) ≡ true
-    by_test true j k = items_fit c n j
-    by_test false j k = plain_fits c n t k
+    by_test : (b : Bool) → is_items c n ≡ b → (if b then Some i else property_type c n) ≡ Some t → Suits (default_of c n) (if b then tables no_columns else t)
+    by_test true j k = (items_fit c n j, tt)
+    by_test false j k = plain_suits c n t k
 
 -- what stands behind a dot
 along : (c : Context) (y x : Term × Shape) → y ≡ x → Typed c y → Typed c x
@@ -414,7 +417,9 @@ control_typed p s k c None x y law here e = by_chosen (is_chosen c.kind (encode_
     by_written : (t : Shape) (o : Option (ℕ × Property)) → place_of (λ (q : Property). nat_eq q.control k && bytes_eq q.name x) 0 p.names.properties ≡ o → property_of x c ≡ Some t →
         Typed (context_of p s) (written_or c.kind x t o)
     by_written t (Some q) i j = read_typed (context_of p s) (source.Cell q.1.cell) t (property_source p.names k c x t q law here j i)
-    by_written t None i j = ([], refl, default_fits c.kind (encode_utf8_all x) (tables (item_columns (shape c.items))) t j)
+    by_written t None i j =
+        let d = default_suits c.kind (encode_utf8_all x) (tables (item_columns (shape c.items))) t j in
+        ([], refl, (d.0, inl d.1))
 
     by_property : (o : Option Shape) → property_of x c ≡ o → property_read p.names k c x o ≡ Ok y → Typed (context_of p s) y
     by_property (Some t) i j =
@@ -441,7 +446,7 @@ control_typed p s k c None x y law here e = by_chosen (is_chosen c.kind (encode_
     by_chosen false i j = by_input (is_input c.kind (encode_utf8_all x)) j
 
 member_typed : (c : Context) (b : Bool) (x : List ℕ) (y : Term × Shape) → member_of b x ≡ Ok y → Typed c y
-member_typed c true x y e = let z : (of (const (text x)) nil, texts) ≡ y = cc in along c _ y z ([], refl, refl)
+member_typed c true x y e = let z : (of (const (text x)) nil, texts) ≡ y = cc in along c _ y z ([], refl, (refl, inl tt))
 member_typed c false x y e = absurd cc
 
 pub dotted_typed : (p : Place) (s : Setting) (x : List ℕ) (m : Meaning) (y : Term × Shape) → IsLawful p.names → Fitting p.names (context_of p s) m →

@@ -1,5 +1,5 @@
 -- What operators and joined texts make of well typed operands is well typed.
-use Rattle.std.proofs.Common.{◌≡◌, ℕ, List, [], ◌∷◌, Bool, true, false, ◌&&◌, length, Result, Ok, Err, refl, sym, subst}
+use Rattle.std.proofs.Common.{◌≡◌, ℕ, List, [], ◌∷◌, Bool, true, false, ◌&&◌, length, Result, Ok, Err, refl, sym, subst, inl}
 use Rattle.std.specs.Prelude.{Option, Some, None, option_map}
 use Rattle.fx_data.specs.Types.{Shape, blanks, numbers, texts, dates}
 use Rattle.fx_data.specs.Values.{text}
@@ -147,7 +147,7 @@ paired_typed p s o (a ∷ b ∷ c ∷ xs) qs x t m = absurd cc
 
 woven_pieces : (p : Place) (s : Setting) (qs : List Part) (x : Term × Shape) → PartsStand p s plainly_placed [] qs → woven_by qs ≡ Ok x → Typed (context_of p s) x
 woven_pieces p s [] x t m =
-    let y : (of (const (text [])) nil, texts) ≡ x = cc in subst (Typed (context_of p s)) y ([], refl, refl)
+    let y : (of (const (text [])) nil, texts) ≡ x = cc in subst (Typed (context_of p s)) y ([], refl, (refl, inl tt))
 woven_pieces p s (q ∷ qs) x t m = plain_function p s fun.Concatenation (q ∷ qs) x refl t m
 
 -- THE laws of the operators: what is admitted of well typed parts is a well typed tree

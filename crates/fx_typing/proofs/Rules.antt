@@ -1,12 +1,11 @@
 -- The law of the one rule: what it makes of well typed parts is well typed.
-use Rattle.std.proofs.Common.{◌≡◌, ℕ, suc, ◌++◌, List, [], ◌∷◌, Bool, true, false, length, Result, Ok, Err, refl, ap, sym, subst, ◌∙◌, if◌then◌else◌}
+use Rattle.std.proofs.Common.{◌≡◌, ℕ, suc, ◌++◌, List, [], ◌∷◌, Bool, true, false, length, Result, Ok, Err, refl, ap, sym, subst, ◌∙◌, inl, if◌then◌else◌}
 use Rattle.std.specs.Prelude.{Option, Some, None}
 use Rattle.fx_data.specs.Types.{Shape, blanks, numbers, texts, booleans, dates, records, tables, no_columns}
 use Rattle.fx_data.specs.Values.{text}
 use Rattle.fx_trees.specs.declared.functions.Form.{Form}
 use Rattle.fx_trees.specs.declared.functions.Fun.{Fun}
 use Rattle.fx_trees.specs.declared.rows.Row.{Row}
-use Rattle.fx_trees.specs.declared.rows.Scalar.{Scalar}
 use Rattle.fx_trees.specs.declared.rows.Takes.{Takes}
 use Rattle.fx_trees.specs.declared.rows.Takes.TheVariants as takes
 use Rattle.fx_trees.specs.Rows.{shape_of, row_of, form_row, takes_at, takes_count}
@@ -96,8 +95,8 @@ piece_typed c takes.RowFormula first common (value a m texts) x e h = let y : (m
 piece_typed c takes.RowFormula first common (value a m booleans) x e h = let y : (m, booleans) ≡ x = cc in along c takes.RowFormula first common _ x y (h, tt)
 piece_typed c takes.RowFormula first common (value a m dates) x e h = let y : (m, dates) ≡ x = cc in along c takes.RowFormula first common _ x y (h, tt)
 piece_typed c takes.RowFormula first common (value a m (records cs)) x e h = let y : (m, records cs) ≡ x = cc in along c takes.RowFormula first common _ x y (h, tt)
-piece_typed c takes.Column first common (label l) x e h = let y : (of (const (text l)) nil, texts) ≡ x = cc in along c takes.Column first common _ x y (([], refl, refl), refl)
-piece_typed c takes.NewColumn first common (label l) x e h = let y : (of (const (text l)) nil, texts) ≡ x = cc in along c takes.NewColumn first common _ x y (([], refl, refl), refl)
+piece_typed c takes.Column first common (label l) x e h = let y : (of (const (text l)) nil, texts) ≡ x = cc in along c takes.Column first common _ x y (([], refl, (refl, inl tt)), refl)
+piece_typed c takes.NewColumn first common (label l) x e h = let y : (of (const (text l)) nil, texts) ≡ x = cc in along c takes.NewColumn first common _ x y (([], refl, (refl, inl tt)), refl)
 piece_typed c k first common p x e h = absurd cc
 
 -- the first part stands whatever the first type is

@@ -10,7 +10,7 @@ use Rattle.fx_typing.specs.WellTyped.{Context, Standing, plain, standing_at, con
 use Rattle.fx_typing.proofs.Rules.{Typed, coercion_ruled}
 use Rattle.fx_typing.proofs.Same.{way_same}
 use Rattle.fx_typing.specs.Builds.{types_of}
-use Rattle.fx_typing.specs.Parts.{Part, piece, meant, target, assigned, Setting, plainly, put_value, values, lowest}
+use Rattle.fx_typing.specs.Parts.{Part, piece, meant, target, assigned, Setting, put_value, values, lowest}
 use Rattle.fx_typing.specs.Plans.{Plan, scopes_for, is_catching, setting_by, plan_at}
 use Rattle.fx_typing.specs.Typing.{context_of}
 use Rattle.fx_typing.proofs.Places.{or_false}

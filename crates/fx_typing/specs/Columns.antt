@@ -1,6 +1,6 @@
 -- Columns, and what functions of tables make of them.
-use Rattle.std.specs.Prelude.{ℕ, List, [], ◌∷◌, Bool, true, false, ◌||◌, ◌&&◌, Option, Some, None, is_some, Result, Ok, Err, bytes_eq, codes, if◌then◌else◌}
-use Rattle.fx_data.specs.Types.{Shape, numbers, texts, records, tables, ColumnList, no_columns, column}
+use Rattle.std.specs.Prelude.{ℕ, List, [], ◌∷◌, Bool, true, false, ◌||◌, ◌&&◌, Option, Some, None, Result, Ok, Err, bytes_eq, codes, if◌then◌else◌}
+use Rattle.fx_data.specs.Types.{Shape, texts, records, ColumnList, no_columns, column}
 use Rattle.fx_data.specs.Values.{text}
 use Rattle.fx_trees.specs.SourceTypes.{put_column}
 use Rattle.fx_trees.specs.Term.{Term, of, nil, const}

@@ -1,5 +1,6 @@
 pub mod Ways
 pub mod Columns
+pub mod LawfulTypes
 pub mod WellTyped
 pub mod Acts
 pub mod Operators

@@ -1,6 +1,6 @@
 -- The one rule of all functions, operators and forms, over their parts as they were judged.
-use Rattle.std.specs.Prelude.{ℕ, suc, codes, List, [], ◌∷◌, ◌++◌, Bool, true, false, ◌||◌, ◌&&◌, length, Option, Some, None, Result, Ok, Err, if◌then◌else◌}
-use Rattle.fx_data.specs.Types.{Shape, blanks, texts, records, tables, ColumnList, no_columns}
+use Rattle.std.specs.Prelude.{ℕ, suc, codes, List, [], ◌∷◌, Bool, true, false, ◌||◌, ◌&&◌, length, Option, Some, None, Result, Ok, Err, if◌then◌else◌}
+use Rattle.fx_data.specs.Types.{Shape, blanks, texts, records, tables, no_columns}
 use Rattle.fx_data.specs.Values.{text}
 use Rattle.fx_value.specs.Join.{join_of}
 use Rattle.fx_trees.specs.declared.functions.Form.{Form}

@@ -1,10 +1,9 @@
 -- What the names of a formula mean.
-use Rattle.std.specs.Prelude.{ℕ, zero, suc, pos, List, [], ◌∷◌, length, Bool, true, false, ◌&&◌, ◌||◌, nat_eq, Option, Some, None, is_some, option_map, Result, Ok, Err, bytes_eq, codes, encode_utf8_all, if◌then◌else◌, slice_get}
+use Rattle.std.specs.Prelude.{ℕ, suc, pos, List, [], ◌∷◌, Bool, true, false, ◌&&◌, nat_eq, Option, Some, None, option_map, Result, Ok, Err, bytes_eq, codes, encode_utf8_all, if◌then◌else◌, slice_get}
 use Rattle.fx_data.specs.TypeView.{shape}
-use Rattle.fx_data.specs.Types.{Shape, texts, records, tables, ColumnList, no_columns}
+use Rattle.fx_data.specs.Types.{Shape, texts, records, tables, no_columns}
 use Rattle.fx_data.specs.Values.{Data, blank, number, text, boolean, tab, no_rows}
 use Rattle.fx_trees.specs.declared.literals.Enumeration.{Enumeration}
-use Rattle.fx_trees.specs.declared.sources.Source.{Source}
 use Rattle.fx_trees.specs.declared.sources.Source.TheVariants as source
 use Rattle.fx_trees.specs.Literals.{enumeration_of, has_member}
 use Rattle.fx_data.specs.declared.controls.Control.{Control}

@@ -1,5 +1,5 @@
 -- Which typed trees are well typed: one rule for each head, over the types of its parts.
-use Rattle.std.specs.Prelude.{◌≡◌, ℕ, zero, suc, ◌<◌, ◌++◌, List, [], ◌∷◌, Bool, true, false, map, length, Option, Some, None, Result, Ok, Err, slice_get, codes, IsSome}
+use Rattle.std.specs.Prelude.{◌≡◌, ℕ, zero, suc, ◌<◌, ◌++◌, List, [], ◌∷◌, ◌⊎◌, Bool, true, map, length, Option, Some, None, Result, Ok, Err, slice_get, codes, IsSome}
 use Rattle.fx_data.specs.Rising.{IsBelow}
 use Rattle.fx_data.specs.Types.{Shape, blanks, numbers, texts, booleans, records, tables, ColumnList, no_columns, column}
 use Rattle.fx_value.specs.Fits.{fits_in}
@@ -21,7 +21,8 @@ use Rattle.fx_trees.specs.Rows.{shape_of, row_of, form_row, takes_at, takes_coun
 use Rattle.fx_trees.specs.Term.{Term, Terms, of, nil, cons, Top, const, read, row, item, caught, dot, call, over, form, within, rec, list, coerce, chain, act}
 use Rattle.fx_trees.specs.Rules as rules
 use Rattle.fx_typing.specs.Ways.{way, changed, is_scalar, is_comparable}
-use Rattle.fx_typing.specs.Columns.{field_in, field_of, value_column, row_columns, and_then, added, dropped, shown, renamed, fault_type, tells_error}
+use Rattle.fx_typing.specs.LawfulTypes.{IsLawfulType}
+use Rattle.fx_typing.specs.Columns.{field_in, field_of, value_column, row_columns, added, dropped, shown, renamed, fault_type, tells_error}
 
 -- what a tree stands in: the types of the sources, how many screens there are, the types of the scopes
 -- from the outside, that of the gallery's item if there is one, and whether an error is caught around
@@ -226,9 +227,13 @@ IsDone c deed.Notify cs (texts ∷ []) t = t ≡ booleans
 IsDone c (deed.Reset k) cs [] t = IsSome (c.sources (source.Input k)) × (t ≡ booleans)
 IsDone c d cs us t = ⊥
 
+-- a type of constants: a lawful one, or that of a row of a table or a collection
+abbrev pub IsConstantType : Context → Shape → Type 0
+IsConstantType c t = IsLawfulType t ⊎ ((k : Target) × (cs : ColumnList) × HasColumns c k cs × (t ≡ records cs))
+
 -- the rule of a head, over its parts and their types
 abbrev pub IsRuled : Context → Top → Terms → List Shape → Shape → Type 0
-IsRuled c (const v) cs us t = fits_in v t ≡ true
+IsRuled c (const v) cs us t = (fits_in v t ≡ true) × IsConstantType c t
 IsRuled c (read s) cs us t = c.sources s ≡ Some t
 IsRuled c (row k) cs us t = slice_get c.rows k ≡ Some t
 IsRuled c item cs us t = c.item ≡ Some t

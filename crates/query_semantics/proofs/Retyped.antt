@@ -1,5 +1,5 @@
 -- A tree whose query expressions give what is taken of them has the types that it had.
-use Rattle.std.proofs.Common.{◌≡◌, ℕ, zero, suc, List, [], ◌∷◌, ◌++◌, length, Bool, true, false, not, Option, Some, None, refl, sym, ap, subst, ◌∙◌, arith}
+use Rattle.std.proofs.Common.{◌≡◌, ℕ, zero, suc, List, [], ◌∷◌, ◌++◌, length, Bool, true, false, not, Option, Some, None, inl, refl, sym, ap, subst, ◌∙◌, arith}
 use Rattle.std.specs.Prelude.{◌&&◌, ◌||◌, Result, Ok, Err, is_some, if◌then◌else◌}
 use Rattle.std.proofs.lemmas.List.{length-append}
 use Rattle.fx_data.specs.Types.{Shape, blanks, numbers, records, tables, ColumnList}
@@ -267,7 +267,7 @@ module _ (ts : List TableShape) (n : ℕ) where
 
   rows_typed : (c : Context) (x : Term) (ks : ColumnList) → HasType c x (tables ks) → IsLawfulType (tables ks) → HasType c (first_rows n x) (tables ks)
   rows_typed c x ks h l = (
-    (tables ks ∷ numbers ∷ [], (tables ks, numbers ∷ [], refl, h.0, (numbers, [], refl, ([], refl, refl), refl)), (refl, (refl, blanks, ((ks, refl), (refl, tt)), refl))),
+    (tables ks ∷ numbers ∷ [], (tables ks, numbers ∷ [], refl, h.0, (numbers, [], refl, ([], refl, (refl, inl tt)), refl)), (refl, (refl, blanks, ((ks, refl), (refl, tt)), refl))),
     (l, (h.1, ((tt, tt), tt))),
   )
 

@@ -178,7 +178,7 @@ is_ready p values day c item today s n w quiet fits fit =
     known p.app.names c.reads told x t w.no_tables among e
     (given_fits p values x t (told x) s n (λ d f behind there. fits d f there) e
     (told_given p values day x today (λ k q. w.no_tables k (subst (λ y. IsAmong y c.reads) q among)))) in
-    let typed : IsTyped (record whole { sources = types }) c.core (shape c.ty) = typed_over types c.core whole (shape c.ty) calm.quiet keeps w.typed in
+    let typed : IsTyped (record whole { sources = types }) c.core (shape c.ty) = typed_over types c.core whole (shape c.ty) calm.quiet calm.context.of_sources keeps w.typed in
     let lawful : IsLawfulContext (record whole { sources = types }) = record {
       of_sources = λ x t e. calm.context.of_sources x t (type_here p.app.names c.reads told x t e);
       of_scopes = tt;
