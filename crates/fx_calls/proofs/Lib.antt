@@ -1,12 +1,4 @@
-pub mod Counts
-pub mod Exits
-pub mod Fields
-pub mod Kept
-pub mod RowSteps
-pub mod Walks
-pub mod Gives
-pub mod Steps
 pub mod Blanks
-pub mod InTurn
 pub mod Literals
 pub mod Named
+pub mod Steps

@@ -1,5 +1,1 @@
-pub mod Changes
-pub mod Fields
-pub mod Lists
-pub mod Lowest
 pub mod Acts

@@ -24,14 +24,14 @@ ghost use Rattle.fx_infer.specs.Operands.{leaf_of, operator_of, type_of};
 
 use crate::is_too_deep;
 use fx_base::Memory;
-use fx_calls::few::one;
-use fx_calls::lists::{cores_of, list_of};
-use fx_calls::records::{are_distinct, record_of};
 use fx_calls::values::{pieces, values};
 use fx_calls::{call, unless};
 use fx_data::types::Ty;
 use fx_data::values::Value;
 use fx_data::words::Words;
+use fx_nodes::few::one;
+use fx_nodes::lists::{cores_of, list_of};
+use fx_nodes::records::{are_distinct, record_of};
 use fx_operators::local::{make, make_form};
 use fx_operators::operators::function_of;
 use fx_scopes::dots::dot;

@@ -1,0 +1,5 @@
+pub mod Counts
+pub mod Exits
+pub mod Fields
+pub mod Kept
+pub mod Walks
