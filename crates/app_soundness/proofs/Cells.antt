@@ -22,6 +22,7 @@ use Rattle.fx_typing.specs.Meaning.{Place, place_of}
 use Rattle.fx_typing.specs.Parts.{Part, piece, meant, target, assigned}
 use Rattle.fx_typing.specs.Typing.{at_node, judge, judge_whole, onward, outermost, position, to_wanted, whole_of}
 use Rattle.fx_typing.proofs.Frame.{at_node_ok, onward_ok}
+use Rattle.fx_typing.proofs.Functions.{both_true}
 use Rattle.fx_trees.specs.Tree.{Tree}
 use Rattle.fx_data.specs.declared.types.Ty.{Ty}
 use Rattle.fx_data.specs.declared.types.Ty.TheVariants as ty
@@ -136,10 +137,6 @@ keeps_one test k (r ∷ ps) i p e t = by (test r) refl i e (λ l g. keeps_one te
     by false s zero e go = let same : r ≡ p = cc in let past : true ≡ false = sym t ∙ sym (ap test same) ∙ s in absurd cc
     by false s (suc i) e go = let w = go i e in let next : suc k + w.1 ≡ k + suc w.1 = omega arith in (w.0, suc w.1, w.2 ∙ (λ z. Some (next z, w.0)), w.3, w.4)
 
-pub both_true : (a b : Bool) → (a && b) ≡ true → (a ≡ true) × (b ≡ true)
-both_true true b e = (refl, e)
-both_true false b e = absurd cc
-
 bytes_same : (xs ys : List ℕ) → bytes_eq xs ys ≡ true → xs ≡ ys
 bytes_same [] [] e = refl
 bytes_same [] (y ∷ ys) e = absurd cc
@@ -151,7 +148,7 @@ bytes_same (x ∷ xs) (y ∷ ys) e =
     cc
 
 -- a property's name is told by its bytes
-items_ascii : IsAscii (codes "Items")
+pub items_ascii : IsAscii (codes "Items")
 items_ascii = search rules
 
 items_named : (p : List ℕ) → bytes_eq (encode_utf8_all p) (codes "Items") ≡ true → p ≡ codes "Items"

@@ -75,7 +75,7 @@ module _ (typed : AdmittedIsTyped) (fits : AdmittedIsWanted) (quiet : PureIsQuie
         typed = typed (place_of a.names c.cell) false (option_map shape c.cell.wanted) c.cell.expr (c.core, shape c.ty) h.lawful t;
         calm = λ no. record {
           context = context_lawful_at a.names h.lawful h.types c.cell.item;
-          lawful = tree_lawful c.core p.plain (types_at a.cells k c h.trees e) q;
+          lawful = tree_lawful c.core (types_at a.cells k c h.trees e) q;
           quiet = q;
         };
         reads = w.2.reads;

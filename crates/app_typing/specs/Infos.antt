@@ -1,15 +1,13 @@
 -- Formulas with their typed trees, and what of them isn't built yet.
-use Rattle.std.specs.Prelude.{◌≡◌, ◌↔◌, ℕ, List, [], ◌∷◌, Bool, true, false, ◌&&◌, Ok, Option, Some, None, option_map, codes, if◌then◌else◌}
+use Rattle.std.specs.Prelude.{◌≡◌, ◌↔◌, ℕ, List, [], ◌∷◌, Bool, true, false, Ok, Option, Some, None, option_map, codes, if◌then◌else◌}
 use Rattle.std.specs.List.{AllZip, filter_map, list_any}
 use Rattle.fx_data.specs.TypeView.{shape}
-use Rattle.fx_data.specs.Values.{Data, blank, number, text, boolean, date}
 use Rattle.fx_trees.specs.declared.broken.Broken.{Broken}
 use Rattle.fx_trees.specs.declared.names.Names.{Names}
 use Rattle.fx_trees.specs.declared.rule.Rule.TheVariants as rule
 use Rattle.fx_trees.specs.declared.sources.Source.{Source}
 use Rattle.fx_trees.specs.declared.sources.Source.TheVariants as source
 use Rattle.fx_trees.specs.Reads.{AreRising, IsAmong, sources_in}
-use Rattle.fx_trees.specs.Term.{Term, Terms, of, nil, cons, Top, const}
 use Rattle.app_cells.specs.declared.app.CellInfo.{CellInfo}
 use Rattle.app_cells.specs.declared.cell.Cell.{Cell}
 use Rattle.app_typing.specs.Cells.{judged}
@@ -28,34 +26,10 @@ abbrev pub is_table : Source → Bool
 is_table (source.Table k) = true
 is_table s = false
 
--- a constant of one type: blank, as what isn't written is, has every type, and so has an empty table every table type
-abbrev pub is_plain : Data → Bool
-is_plain (number z) = true
-is_plain (text cs) = true
-is_plain (boolean b) = true
-is_plain (date z) = true
-is_plain d = false
-
-abbrev pub is_plain_top : Top → Bool
-is_plain_top (const d) = is_plain d
-is_plain_top h = true
-
-abbrev mutual
-  -- all constants of a tree have one type
-  pub is_plain_tree : Term → Bool
-  is_plain_tree (of h ts) = is_plain_top h && are_plain_trees ts
-
-  pub are_plain_trees : Terms → Bool
-  are_plain_trees nil = true
-  are_plain_trees (cons t ts) = is_plain_tree t && are_plain_trees ts
-
--- the form of a formula that isn't built yet: one that acts, one that names a table, and one that takes what isn't
--- written, or the blank row of a table
+-- the form of a formula that isn't built yet: one that acts, and one that names a table
 abbrev pub unbuilt_form : CellInfo → Option (List ℕ)
 unbuilt_form i =
-    if i.cell.acts then Some (codes "behaviour")
-    else (if list_any is_table i.reads then Some (codes "table")
-    else (if is_plain_tree i.core then None else Some (codes "default")))
+    if i.cell.acts then Some (codes "behaviour") else (if list_any is_table i.reads then Some (codes "table") else None)
 
 abbrev pub unbuilt_break : CellInfo → Option Broken
 unbuilt_break i = option_map (λ form. record { cell = i.cell.name; rule = rule.NotBuilt; at = 0; detail = form }) (unbuilt_form i)

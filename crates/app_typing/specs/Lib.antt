@@ -5,3 +5,5 @@ pub mod Types
 pub mod Infos
 pub mod Cycles
 pub mod Judged
+-- readers of this crate stand on the typing of formulas too
+pub use Rattle.fx_infer.specs as fx_infer

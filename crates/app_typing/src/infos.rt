@@ -8,7 +8,7 @@ ghost use Rattle.app_typing.specs.Cells.{judged};
 ghost use Rattle.app_typing.specs.Types.{HasLawfulTypes, HaveLawfulTrees};
 ghost use Rattle.fx_typing.specs.TypedView.{typed};
 
-use crate::plain::is_plain_tree;
+use crate::trees::look_at_tree;
 use app_cells::{Cell, CellInfo};
 use fx_base::{InOrder, Memory};
 use fx_data::words::Words;
@@ -74,15 +74,13 @@ fn unbuilt_form(alloc: Global, info: &CellInfo) -> Result<Option<Words>, Memory>
     ensures form { IfOk result (λ o. o ≡ spec.unbuilt_form info.now) }
     ensures types { IfOk result (λ o. HasLawfulTypes info.now.core) }
 {
-    let plain = is_plain_tree(&info.core);
+    look_at_tree(&info.core);
     if info.cell.acts {
         Ok(Some(word(alloc, "behaviour")?))
     } else if reads_table(info.reads.as_slice()) {
         Ok(Some(word(alloc, "table")?))
-    } else if plain {
-        Ok(None)
     } else {
-        Ok(Some(word(alloc, "default")?))
+        Ok(None)
     }
 }
 

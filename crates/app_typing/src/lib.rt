@@ -7,8 +7,9 @@ pub mod cycles;
 pub mod edges;
 pub mod infos;
 pub mod judging;
-pub mod plain;
+pub mod trees;
 pub mod types;
 pub mod writing;
 
+pub use fx_infer::no_deeper;
 pub use judging::{app_of, only};
