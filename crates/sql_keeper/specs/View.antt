@@ -1,0 +1,29 @@
+-- What a keeper over SQLite is seen as.
+use Rattle.std.specs.Prelude.{◌≡◌, ℕ, Bool, Option, Some, None}
+use Rattle.fx_base.specs.Faults.{counted}
+use Rattle.fx_base.specs.Silence.{Marks}
+use Rattle.fx_trees.specs.declared.schema.Schema.{Schema}
+use Rattle.row_keeper.specs.declared.keeper.KeeperEnd.{KeeperEnd}
+use Rattle.row_keeper.specs.declared.keeper.KeeperEnd.TheVariants.{Memory as OutOfMemory, Failed}
+
+-- The schema that it is shaped by, if any, whether a transaction is begun, how many rows have been visited, and how many
+-- faults it counted. It tells nothing of what the database keeps.
+pub record SqlView : Type 0 where
+  pub schema : Option Schema
+  pub is_begun : Bool
+  pub visited : ℕ
+  pub faults : ℕ
+
+-- no doubt is told, since no tables are
+abbrev pub marks_of : SqlView → Marks
+marks_of k = record { faults = k.faults; doubt = 0 }
+
+-- the faults after a call: one more exactly where it failed
+abbrev pub faults_after : ℕ → Option KeeperEnd → ℕ
+faults_after faults (Some Failed) = counted faults
+faults_after faults (Some OutOfMemory) = faults
+faults_after faults None = faults
+
+-- a call has counted a fault exactly where it failed
+abbrev pub CountsFailures : SqlView → SqlView → Option KeeperEnd → Type 0
+CountsFailures k l end = l.faults ≡ faults_after k.faults end
