@@ -4,7 +4,6 @@ use Rattle.fx_data.specs.declared.types.Ty.TheVariants.{Number, Text}
 use Rattle.fx_trees.specs.declared.schema.Column.{Column}
 use Rattle.fx_trees.specs.declared.schema.Schema.{Schema}
 use Rattle.fx_trees.specs.declared.schema.TableShape.{TableShape}
-use Rattle.row_keeper.specs.InMemory.{InMemory}
 
 -- a column of texts, and an indexed one of numbers
 abbrev pub AreStockColumns : List Column → Type 0
@@ -20,7 +19,7 @@ abbrev pub IsStock : Option Schema → Type 0
 IsStock None = ⊥
 IsStock (Some s) = AreStockTables s.tables
 
--- the keeper stands where the cases say: whether it has the table, and whether a transaction is begun
-pub record IsInStep (is_shaped is_begun : Bool) (k : InMemory) : Type 0 where
-  pub stocked : is_shaped ≡ true → IsStock k.store.schema
-  pub begun : k.store.is_begun ≡ is_begun
+-- a keeper stands where the cases say: whether it has the table, and whether a transaction is begun
+pub record IsInStep (is_shaped is_begun : Bool) (shaped : Option Schema) (in_transaction : Bool) : Type 0 where
+  pub stocked : is_shaped ≡ true → IsStock shaped
+  pub begun : in_transaction ≡ is_begun

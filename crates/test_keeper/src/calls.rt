@@ -1,4 +1,4 @@
-// Calls of a keeper, as lines say them.
+// Calls of keepers, as lines say them.
 
 use fx_base::Memory;
 use fx_number::{Num, read};
@@ -7,9 +7,11 @@ use std::alloc::Global;
 /// What a line says.
 #[derive(Clone, Copy, Debug)]
 pub enum Call<'l> {
-    /// A new keeper is taken, whose calls of the numbers in the text fail.
+    /// New keepers are taken; in memory the calls of the numbers in the text fail.
     New(&'l str),
     Shape,
+    /// Another table is to be kept.
+    Other,
     Begin,
     Commit,
     Back,
@@ -22,6 +24,12 @@ pub enum Call<'l> {
     Ask(Ask),
     /// How many rows were visited.
     Seen,
+    /// The file is opened again.
+    Reopen,
+    /// A statement is run over the file, which is opened again then.
+    Sql(&'l str),
+    /// One more keeper is attached to the file of a name.
+    Attach(&'l str),
     Nothing,
 }
 
@@ -51,6 +59,7 @@ impl<'l> Call<'l> {
         match call {
             "new" => Call::New(rest),
             "shape" => Call::Shape,
+            "other" => Call::Other,
             "begin" => Call::Begin,
             "commit" => Call::Commit,
             "back" => Call::Back,
@@ -64,6 +73,9 @@ impl<'l> Call<'l> {
             "page" => Call::Ask(question(Asked::Page, rest)),
             "blanks" => Call::Ask(question(Asked::Blanks, rest)),
             "seen" => Call::Seen,
+            "reopen" => Call::Reopen,
+            "sql" => Call::Sql(rest),
+            "attach" => Call::Attach(rest),
             _ => Call::Nothing,
         }
     }

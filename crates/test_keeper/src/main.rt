@@ -1,41 +1,37 @@
-//! Cases of a keeper in memory, a call a line, over a table of names and quantities. Each line is written with what its
-//! call answers; a plain keeper makes the same calls, and where it answers otherwise that stands in a line below. `new`
-//! begins with new keepers, whose calls of the numbers behind it fail; a line of `#` is written as it is. Quantities may
-//! be `-`, for none.
+//! Cases of keepers, a call a line, over a table of names and quantities. Each line is written with what its call answers
+//! over a keeper in memory. A plain keeper, one over SQLite in memory and one over SQLite in a file make the same calls,
+//! and where one of them answers otherwise that stands in a line below. `new` begins with new keepers and a new file;
+//! where numbers stand behind it, the calls of these numbers fail in memory, and SQLite isn't asked; nor is it behind
+//! `skip`. `reopen` opens the file again, `sql` runs a statement over it before, and `attach` attaches one more keeper to
+//! a file. A line of `#` is written as it is. Quantities may be `-`, for none.
 #![tactic(auto)]
 
 mod calls;
 mod cases;
+mod file;
 mod plain;
+mod played;
 mod stage;
 mod stock;
 
-use crate::cases::Case;
-use crate::plain::PlainKeeper;
+use crate::played::Played;
 use std::io::{self, ErrorKind};
 
 fn main(rt: HostRuntime) -> io::Result<()> {
-    let mut case = Case::new(rt.alloc(), Vec::new(rt.alloc()));
-    let mut plain = PlainKeeper::new(rt.alloc(), Vec::new(rt.alloc()));
+    let Ok(mut played) = Played::new(rt, "") else {
+        return Err(ErrorKind::OutOfMemory.into());
+    };
     for line in rt.lines(rt.alloc()) {
         let line = line?;
         let line = line.as_str();
-        let (Ok(answer), Ok(plainly)) = (case.obey(line), plain.obey(line)) else {
+        let Ok(answer) = played.obey(line) else {
             return Err(ErrorKind::OutOfMemory.into());
         };
-        print_answer(&rt, line, &answer)?;
-        if answer.as_str() != plainly.as_str() && line != "seen" {
-            println!(rt; "plainly: {plainly}")?;
+        if answer.is_empty() {
+            println!(rt; "{line}")?;
+        } else {
+            println!(rt; "{line}: {answer}")?;
         }
     }
     Ok(())
-}
-
-/// Prints a line, and what its call answers, if anything.
-fn print_answer(rt: &impl Print, line: &str, answer: &str) -> io::Result<()> {
-    if answer.is_empty() {
-        println!(rt; "{line}")
-    } else {
-        println!(rt; "{line}: {answer}")
-    }
 }

@@ -2,7 +2,7 @@
 // compared.
 ghost use Rattle.std.specs.Prelude.{◌≤◌, length};
 
-use crate::calls::{Ask, Asked, Call, numbers};
+use crate::calls::{Ask, Asked, Call};
 use crate::stage::{done, end, listed, put};
 use crate::stock::cells;
 use fx_base::Memory;
@@ -52,27 +52,19 @@ impl PlainKeeper {
         }
     }
 
-    /// Makes the call of a line, and says what it answers.
-    pub fn obey(&mut self, line: &str) -> Result<String, Memory> {
-        self.make(&Call::of(line))
-    }
-
-    fn make(&mut self, call: &Call) -> Result<String, Memory> {
+    /// Makes a call of the keeper, and says what it answers; other calls answer nothing.
+    pub fn make(&mut self, call: &Call) -> Result<String, Memory> {
         match call {
-            Call::New(fails) => {
-                *self = PlainKeeper::new(self.alloc, numbers(self.alloc, fails)?);
-                Ok(String::new(self.alloc))
-            }
             Call::Shape => self.shape(),
+            Call::Other => self.shape_other(),
             Call::Begin => self.begin(),
             Call::Commit => self.commit(),
             Call::Back => self.back(),
-            Call::Skip(number) => self.skip(*number),
             Call::Insert(name, quantity) => self.insert(name, *quantity),
             Call::Replace(id, name, quantity) => self.replace(*id, name, *quantity),
             Call::Remove(id) => self.remove(*id),
             Call::Ask(ask) => self.ask(*ask),
-            Call::Seen | Call::Nothing => Ok(String::new(self.alloc)),
+            _ => Ok(String::new(self.alloc)),
         }
     }
 
@@ -89,6 +81,20 @@ impl PlainKeeper {
         }
         self.is_shaped = true;
         self.say("kept")
+    }
+
+    fn shape_other(&mut self) -> Result<String, Memory> {
+        if self.then.is_some() {
+            return self.say("not now");
+        }
+        if self.plan.next_fails() {
+            return end(self.alloc, KeeperEnd::Failed);
+        }
+        if self.is_shaped {
+            self.say("another is kept: Stock.Name.Qty")
+        } else {
+            self.say("kept")
+        }
     }
 
     fn begin(&mut self) -> Result<String, Memory> {
@@ -124,12 +130,9 @@ impl PlainKeeper {
         done(self.alloc, Ok(()))
     }
 
-    fn skip(&mut self, number: u32) -> Result<String, Memory> {
-        if self.then.is_none() {
-            return self.say("not now");
-        }
+    /// Passes over the numbers up to this one.
+    pub fn skip_to(&mut self, number: u32) {
         self.now.last = self.now.last.max(number);
-        done(self.alloc, Ok(()))
     }
 
     /// Why no row is changed now, if none is.

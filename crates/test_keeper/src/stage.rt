@@ -1,11 +1,12 @@
 // A keeper between two cases.
 ghost use Rattle.test_keeper.specs.Stock.{IsInStep};
 
-use crate::stock::{cells, from, page, stock};
+use crate::stock::{cells, from, names_alone, page, stock};
 use app_names::is_lawful_schema;
 use fx_base::Memory;
 use fx_number::Num;
-use row_keeper::{Keeper, KeeperEnd, MemoryKeeper, Put, RowRefusal, RowRule};
+use fx_trees::{Schema, TableShape};
+use row_keeper::{Keeper, KeeperEnd, Put, RowRefusal, RowRule};
 use row_queries::Row;
 use std::alloc::Global;
 use view_text::plain;
@@ -59,10 +60,32 @@ pub fn done(alloc: Global, done: Result<(), KeeperEnd>) -> Result<String, Memory
     }
 }
 
+/// That another schema is kept, with its tables and columns.
+fn kept(alloc: Global, schema: &Schema) -> Result<String, Memory> {
+    let mut text = String::from_str(alloc, "another is kept:")?;
+    let tables = schema.tables.as_slice();
+    for table in tables {
+        push_table(&mut text, table)?;
+    }
+    Ok(text)
+}
+
+/// Adds the names of a table and its columns.
+fn push_table(text: &mut String, table: &TableShape) -> Result<(), Memory> {
+    text.push(' ')?;
+    text.push_str(table.name.as_str())?;
+    let columns = table.columns.as_slice();
+    for column in columns {
+        text.push('.')?;
+        text.push_str(column.name.as_str())?;
+    }
+    Ok(())
+}
+
 /// Shapes the keeper by the table.
-pub fn shape(alloc: Global, keeper: &mut MemoryKeeper, stage: &mut Stage) -> Result<String, Memory>
-    requires { IsInStep stage.old.is_shaped stage.old.is_begun keeper.old }
-    ensures { IsInStep stage.new.is_shaped stage.new.is_begun keeper.new }
+pub fn shape<K: Keeper>(alloc: Global, keeper: &mut K, stage: &mut Stage) -> Result<String, Memory>
+    requires { IsInStep stage.old.is_shaped stage.old.is_begun (K.shaped keeper.old) (K.in_transaction keeper.old) }
+    ensures { IsInStep stage.new.is_shaped stage.new.is_begun (K.shaped keeper.new) (K.in_transaction keeper.new) }
 {
     let schema = stock(alloc)?;
     if stage.is_begun || !is_lawful_schema(&schema) {
@@ -73,15 +96,38 @@ pub fn shape(alloc: Global, keeper: &mut MemoryKeeper, stage: &mut Stage) -> Res
             stage.is_shaped = true;
             Ok(String::from_str(alloc, "kept")?)
         }
-        Ok(Some(_)) => Ok(String::from_str(alloc, "another is kept")?),
+        Ok(Some(other)) => kept(alloc, &other),
+        Err(why) => end(alloc, why),
+    }
+}
+
+/// Tries to shape the keeper by another table.
+pub fn shape_other<K: Keeper>(
+    alloc: Global,
+    keeper: &mut K,
+    stage: &mut Stage,
+) -> Result<String, Memory>
+    requires { IsInStep stage.old.is_shaped stage.old.is_begun (K.shaped keeper.old) (K.in_transaction keeper.old) }
+    ensures { IsInStep stage.new.is_shaped stage.new.is_begun (K.shaped keeper.new) (K.in_transaction keeper.new) }
+{
+    let schema = names_alone(alloc)?;
+    if stage.is_begun || !is_lawful_schema(&schema) {
+        return Ok(String::from_str(alloc, "not now")?);
+    }
+    match keeper.shape(&schema) {
+        Ok(None) => {
+            stage.is_shaped = false;
+            Ok(String::from_str(alloc, "kept")?)
+        }
+        Ok(Some(other)) => kept(alloc, &other),
         Err(why) => end(alloc, why),
     }
 }
 
 /// Begins a transaction.
-pub fn begin(alloc: Global, keeper: &mut MemoryKeeper, stage: &mut Stage) -> Result<String, Memory>
-    requires { IsInStep stage.old.is_shaped stage.old.is_begun keeper.old }
-    ensures { IsInStep stage.new.is_shaped stage.new.is_begun keeper.new }
+pub fn begin<K: Keeper>(alloc: Global, keeper: &mut K, stage: &mut Stage) -> Result<String, Memory>
+    requires { IsInStep stage.old.is_shaped stage.old.is_begun (K.shaped keeper.old) (K.in_transaction keeper.old) }
+    ensures { IsInStep stage.new.is_shaped stage.new.is_begun (K.shaped keeper.new) (K.in_transaction keeper.new) }
 {
     if stage.is_begun {
         return Ok(String::from_str(alloc, "not now")?);
@@ -92,9 +138,9 @@ pub fn begin(alloc: Global, keeper: &mut MemoryKeeper, stage: &mut Stage) -> Res
 }
 
 /// Ends a transaction with its changes.
-pub fn commit(alloc: Global, keeper: &mut MemoryKeeper, stage: &mut Stage) -> Result<String, Memory>
-    requires { IsInStep stage.old.is_shaped stage.old.is_begun keeper.old }
-    ensures { IsInStep stage.new.is_shaped stage.new.is_begun keeper.new }
+pub fn commit<K: Keeper>(alloc: Global, keeper: &mut K, stage: &mut Stage) -> Result<String, Memory>
+    requires { IsInStep stage.old.is_shaped stage.old.is_begun (K.shaped keeper.old) (K.in_transaction keeper.old) }
+    ensures { IsInStep stage.new.is_shaped stage.new.is_begun (K.shaped keeper.new) (K.in_transaction keeper.new) }
 {
     if !stage.is_begun {
         return Ok(String::from_str(alloc, "not now")?);
@@ -105,9 +151,9 @@ pub fn commit(alloc: Global, keeper: &mut MemoryKeeper, stage: &mut Stage) -> Re
 }
 
 /// Ends a transaction without its changes.
-pub fn back(alloc: Global, keeper: &mut MemoryKeeper, stage: &mut Stage) -> Result<String, Memory>
-    requires { IsInStep stage.old.is_shaped stage.old.is_begun keeper.old }
-    ensures { IsInStep stage.new.is_shaped stage.new.is_begun keeper.new }
+pub fn back<K: Keeper>(alloc: Global, keeper: &mut K, stage: &mut Stage) -> Result<String, Memory>
+    requires { IsInStep stage.old.is_shaped stage.old.is_begun (K.shaped keeper.old) (K.in_transaction keeper.old) }
+    ensures { IsInStep stage.new.is_shaped stage.new.is_begun (K.shaped keeper.new) (K.in_transaction keeper.new) }
 {
     if !stage.is_begun {
         return Ok(String::from_str(alloc, "not now")?);
@@ -117,33 +163,16 @@ pub fn back(alloc: Global, keeper: &mut MemoryKeeper, stage: &mut Stage) -> Resu
     done(alloc, Ok(()))
 }
 
-/// Passes over the numbers up to this one.
-pub fn skip(
-    alloc: Global,
-    keeper: &mut MemoryKeeper,
-    stage: Stage,
-    number: u32,
-) -> Result<String, Memory>
-    requires { IsInStep stage.is_shaped stage.is_begun keeper.old }
-    ensures { IsInStep stage.is_shaped stage.is_begun keeper.new }
-{
-    if !stage.is_begun {
-        return Ok(String::from_str(alloc, "not now")?);
-    }
-    keeper.skip_to(number);
-    done(alloc, Ok(()))
-}
-
 /// Puts a new row.
-pub fn insert(
+pub fn insert<K: Keeper>(
     alloc: Global,
-    keeper: &mut MemoryKeeper,
+    keeper: &mut K,
     stage: Stage,
     name: &str,
     quantity: Option<Num>,
 ) -> Result<String, Memory>
-    requires { IsInStep stage.is_shaped stage.is_begun keeper.old }
-    ensures { IsInStep stage.is_shaped stage.is_begun keeper.new }
+    requires { IsInStep stage.is_shaped stage.is_begun (K.shaped keeper.old) (K.in_transaction keeper.old) }
+    ensures { IsInStep stage.is_shaped stage.is_begun (K.shaped keeper.new) (K.in_transaction keeper.new) }
 {
     let cells = cells(alloc, name, quantity)?;
     if !stage.is_shaped || !stage.is_begun {
@@ -153,16 +182,16 @@ pub fn insert(
 }
 
 /// Puts other cells into a row.
-pub fn replace(
+pub fn replace<K: Keeper>(
     alloc: Global,
-    keeper: &mut MemoryKeeper,
+    keeper: &mut K,
     stage: Stage,
     id: u32,
     name: &str,
     quantity: Option<Num>,
 ) -> Result<String, Memory>
-    requires { IsInStep stage.is_shaped stage.is_begun keeper.old }
-    ensures { IsInStep stage.is_shaped stage.is_begun keeper.new }
+    requires { IsInStep stage.is_shaped stage.is_begun (K.shaped keeper.old) (K.in_transaction keeper.old) }
+    ensures { IsInStep stage.is_shaped stage.is_begun (K.shaped keeper.new) (K.in_transaction keeper.new) }
 {
     let cells = cells(alloc, name, quantity)?;
     if !stage.is_shaped || !stage.is_begun {
@@ -172,14 +201,14 @@ pub fn replace(
 }
 
 /// Takes a row out.
-pub fn remove(
+pub fn remove<K: Keeper>(
     alloc: Global,
-    keeper: &mut MemoryKeeper,
+    keeper: &mut K,
     stage: Stage,
     id: u32,
 ) -> Result<String, Memory>
-    requires { IsInStep stage.is_shaped stage.is_begun keeper.old }
-    ensures { IsInStep stage.is_shaped stage.is_begun keeper.new }
+    requires { IsInStep stage.is_shaped stage.is_begun (K.shaped keeper.old) (K.in_transaction keeper.old) }
+    ensures { IsInStep stage.is_shaped stage.is_begun (K.shaped keeper.new) (K.in_transaction keeper.new) }
 {
     if !stage.is_shaped || !stage.is_begun {
         return Ok(String::from_str(alloc, "not now")?);
@@ -192,15 +221,15 @@ pub fn remove(
 }
 
 /// The rows of at least a quantity, or all.
-pub fn rows(
+pub fn rows<K: Keeper>(
     alloc: Global,
-    keeper: &mut MemoryKeeper,
+    keeper: &mut K,
     stage: Stage,
     quantity: Option<Num>,
     most: Option<u32>,
 ) -> Result<String, Memory>
-    requires { IsInStep stage.is_shaped stage.is_begun keeper.old }
-    ensures { IsInStep stage.is_shaped stage.is_begun keeper.new }
+    requires { IsInStep stage.is_shaped stage.is_begun (K.shaped keeper.old) (K.in_transaction keeper.old) }
+    ensures { IsInStep stage.is_shaped stage.is_begun (K.shaped keeper.new) (K.in_transaction keeper.new) }
 {
     let query = from(alloc, quantity, most)?;
     if !stage.is_shaped {
@@ -213,16 +242,16 @@ pub fn rows(
 }
 
 /// The rows from a number on, or all, by their numbers; or those of them without a quantity.
-pub fn pages(
+pub fn pages<K: Keeper>(
     alloc: Global,
-    keeper: &mut MemoryKeeper,
+    keeper: &mut K,
     stage: Stage,
     first: Option<Num>,
     most: Option<u32>,
     is_blank: bool,
 ) -> Result<String, Memory>
-    requires { IsInStep stage.is_shaped stage.is_begun keeper.old }
-    ensures { IsInStep stage.is_shaped stage.is_begun keeper.new }
+    requires { IsInStep stage.is_shaped stage.is_begun (K.shaped keeper.old) (K.in_transaction keeper.old) }
+    ensures { IsInStep stage.is_shaped stage.is_begun (K.shaped keeper.new) (K.in_transaction keeper.new) }
 {
     let query = page(alloc, first, most, is_blank)?;
     if !stage.is_shaped {
@@ -235,15 +264,15 @@ pub fn pages(
 }
 
 /// How many these are.
-pub fn count(
+pub fn count<K: Keeper>(
     alloc: Global,
-    keeper: &mut MemoryKeeper,
+    keeper: &mut K,
     stage: Stage,
     quantity: Option<Num>,
     most: Option<u32>,
 ) -> Result<String, Memory>
-    requires { IsInStep stage.is_shaped stage.is_begun keeper.old }
-    ensures { IsInStep stage.is_shaped stage.is_begun keeper.new }
+    requires { IsInStep stage.is_shaped stage.is_begun (K.shaped keeper.old) (K.in_transaction keeper.old) }
+    ensures { IsInStep stage.is_shaped stage.is_begun (K.shaped keeper.new) (K.in_transaction keeper.new) }
 {
     let query = from(alloc, quantity, most)?;
     if !stage.is_shaped {
@@ -256,15 +285,15 @@ pub fn count(
 }
 
 /// What their quantities come to: how many there are, and their sum in ten-thousandths.
-pub fn total(
+pub fn total<K: Keeper>(
     alloc: Global,
-    keeper: &mut MemoryKeeper,
+    keeper: &mut K,
     stage: Stage,
     quantity: Option<Num>,
     most: Option<u32>,
 ) -> Result<String, Memory>
-    requires { IsInStep stage.is_shaped stage.is_begun keeper.old }
-    ensures { IsInStep stage.is_shaped stage.is_begun keeper.new }
+    requires { IsInStep stage.is_shaped stage.is_begun (K.shaped keeper.old) (K.in_transaction keeper.old) }
+    ensures { IsInStep stage.is_shaped stage.is_begun (K.shaped keeper.new) (K.in_transaction keeper.new) }
 {
     let query = from(alloc, quantity, most)?;
     if !stage.is_shaped {

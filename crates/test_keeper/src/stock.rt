@@ -42,6 +42,24 @@ pub fn stock(alloc: Global) -> Result<Schema, Memory>
     Ok(Schema { tables })
 }
 
+/// `Name` alone.
+pub fn names_alone(alloc: Global) -> Result<Schema, Memory> {
+    let mut columns = InOrder::new(alloc);
+    columns.push(Column {
+        name: Words::of(alloc, "Name")?,
+        ty: Ty::Text,
+        required: true,
+        unique: true,
+        indexed: false,
+    })?;
+    let mut tables = InOrder::new(alloc);
+    tables.push(TableShape {
+        name: Words::of(alloc, "Stock")?,
+        columns,
+    })?;
+    Ok(Schema { tables })
+}
+
 /// The cells of a row.
 pub fn cells(alloc: Global, name: &str, quantity: Option<Num>) -> Result<Cells, Memory>
     ensures { IfOk result (λ c. (s : SchemaValue) → IsStock (Some s) → IsSomeAnd (slice_get s.tables 0) (λ t. AreCellsOf t.columns c)) }
