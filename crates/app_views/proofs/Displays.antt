@@ -1,0 +1,38 @@
+-- What controls show.
+use Rattle.std.proofs.Common.{◌≡◌, ℕ, Bool, true, false, Option, Some, None, refl, ap, ◌∙◌}
+use Rattle.std.specs.Prelude.{option_and_then}
+use Rattle.std.specs.List.{slice_get}
+use Rattle.app_semantics.specs.Holding.{HoldsFitting}
+use Rattle.app_semantics.specs.Present.{Present}
+use Rattle.app_views.specs.Galleries.{is_gallery}
+use Rattle.app_views.specs.Views.{IsShownFor, ShowsFirstItems, is_in}
+use Rattle.fx_data.specs.Types.{Shape}
+use Rattle.fx_data.specs.Values.{Data}
+use Rattle.fx_data.specs.declared.controls.Control.TheVariants as control
+use Rattle.fx_data.specs.declared.controls.Control.{Control}
+use Rattle.fx_trees.specs.Controls.{input_type}
+use Rattle.fx_trees.specs.declared.names.ControlName.{ControlName}
+use Rattle.fx_trees.specs.declared.names.Names.{Names}
+use Rattle.fx_trees.specs.declared.sources.Source.TheVariants as source
+use Rattle.session_state.specs.Sessions.{Holds, SessionState}
+
+-- a session holds what users give to a control that takes input
+pub input_held : (n : Names) (s : SessionState) (k : ℕ) (c : ControlName) (t : Shape) → HoldsFitting n s → slice_get n.controls k ≡ Some c → input_type c.kind ≡ Some t → Holds s (source.Input k)
+input_held n s k c t holds there takes = holds.sources_held (source.Input k) t tt (ap (λ (o : Option ControlName). option_and_then (λ (d : ControlName). input_type d.kind) o) there ∙ takes)
+
+not_both : (b : Bool) → b ≡ false → b ≡ true → ⊥
+not_both b e f = cc
+
+-- a control outside a gallery's template isn't shown for its items
+pub not_in : (p : Present) (values : ℕ → Data) (g : ℕ) (item : Data) (k : ℕ) (c : ControlName) → is_in g c.gallery ≡ false → IsShownFor p values g item k c None
+not_in p values g item k c out = λ h. absurd (not_both (is_in g c.gallery) out h)
+
+-- a control that is no gallery has no items
+pub no_items : (p : Present) (values : ℕ → Data) (k : ℕ) (c : Control) → is_gallery c ≡ false → ShowsFirstItems p values k c None
+no_items p values k control.Gallery e = absurd cc
+no_items p values k control.Label e = refl
+no_items p values k control.Button e = refl
+no_items p values k control.TextInput e = refl
+no_items p values k control.Slider e = refl
+no_items p values k control.Checkbox e = refl
+no_items p values k control.DatePicker e = refl

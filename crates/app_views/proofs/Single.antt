@@ -1,0 +1,186 @@
+-- A session has one view, and a gallery one list of items.
+use Rattle.std.proofs.Common.{◌≡◌, ℕ, suc, List, [], ◌∷◌, Bool, true, false, codes, max, take, drop, ◌-◌, Option, Some, None, refl, sym, subst, ap, ◌∙◌}
+use Rattle.std.specs.List.{slice_get}
+use Rattle.app_cells.specs.Leaning.{cell_of_property}
+use Rattle.app_cells.specs.declared.app.CellInfo.{CellInfo}
+use Rattle.app_semantics.proofs.Freshness.{fresh_fits, given_in, given_told, today_is}
+use Rattle.app_semantics.specs.Fresh.{IsFresh, IsValueOf, standing}
+use Rattle.app_semantics.specs.Holding.{HoldsFitting}
+use Rattle.app_semantics.specs.Laws.{OneFresh}
+use Rattle.app_semantics.specs.Present.{Present, items_of}
+use Rattle.app_semantics.specs.Properties.{IsForItem, IsPropertyForItem, is_true}
+use Rattle.app_semantics.specs.Sound.{IsSound, IsSoundCell}
+use Rattle.app_semantics.specs.Telling.{told_on}
+use Rattle.app_views.specs.Laws.{OneItems, OneView}
+use Rattle.app_views.specs.Views.{AreGiven, AreItemsFrom, AreItemsUnless, AreRowItems, AreSeenItems, IsItemAt, IsItemControl, IsShown, IsShownControl, IsShownFor, IsView, ShowsFirstItems, fault_in, is_seen_at, is_shown, put}
+use Rattle.fx_data.specs.Values.{Data, text, boolean}
+use Rattle.fx_data.specs.declared.faults.Fault.{Fault}
+use Rattle.fx_data.specs.declared.controls.Control.TheVariants as control
+use Rattle.fx_data.specs.declared.controls.Control.{Control}
+use Rattle.fx_eval.proofs.Wider.{stays}
+use Rattle.fx_semantics.specs.Around.{record_of}
+use Rattle.fx_semantics.specs.Rows.{rows_in}
+use Rattle.fx_semantics.specs.Sources.{Gives as GivesTold}
+use Rattle.fx_semantics.specs.Unique.{OneValue}
+use Rattle.fx_tables.specs.Columns.{Row}
+use Rattle.fx_trees.specs.SourceTypes.{sources}
+use Rattle.fx_trees.specs.declared.names.ControlName.{ControlName}
+use Rattle.fx_trees.specs.declared.sources.Source.{Source}
+use Rattle.recalc.specs.Values.{CellsFit}
+use Rattle.view_text.specs.declared.views.ItemControl.{ItemControl}
+use Rattle.view_text.specs.declared.views.Items.{Items}
+use Rattle.view_text.specs.declared.views.Shown.{Shown}
+use Rattle.view_text.specs.declared.views.View.{View}
+
+-- ---- values for items
+
+-- what the laws of values and of fresh values need
+record Ground (p : Present) (values : ℕ → Data) : Type 0 where
+  one : OneValue
+  sound : IsSound p.app
+  holds : HoldsFitting p.app.names p.session
+  fits : CellsFit p.app values
+
+value_one : (p : Present) (values : ℕ → Data) (item : Data) (k : ℕ) (c : CellInfo) (v w : Data) → Ground p values → slice_get p.app.cells k ≡ Some c →
+    IsValueOf p values (Some item) c v → IsValueOf p values (Some item) c w → v ≡ w
+value_one p values item k c v w g there x y =
+    let day = today_is p.moment in
+    let T : Source → Data = told_on day.0 p.app.names p.session values in
+    let sound : IsSoundCell p.app.names c = g.sound.cells k c there in
+    g.one (sources p.app.names) T [] (Some item) None c.core v w
+    (stays (GivesTold (sources p.app.names) (Some T)) c.core (standing p values c.reads (Some item)) v
+    (λ r d q. (given_in p values c r d g.sound g.holds sound (λ s among e f behind at. g.fits e f at) q.0 q.1, given_told p values day.0 r d day.1 q.1)) x)
+    (stays (GivesTold (sources p.app.names) (Some T)) c.core (standing p values c.reads (Some item)) w
+    (λ r d q. (given_in p values c r d g.sound g.holds sound (λ s among e f behind at. g.fits e f at) q.0 q.1, given_told p values day.0 r d day.1 q.1)) y)
+
+same_info : (c d : CellInfo) (o : Option CellInfo) → o ≡ Some c → o ≡ Some d → d ≡ c
+same_info c d o e f = cc
+
+for_item_one : (p : Present) (values : ℕ → Data) (item unwritten : Data) (o : Option ℕ) (v w : Data) → Ground p values → IsForItem p values item unwritten o v → IsForItem p values item unwritten o w → v ≡ w
+for_item_one p values item unwritten None v w g h j = h ∙ sym j
+for_item_one p values item unwritten (Some k) v w g h j =
+    value_one p values item k h.0 v w g h.1 h.2 (subst (λ (c : CellInfo). IsValueOf p values (Some item) c w) (same_info h.0 j.0 (slice_get p.app.cells k) h.1 j.1) j.2)
+
+property_one : (p : Present) (values : ℕ → Data) (item : Data) (k : ℕ) (name : List ℕ) (unwritten v w : Data) → Ground p values →
+    IsPropertyForItem p values item k name unwritten v → IsPropertyForItem p values item k name unwritten w → v ≡ w
+property_one p values item k name unwritten v w g h j = for_item_one p values item unwritten (cell_of_property p.app.names k name) v w g h j
+
+-- ---- lists of what is given
+
+abbrev IsSingle : {C A : Type 0} → (ℕ → C → Option A → Type 0) → Type 0
+IsSingle {C} {A} P = (k : ℕ) (c : C) (o q : Option A) → P k c o → P k c q → o ≡ q
+
+given_one : {C A : Type 0} (P : ℕ → C → Option A → Type 0) (k : ℕ) (cs : List C) (xs ys : List A) → IsSingle P → AreGiven P k cs xs → AreGiven P k cs ys → xs ≡ ys
+given_one P k [] xs ys one h j = h ∙ sym j
+given_one {C} {A} P k (c ∷ cs) xs ys one h j =
+    h.4 ∙ ap (λ (o : Option A). put o h.1) (one k c h.0 j.0 h.2 j.2) ∙ ap (λ (rest : List A). put j.0 rest) (given_one P (suc k) cs h.1 j.1 one h.3 j.3) ∙ sym j.4
+
+-- ---- items
+
+control_one : (p : Present) (values : ℕ → Data) (item : Data) (k : ℕ) (c : ControlName) (s t : ItemControl) → Ground p values → IsItemControl p values item k c s → IsItemControl p values item k c t → s ≡ t
+control_one p values item k c s t g h j =
+    let words : h.words ≡ j.words = property_one p values item k (codes "Text") (text []) h.words j.words g h.are_words j.are_words in
+    let shows : s.values ≡ t.values = h.shows ∙ ap (λ (d : Data). (codes "Text", d) ∷ []) words ∙ sym j.shows in
+    let name : s.name ≡ t.name = h.name ∙ sym j.name in
+    let kind : s.kind ≡ t.kind = h.kind ∙ sym j.kind in
+    λ i. record { name = name i; kind = kind i; values = shows i }
+
+not_both : (b : Bool) → b ≡ false → b ≡ true → ⊥
+not_both b e f = cc
+
+for_one : (p : Present) (values : ℕ → Data) (gallery : ℕ) (item : Data) → Ground p values → IsSingle (IsShownFor p values gallery item)
+for_one p values gallery item g k c None None h j = refl
+for_one p values gallery item g k c (Some s) (Some t) h j = ap (λ (x : ItemControl). Some x) (control_one p values item k c s t g h.2 j.2)
+for_one p values gallery item g k c None (Some t) h j =
+    let v = h j.0 in
+    let same : v.0 ≡ (j.1).0 = property_one p values item k (codes "Visible") (boolean true) v.0 (j.1).0 g v.1 (j.1).1 in
+    absurd (not_both (is_true v.0) v.2 (ap is_true same ∙ (j.1).2))
+for_one p values gallery item g k c (Some s) None h j =
+    let v = j h.0 in
+    let same : v.0 ≡ (h.1).0 = property_one p values item k (codes "Visible") (boolean true) v.0 (h.1).0 g v.1 (h.1).1 in
+    absurd (not_both (is_true v.0) v.2 (ap is_true same ∙ (h.1).2))
+
+item_one : (p : Present) (values : ℕ → Data) (gallery : ℕ) → Ground p values → IsSingle (IsItemAt p values gallery)
+item_one p values gallery g k row None o h j = absurd h
+item_one p values gallery g k row (Some s) None h j = absurd j
+item_one p values gallery g k row (Some s) (Some t) h j =
+    let at : s.at ≡ t.at = h.0 ∙ sym j.0 in
+    let id : s.id ≡ t.id = h.1 ∙ sym j.1 in
+    let shown : s.shown ≡ t.shown = given_one (IsShownFor p values gallery (record_of row)) 0 p.app.names.controls s.shown t.shown (for_one p values gallery (record_of row) g) h.2 j.2 in
+    λ i. Some (record { at = at i; id = id i; shown = shown i })
+
+row_items_one : (p : Present) (values : ℕ → Data) (gallery from : ℕ) (rows : List Row) (s t : Items) → Ground p values → AreRowItems p values gallery from rows s → AreRowItems p values gallery from rows t → s ≡ t
+row_items_one p values gallery from rows s t g h j =
+    let fault_is : s.fault ≡ t.fault = h.0 ∙ sym j.0 in
+    let total : s.total ≡ t.total = h.1 ∙ sym j.1 in
+    let list : s.list ≡ t.list = given_one (IsItemAt p values gallery) (max from 1) (take 100 (drop (max from 1 - 1) rows)) s.list t.list (item_one p values gallery g) h.2 j.2 in
+    λ i. record { total = total i; fault = fault_is i; list = list i }
+
+unless_one : (p : Present) (values : ℕ → Data) (gallery from : ℕ) (o : Option Fault) (rows : List Row) (s t : Items) → Ground p values → AreItemsUnless p values gallery from o rows s → AreItemsUnless p values gallery from o rows t → s ≡ t
+unless_one p values gallery from None rows s t g h j = row_items_one p values gallery from rows s t g h j
+unless_one p values gallery from (Some f) rows s t g h j =
+    let fault_is : s.fault ≡ t.fault = h.0 ∙ sym j.0 in
+    let total : s.total ≡ t.total = h.1 ∙ sym j.1 in
+    let list : s.list ≡ t.list = h.2 ∙ sym j.2 in
+    λ i. record { total = total i; fault = fault_is i; list = list i }
+
+items_from_one : (p : Present) (values : ℕ → Data) (gallery from : ℕ) (s t : Items) → Ground p values → AreItemsFrom p values gallery from s → AreItemsFrom p values gallery from t → s ≡ t
+items_from_one p values gallery from s t g h j =
+    unless_one p values gallery from (fault_in (items_of p.app.names values gallery)) (rows_in (items_of p.app.names values gallery)) s t g h j
+
+-- ---- the screen
+
+first_one : (p : Present) (values : ℕ → Data) (k : ℕ) (kind : Control) (o q : Option Items) → Ground p values → ShowsFirstItems p values k kind o → ShowsFirstItems p values k kind q → o ≡ q
+first_one p values k control.Gallery (Some s) (Some t) g h j = ap (λ (x : Items). Some x) (items_from_one p values k 1 s t g h j)
+first_one p values k control.Gallery (Some s) None g h j = absurd j
+first_one p values k control.Gallery None q g h j = absurd h
+first_one p values k control.Label o q g h j = h ∙ sym j
+first_one p values k control.Button o q g h j = h ∙ sym j
+first_one p values k control.TextInput o q g h j = h ∙ sym j
+first_one p values k control.Slider o q g h j = h ∙ sym j
+first_one p values k control.Checkbox o q g h j = h ∙ sym j
+first_one p values k control.DatePicker o q g h j = h ∙ sym j
+
+shown_control_one : (p : Present) (values : ℕ → Data) (k : ℕ) (c : ControlName) (s t : Shown) → Ground p values → IsShownControl p values k c s → IsShownControl p values k c t → s ≡ t
+shown_control_one p values k c s t g h j =
+    let name : s.name ≡ t.name = h.name ∙ sym j.name in
+    let kind : s.kind ≡ t.kind = h.kind ∙ sym j.kind in
+    let shows : s.values ≡ t.values = h.shows ∙ sym j.shows in
+    let items : s.items ≡ t.items = first_one p values k c.kind s.items t.items g h.items j.items in
+    λ i. record { name = name i; kind = kind i; values = shows i; items = items i }
+
+shown_one : (p : Present) (values : ℕ → Data) → Ground p values → IsSingle (IsShown p values)
+shown_one p values g k c None None h j = refl
+shown_one p values g k c None (Some t) h j = absurd (not_both (is_shown p.app.names p.session values k c) h j.0)
+shown_one p values g k c (Some s) None h j = absurd (not_both (is_shown p.app.names p.session values k c) j h.0)
+shown_one p values g k c (Some s) (Some t) h j = ap (λ (x : Shown). Some x) (shown_control_one p values k c s t g h.1 j.1)
+
+same_name : (m n : List ℕ) (o : Option (List ℕ)) → o ≡ Some m → o ≡ Some n → m ≡ n
+same_name m n o e f = cc
+
+view_one : (p : Present) (values : ℕ → Data) (v w : View) → Ground p values → IsView p values v → IsView p values w → v ≡ w
+view_one p values v w g h j =
+    let screen : v.screen ≡ w.screen = same_name v.screen w.screen (slice_get p.app.names.screens p.session.screen) h.screen j.screen in
+    let shown : v.shown ≡ w.shown = given_one (IsShown p values) 0 p.app.names.controls v.shown w.shown (shown_one p values g) h.shown j.shown in
+    λ i. record { screen = screen i; shown = shown i }
+
+ground : OneValue → (p : Present) (values : ℕ → Data) → IsSound p.app → HoldsFitting p.app.names p.session → IsFresh p values → Ground p values
+ground one p values s n fresh = record { one = one; sound = s; holds = n; fits = fresh_fits p values s n fresh }
+
+-- ONE VIEW
+pub one_view : OneValue → OneFresh → OneView
+one_view one once p v w s n h j =
+    let same : j.values ≡ h.values = once p j.values h.values s n j.fresh h.fresh in
+    view_one p h.values v w (ground one p h.values s n h.fresh) h.shows (subst (λ (f : ℕ → Data). IsView p f w) same j.shows)
+
+seen_one : (p : Present) (values : ℕ → Data) (gallery from : ℕ) (o q : Option Items) → Ground p values → AreSeenItems p values gallery from o → AreSeenItems p values gallery from q → o ≡ q
+seen_one p values gallery from None None g h j = refl
+seen_one p values gallery from None (Some t) g h j = absurd (not_both (is_seen_at p.app.names p.session values gallery) h j.0)
+seen_one p values gallery from (Some s) None g h j = absurd (not_both (is_seen_at p.app.names p.session values gallery) j h.0)
+seen_one p values gallery from (Some s) (Some t) g h j = ap (λ (x : Items). Some x) (items_from_one p values gallery from s t g h.1 j.1)
+
+-- ONE LIST OF ITEMS
+pub one_items : OneValue → OneFresh → OneItems
+one_items one once p gallery from o q s n h j =
+    let same : j.values ≡ h.values = once p j.values h.values s n j.fresh h.fresh in
+    seen_one p h.values gallery from o q (ground one p h.values s n h.fresh) h.are (subst (λ (f : ℕ → Data). AreSeenItems p f gallery from q) same j.are)

@@ -1,0 +1,23 @@
+use Rattle.std.proofs.Common.{Option, subst, sym}
+use Rattle.std.proofs.lemmas.Result.{IfOk-weaker}
+use Rattle.request_checks.specs.Replies.{said}
+use Rattle.session_state.specs.Sessions.{SessionState}
+use Rattle.app_views.specs.Shows.{ShowsViewTo}
+use Rattle.app_views.proofs.Places.{fits_there, found_there, nobody_there}
+use Rattle.app_views.proofs.showing.show_view.Goals as goal
+
+pub show_view_to-requires-clause-fits : goal.show_view_to-requires-clause-fits
+show_view_to-requires-clause-fits g c = fits_there c.args.app.now.names c.args.sessions.now c.in-Some.place c.index-sessions-place.result c.requires.fit c.in-Some.ensures.within
+
+pub returns-in-Some-clause-done : goal.returns-in-Some-clause-done
+returns-in-Some-clause-done g c =
+    IfOk-weaker c.show_view_to.result _ _ (λ r h.
+    subst (λ (o : Option SessionState). ShowsViewTo c.args.app.now c.args.moment o (said r))
+    (sym (found_there c.args.name.now c.args.sessions.now c.in-Some.place c.index-sessions-place.result c.in-Some.ensures.place c.in-Some.ensures.within)) h)
+    c.show_view_to.ensures.done
+
+pub returns-in-None-clause-done : goal.returns-in-None-clause-done
+returns-in-None-clause-done g c =
+    IfOk-weaker c.refuse_plain.result _ _ (λ r h.
+    subst (λ (o : Option SessionState). ShowsViewTo c.args.app.now c.args.moment o (said r)) (sym (nobody_there c.args.name.now c.args.sessions.now c.in-None.ensures.place)) h)
+    c.refuse_plain.ensures.said

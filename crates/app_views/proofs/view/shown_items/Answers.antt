@@ -1,0 +1,21 @@
+use Rattle.std.proofs.Common.{Some, subst, sym, ◌∙◌}
+use Rattle.app_semantics.specs.Present.{present}
+use Rattle.app_views.specs.Views.{ShowsFirstItems}
+use Rattle.fx_data.specs.declared.controls.Control.{Control}
+use Rattle.recalc.specs.Values.{value_of}
+use Rattle.app_views.proofs.Displays.{no_items}
+use Rattle.app_views.proofs.Galleries.{gallery_kind}
+use Rattle.app_views.proofs.view.shown_items.Goals as goal
+
+pub items_from-requires-clause-gallery : goal.items_from-requires-clause-gallery
+items_from-requires-clause-gallery g c =
+    (c.args.control.now, record { there = c.requires.control; kind = gallery_kind c.args.control.now.kind (sym c.is_gallery.ensures ∙ c.if-is_gallery.true) })
+
+pub returns-in_ok-items : goal.returns-in_ok-items
+returns-in_ok-items g c = λ moment today.
+    subst (λ (k : Control). ShowsFirstItems (present c.args.app.now c.args.session.now moment) (value_of c.args.valued.now) c.args.number k (Some c.in_ok-items.items))
+    (sym (gallery_kind c.args.control.now.kind (sym c.is_gallery.ensures ∙ c.if-is_gallery.true))) (c.in_ok-items.ensures moment today)
+
+pub returns-else-is_gallery : goal.returns-else-is_gallery
+returns-else-is_gallery g c = λ moment today.
+    no_items (present c.args.app.now c.args.session.now moment) (value_of c.args.valued.now) c.args.number c.args.control.now.kind (sym c.is_gallery.ensures ∙ c.if-is_gallery.false)

@@ -1,0 +1,5 @@
+pub mod Views
+pub mod Galleries
+pub mod Ready
+pub mod Shows
+pub mod Laws

@@ -1,0 +1,288 @@
+//! The items of galleries.
+ghost use Rattle.std.specs.Prelude.{◌≡◌, ◌<◌, ◌+◌, ◌^◌, ℕ, [], IfOk, IfSome, codes, Some, drop, length, slice_get, take};
+ghost use Rattle.app_semantics.specs.Chosen as chosen;
+ghost use Rattle.app_semantics.specs.Holding.{HoldsFitting};
+ghost use Rattle.app_semantics.specs.Present.{present};
+ghost use Rattle.app_semantics.specs.Sound.{IsSound};
+ghost use Rattle.app_views.specs.Galleries.{gallery_named as named_gallery, is_gallery as is_gallery_kind, is_gallery_named as is_named_gallery};
+ghost use Rattle.app_views.specs.Ready.{CanShow, IsGalleryOf, IsItemOf};
+ghost use Rattle.app_views.specs.Views.{AreFreshItems, AreGiven, AreItemsFrom, AreRowItems, IsItemAt, fault_in as fault_of, is_seen_at as is_seen_by_number};
+ghost use Rattle.fx_data.specs.ValueView.{view};
+ghost use Rattle.fx_scalar.specs.ScalarFunctions.{IsToday};
+ghost use Rattle.fx_semantics.specs.Rows.{rows_in as rows_of_value};
+ghost use Rattle.fx_tables.specs.Columns.{Row};
+ghost use Rattle.recalc.specs.Values.{value_of};
+
+use crate::displaying::is_seen;
+use crate::templates::item_controls;
+use app_cells::App;
+use fx_base::{InOrder, Memory};
+use fx_data::{Control, Fault, Fields, Value, Words};
+use fx_eval::Steps;
+use fx_trees::Names;
+use fx_trees::names::ControlName;
+use recalc::{Valued, evaluate};
+use session_state::Session;
+use std::alloc::Global;
+use std::sync::ledger::Ledger;
+use view_text::{ItemList, ItemView, Items};
+
+/// The most items that are shown at once.
+const MOST_ITEMS: usize = 100;
+
+/// The ten-thousandths of 1.
+const ONE: i64 = 10_000;
+
+// The name of the column that numbers rows.
+fn id_name(alloc: Global) -> Result<Words, Memory>
+    ensures { IfOk result (λ w. w ≡ codes "ID") }
+{
+    Ok(Words::of(alloc, "ID")?)
+}
+
+// An item's id: its `ID` where that is a whole number from 1 to 4,294,967,295.
+fn item_id(alloc: Global, row: &Fields) -> Result<Option<u32>, Memory>
+    ensures { IfOk result (λ o. o ≡ chosen.item_id row.now) }
+{
+    let name = id_name(alloc)?;
+    match row.value(&name) {
+        Some(value) => Ok(whole_id(value)),
+        None => Ok(None),
+    }
+}
+
+// The id that a value is.
+fn whole_id(value: &Value) -> Option<u32>
+    ensures { result ≡ chosen.id_of (Some (view value.now)) }
+{
+    let Value::Number(number) = value else {
+        return None;
+    };
+    let units = number.units();
+    if units < ONE || units % ONE != 0 || units / ONE > i64::from(u32::MAX) {
+        return None;
+    }
+    Some((units / ONE) as u32)
+}
+
+// The item at a position.
+fn item_view<L: Ledger>(
+    alloc: Global,
+    app: &App,
+    session: &Session,
+    valued: &Valued,
+    gallery: u32,
+    at: u64,
+    row: &Fields,
+    steps: &mut Steps<L>,
+) -> Result<ItemView, Memory>
+    requires ready { CanShow app.now session.now valued.now }
+    requires row { IsItemOf app.now.names gallery row.now }
+    ensures { IfOk result (λ i. (moment : ℕ) → IsToday moment valued.now.day → IsItemAt (present app.now session.now moment) (value_of valued.now) gallery at row.now (Some i)) }
+{
+    let id = item_id(alloc, row)?;
+    let shown = item_controls(alloc, app, session, valued, gallery, row, steps)?;
+    Ok(ItemView { at, id, shown })
+}
+
+// The items of these rows, of which the first has this position.
+fn item_views<L: Ledger>(
+    alloc: Global,
+    app: &App,
+    session: &Session,
+    valued: &Valued,
+    gallery: u32,
+    first: u64,
+    rows: &[Fields],
+    steps: &mut Steps<L>,
+) -> Result<ItemList, Memory>
+    requires ready { CanShow app.now session.now valued.now }
+    requires rows { (i : ℕ) (r : Row) → slice_get rows.now i ≡ Some r → IsItemOf app.now.names gallery r }
+    requires few { first + length rows.now < 2 ^ 64 }
+    ensures { IfOk result (λ l. (moment : ℕ) → IsToday moment valued.now.day → AreGiven (IsItemAt (present app.now session.now moment) (value_of valued.now) gallery) first rows.now l) }
+{
+    let mut list = InOrder::new(alloc);
+    let mut at = first;
+    for row in rows {
+        let item = item_view(alloc, app, session, valued, gallery, at, row, steps)?;
+        list.push(item)?;
+        at += 1;
+    }
+    Ok(list)
+}
+
+// A hundred of these rows at most, behind so many.
+fn page(rows: &[Fields], behind: usize) -> &[Fields]
+    ensures { result.now ≡ take 100 (drop behind rows.now) }
+{
+    let start = behind.min(rows.len());
+    let rest = &rows[start..];
+    let end = rest.len().min(MOST_ITEMS);
+    &rest[..end]
+}
+
+// The items of a table.
+fn table_items<L: Ledger>(
+    alloc: Global,
+    app: &App,
+    session: &Session,
+    valued: &Valued,
+    gallery: u32,
+    from: u32,
+    rows: &[Fields],
+    steps: &mut Steps<L>,
+) -> Result<Items, Memory>
+    requires ready { CanShow app.now session.now valued.now }
+    requires rows { (i : ℕ) (r : Row) → slice_get rows.now i ≡ Some r → IsItemOf app.now.names gallery r }
+    ensures { IfOk result (λ i. (moment : ℕ) → IsToday moment valued.now.day → AreRowItems (present app.now session.now moment) (value_of valued.now) gallery from rows.now i) }
+{
+    let first = from.max(1);
+    let shown = page(rows, (first - 1) as usize);
+    let list = item_views(
+        alloc,
+        app,
+        session,
+        valued,
+        gallery,
+        u64::from(first),
+        shown,
+        steps,
+    )?;
+    Ok(Items {
+        total: rows.len() as u64,
+        fault: None,
+        list,
+    })
+}
+
+/// The items of a gallery from a position on, of which 0 counts as 1: a hundred at most, and how many the gallery has; or
+/// the error that stands in their place.
+pub(crate) fn items_from<L: Ledger>(
+    alloc: Global,
+    app: &App,
+    session: &Session,
+    valued: &Valued,
+    gallery: u32,
+    from: u32,
+    steps: &mut Steps<L>,
+) -> Result<Items, Memory>
+    requires ready { CanShow app.now session.now valued.now }
+    requires gallery { IsGalleryOf app.now.names gallery }
+    ensures { IfOk result (λ i. (moment : ℕ) → IsToday moment valued.now.day → AreItemsFrom (present app.now session.now moment) (value_of valued.now) gallery from i) }
+{
+    let items = valued.items(alloc, &app.names, gallery)?;
+    let error = fault_in(alloc, &items)?;
+    match error {
+        Some(fault) => Ok(items_with(alloc, fault)),
+        None => {
+            let rows = rows_in(&items);
+            table_items(alloc, app, session, valued, gallery, from, rows, steps)
+        }
+    }
+}
+
+// The error that a value is, if it is one.
+fn fault_in(alloc: Global, value: &Value) -> Result<Option<Fault>, Memory>
+    ensures { IfOk result (λ o. o ≡ fault_of (view value.now)) }
+{
+    match value {
+        Value::Fault(fault) => Ok(Some(fault.copy(alloc)?)),
+        _ => Ok(None),
+    }
+}
+
+// The rows in a value; what is no table has none.
+fn rows_in(value: &Value) -> &[Fields]
+    ensures { result.now ≡ rows_of_value (view value.now) }
+{
+    match value {
+        Value::Tab(rows) => rows.as_slice(),
+        _ => &[],
+    }
+}
+
+// No items: an error stands in their place.
+fn items_with(alloc: Global, fault: Fault) -> Items
+    ensures { result ≡ record { total = 0; fault = Some fault; list = [] } }
+{
+    let list = InOrder::new(alloc);
+    Items {
+        total: 0,
+        fault: Some(fault),
+        list,
+    }
+}
+
+// Whether the control of this number stands on the current screen, and is visible.
+fn is_seen_at(names: &Names, session: &Session, valued: &Valued, number: u32) -> bool
+    ensures { result ≡ is_seen_by_number names.now session.now (value_of valued.now) number }
+{
+    match names.controls.get(number as usize) {
+        Some(control) => is_seen(names, session, valued, number, control),
+        None => false,
+    }
+}
+
+/// The items of a gallery over a session at a moment, in seconds since 1970-01-01 UTC: those from a position on, of which 0
+/// counts as 1, a hundred at most, and how many the gallery has; or the error that stands in their place. None where the
+/// gallery isn't on the current screen or isn't visible.
+pub fn items_of<L: Ledger>(
+    alloc: Global,
+    app: &App,
+    session: &Session,
+    moment: u64,
+    gallery: u32,
+    from: u32,
+    steps: &mut Steps<L>,
+) -> Result<Option<Items>, Memory>
+    requires sound { IsSound app.now }
+    requires holds { HoldsFitting app.now.names session.now }
+    requires gallery { IsGalleryOf app.now.names gallery }
+    ensures { IfOk result (λ o. AreFreshItems (present app.now session.now moment) gallery from o) }
+{
+    let valued = evaluate(alloc, app, session, moment, steps)?;
+    if is_seen_at(&app.names, session, &valued, gallery) {
+        let items = items_from(alloc, app, session, &valued, gallery, from, steps)?;
+        Ok(Some(items))
+    } else {
+        Ok(None)
+    }
+}
+
+/// Whether this kind of control is a gallery.
+pub(crate) fn is_gallery(kind: Control) -> bool
+    ensures { result ≡ is_gallery_kind kind }
+{
+    kind == Control::Gallery
+}
+
+// Whether a control is the gallery of this name.
+fn is_gallery_named(control: &ControlName, name: &Words) -> bool
+    ensures { result ≡ is_named_gallery name.now control.now }
+{
+    is_gallery(control.kind) && control.name.is(name)
+}
+
+// The place of the gallery of a name.
+fn place_named(names: &Names, name: &Words) -> Option<usize>
+    ensures place { result ≡ named_gallery name.now names.now }
+    ensures within { IfSome result (λ k. k < length names.now.controls) }
+{
+    names
+        .controls
+        .as_slice()
+        .iter()
+        .position(|control| is_gallery_named(control, name))
+}
+
+/// The number of the gallery of a name.
+pub fn gallery_named(names: &Names, name: &Words) -> Option<u32>
+    requires { length names.now.controls < 2 ^ 32 }
+    ensures place { result ≡ named_gallery name.now names.now }
+    ensures gallery { IfSome result (λ g. IsGalleryOf names.now g) }
+{
+    match place_named(names, name) {
+        Some(place) => Some(place as u32),
+        None => None,
+    }
+}

@@ -1,0 +1,35 @@
+//! Laws of views.
+ghost use Rattle.app_views.specs.Laws.{OneItems, OneItemsReply, OneView, OneViewReply};
+
+use app_semantics::one_fresh;
+use fx_semantics::one_value;
+
+/// A law, and no work: at a moment a session has one view.
+pub fn one_view()
+    ensures { OneView }
+{
+    one_value();
+    one_fresh();
+}
+
+/// A law, and no work: at a moment a gallery has one list of items from a position on.
+pub fn one_items()
+    ensures { OneItems }
+{
+    one_value();
+    one_fresh();
+}
+
+/// A law, and no work: the app, the moment and the session determine the reply that shows a view.
+pub fn one_view_reply()
+    ensures { OneViewReply }
+{
+    one_view();
+}
+
+/// A law, and no work: with a gallery and a position they determine the reply that shows its items.
+pub fn one_items_reply()
+    ensures { OneItemsReply }
+{
+    one_items();
+}

@@ -1,0 +1,14 @@
+//! What a session is shown: its view, and the items of its galleries.
+#![tactic(auto)]
+
+mod displaying;
+mod items;
+mod laws;
+mod showing;
+mod templates;
+mod view;
+
+pub use items::{gallery_named, items_of};
+pub use laws::{one_items, one_items_reply, one_view, one_view_reply};
+pub use showing::{show_items, show_view};
+pub use view::view_of;

@@ -1,0 +1,248 @@
+// The controls of a template, as they are for an item.
+ghost use Rattle.std.specs.Prelude.{◌≡◌, ◌++◌, ◌∷◌, [], ℕ, true, IfOk, OnOk, Some, codes, slice_get};
+ghost use Rattle.app_cells.specs.Leaning as leaning;
+ghost use Rattle.app_cells.specs.declared.app.CellInfo.{CellInfo as Info};
+ghost use Rattle.app_semantics.specs.Fresh.{IsValueOf};
+ghost use Rattle.app_semantics.specs.Present.{present};
+ghost use Rattle.app_semantics.specs.Properties.{IsPropertyForItem, is_true as is_true_of};
+ghost use Rattle.app_views.specs.Ready.{CanShow, IsItemOf, IsTemplateProperty};
+ghost use Rattle.app_views.specs.Views.{AreGiven, IsShownFor, is_in as is_in_of, put};
+ghost use Rattle.fx_data.specs.ValueView.{view};
+ghost use Rattle.fx_data.specs.Values.{Data, boolean, text as text_data};
+ghost use Rattle.fx_scalar.specs.ScalarFunctions.{IsToday};
+ghost use Rattle.fx_semantics.specs.Around.{record_of};
+ghost use Rattle.recalc.specs.Values.{value_of};
+
+use crate::displaying::{is_true, no_text, text_alone};
+use app_cells::App;
+use fx_base::{InOrder, Memory};
+use fx_data::{Fields, Value};
+use fx_eval::Steps;
+use fx_trees::names::ControlName;
+use recalc::{Valued, cell_of_property};
+use session_state::Session;
+use std::alloc::Global;
+use std::sync::ledger::Ledger;
+use view_text::{ItemControl, ItemControlList};
+
+/// Adds what is given, if anything is.
+pub(crate) fn add<T: Drop>(list: &mut InOrder<T>, given: Option<T>) -> Result<(), Memory>
+    ensures { OnOk result (list.new ≡ list.old ++ put given []) }
+{
+    match given {
+        Some(item) => list.push(item),
+        None => Ok(()),
+    }
+}
+
+// Whether a control stands in the gallery of this number.
+fn is_in(gallery: u32, control: &ControlName) -> bool
+    ensures { result ≡ is_in_of gallery control.now.gallery }
+{
+    match control.gallery {
+        Some(other) => other == gallery,
+        None => false,
+    }
+}
+
+// The value of a cell of a template for an item.
+fn cell_for_item<L: Ledger>(
+    alloc: Global,
+    app: &App,
+    session: &Session,
+    valued: &Valued,
+    gallery: u32,
+    cell: u32,
+    row: &Fields,
+    steps: &mut Steps<L>,
+) -> Result<Value, Memory>
+    requires ready { CanShow app.now session.now valued.now }
+    requires cell { IsTemplateProperty app.now gallery (Some cell) }
+    requires row { IsItemOf app.now.names gallery row.now }
+    ensures { IfOk result (λ v. (moment : ℕ) → IsToday moment valued.now.day → (c : Info) × (slice_get app.now.cells cell ≡ Some c) × IsValueOf (present app.now session.now moment) (value_of valued.now) (Some (record_of row.now)) c (view v)) }
+{
+    match app.cells.get(cell as usize) {
+        Some(info) => {
+            let fields = row.copy(alloc)?;
+            let item = Value::Rec(fields);
+            valued.in_item(alloc, app, session, info, item, steps)
+        }
+        None => unreachable!(),
+    }
+}
+
+// The value of a property of a template's control for an item, and another where it isn't written.
+fn item_property<L: Ledger>(
+    alloc: Global,
+    app: &App,
+    session: &Session,
+    valued: &Valued,
+    gallery: u32,
+    control: u32,
+    name: &str,
+    row: &Fields,
+    unwritten: Value,
+    steps: &mut Steps<L>,
+) -> Result<Value, Memory>
+    requires ready { CanShow app.now session.now valued.now }
+    requires property { IsTemplateProperty app.now gallery (leaning.cell_of_property app.now.names control name.now) }
+    requires row { IsItemOf app.now.names gallery row.now }
+    ensures { IfOk result (λ v. (moment : ℕ) → IsToday moment valued.now.day → IsPropertyForItem (present app.now session.now moment) (value_of valued.now) (record_of row.now) control name.now (view unwritten) (view v)) }
+{
+    match cell_of_property(&app.names, control, name) {
+        Some(cell) => cell_for_item(alloc, app, session, valued, gallery, cell, row, steps),
+        None => Ok(unwritten),
+    }
+}
+
+// Whether a control of a template is visible for an item.
+fn visible_for<L: Ledger>(
+    alloc: Global,
+    app: &App,
+    session: &Session,
+    valued: &Valued,
+    gallery: u32,
+    number: u32,
+    control: &ControlName,
+    row: &Fields,
+    steps: &mut Steps<L>,
+) -> Result<bool, Memory>
+    requires ready { CanShow app.now session.now valued.now }
+    requires control { slice_get app.now.names.controls number ≡ Some control.now }
+    requires within { is_in_of gallery control.now.gallery ≡ true }
+    requires row { IsItemOf app.now.names gallery row.now }
+    ensures { IfOk result (λ b. (moment : ℕ) → IsToday moment valued.now.day →
+        (v : Data) × IsPropertyForItem (present app.now session.now moment) (value_of valued.now) (record_of row.now) number (codes "Visible") (boolean true) v × (b ≡ is_true_of v)) }
+{
+    let always = Value::Boolean(true);
+    let visible = item_property(
+        alloc, app, session, valued, gallery, number, "Visible", row, always, steps,
+    )?;
+    Ok(is_true(&visible))
+}
+
+// The text of a control of a template for an item.
+fn text_for<L: Ledger>(
+    alloc: Global,
+    app: &App,
+    session: &Session,
+    valued: &Valued,
+    gallery: u32,
+    number: u32,
+    control: &ControlName,
+    row: &Fields,
+    steps: &mut Steps<L>,
+) -> Result<Value, Memory>
+    requires ready { CanShow app.now session.now valued.now }
+    requires control { slice_get app.now.names.controls number ≡ Some control.now }
+    requires within { is_in_of gallery control.now.gallery ≡ true }
+    requires row { IsItemOf app.now.names gallery row.now }
+    ensures { IfOk result (λ v. (moment : ℕ) → IsToday moment valued.now.day →
+        IsPropertyForItem (present app.now session.now moment) (value_of valued.now) (record_of row.now) number (codes "Text") (text_data []) (view v)) }
+{
+    let unwritten = no_text(alloc)?;
+    item_property(
+        alloc, app, session, valued, gallery, number, "Text", row, unwritten, steps,
+    )
+}
+
+// A control with its text.
+fn item_control_with(
+    alloc: Global,
+    control: &ControlName,
+    text: Value,
+) -> Result<ItemControl, Memory>
+    ensures name { IfOk result (λ c. c.name ≡ control.now.name) }
+    ensures kind { IfOk result (λ c. c.kind ≡ control.now.kind) }
+    ensures values { IfOk result (λ c. c.values ≡ (codes "Text", view text) ∷ []) }
+{
+    let values = text_alone(alloc, text)?;
+    let name = control.name.copy(alloc)?;
+    let kind = control.kind;
+    Ok(ItemControl { name, kind, values })
+}
+
+// What a control of the gallery's template shows for an item, if it is visible for it.
+fn template_control<L: Ledger>(
+    alloc: Global,
+    app: &App,
+    session: &Session,
+    valued: &Valued,
+    gallery: u32,
+    number: u32,
+    control: &ControlName,
+    row: &Fields,
+    steps: &mut Steps<L>,
+) -> Result<Option<ItemControl>, Memory>
+    requires ready { CanShow app.now session.now valued.now }
+    requires control { slice_get app.now.names.controls number ≡ Some control.now }
+    requires within { is_in_of gallery control.now.gallery ≡ true }
+    requires row { IsItemOf app.now.names gallery row.now }
+    ensures { IfOk result (λ o. (moment : ℕ) → IsToday moment valued.now.day → IsShownFor (present app.now session.now moment) (value_of valued.now) gallery (record_of row.now) number control.now o) }
+{
+    let visible = visible_for(
+        alloc, app, session, valued, gallery, number, control, row, steps,
+    )?;
+    if visible {
+        let text = text_for(
+            alloc, app, session, valued, gallery, number, control, row, steps,
+        )?;
+        let shown = item_control_with(alloc, control, text)?;
+        Ok(Some(shown))
+    } else {
+        Ok(None)
+    }
+}
+
+// What a control shows for an item, if it stands in the gallery and is visible for the item.
+fn item_control<L: Ledger>(
+    alloc: Global,
+    app: &App,
+    session: &Session,
+    valued: &Valued,
+    gallery: u32,
+    number: u32,
+    control: &ControlName,
+    row: &Fields,
+    steps: &mut Steps<L>,
+) -> Result<Option<ItemControl>, Memory>
+    requires ready { CanShow app.now session.now valued.now }
+    requires control { slice_get app.now.names.controls number ≡ Some control.now }
+    requires row { IsItemOf app.now.names gallery row.now }
+    ensures { IfOk result (λ o. (moment : ℕ) → IsToday moment valued.now.day → IsShownFor (present app.now session.now moment) (value_of valued.now) gallery (record_of row.now) number control.now o) }
+{
+    if is_in(gallery, control) {
+        template_control(
+            alloc, app, session, valued, gallery, number, control, row, steps,
+        )
+    } else {
+        Ok(None)
+    }
+}
+
+/// What the controls of a gallery's template show for an item.
+pub(crate) fn item_controls<L: Ledger>(
+    alloc: Global,
+    app: &App,
+    session: &Session,
+    valued: &Valued,
+    gallery: u32,
+    row: &Fields,
+    steps: &mut Steps<L>,
+) -> Result<ItemControlList, Memory>
+    requires ready { CanShow app.now session.now valued.now }
+    requires row { IsItemOf app.now.names gallery row.now }
+    ensures { IfOk result (λ l. (moment : ℕ) → IsToday moment valued.now.day → AreGiven (IsShownFor (present app.now session.now moment) (value_of valued.now) gallery (record_of row.now)) 0 app.now.names.controls l) }
+{
+    let mut shown = InOrder::new(alloc);
+    let mut number: u32 = 0;
+    let controls = app.names.controls.as_slice();
+    for control in controls {
+        let given = item_control(
+            alloc, app, session, valued, gallery, number, control, row, steps,
+        )?;
+        add(&mut shown, given)?;
+        number += 1;
+    }
+    Ok(shown)
+}
