@@ -12,3 +12,9 @@ pub mod Infos
 pub mod OneVerdict
 pub mod Told
 pub mod OneRefusal
+pub mod Framed
+pub mod Quiet
+pub mod OneEdit
+pub mod FitToJudge
+pub mod Loaded
+pub mod Edited

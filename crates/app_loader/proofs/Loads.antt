@@ -25,10 +25,10 @@ use Rattle.app_semantics.specs.Sound.{IsSound}
 use Rattle.app_soundness.proofs.Soundness.{app_parts}
 use Rattle.app_soundness.specs.Accepted.{AcceptedIsSilent, AcceptedIsSound, AreSingle, IsAccepted}
 use Rattle.app_texts.specs.Texts.{IsNamedReading, IsReading, TellsBreaks}
-use Rattle.app_typing.proofs.Below.{final_same}
-use Rattle.app_typing.specs.Cells.{cell_of}
-use Rattle.app_typing.specs.Judged.{JudgedCells, Tells}
-use Rattle.app_typing.specs.Types.{AreLawfullyTyped, HaveLawfulTrees}
+use Rattle.app_soundness.proofs.of_app_typing.Below.{final_same}
+use Rattle.app_soundness.specs.app_typing.Cells.{cell_of}
+use Rattle.app_soundness.specs.app_typing.Judged.{JudgedCells, Tells}
+use Rattle.app_soundness.specs.app_typing.Types.{AreLawfullyTyped, HaveLawfulTrees}
 use Rattle.app_loader.specs.Judged as judge
 use Rattle.app_loader.specs.Judged.{AreNamed, Judged, JudgedApp, JudgedFile, JudgedFormulas, JudgedText, longest}
 

@@ -5,7 +5,7 @@ use Rattle.std.specs.Str.{chars}
 use Rattle.fx_data.specs.TypeView.{shape}
 use Rattle.fx_data.specs.declared.types.Ty.{Ty}
 use Rattle.fx_grammar.proofs.Meanings.{one_tree_of}
-use Rattle.fx_infer.proofs.Only.{ty_one}
+use Rattle.app_soundness.proofs.of_fx_infer.Only.{ty_one}
 use Rattle.fx_lexer.proofs.Readings.{lexed_one}
 use Rattle.fx_parser.specs.Texts.{AreNamedEnd, IsNamedText}
 use Rattle.fx_parser.specs.declared.end.ParseEnd.{ParseEnd}
@@ -51,7 +51,7 @@ start_one spot.OnStart source a b h k = h ∙ sym k
 start_one (spot.OnVisible s) source a b h k = h ∙ sym k
 start_one (spot.Property n p) source a b h k = h ∙ sym k
 
-read_cell_one : (f : Frame) (s : Spot) (text : List ℕ) (c d : Cell) → IsReadAt f s text c → IsReadAt f s text d → c ≡ d
+pub read_cell_one : (f : Frame) (s : Spot) (text : List ℕ) (c d : Cell) → IsReadAt f s text c → IsReadAt f s text d → c ≡ d
 read_cell_one f s text c d x y =
     let source = encode_utf8_all text in
     let starts : x.start ≡ y.start = start_one s source x.start y.start x.starts y.starts in

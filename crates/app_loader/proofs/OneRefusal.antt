@@ -37,10 +37,10 @@ use Rattle.app_names.specs.NameRules.{in_app, name_breaks}
 use Rattle.app_texts.specs.declared.file_texts.Text.{Text}
 use Rattle.app_texts.specs.Files.{frame_of, texts_of}
 use Rattle.app_texts.specs.Texts.{AreFormulasOf, AreNamedAt, AreReadAt, IsNamedReading, IsReading, IsTold, bare, broken, formulas, in_text, named_broken, named_formulas}
-use Rattle.app_typing.specs.Admitted.{AreRefused, Breaks, in_cell}
-use Rattle.app_typing.specs.Cells.{cell_of, judged, place_of}
-use Rattle.app_typing.specs.Infos.{unbuilt_breaks}
-use Rattle.app_typing.specs.Judged.{AreSettled, JudgedCells, app, cyclic, refused, unbuilt, unsettled, unsettling}
+use Rattle.app_soundness.specs.app_typing.Admitted.{AreRefused, Breaks, in_cell}
+use Rattle.app_soundness.specs.app_typing.Cells.{cell_of, judged, place_of}
+use Rattle.app_soundness.specs.app_typing.Infos.{unbuilt_breaks}
+use Rattle.app_soundness.specs.app_typing.Judged.{AreSettled, JudgedCells, app, cyclic, refused, unbuilt, unsettled, unsettling}
 use Rattle.app_loader.specs.Judged as judge
 use Rattle.app_loader.specs.Judged.{AreNamed, Judged, JudgedApp, JudgedFile, JudgedFormulas, JudgedText, misnamed, named, no_text, text, too_long}
 use Rattle.app_loader.specs.Verdicts.{AreSameBreaks, IsOneRefusalOfAFile, IsOneRefusalOfAText, IsSameBreak, bad_part, circle, same, too_deep}
@@ -54,7 +54,7 @@ use Rattle.app_loader.proofs.Singles.{named_parts, reading_parts}
 use Rattle.app_loader.proofs.Told.{whole_once, whole_told_alike}
 
 -- ---- breaks that are one are the same
-from_equal : (b c : Broken) → b ≡ c → IsSameBreak b c
+pub from_equal : (b c : Broken) → b ≡ c → IsSameBreak b c
 from_equal b c e = subst (IsSameBreak b) e (same b)
 
 all_same : (bs : List Broken) → AreSameBreaks bs bs
@@ -92,7 +92,7 @@ one_stop P xs i j a b = elim (cases_lt i j) [
 syntax_one : (P : List Item → Type 0) (xs : List Item) (end at bt : ℕ) → IsSyntaxAt P xs end at → IsSyntaxAt P xs end bt → at ≡ bt
 syntax_one P xs end at bt a b = a.begins ∙ ap (λ i. place_or end (drop i xs)) (one_stop P xs a.place b.place a.stops b.stops) ∙ sym b.begins
 
-ends_same : (P Deeper : List Item → Type 0) (cell source : List ℕ) (e g : ParseEnd) (b c : Broken) → IsEnd P Deeper source e → IsEnd P Deeper source g → IsTold cell source e b → IsTold cell source g c → IsSameBreak b c
+pub ends_same : (P Deeper : List Item → Type 0) (cell source : List ℕ) (e g : ParseEnd) (b c : Broken) → IsEnd P Deeper source e → IsEnd P Deeper source g → IsTold cell source e b → IsTold cell source g c → IsSameBreak b c
 ends_same P Deeper cell source (Lex x) (Lex y) b c p q s t =
     let one = bad_one (chars source) x y p.0 q.0 in
     from_equal b c (s ∙ ap (λ (z : LexErr). in_text cell rule.BadToken z.at (bad_token_words z.what)) one ∙ sym t)
@@ -218,7 +218,7 @@ module _ (m k : Names) (e : k ≡ functions_at m k.signatures) (alike : AreAlike
 
 -- ---- stages
 -- two refusals tell the same
-abbrev SameRefusal : Result App (List Broken) → Result App (List Broken) → Type 0
+abbrev pub SameRefusal : Result App (List Broken) → Result App (List Broken) → Type 0
 SameRefusal (Ok a) w = Unit {0}
 SameRefusal (Err bs) (Ok a) = Unit {0}
 SameRefusal (Err bs) (Err cs) = AreSameBreaks bs cs
@@ -264,7 +264,7 @@ cells_same (cyclic n limit cells m is b s o p) (refused k most _ l d ds t q) f x
 cells_same (cyclic n limit cells m is b s o p) (unbuilt k most _ l js d ds t q) f x y = absurd (some_broken d ds (unbuilt_breaks js) q (ap unbuilt_breaks (sym (same_infos f cells n k x y m l is js s t)) ∙ o))
 cells_same (cyclic n limit cells m is b s o p) (cyclic k most _ l js d t u q) f x y = (circle b d (ap (λ (z : Broken). z.rule) p.2) (ap (λ (z : Broken). z.rule) q.2), tt)
 
-formulas_same : {f : Frame} {cells : List Cell} {v w : Result App (List Broken)} → JudgedFormulas f cells v → JudgedFormulas f cells w → SameRefusal v w
+pub formulas_same : {f : Frame} {cells : List Cell} {v w : Result App (List Broken)} → JudgedFormulas f cells v → JudgedFormulas f cells w → SameRefusal v w
 formulas_same (misnamed f cells ss b bs e p) (misnamed _ _ rs d ds g q) = all_equal (b ∷ bs) (d ∷ ds) (sym p ∙ breaks_alike ss rs (e ∙ sym g) f cells ∙ q)
 formulas_same (misnamed f cells ss b bs e p) (named _ _ k w x q) =
     absurd (some_broken b bs (name_breaks ss f cells) p (breaks_alike ss k.signatures.now (e ∙ sym x.named.signatures) f cells ∙ x.unbroken))

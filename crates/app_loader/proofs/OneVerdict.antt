@@ -16,11 +16,11 @@ use Rattle.app_names.specs.NameRules.{name_breaks}
 use Rattle.app_soundness.proofs.Soundness.{IfApp, app_parts}
 use Rattle.app_texts.specs.Files.{frame_of}
 use Rattle.app_texts.specs.Texts.{AreFormulasOf, AreNamedAt, bare}
-use Rattle.app_typing.specs.Admitted.{AreRefused}
-use Rattle.app_typing.specs.Cells.{cell_of}
-use Rattle.app_typing.specs.Cycles.{IsCycle}
-use Rattle.app_typing.specs.Infos.{unbuilt_breaks}
-use Rattle.app_typing.specs.Judged.{AreSettled, IsAppOf, JudgedCells, app, cyclic, refused, unbuilt, unsettling}
+use Rattle.app_soundness.specs.app_typing.Admitted.{AreRefused}
+use Rattle.app_soundness.specs.app_typing.Cells.{cell_of}
+use Rattle.app_soundness.specs.app_typing.Cycles.{IsCycle}
+use Rattle.app_soundness.specs.app_typing.Infos.{unbuilt_breaks}
+use Rattle.app_soundness.specs.app_typing.Judged.{AreSettled, IsAppOf, JudgedCells, app, cyclic, refused, unbuilt, unsettling}
 use Rattle.app_loader.specs.Judged as judge
 use Rattle.app_loader.specs.Judged.{AreNamed, Judged, JudgedApp, JudgedFile, JudgedFormulas, JudgedText, longest, misnamed, named, no_text, text, too_long}
 use Rattle.app_loader.specs.Verdicts.{IsOneApp, IsOneAppOfAFile, IsOneAppOfAText, IsOneVerdict, IsSameApp}
@@ -34,7 +34,7 @@ use Rattle.depend_graph.specs.Order.{IsClosedPath}
 use Rattle.fx_typing.specs.Rounds.{IsFinal, StillChanges}
 
 -- a verdict is this app
-abbrev Agree : App → Result App (List Broken) → Type 0
+abbrev pub Agree : App → Result App (List Broken) → Type 0
 Agree a (Ok b) = IsSameApp a b
 Agree a (Err bs) = ⊥
 
@@ -98,6 +98,10 @@ formulas_agree : {f : Frame} {cells : List Cell} {v : Result App (List Broken)} 
 formulas_agree (misnamed f cells functions b bs e k) a h =
     some_broken b bs (name_breaks functions f cells) k (breaks_alike functions h.first.signatures.now (e ∙ sym h.are.named.signatures) f cells ∙ h.are.unbroken)
 formulas_agree (named f cells n v are j) a h = cells_agree f cells h.first h.are.named f.limit a h.parts j refl refl are.named
+
+-- they are judged in one way
+pub formulas_one : (f : Frame) (cells : List Cell) (a : App) (v : Result App (List Broken)) → JudgedFormulas f cells (Ok a) → JudgedFormulas f cells v → Agree a v
+formulas_one f cells a v p q = formulas_agree q a (formulas_accepted p)
 
 -- ---- what a file holds
 record IsFileOf (a : AppFile) (b : App) : Type 0 where

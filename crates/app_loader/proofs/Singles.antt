@@ -30,6 +30,7 @@ use Rattle.app_texts.specs.declared.file_texts.Text.{Text}
 use Rattle.app_texts.specs.Files.{control_texts, frame_of, is_written, property_texts, screen_texts, text_at, texts_of}
 use Rattle.app_texts.specs.Texts.{AreFormulasOf, AreNamedAt, AreNamedCells, AreReadAt, IsNamedReading, IsReading, bare, broken, formulas, named_broken, named_formulas}
 use Rattle.fx_parser.specs.declared.entries.Named.{Named}
+use Rattle.app_soundness.proofs.Cells.{items_ascii}
 use Rattle.app_soundness.specs.Accepted.{AreSingle}
 
 -- what is the formula of no gallery's items
@@ -114,9 +115,6 @@ skip number n m key None ps a other h = h
 skip number n m key (Some x) ps a other h = inl ((λ k e. other_name number k (scalars_of key) (differs key a other) e), h)
 
 -- the items
-items_ascii : IsAscii (codes "Items")
-items_ascii = search rules
-
 take_items : (number m : ℕ) (o : Option Data) (ps : List PropertyText) → Rise (suc number) m (text_spots (its_texts number ps))
     → Rise number m (text_spots (its_texts number (cons_option (option_map (told (codes "Items")) o) ps)))
 take_items number m None ps h = lower number (suc number) m (text_spots (its_texts number ps)) (omega arith) h

@@ -16,7 +16,7 @@ use Rattle.app_texts.specs.Texts.{IsNamedReading, IsReading}
 use Rattle.app_names.specs.AppNames.{AreNames}
 use Rattle.app_names.specs.NameRules.{in_app, name_breaks}
 use Rattle.app_soundness.specs.Accepted.{AreSingle}
-use Rattle.app_typing.specs.Judged.{JudgedCells}
+use Rattle.app_soundness.specs.app_typing.Judged.{JudgedCells}
 
 -- the most bytes of a text of named formulas
 abbrev pub longest : ℕ

@@ -1,10 +1,15 @@
-//! From an app file, or a text of named formulas, to its app: all that breaks a rule is told, or the app is sound.
+//! From an app file, or a text of named formulas, to its app: all that breaks a rule is told, or the app is sound. From an
+//! app and an edit to the edited app likewise.
 #![tactic(auto)]
 
+pub mod editing;
+pub mod finding;
 pub mod loading;
 pub mod verdicts;
 
 pub use app_cells::{App, CellInfo};
+pub use editing::{edit, loaded_app, one_edit, one_edit_refusal, one_edited};
+pub use finding::find;
 pub use fx_trees::{AppEnd, Broken};
 pub use loading::{load, load_named};
 pub use verdicts::{

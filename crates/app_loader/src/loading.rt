@@ -6,20 +6,18 @@ ghost use Rattle.app_names.specs.NameRules as rules;
 ghost use Rattle.app_semantics.specs.Sound.{IsSound};
 ghost use Rattle.app_soundness.specs.Accepted.{AreSingle};
 ghost use Rattle.app_texts.specs.Files as files;
-ghost use Rattle.app_typing.specs.Cells.{AreShallow};
-ghost use Rattle.app_typing.specs.Judged.{Tells};
+ghost use Rattle.app_soundness.specs.app_typing.Cells.{AreShallow};
+ghost use Rattle.app_soundness.specs.app_typing.Judged.{Tells};
 ghost use Rattle.fx_data.specs.Words.{scalars_of};
 ghost use Rattle.session_state.specs.Changes.{HoldsTables};
 
 use app_cells::{App, Cell, Frame};
 use app_file::AppFile;
 use app_names::{broken, name_breaks, names_of};
-use app_soundness::{accepted_is_silent, accepted_is_sound};
+use app_soundness::{accepted_is_silent, accepted_is_sound, app_of, no_deeper, only};
 use app_texts::{read_is_sound, read_named, read_texts};
-use app_typing::{app_of, only};
 use fx_base::{Memory, OrMemory};
 use fx_data::Words;
-use fx_infer::no_deeper;
 use fx_trees::{AppEnd, Broken, Rule};
 use std::alloc::Global;
 
@@ -95,7 +93,7 @@ fn load_text(alloc: Global, source: &str) -> Result<App, AppEnd>
 }
 
 // The app of formulas beside a frame, by their names.
-fn load_formulas(alloc: Global, frame: Frame, cells: Vec<Cell>) -> Result<App, AppEnd>
+pub(crate) fn load_formulas(alloc: Global, frame: Frame, cells: Vec<Cell>) -> Result<App, AppEnd>
     requires frame { IsFrame frame }
     requires placed { All (IsPlaced frame) cells.items }
     requires shallow { AreShallow cells.items }

@@ -1,0 +1,4 @@
+pub mod FramePlaces
+pub mod Standing
+pub mod Counts
+pub mod GivenTexts

@@ -1,0 +1,158 @@
+//! The formulas of an app in which one is replaced.
+ghost use Rattle.std.specs.Prelude.{◌≡◌, ◌++◌, [], All, Err, IfErr, IfOk, Ok, OnOk, filter_map, map, option_map};
+ghost use Rattle.std.specs.List.{cons_option};
+ghost use Rattle.app_cells.specs.Spots.{IsFrame, IsPlaced, IsSpot};
+ghost use Rattle.app_cells.specs.declared.app.CellInfo.{CellInfo as Info};
+ghost use Rattle.app_texts.specs.Texts.{TellsBreak};
+ghost use Rattle.app_edits.specs.Edits as edits;
+ghost use Rattle.app_edits.specs.Edits.{IsEdited, IsFormula, IsGiven};
+ghost use Rattle.app_edits.specs.Frames.{frame_of, written};
+
+use crate::copies::{copy_cell, copy_spot, frame_of};
+use crate::places::{is_same, spot_at, spots_of};
+use app_cells::{App, Cell, CellInfo, Frame, Spot};
+use app_file::{FileBreak, Limit};
+use app_texts::read_text;
+use fx_base::{Memory, OrMemory};
+use fx_data::words::Words;
+use fx_trees::{Broken, Rule};
+use std::alloc::Global;
+
+// Whether a place is a named formula's.
+fn is_named(spot: &Spot) -> bool
+    ensures { result ≡ edits.is_named spot.now }
+{
+    matches!(spot, Spot::Formula(_))
+}
+
+// That no formula can stand at an address.
+fn no_place(alloc: Global, address: &Words) -> Result<Broken, Memory>
+    ensures { IfOk result (λ b. b ≡ edits.no_place address.now) }
+{
+    Ok(Broken {
+        cell: address.copy(alloc)?,
+        rule: Rule::UnknownName,
+        at: 0,
+        detail: address.copy(alloc)?,
+    })
+}
+
+// The formula of a text that is one.
+fn read_cell(
+    alloc: Global,
+    frame: &Frame,
+    spot: &Spot,
+    text: &Words,
+) -> Result<Option<Cell>, OrMemory<Broken>>
+    requires spot { IsSpot frame.now spot.now }
+    requires formula { IsFormula spot.now text.now }
+    ensures given { IfOk result (λ o. IsGiven frame.now spot.now text.now (Ok o)) }
+    ensures unread { IfErr result (TellsBreak (λ b. IsGiven frame.now spot.now text.now (Err b))) }
+{
+    // So long a text has no room beside its tokens.
+    if u32::try_from(text.as_str().len()).is_err() {
+        return Err(OrMemory::Memory);
+    }
+    match read_text(alloc, frame, copy_spot(alloc, spot)?, text.copy(alloc)?) {
+        Ok(cell) => Ok(Some(cell)),
+        Err(end) => Err(end),
+    }
+}
+
+// What a text gives at a place: its formula, or none.
+fn given_cell(
+    alloc: Global,
+    frame: &Frame,
+    spot: &Spot,
+    text: &Words,
+) -> Result<Option<Cell>, OrMemory<Broken>>
+    requires { IsSpot frame.now spot.now }
+    ensures given { IfOk result (λ o. IsGiven frame.now spot.now text.now (Ok o)) }
+    ensures broken { IfErr result (TellsBreak (λ b. IsGiven frame.now spot.now text.now (Err b))) }
+{
+    let count = text.as_str().len();
+    if is_named(spot) {
+        return read_cell(alloc, frame, spot, text);
+    }
+    if count > Limit::Formula.most() {
+        let broken = FileBreak::Passed(Limit::Formula, count).broken(alloc)?;
+        return Err(OrMemory::Refused(broken));
+    }
+    if count == 0 {
+        return Ok(None);
+    }
+    read_cell(alloc, frame, spot, text)
+}
+
+// The formula that is written at a place.
+fn written_at<'a>(cells: &'a [CellInfo], spot: &Spot) -> Option<&'a Cell>
+    ensures { option_map (λ c. c.now) result ≡ edits.written_at (map (λ (i : Info). i.cell) cells.now) spot.now }
+{
+    for info in cells {
+        if is_same(spot, &info.cell.spot) {
+            return Some(&info.cell);
+        }
+    }
+    None
+}
+
+// Adds a formula, if there is one.
+fn put_cell(alloc: Global, cell: Option<&Cell>, cells: &mut Vec<Cell>) -> Result<(), Memory>
+    ensures { OnOk result (cells.new.items ≡ cells.old.items ++ cons_option (option_map (λ c. c.now) cell.entry) []) }
+{
+    if let Some(cell) = cell {
+        cells.push(copy_cell(alloc, cell)?)?;
+    }
+    Ok(())
+}
+
+// The formulas that stand at places: at the edited one what is given, and at each other one what is written there.
+fn standing_cells(
+    alloc: Global,
+    spots: &[Spot],
+    cells: &[CellInfo],
+    spot: &Spot,
+    given: &Option<Cell>,
+) -> Result<Vec<Cell>, Memory>
+    ensures { IfOk result (λ v. v.items ≡ filter_map (edits.standing (map (λ (i : Info). i.cell) cells.now) spot.now given.now) spots.now) }
+{
+    let mut standing = Vec::new(alloc);
+    for here in spots {
+        let cell = if is_same(here, spot) {
+            given.as_ref()
+        } else {
+            written_at(cells, here)
+        };
+        put_cell(alloc, cell, &mut standing)?;
+    }
+    Ok(standing)
+}
+
+/// The formulas of an app in which the one at this address is that of a text, beside what the app has beside its formulas. An
+/// empty text takes a formula away that has no name. It is refused that no formula can stand at the address, that the text
+/// is too long, or why it is no formula.
+pub fn edit_cells(
+    alloc: Global,
+    app: &App,
+    address: &Words,
+    text: &Words,
+) -> Result<(Frame, Vec<Cell>), OrMemory<Broken>>
+    requires frame { IsFrame (frame_of app.now) }
+    requires placed { All (IsPlaced (frame_of app.now)) (written app.now) }
+    ensures cells { IfOk result (λ r. IsEdited app.now address.now text.now (Ok r.1.items)) }
+    ensures frame { IfOk result (λ r. r.0 ≡ frame_of app.now) }
+    ensures placed { IfOk result (λ r. All (IsPlaced (frame_of app.now)) r.1.items) }
+    ensures broken { IfErr result (TellsBreak (λ b. IsEdited app.now address.now text.now (Err b))) }
+{
+    let frame = frame_of(alloc, app)?;
+    let cells = app.cells.as_slice();
+    let spots = spots_of(alloc, &frame, cells)?;
+    match spot_at(alloc, &frame, &spots, address)? {
+        Some(spot) => {
+            let given = given_cell(alloc, &frame, &spot, text)?;
+            let cells = standing_cells(alloc, &spots, cells, &spot, &given)?;
+            Ok((frame, cells))
+        }
+        None => Err(OrMemory::Refused(no_place(alloc, address)?)),
+    }
+}

@@ -1,0 +1,73 @@
+-- An app file that is accepted is loaded.
+use Rattle.std.proofs.Common.{◌≡◌, ℕ, suc, ◌+◌, List, [], ◌∷◌, ◌++◌, length, map, Result, Ok, Err, refl, ap, sym, subst, ◌∙◌}
+use Rattle.std.proofs.lemmas.List.{map-append}
+use Rattle.app_soundness.specs.fx_infer.Depths.{EntriesAreNoDeeper, TreesAreNoDeeper}
+use Rattle.fx_trees.specs.declared.broken.Broken.{Broken}
+use Rattle.app_file.specs.Files.{IsRead}
+use Rattle.app_file.specs.declared.file.AppFile.{AppFile}
+use Rattle.app_file.specs.declared.file.ControlShape.{ControlShape}
+use Rattle.app_file.specs.declared.file.ScreenShape.{ScreenShape}
+use Rattle.app_cells.specs.declared.app.App.{App}
+use Rattle.app_cells.specs.declared.cell.Cell.{Cell}
+use Rattle.app_cells.specs.declared.frame.Frame.{Frame}
+use Rattle.app_cells.specs.Spots.{IsFrame}
+use Rattle.app_texts.specs.Files.{ReadIsSound, control_of, controls_from, frame_of}
+use Rattle.app_texts.specs.Texts.{AreFormulasOf, IsReading}
+use Rattle.app_texts.proofs.Readings.{file_placed}
+use Rattle.app_texts.proofs.Spotted.{sound_frame}
+use Rattle.app_edits.specs.Frames.{without_items}
+use Rattle.app_loader.specs.Edits.{IsLoaded, LoadedApp}
+use Rattle.app_loader.specs.Judged as judge
+use Rattle.app_loader.specs.Judged.{JudgedApp, JudgedFile, JudgedFormulas}
+use Rattle.app_loader.proofs.Framed.{judged_parts, loaded}
+use Rattle.app_loader.proofs.Shallow.{file_shallow}
+use Rattle.app_loader.proofs.Singles.{reading_parts}
+
+-- ---- a file
+file_blank : (screen first : ℕ) (ss : List ScreenShape) → map without_items (controls_from screen first ss) ≡ controls_from screen first ss
+file_blank screen first [] = refl
+file_blank screen first (s ∷ ss) =
+    map-append without_items (map (control_of screen first) s.controls) (controls_from (suc screen) (first + length s.controls) ss)
+    ∙ (λ i. these s.controls i ++ file_blank (suc screen) (first + length s.controls) ss i)
+  where
+    these : (cs : List ControlShape) → map without_items (map (control_of screen first) cs) ≡ map (control_of screen first) cs
+    these [] = refl
+    these (c ∷ cs) = ap (λ ds. control_of screen first c ∷ ds) (these cs)
+
+abbrev IfFile : AppFile → Result App (List Broken) → Type 0
+IfFile af (Ok a) = (f : Frame) × (cells : List Cell) × IsReading af (Ok (f, cells)) × JudgedFormulas f cells (Ok a)
+IfFile af (Err bs) = Unit {0}
+
+by_verdict : (af : AppFile) (f : Frame) (cells : List Cell) (v : Result App (List Broken)) → IsReading af (Ok (f, cells)) → JudgedFormulas f cells v → IfFile af v
+by_verdict af f cells (Ok a) r j = (f, cells, r, j)
+by_verdict af f cells (Err bs) r j = tt
+
+file_parts : {af : AppFile} {v : Result App (List Broken)} → JudgedFile af v → IfFile af v
+file_parts (judge.unparsed af bs h) = tt
+file_parts (judge.parsed af f cells v r j) = by_verdict af f cells v r j
+
+abbrev IfApp : List ℕ → Result App (List Broken) → Type 0
+IfApp file (Ok a) = (af : AppFile) × IsRead file (Ok af) × JudgedFile af (Ok a)
+IfApp file (Err bs) = Unit {0}
+
+by_app : (file : List ℕ) (af : AppFile) (v : Result App (List Broken)) → IsRead file (Ok af) → JudgedFile af v → IfApp file v
+by_app file af (Ok a) r j = (af, r, j)
+by_app file af (Err bs) r j = tt
+
+app_parts : {file : List ℕ} {v : Result App (List Broken)} → JudgedApp file v → IfApp file v
+app_parts (judge.unread file b r) = tt
+app_parts (judge.read file af v r j) = by_app file af v r j
+
+file_loaded : ReadIsSound → TreesAreNoDeeper → EntriesAreNoDeeper → (file : List ℕ) (af : AppFile) (a : App) → IsRead file (Ok af) → IfFile af (Ok a) → IsLoaded a
+file_loaded sound trees entries file af a r h =
+    let parts = reading_parts h.2 in
+    let f = h.0 in
+    let blank : map without_items f.controls ≡ f.controls =
+    ap (λ (g : Frame). map without_items g.controls) parts.0 ∙ file_blank 0 0 af.screens ∙ sym (ap (λ (g : Frame). g.controls) parts.0) in
+    let is = sound file af r in
+    loaded f h.1 a blank (subst IsFrame (sym parts.0) (sound_frame af is))
+    (file_placed af f f h.1 h.1 [] (subst (λ (g : Frame). AreFormulasOf af g h.1 []) parts.0 parts.1) parts.0 refl refl)
+    (file_shallow trees entries af f h.1 h.2) (judged_parts h.3)
+
+pub loaded_app : ReadIsSound → TreesAreNoDeeper → EntriesAreNoDeeper → LoadedApp
+loaded_app sound trees entries file a h = let parts = app_parts h in file_loaded sound trees entries file parts.0 a parts.1 (file_parts parts.2)
