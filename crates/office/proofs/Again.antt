@@ -21,6 +21,10 @@ use Rattle.session_requests.specs.Laws as laws
 use Rattle.session_requests.specs.Posting.{PostsEvent, PostsEventChecked, PostsInput, PostsInputChecked}
 use Rattle.session_requests.specs.declared.event.Event.{Event as Sent}
 use Rattle.session_requests.specs.declared.input.Input.{Input as Given}
+use Rattle.edit_requests.specs.Editing.{Ends as Edited, PostsChecked as EditChecked, PostsEdit, accepted_reply as edit_reply, edit_checks}
+use Rattle.fx_trees.specs.declared.broken.Broken.{Broken}
+use Rattle.request_checks.specs.Bodies.{edit_in}
+use Rattle.request_checks.specs.declared.edit.Edit.{Edit as Change}
 use Rattle.view_text.specs.declared.refused.Refusal.{Refusal}
 use Rattle.row_requests.specs.DeskRows.{Outcome, PostsChecked, PostsRows, accepted_reply, desk_checks, desks_after, outcome_reply}
 use Rattle.request_checks.specs.Directory.{find}
@@ -31,6 +35,7 @@ use Rattle.office.specs.Answers.{Exchange, Plays}
 use Rattle.office.specs.Isolation.{AreOfOthers, Caller, IsOf, caller_of, desk, kept_of, kept_of_session, session}
 use Rattle.office.specs.State.{State, schema_of}
 use Rattle.office.specs.Step.{Answered, Does, Left, Reaches}
+use Rattle.edit_requests.proofs.Repeats.{acts_once as edits_again}
 use Rattle.row_requests.proofs.Again.{checks_again}
 use Rattle.request_checks.proofs.Again.{Asks, passed}
 use Rattle.request_checks.proofs.Directories.{find_put}
@@ -115,12 +120,47 @@ input_kept app moment name body said xs ys h differ = by (checks input_in input_
     by (Ok it) e k =
         ends_kept Given _ input_in input_number with_input name body said it k.session _ xs ys (passed Given input_in input_number (session_of name xs) body it e) k.ends differ
 
+-- ---- edits
+
+abbrev edit_number : Change → ℕ
+edit_number e = e.seq
+
+-- the last request that was accepted of a desk is an edit, and what was said is kept
+pub record IsKeptEdit (desks : List (Named Kept)) (name body said : List ℕ) : Type 0 where
+  pub kept : Kept
+  pub found : find name desks ≡ Some kept
+  pub last : IsLastAsked Change edit_in edit_number kept
+  pub body_is : kept.body ≡ body
+  pub reply_is : kept.reply ≡ said
+
+-- an accepted edit is kept
+edit_kept : (a a' : App) (name body said : List ℕ) (desks desks' : List (Named Kept)) → PostsEdit a name body desks said a' desks' → find name desks' ≢ find name desks → IsKeptEdit desks' name body said
+edit_kept a a' name body said desks desks' h differ = by (edit_checks desks name body) refl h
+  where
+    ended : (it : Change) → edit_checks desks name body ≡ Ok it → (v : Result App (List Broken)) → Edited name body it.seq v a desks said a' desks' → IsKeptEdit desks' name body said
+    ended it e (Err bs) k = absurd (differ (ap (find name) k.1.desks))
+    ended it e (Ok b) k =
+        let kept : Kept = record { last = it.seq; body = body; reply = edit_reply it.seq } in
+        let asks = passed Change edit_in edit_number (desk_of name desks) body it e in
+        record {
+          kept = kept;
+          found = ap (find name) k.1.desks ∙ find_put Kept name kept desks;
+          last = record { value = asks.value; is_json = asks.is_json; it = it; shape = asks.shape; last = refl };
+          body_is = refl;
+          reply_is = sym k.0;
+        }
+
+    by : (r : Result Change (List ℕ)) → edit_checks desks name body ≡ r → EditChecked a name body r desks said a' desks' → IsKeptEdit desks' name body said
+    by (Err words) e k = absurd (differ (ap (find name) k.1.desks))
+    by (Ok it) e k = ended it e k.verdict k.ends
+
 -- ---- the last request of a caller
 
 -- it came by this route, with this body, and this was said
 data IsLastOf : Caller → Route → State → List ℕ → List ℕ → Type 0 where
   rows : (name body said : List ℕ) (s : State) → IsKept s.desks name body said → IsLastOf (desk name) (Rows name) s body said
   event : (name body said : List ℕ) (s : State) → IsKeptOf Sent event_in event_number s.sessions name body said → IsLastOf (session name) (Event name) s body said
+  edit : (name body said : List ℕ) (s : State) → IsKeptEdit s.desks name body said → IsLastOf (desk name) (Edit name) s body said
   input : (name body said : List ℕ) (s : State) → IsKeptOf Given input_in input_number s.sessions name body said → IsLastOf (session name) (Input name) s body said
 
 -- after a posted request that changed what is kept of its caller
@@ -141,7 +181,10 @@ does_keep lost moment (Input n) body s new said caller is posted does differ =
     let named : session n ≡ caller = cc in
     subst (λ c. IsLastOf c (Input n) new body said) named
     (input n body said new (input_kept s.app moment n body said s.sessions new.sessions does.0 (subst (λ c. kept_of c new ≢ kept_of c s) (sym named) differ)))
-does_keep lost moment (Edit n) body s new said caller is posted does differ = absurd (differ (ap (kept_of caller) does.1))
+does_keep lost moment (Edit n) body s new said caller is posted does differ =
+    let named : desk n ≡ caller = cc in
+    subst (λ c. IsLastOf c (Edit n) new body said) named
+    (edit n body said new (edit_kept s.app new.app n body said s.desks new.desks does.0 (subst (λ c. kept_of c new ≢ kept_of c s) (sym named) differ)))
 does_keep lost moment (Begin n) body s new said caller is posted does differ = absurd (cc)
 does_keep lost moment (End n) body s new said caller is posted does differ = absurd (cc)
 does_keep lost moment (View n) body s new said caller is posted does differ = absurd (cc)
@@ -171,6 +214,10 @@ says_again once lost moment _ _ s new body said reply (rows name _ _ _ is) does 
     let h = subst (λ r. PostsChecked lost (schema_of s.app).tables name is.kept.body r s.tables s.desks said new.tables new.desks) (checks_again s.desks name is.kept is.last)
     (subst (λ b. PostsRows lost (schema_of s.app).tables name b s.tables s.desks said new.tables new.desks) (sym is.body_is) does.0) in
     (h.0 ∙ is.reply_is, does.1 ∙ ap (λ (t : Option Tables). record s { tables = t; desks = new.desks }) h.1 ∙ ap (λ (d : List (Named Kept)). record s { desks = d }) h.2)
+says_again once lost moment _ _ s new body said reply (edit name _ _ _ is) does =
+    let h = edits_again s.app new.app name said is.kept s.desks new.desks is.found is.last
+    (subst (λ b. PostsEdit s.app name b s.desks said new.app new.desks) (sym is.body_is) does.0) in
+    (h.0 ∙ is.reply_is, does.1 ∙ ap (λ (a : App). record s { app = a; desks = new.desks }) h.1.app ∙ ap (λ (d : List (Named Kept)). record s { desks = d }) h.1.desks)
 says_again once lost moment _ _ s new body said reply (event name _ _ _ is) does =
     let h = (once s.app moment name said is.state s.sessions new.sessions is.found).1 is.last
     (subst (λ b. PostsEvent s.app moment name b s.sessions said new.sessions) (sym is.body_is) does.0) in
@@ -185,6 +232,7 @@ unfolding Reaches
 never_reached _ _ s body reply (rows name _ _ _ is) reaches =
     let passes = subst (λ b. desk_checks s.desks name b ≡ Ok reaches.0) (sym is.body_is) reaches.1 in
     let e : Err is.kept.reply ≡ Ok reaches.0 = sym (checks_again s.desks name is.kept is.last) ∙ passes in absurd (cc)
+never_reached _ _ s body reply (edit name _ _ _ is) reaches = reaches
 never_reached _ _ s body reply (event name _ _ _ is) reaches = reaches
 never_reached _ _ s body reply (input name _ _ _ is) reaches = reaches
 
@@ -208,6 +256,9 @@ desk_still t u name body said same is = record {
   reply_is = is.reply_is;
 }
 
+edit_still : (t u : State) (name body said : List ℕ) → find name u.desks ≡ find name t.desks → IsKeptEdit t.desks name body said → IsKeptEdit u.desks name body said
+edit_still t u name body said same is = record { kept = is.kept; found = same ∙ is.found; last = is.last; body_is = is.body_is; reply_is = is.reply_is }
+
 session_still : (T : Type 0) (asked : json.Data → Option T) (number : T → ℕ) (t u : State) (name body said : List ℕ) → find name u.sessions ≡ find name t.sessions
     → IsKeptOf T asked number t.sessions name body said → IsKeptOf T asked number u.sessions name body said
 session_still T asked number t u name body said same is = record { state = is.state; found = same ∙ is.found; last = is.last; body_is = is.body_is; reply_is = is.reply_is }
@@ -217,6 +268,8 @@ still_last : laws.LeavesOthers → (caller : Caller) (route : Route) (t u : Stat
     → Plays t l between u m → AreOfOthers caller between → IsLastOf caller route t body said → IsLastOf caller route u body said
 still_last leaves _ _ t u l m body said between plays others (rows name _ _ _ is) =
     rows name body said u (desk_still t u name body said (plays_leave_desk t l between u m name plays others) is)
+still_last leaves _ _ t u l m body said between plays others (edit name _ _ _ is) =
+    edit name body said u (edit_still t u name body said (plays_leave_desk t l between u m name plays others) is)
 still_last leaves _ _ t u l m body said between plays others (event name _ _ _ is) =
     event name body said u (session_still Sent event_in event_number t u name body said (plays_leave_session leaves t l between u m name plays others) is)
 still_last leaves _ _ t u l m body said between plays others (input name _ _ _ is) =

@@ -1,9 +1,8 @@
 -- Things by their names: which are found, and which are left.
-use Rattle.std.proofs.Common.{◌≡◌, ◌≢◌, ℕ, zero, suc, ◌<◌, Bool, true, false, List, [], ◌∷◌, ◌++◌, length, get_or, Option, Some, None, refl, ap, sym, ◌∙◌, subst, arith}
-use Rattle.std.specs.Prelude.{option_map, slice_get, slice_set}
-use Rattle.std.proofs.lemmas.Option.{slice_get_read}
+use Rattle.std.proofs.Common.{◌≡◌, ◌≢◌, ℕ, zero, suc, Bool, true, false, List, [], ◌∷◌, ◌++◌, Option, Some, None, refl, ap, sym, ◌∙◌, subst, arith}
+use Rattle.std.specs.Prelude.{slice_set}
 use Rattle.std.proofs.lemmas.Grind.{common_steps}
-use Rattle.request_checks.specs.Directory.{find, is_among, is_named, it_at, put, put_at}
+use Rattle.request_checks.specs.Directory.{find, is_named, put, put_at}
 use Rattle.request_checks.specs.declared.directory.Named.{Named}
 use Rattle.request_checks.proofs.Directories.{find_here, find_past, same_bytes}
 use Rattle.std.specs.List.{AllByRecursion, position}
@@ -72,8 +71,3 @@ all_at T P (Some k) x xs h p = all_set T P xs k x h p
 
 pub put_all : (T : Type 0) (P : Named T → Type 0) (name : List ℕ) (it : T) (list : List (Named T)) → AllByRecursion P list → P (record { name = name; it = it }) → AllByRecursion P (put name it list)
 put_all T P name it list all is = all_at T P (position (is_named name) list) (record { name = name; it = it }) list all is
-
--- what is found is what stands at its place
-pub find_at : (T : Type 0) (place : ℕ) (name : List ℕ) (list : List (Named T)) (x : Named T) → position (is_named name) list ≡ Some place → place < length list → x ≡ get_or list place x → find name list ≡ Some x.it
-find_at T place name list x first within e =
-    ap (λ o. it_at o list) first ∙ ap (option_map (λ (n : Named T). n.it)) (slice_get_read list (length list) place x refl within e)

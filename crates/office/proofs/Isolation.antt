@@ -6,6 +6,8 @@ use Rattle.app_semantics.specs.Holding.{FittingHolds, HoldsFitting}
 use Rattle.app_semantics.specs.Laws.{OneFresh}
 use Rattle.app_semantics.specs.Present.{present}
 use Rattle.app_semantics.specs.Sound.{IsSound}
+use Rattle.app_views.specs.Laws.{OneItemsReply, OneViewReply}
+use Rattle.app_views.specs.Shows.{ShowsItemsTo, ShowsViewTo}
 use Rattle.app_wire.specs.Framing.{Asked}
 use Rattle.app_wire.specs.ReplyBytes.{refusal, reply}
 use Rattle.app_wire.specs.Routing.{IsOneRoute, Routing, method_of}
@@ -29,6 +31,7 @@ use Rattle.office.specs.Ready.{AreFit, IsSettled}
 use Rattle.office.specs.Sessions.{ShowsNamed, ShowsNamedTo, begins, most_sessions}
 use Rattle.office.specs.State.{State, schema_of}
 use Rattle.office.specs.Step.{Answered, Does, DoesAt, Step}
+use Rattle.edit_requests.proofs.Repeats.{leaves_others as edits_leave}
 use Rattle.row_requests.proofs.Again.{posts_others}
 use Rattle.request_checks.proofs.Directories.{find_other}
 use Rattle.office.proofs.Directories.{find_without, found_fits}
@@ -67,7 +70,7 @@ does_session others lost moment (Event n) body s new said name does other =
 does_session others lost moment (Input n) body s new said name does other =
     (others s.app moment n name body said s.sessions new.sessions (λ e. other (ap (λ (m : List ℕ). Some (session m)) e))).0 does.0
 does_session others lost moment (Rows n) body s new said name does other = ap (λ (x : State). find name x.sessions) does.1
-does_session others lost moment (Edit n) body s new said name does other = ap (find name) (sessions_of s new does.1)
+does_session others lost moment (Edit n) body s new said name does other = ap (λ (x : State). find name x.sessions) does.1
 does_session others lost moment (Page table after) body s new said name does other = ap (λ (x : State). find name x.sessions) does.1
 does_session others lost moment Plan body s new said name does other = ap (find name) (sessions_of s new does.1)
 does_session others lost moment Graph body s new said name does other = ap (find name) (sessions_of s new does.1)
@@ -86,7 +89,8 @@ does_desk lost moment (Input n) body s new said name does other = ap (λ (x : St
 does_desk lost moment (Rows n) body s new said name does other =
     posts_others lost (schema_of s.app).tables n name body (desk_checks s.desks n body) s.tables new.tables s.desks new.desks said
     (λ e. other (ap (λ (m : List ℕ). Some (desk m)) e)) does.0
-does_desk lost moment (Edit n) body s new said name does other = ap (find name) (desks_of s new does.1)
+does_desk lost moment (Edit n) body s new said name does other =
+    edits_leave s.app new.app n name body said s.desks new.desks (λ e. other (ap (λ (m : List ℕ). Some (desk m)) e)) does.0
 does_desk lost moment (Page table after) body s new said name does other = ap (λ (x : State). find name x.desks) does.1
 does_desk lost moment Plan body s new said name does other = ap (find name) (desks_of s new does.1)
 does_desk lost moment Graph body s new said name does other = ap (find name) (desks_of s new does.1)
@@ -169,40 +173,54 @@ shows_alike once holds moment a (Some s) said said' sound fit h k =
 pub holds_found : FittingHolds → (a : State) (name : List ℕ) → IsSettled a → (s : SessionState) → find name a.sessions ≡ Some s → HoldsFitting a.app.names s
 holds_found holds a name settled s found = holds a.app.names s (found_fits a.app.names a.sessions name s settled.fit found)
 
-shown_with : (app app' : App) (moment : ℕ) (o o' : Option SessionState) (said : List ℕ) → app ≡ app' → o ≡ o' → ShowsNamedTo app' moment o' said → ShowsNamedTo app moment o said
-shown_with app app' moment o o' said e f h =
-    subst (λ (x : Option SessionState). ShowsNamedTo app moment x said) (sym f) (subst (λ (x : App). ShowsNamedTo x moment o' said) (sym e) h)
+-- what is known of replies to sessions
+pub record ReplyLaws : Type 0 where
+  pub fresh : OneFresh
+  pub holds : FittingHolds
+  pub outcome : IsOneOutcome
+  pub view : OneViewReply
+  pub items : OneItemsReply
 
-does_alike : OneFresh → FittingHolds → IsOneOutcome → (lost lost' : Type 0) (moment : ℕ) (route : Route) (body : List ℕ) (a b new new' : State) (said said' name : List ℕ)
+-- what is said of one app and one record is said of the same
+said_with : (Says : App → Option SessionState → Type 0) (app app' : App) (o o' : Option SessionState) → app ≡ app' → o ≡ o' → Says app' o' → Says app o
+said_with Says app app' o o' e f h = subst (λ (x : Option SessionState). Says app x) (sym f) (subst (λ (x : App). Says x o') (sym e) h)
+
+does_alike : ReplyLaws → (lost lost' : Type 0) (moment : ℕ) (route : Route) (body : List ℕ) (a b new new' : State) (said said' name : List ℕ)
     → caller_of route ≡ Some (session name) → method_of route ≢ Put → IsSettled a → a.app ≡ b.app → find name a.sessions ≡ find name b.sessions
     → Does lost moment route body a said new → Does lost' moment route body b said' new' → said ≡ said'
 unfolding Does
-does_alike once holds outcome lost lost' moment (Begin n) body a b new new' said said' name is other settled app same h k = absurd (other refl)
-does_alike once holds outcome lost lost' moment (End n) body a b new new' said said' name is other settled app same h k = h.0 ∙ sym k.0
-does_alike once holds outcome lost lost' moment (View n) body a b new new' said said' name is other settled app same h k = h.0 ∙ sym k.0
-does_alike once holds outcome lost lost' moment (Shown n) body a b new new' said said' name is other settled app same h k =
+does_alike laws lost lost' moment (Begin n) body a b new new' said said' name is other settled app same h k = absurd (other refl)
+does_alike laws lost lost' moment (End n) body a b new new' said said' name is other settled app same h k = h.0 ∙ sym k.0
+does_alike laws lost lost' moment (View n) body a b new new' said said' name is other settled app same h k =
     let named : name ≡ n = cc in
-    shows_alike once holds moment a.app (find n a.sessions) said said' settled.app
+    laws.view a.app moment (find n a.sessions) said said' settled.app (holds_found laws.holds a n settled) h.0
+    (said_with (λ x o. ShowsViewTo x moment o said') a.app b.app (find n a.sessions) (find n b.sessions) app (subst (λ m. find m a.sessions ≡ find m b.sessions) named same) k.0)
+does_alike laws lost lost' moment (Shown n) body a b new new' said said' name is other settled app same h k =
+    let named : name ≡ n = cc in
+    shows_alike laws.fresh laws.holds moment a.app (find n a.sessions) said said' settled.app
     (λ s e. found_fits a.app.names a.sessions n s settled.fit e) h.0
-    (shown_with a.app b.app moment (find n a.sessions) (find n b.sessions) said' app (subst (λ m. find m a.sessions ≡ find m b.sessions) named same) k.0)
-does_alike once holds outcome lost lost' moment (Items n gallery from) body a b new new' said said' name is other settled app same h k = h.0 ∙ sym k.0
-does_alike once holds outcome lost lost' moment (Event n) body a b new new' said said' name is other settled app same h k =
+    (said_with (λ x o. ShowsNamedTo x moment o said') a.app b.app (find n a.sessions) (find n b.sessions) app (subst (λ m. find m a.sessions ≡ find m b.sessions) named same) k.0)
+does_alike laws lost lost' moment (Items n gallery from) body a b new new' said said' name is other settled app same h k =
     let named : name ≡ n = cc in
-    ((outcome a.app moment n body said said' a.sessions new.sessions b.sessions new'.sessions settled.app (holds_found holds a n settled)
+    laws.items a.app moment gallery from (find n a.sessions) said said' settled.app (holds_found laws.holds a n settled) h.0
+    (said_with (λ x o. ShowsItemsTo x moment gallery from o said') a.app b.app (find n a.sessions) (find n b.sessions) app (subst (λ m. find m a.sessions ≡ find m b.sessions) named same) k.0)
+does_alike laws lost lost' moment (Event n) body a b new new' said said' name is other settled app same h k =
+    let named : name ≡ n = cc in
+    ((laws.outcome a.app moment n body said said' a.sessions new.sessions b.sessions new'.sessions settled.app (holds_found laws.holds a n settled)
     (subst (λ m. find m a.sessions ≡ find m b.sessions) named same)).1 h.0 (subst (λ (x : App). PostsEvent x moment n body b.sessions said' new'.sessions) (sym app) k.0)).0
-does_alike once holds outcome lost lost' moment (Input n) body a b new new' said said' name is other settled app same h k =
+does_alike laws lost lost' moment (Input n) body a b new new' said said' name is other settled app same h k =
     let named : name ≡ n = cc in
-    ((outcome a.app moment n body said said' a.sessions new.sessions b.sessions new'.sessions settled.app (holds_found holds a n settled)
+    ((laws.outcome a.app moment n body said said' a.sessions new.sessions b.sessions new'.sessions settled.app (holds_found laws.holds a n settled)
     (subst (λ m. find m a.sessions ≡ find m b.sessions) named same)).0 h.0 (subst (λ (x : App). PostsInput x moment n body b.sessions said' new'.sessions) (sym app) k.0)).0
-does_alike once holds outcome lost lost' moment (Rows n) body a b new new' said said' name is other settled app same h k = cc
-does_alike once holds outcome lost lost' moment (Edit n) body a b new new' said said' name is other settled app same h k = cc
-does_alike once holds outcome lost lost' moment (Page table after) body a b new new' said said' name is other settled app same h k = cc
-does_alike once holds outcome lost lost' moment Plan body a b new new' said said' name is other settled app same h k = cc
-does_alike once holds outcome lost lost' moment Graph body a b new new' said said' name is other settled app same h k = cc
+does_alike laws lost lost' moment (Rows n) body a b new new' said said' name is other settled app same h k = cc
+does_alike laws lost lost' moment (Edit n) body a b new new' said said' name is other settled app same h k = cc
+does_alike laws lost lost' moment (Page table after) body a b new new' said said' name is other settled app same h k = cc
+does_alike laws lost lost' moment Plan body a b new new' said said' name is other settled app same h k = cc
+does_alike laws lost lost' moment Graph body a b new new' said said' name is other settled app same h k = cc
 
-pub is_alone : OneFresh → FittingHolds → IsOneOutcome → IsOneRoute → (k l m n : Marks) (a b new new' : State) (moment : ℕ) (request : Asked) (said said' name : List ℕ)
+pub is_alone : ReplyLaws → IsOneRoute → (k l m n : Marks) (a b new new' : State) (moment : ℕ) (request : Asked) (said said' name : List ℕ)
     → IsOf (session name) request → request.method ≢ Put → IsSettled a → a.app ≡ b.app → find name a.sessions ≡ find name b.sessions
     → Step (IsLost k l) a moment request said new → Step (IsLost m n) b moment request said' new' → said ≡ said'
-is_alone once holds outcome one k l m n a b new new' moment request said said' name of other settled app same first second =
-    does_alike once holds outcome (IsLost k l) (IsLost m n) moment of.route request.body a b new new' said said' name of.caller_is (λ e. other (sym of.routed.1 ∙ e)) settled app same
+is_alone laws one k l m n a b new new' moment request said said' name of other settled app same first second =
+    does_alike laws (IsLost k l) (IsLost m n) moment of.route request.body a b new new' said said' name of.caller_is (λ e. other (sym of.routed.1 ∙ e)) settled app same
     (does_of one (IsLost k l) (session name) a new moment request said of first) (does_of one (IsLost m n) (session name) b new' moment request said' of second)

@@ -1,9 +1,11 @@
 pub mod Again
 pub mod Directories
+pub mod Edits
 pub mod Isolation
 pub mod OneAnswer
 pub mod Plays
 pub mod Replies
+pub mod Settling
 pub mod Silence
 pub mod Steps
 pub mod Taken

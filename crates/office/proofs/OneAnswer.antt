@@ -1,14 +1,16 @@
 -- A request has one answer.
-use Rattle.std.proofs.Common.{◌≡◌, ℕ, List, Option, Some, None, Result, Ok, Err, refl, ap, sym, ◌∙◌, subst}
+use Rattle.std.proofs.Common.{◌≡◌, ◌⊎◌, inl, inr, ℕ, List, Option, Some, None, Result, Ok, Err, refl, ap, sym, ◌∙◌, subst}
 use Rattle.fx_base.specs.Silence.{IsLost, Marks}
 use Rattle.app_wire.specs.Framing.{Asked}
-use Rattle.app_wire.specs.Routing.{IsOneRoute}
+use Rattle.app_wire.specs.Routing.{IsOneRoute, Routing}
 use Rattle.app_wire.specs.declared.route.Route.{Route}
 use Rattle.app_wire.specs.declared.route.Route.TheVariants.{Begin, End, View, Named as Shown, Items, Event, Input, Rows, Edit, Page, Plan, Graph}
 use Rattle.app_wire.specs.declared.route.RouteEnd.{RouteEnd}
 use Rattle.app_wire.specs.declared.route.RouteEnd.TheVariants.{NoRoute, WrongMethod, Memory}
-use Rattle.app_semantics.specs.Holding.{FittingHolds}
-use Rattle.app_semantics.specs.Laws.{OneFresh}
+use Rattle.app_cells.specs.declared.app.App.{App}
+use Rattle.edit_requests.specs.app_loader.Verdicts.{IsSameApp}
+use Rattle.edit_requests.specs.Editing.{IsSame}
+use Rattle.edit_requests.specs.Laws.{AreRefused, IsOneOutcome as IsOneEditOutcome}
 use Rattle.fx_trees.specs.declared.schema.TableShape.{TableShape}
 use Rattle.row_keeper.specs.Tables.{Tables}
 use Rattle.session_state.specs.Once.{Kept}
@@ -21,12 +23,11 @@ use Rattle.row_requests.specs.declared.bodies.Change.{Change}
 use Rattle.row_requests.specs.declared.bodies.Posted.{Posted}
 use Rattle.request_checks.specs.Directory.{find}
 use Rattle.request_checks.specs.declared.directory.Named.{Named}
-use Rattle.session_requests.specs.Laws.{IsOneOutcome}
 use Rattle.office.specs.Ready.{IsSettled}
 use Rattle.office.specs.State.{State, schema_of}
-use Rattle.office.specs.Step.{Does, DoesAt, Step}
+use Rattle.office.specs.Step.{AreOne, Does, DoesAt, Step, alike, edited, refused}
 use Rattle.office.proofs.Directories.{found_fits}
-use Rattle.office.proofs.Isolation.{holds_found, is_known, shows_alike}
+use Rattle.office.proofs.Isolation.{ReplyLaws, holds_found, is_known, shows_alike}
 
 one_ok : (x y : List ℕ × Tables) (r : Result (List ℕ × Tables) Refusal) → r ≡ Ok x → r ≡ Ok y → x ≡ y
 one_ok x y r h k = cc
@@ -81,62 +82,84 @@ page_alike lost lost' shapes name after t u u' said said' = by (place_of name sh
     by None h k = (h.0 ∙ sym k.0, h.1 ∙ sym k.1)
     by (Some n) h k = (h.0.0 ∙ sym k.0.0, ap (λ (x : Tables). Some x) (h.0.1 ∙ sym k.0.1))
 
+-- what is known of replies to sessions and of edits
+pub record AnswerLaws : Type 0 where
+  pub replies : ReplyLaws
+  pub edit : IsOneEditOutcome
+
+-- where an edit leaves the app and the desks, all is as before
+unedited : (s : State) (app : App) (desks : List (Named Kept)) → IsSame s.app s.desks app desks → record s { app = app; desks = desks } ≡ s
+unedited s app desks same = ap (λ (a : App). record s { app = a; desks = desks }) same.app ∙ ap (λ (d : List (Named Kept)). record s { desks = d }) same.desks
+
+-- edits of an app have one outcome
+edits_alike : (lost lost' : Type 0) (moment : ℕ) (n : List ℕ) (request : Asked) (s new new' : State) (said said' : List ℕ) → Routing request.method request.path (Ok (Edit n))
+    → new ≡ record s { app = new.app; desks = new.desks } → new' ≡ record s { app = new'.app; desks = new'.desks }
+    → ((said ≡ said') × (new.desks ≡ new'.desks) × IsSameApp new.app new'.app) ⊎ AreRefused s.app s.desks said new.app new.desks said' new'.app new'.desks
+    → AreOne request s new new' said said'
+edits_alike lost lost' moment n request s new new' said said' routed h k (inl e) =
+    edited (n, routed) e.2
+    (k ∙ ap (λ (d : List (Named Kept)). record s { app = new'.app; desks = d }) (sym e.1) ∙ sym (ap (λ (x : State). record x { app = new'.app }) h)) e.0
+edits_alike lost lost' moment n request s new new' said said' routed h k (inr e) =
+    refused (n, routed) (record { breaks = e.breaks; breaks' = e.breaks'; same = e.same; first = e.first.0; second = e.second.0 })
+    (h ∙ unedited s new.app new.desks e.first.1) (k ∙ unedited s new'.app new'.desks e.second.1)
+
 -- a route does one thing
-does_one : OneFresh → FittingHolds → IsOneOutcome → (lost lost' : Type 0) (moment : ℕ) (route : Route) (body : List ℕ) (s new new' : State) (said said' : List ℕ) (t u u' : Tables)
-    → IsSettled s → s.tables ≡ Some t → new.tables ≡ Some u → new'.tables ≡ Some u'
-    → Does lost moment route body s said new → Does lost' moment route body s said' new' → (new ≡ new') × (said ≡ said')
+does_one : AnswerLaws → (lost lost' : Type 0) (moment : ℕ) (route : Route) (request : Asked) (s new new' : State) (said said' : List ℕ) (t u u' : Tables)
+    → Routing request.method request.path (Ok route) → IsSettled s → s.tables ≡ Some t → new.tables ≡ Some u → new'.tables ≡ Some u'
+    → Does lost moment route request.body s said new → Does lost' moment route request.body s said' new' → AreOne request s new new' said said'
 unfolding Does
-does_one once holds outcome lost lost' moment (Begin n) body s new new' said said' t u u' settled e f g h k =
-    let same : (new.sessions, said) ≡ (new'.sessions, said') = h.0 ∙ sym k.0 in (
-      h.1 ∙ ap (λ (p : List (Named SessionState) × List ℕ). record s { sessions = p.0 }) same ∙ sym k.1,
-      ap (λ (p : List (Named SessionState) × List ℕ). p.1) same,
-    )
-does_one once holds outcome lost lost' moment (End n) body s new new' said said' t u u' settled e f g h k = (h.1 ∙ sym k.1, h.0 ∙ sym k.0)
-does_one once holds outcome lost lost' moment (View n) body s new new' said said' t u u' settled e f g h k = (h.1 ∙ sym k.1, h.0 ∙ sym k.0)
-does_one once holds outcome lost lost' moment (Shown n) body s new new' said said' t u u' settled e f g h k =
-    (h.1 ∙ sym k.1, shows_alike once holds moment s.app (find n s.sessions) said said' settled.app (λ x e'. found_fits s.app.names s.sessions n x settled.fit e') h.0 k.0)
-does_one once holds outcome lost lost' moment (Items n gallery from) body s new new' said said' t u u' settled e f g h k = (h.1 ∙ sym k.1, h.0 ∙ sym k.0)
-does_one once holds outcome lost lost' moment (Event n) body s new new' said said' t u u' settled e f g h k =
-    let same = (outcome s.app moment n body said said' s.sessions new.sessions s.sessions new'.sessions settled.app (holds_found holds s n settled) refl).1 h.0 k.0 in
-    (h.1 ∙ ap (λ (x : List (Named SessionState)). record s { sessions = x }) (same.1 refl) ∙ sym k.1, same.0)
-does_one once holds outcome lost lost' moment (Input n) body s new new' said said' t u u' settled e f g h k =
-    let same = (outcome s.app moment n body said said' s.sessions new.sessions s.sessions new'.sessions settled.app (holds_found holds s n settled) refl).0 h.0 k.0 in
-    (h.1 ∙ ap (λ (x : List (Named SessionState)). record s { sessions = x }) (same.1 refl) ∙ sym k.1, same.0)
-does_one once holds outcome lost lost' moment (Rows n) body s new new' said said' t u u' settled e f g h k =
+does_one laws lost lost' moment (Begin n) request s new new' said said' t u u' routed settled e f g h k =
+    let same : (new.sessions, said) ≡ (new'.sessions, said') = h.0 ∙ sym k.0 in
+    alike (h.1 ∙ ap (λ (p : List (Named SessionState) × List ℕ). record s { sessions = p.0 }) same ∙ sym k.1) (ap (λ (p : List (Named SessionState) × List ℕ). p.1) same)
+does_one laws lost lost' moment (End n) request s new new' said said' t u u' routed settled e f g h k = alike (h.1 ∙ sym k.1) (h.0 ∙ sym k.0)
+does_one laws lost lost' moment (View n) request s new new' said said' t u u' routed settled e f g h k =
+    alike (h.1 ∙ sym k.1) (laws.replies.view s.app moment (find n s.sessions) said said' settled.app (holds_found laws.replies.holds s n settled) h.0 k.0)
+does_one laws lost lost' moment (Shown n) request s new new' said said' t u u' routed settled e f g h k =
+    alike (h.1 ∙ sym k.1) (shows_alike laws.replies.fresh laws.replies.holds moment s.app (find n s.sessions) said said' settled.app (λ x e'. found_fits s.app.names s.sessions n x settled.fit e') h.0 k.0)
+does_one laws lost lost' moment (Items n gallery from) request s new new' said said' t u u' routed settled e f g h k =
+    alike (h.1 ∙ sym k.1) (laws.replies.items s.app moment gallery from (find n s.sessions) said said' settled.app (holds_found laws.replies.holds s n settled) h.0 k.0)
+does_one laws lost lost' moment (Event n) request s new new' said said' t u u' routed settled e f g h k =
+    let same = (laws.replies.outcome s.app moment n request.body said said' s.sessions new.sessions s.sessions new'.sessions settled.app (holds_found laws.replies.holds s n settled) refl).1 h.0 k.0 in
+    alike (h.1 ∙ ap (λ (x : List (Named SessionState)). record s { sessions = x }) (same.1 refl) ∙ sym k.1) same.0
+does_one laws lost lost' moment (Input n) request s new new' said said' t u u' routed settled e f g h k =
+    let same = (laws.replies.outcome s.app moment n request.body said said' s.sessions new.sessions s.sessions new'.sessions settled.app (holds_found laws.replies.holds s n settled) refl).0 h.0 k.0 in
+    alike (h.1 ∙ ap (λ (x : List (Named SessionState)). record s { sessions = x }) (same.1 refl) ∙ sym k.1) same.0
+does_one laws lost lost' moment (Rows n) request s new new' said said' t u u' routed settled e f g h k =
     let shapes = (schema_of s.app).tables in
-    let same = posts_alike lost lost' shapes n body t u u' s.desks new.desks new'.desks said said'
-    (subst (λ x. PostsRows lost shapes n body x s.desks said (Some u) new.desks) e (subst (λ x. PostsRows lost shapes n body s.tables s.desks said x new.desks) f h.0))
-    (subst (λ x. PostsRows lost' shapes n body x s.desks said' (Some u') new'.desks) e (subst (λ x. PostsRows lost' shapes n body s.tables s.desks said' x new'.desks) g k.0)) in (
-      h.1 ∙ ap (λ (x : Option Tables). record s { tables = x; desks = new.desks }) (f ∙ same.tables_are ∙ sym g)
-          ∙ ap (λ (d : List (Named Kept)). record s { tables = new'.tables; desks = d }) same.desks_are ∙ sym k.1,
-      same.reply_is,
-    )
-does_one once holds outcome lost lost' moment (Edit n) body s new new' said said' t u u' settled e f g h k = (h.1 ∙ sym k.1, h.0 ∙ sym k.0)
-does_one once holds outcome lost lost' moment (Page table after) body s new new' said said' t u u' settled e f g h k =
+    let same = posts_alike lost lost' shapes n request.body t u u' s.desks new.desks new'.desks said said'
+    (subst (λ x. PostsRows lost shapes n request.body x s.desks said (Some u) new.desks) e (subst (λ x. PostsRows lost shapes n request.body s.tables s.desks said x new.desks) f h.0))
+    (subst (λ x. PostsRows lost' shapes n request.body x s.desks said' (Some u') new'.desks) e (subst (λ x. PostsRows lost' shapes n request.body s.tables s.desks said' x new'.desks) g k.0)) in
+    alike
+    (h.1 ∙ ap (λ (x : Option Tables). record s { tables = x; desks = new.desks }) (f ∙ same.tables_are ∙ sym g)
+    ∙ ap (λ (d : List (Named Kept)). record s { tables = new'.tables; desks = d }) same.desks_are ∙ sym k.1)
+    same.reply_is
+does_one laws lost lost' moment (Edit n) request s new new' said said' t u u' routed settled e f g h k =
+    edits_alike lost lost' moment n request s new new' said said' routed h.1 k.1
+    (laws.edit s.app new.app new'.app n request.body said said' s.desks new.desks new'.desks h.0 k.0)
+does_one laws lost lost' moment (Page table after) request s new new' said said' t u u' routed settled e f g h k =
     let shapes = (schema_of s.app).tables in
     let same = page_alike lost lost' shapes table after t u u' said said'
     (subst (λ x. ShowsPage lost shapes table after x said (Some u)) e (subst (λ x. ShowsPage lost shapes table after s.tables said x) f h.0))
-    (subst (λ x. ShowsPage lost' shapes table after x said' (Some u')) e (subst (λ x. ShowsPage lost' shapes table after s.tables said' x) g k.0)) in (
-      h.1 ∙ ap (λ (x : Option Tables). record s { tables = x }) (f ∙ same.1 ∙ sym g) ∙ sym k.1,
-      same.0,
-    )
-does_one once holds outcome lost lost' moment Plan body s new new' said said' t u u' settled e f g h k = (h.1 ∙ sym k.1, h.0 ∙ sym k.0)
-does_one once holds outcome lost lost' moment Graph body s new new' said said' t u u' settled e f g h k = (h.1 ∙ sym k.1, h.0 ∙ sym k.0)
+    (subst (λ x. ShowsPage lost' shapes table after x said' (Some u')) e (subst (λ x. ShowsPage lost' shapes table after s.tables said' x) g k.0)) in
+    alike (h.1 ∙ ap (λ (x : Option Tables). record s { tables = x }) (f ∙ same.1 ∙ sym g) ∙ sym k.1) same.0
+does_one laws lost lost' moment Plan request s new new' said said' t u u' routed settled e f g h k = alike (h.1 ∙ sym k.1) (h.0 ∙ sym k.0)
+does_one laws lost lost' moment Graph request s new new' said said' t u u' routed settled e f g h k = alike (h.1 ∙ sym k.1) (h.0 ∙ sym k.0)
 
-does_one_at : OneFresh → FittingHolds → IsOneOutcome → (lost lost' : Type 0) (moment : ℕ) (r : Result Route RouteEnd) (body : List ℕ) (s new new' : State) (said said' : List ℕ) (t u u' : Tables)
-    → IsSettled s → s.tables ≡ Some t → new.tables ≡ Some u → new'.tables ≡ Some u'
-    → DoesAt lost moment r body s said new → DoesAt lost' moment r body s said' new' → (new ≡ new') × (said ≡ said')
+does_one_at : AnswerLaws → (lost lost' : Type 0) (moment : ℕ) (r : Result Route RouteEnd) (request : Asked) (s new new' : State) (said said' : List ℕ) (t u u' : Tables)
+    → Routing request.method request.path r → IsSettled s → s.tables ≡ Some t → new.tables ≡ Some u → new'.tables ≡ Some u'
+    → DoesAt lost moment r request.body s said new → DoesAt lost' moment r request.body s said' new' → AreOne request s new new' said said'
 unfolding DoesAt
-does_one_at once holds outcome lost lost' moment (Ok route) body s new new' said said' t u u' settled e f g h k = does_one once holds outcome lost lost' moment route body s new new' said said' t u u' settled e f g h k
-does_one_at once holds outcome lost lost' moment (Err NoRoute) body s new new' said said' t u u' settled e f g h k = (h.1 ∙ sym k.1, h.0 ∙ sym k.0)
-does_one_at once holds outcome lost lost' moment (Err WrongMethod) body s new new' said said' t u u' settled e f g h k = (h.1 ∙ sym k.1, h.0 ∙ sym k.0)
-does_one_at once holds outcome lost lost' moment (Err Memory) body s new new' said said' t u u' settled e f g h k = absurd h
+does_one_at laws lost lost' moment (Ok route) request s new new' said said' t u u' routed settled e f g h k =
+    does_one laws lost lost' moment route request s new new' said said' t u u' routed settled e f g h k
+does_one_at laws lost lost' moment (Err NoRoute) request s new new' said said' t u u' routed settled e f g h k = alike (h.1 ∙ sym k.1) (h.0 ∙ sym k.0)
+does_one_at laws lost lost' moment (Err WrongMethod) request s new new' said said' t u u' routed settled e f g h k = alike (h.1 ∙ sym k.1) (h.0 ∙ sym k.0)
+does_one_at laws lost lost' moment (Err Memory) request s new new' said said' t u u' routed settled e f g h k = absurd h
 
-pub one_answer : OneFresh → FittingHolds → IsOneOutcome → IsOneRoute → (k l m n : Marks) (old new new' : State) (moment : ℕ) (request : Asked) (said said' : List ℕ) (t u u' : Tables)
+pub one_answer : AnswerLaws → IsOneRoute → (k l m n : Marks) (old new new' : State) (moment : ℕ) (request : Asked) (said said' : List ℕ) (t u u' : Tables)
     → IsSettled old → old.tables ≡ Some t → new.tables ≡ Some u → new'.tables ≡ Some u'
-    → Step (IsLost k l) old moment request said new → Step (IsLost m n) old moment request said' new' → (new ≡ new') × (said ≡ said')
-one_answer once holds outcome one k l m n old new new' moment request said said' t u u' settled e f g a b =
+    → Step (IsLost k l) old moment request said new → Step (IsLost m n) old moment request said' new' → AreOne request old new new' said said'
+one_answer laws one k l m n old new new' moment request said said' t u u' settled e f g a b =
     let same = one request.method request.path a.route b.route (is_known (IsLost k l) moment a.route request.body said old new a.does)
     (is_known (IsLost m n) moment b.route request.body said' old new' b.does) a.routed b.routed in
-    does_one_at once holds outcome (IsLost k l) (IsLost m n) moment b.route request.body old new new' said said' t u u' settled e f g
+    does_one_at laws (IsLost k l) (IsLost m n) moment b.route request old new new' said said' t u u' b.routed settled e f g
     (subst (λ r. DoesAt (IsLost k l) moment r request.body old said new) same a.does) b.does

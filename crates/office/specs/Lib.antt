@@ -1,7 +1,10 @@
 pub mod Answers
+pub mod Editing
 pub mod Isolation
 pub mod NamedReply
 pub mod Ready
 pub mod Sessions
+pub mod Settled
 pub mod State
 pub mod Step
+pub use Rattle.edit_requests.specs.app_loader

@@ -2,6 +2,7 @@
 use Rattle.std.specs.Prelude.{◌≡◌, ◌<◌, length, Bool, false, List, Option, Some}
 use Rattle.std.specs.List.{AllByRecursion}
 use Rattle.app_cells.specs.declared.app.App.{App}
+use Rattle.edit_requests.specs.app_loader.Edits.{IsLoaded}
 use Rattle.app_semantics.specs.Sound.{IsSound}
 use Rattle.fx_trees.specs.declared.names.Names.{Names}
 use Rattle.fx_trees.specs.declared.schema.Schema.{Schema}
@@ -30,13 +31,14 @@ pub record CanOpen (n : Names) : Type 0 where
   pub tables : HoldsTables n
 
 -- No transaction is begun, the keeper is shaped by the app's schema, its tables, where they are told, are those of the schema,
--- what is kept of desks are replies, the app is an accepted one, and its sessions fit it.
+-- what is kept of desks are replies, the app is an accepted one that can be edited, and its sessions fit it.
 pub record IsReady (app : App) (in_transaction : Bool) (by : Option Schema) (told : Option Tables) (sessions : List (Named SessionState)) (desks : List (Named Kept)) : Type 0 where
   pub idle : in_transaction ≡ false
   pub shaped : by ≡ Some (schema_of app)
   pub sound : AreSound (schema_of app) told
   pub kept : KeepReplies desks
   pub accepted : IsSound app
+  pub loaded : IsLoaded app
   pub opens : CanOpen app.names
   pub fit : AreFit app.names sessions
   pub replies : SessionsKeepReplies sessions

@@ -3,18 +3,22 @@ use Rattle.std.specs.Prelude.{◌≡◌, ◌⊎◌, ℕ, List, Some, Result, Ok,
 use Rattle.fx_base.specs.Faults.{Rose}
 use Rattle.fx_base.specs.Silence.{Goes, IsLost, Marks}
 use Rattle.fx_base.specs.Telling.{Stays}
+use Rattle.edit_requests.specs.app_loader.Verdicts.{IsSameApp}
+use Rattle.app_views.specs.Shows.{ShowsItems, ShowsView}
 use Rattle.row_keeper.specs.Tables.{Tables}
 use Rattle.app_wire.specs.Framing.{Asked}
 use Rattle.app_wire.specs.ReplyBytes.{refusal, reply}
 use Rattle.app_wire.specs.Routing.{Routing}
 use Rattle.app_wire.specs.declared.route.Route.{Route}
-use Rattle.app_wire.specs.declared.route.Route.TheVariants.{Begin, End, Event, Input, Named, Rows, Page}
+use Rattle.app_wire.specs.declared.route.Route.TheVariants.{Begin, End, View, Named, Items, Event, Input, Rows, Edit, Page}
 use Rattle.app_wire.specs.declared.route.RouteEnd.{RouteEnd}
 use Rattle.app_wire.specs.declared.route.RouteEnd.TheVariants.{NoRoute, WrongMethod, Memory}
+use Rattle.edit_requests.specs.Editing.{PostsEdit}
 use Rattle.view_text.specs.ReplyText.{ok_text}
 use Rattle.row_requests.specs.DeskRows.{PostsRows, ReachesRows}
 use Rattle.row_requests.specs.Page.{ReachesPage, ShowsPage}
 use Rattle.session_requests.specs.Posting.{PostsEvent, PostsInput}
+use Rattle.office.specs.Editing.{AreSameRefusals, IsEdit, KeepsApp}
 use Rattle.office.specs.Ready.{IsSettled}
 use Rattle.office.specs.Sessions.{ShowsNamed, begins, without}
 use Rattle.office.specs.State.{State, schema_of}
@@ -26,7 +30,9 @@ Does lost moment (Begin name) body s said new =
     ((new.sessions, said) ≡ begins s.app.names name s.sessions) × (new ≡ record s { sessions = new.sessions })
 Does lost moment (End name) body s said new =
     (said ≡ reply 200 ok_text) × (new ≡ record s { sessions = without name s.sessions })
+Does lost moment (View name) body s said new = ShowsView moment s.app name s.sessions said × (new ≡ s)
 Does lost moment (Named name) body s said new = ShowsNamed moment s.app name s.sessions said × (new ≡ s)
+Does lost moment (Items name gallery from) body s said new = ShowsItems moment s.app name gallery from s.sessions said × (new ≡ s)
 Does lost moment (Event name) body s said new =
     PostsEvent s.app moment name body s.sessions said new.sessions × (new ≡ record s { sessions = new.sessions })
 Does lost moment (Input name) body s said new =
@@ -34,6 +40,8 @@ Does lost moment (Input name) body s said new =
 Does lost moment (Rows name) body s said new =
     PostsRows lost (schema_of s.app).tables name body s.tables s.desks said new.tables new.desks
     × (new ≡ record s { tables = new.tables; desks = new.desks })
+Does lost moment (Edit name) body s said new =
+    PostsEdit s.app name body s.desks said new.app new.desks × (new ≡ record s { app = new.app; desks = new.desks }) × KeepsApp s.app new.app
 Does lost moment (Page table after) body s said new =
     ShowsPage lost (schema_of s.app).tables table after s.tables said new.tables × (new ≡ record s { tables = new.tables })
 Does lost moment _ body s said new = (said ≡ refusal 7) × (new ≡ s)
@@ -76,9 +84,16 @@ Answered old before moment request said now new =
     ⊎ ((said ≡ refusal 26) × Left (IsLost before now) old new)
     ⊎ ((said ≡ refusal 25) × Rose before.faults now.faults × ReachesKeeper old request × Left (IsLost before now) old new)
 
--- a request has one answer where the tables are told: the same state goes to the same state with the same reply
+-- Two answers to a request are one: the same state and reply. An edit makes an app that means the same, or is refused for the
+-- same breaks.
+pub data AreOne (request : Asked) (old new new' : State) (said said' : List ℕ) : Type 0 where
+  alike : new ≡ new' → said ≡ said' → AreOne request old new new' said said'
+  edited : IsEdit request → IsSameApp new.app new'.app → new' ≡ record new { app = new'.app } → said ≡ said' → AreOne request old new new' said said'
+  refused : IsEdit request → AreSameRefusals said said' → new ≡ old → new' ≡ old → AreOne request old new new' said said'
+
+-- a request has one answer where the tables are told
 abbrev pub IsOneAnswer : Type 0
 IsOneAnswer =
     (k l m n : Marks) (old new new' : State) (moment : ℕ) (request : Asked) (said said' : List ℕ) (t u u' : Tables)
     → IsSettled old → old.tables ≡ Some t → new.tables ≡ Some u → new'.tables ≡ Some u'
-    → Step (IsLost k l) old moment request said new → Step (IsLost m n) old moment request said' new' → (new ≡ new') × (said ≡ said')
+    → Step (IsLost k l) old moment request said new → Step (IsLost m n) old moment request said' new' → AreOne request old new new' said said'

@@ -1,20 +1,28 @@
 //! Laws of the office.
 ghost use Rattle.office.specs.Answers.{IsSilent};
 ghost use Rattle.office.specs.Isolation.{ActsOnce, IsAlone, LeavesDesk, LeavesSession};
+ghost use Rattle.office.specs.Settled.{StartsSettled, StaysSettled};
 ghost use Rattle.office.specs.Step.{IsOneAnswer};
 
 use app_semantics::{fitting_holds, one_fresh};
+use app_views::{one_items_reply, one_view_reply};
 use app_wire::route::one_route;
+use edit_requests::one_outcome as one_edit_outcome;
 use session_requests::laws as requests;
 
 /// A request has one answer where the tables are told: the state before it, its moment and its bytes determine the state
-/// after it and the reply, want of memory and faults of the keeper aside.
+/// after it and the reply, want of memory and faults of the keeper aside. An edit determines the app up to what has no
+/// meaning, as the order in which its formulas are evaluated, and a refusal up to places and circles of which there are
+/// several.
 pub fn one_answer()
     ensures { IsOneAnswer }
 {
     one_fresh();
     fitting_holds();
     requests::one_outcome();
+    one_edit_outcome();
+    one_view_reply();
+    one_items_reply();
     one_route();
 }
 
@@ -42,6 +50,8 @@ pub fn is_alone()
     one_fresh();
     fitting_holds();
     requests::one_outcome();
+    one_view_reply();
+    one_items_reply();
     one_route();
 }
 
@@ -53,3 +63,14 @@ pub fn acts_once()
     requests::acts_once();
     one_route();
 }
+
+/// An office that begins with an accepted app is settled.
+pub fn starts_settled()
+    ensures { StartsSettled }
+{}
+
+/// Any requests leave an office settled, and its app as it is beside formulas that are edited. So what laws say of settled
+/// offices holds of each that is served.
+pub fn stays_settled()
+    ensures { StaysSettled }
+{}

@@ -8,9 +8,8 @@ pub mod named;
 pub mod sessions;
 
 pub use app_cells::App;
-pub use app_loader::load;
 pub use converse::{ConvEnd, MOST_REQUESTS};
-pub use fx_trees::AppEnd;
+pub use edit_requests::{load, load_named, loaded_app, one_app, one_verdict};
 pub use machine::Office;
 pub use named::named_list;
 pub use request_checks::Reply;

@@ -1,6 +1,7 @@
 //! The office, one request at a time.
 ghost use Rattle.std.specs.Prelude.{◌≡◌, ◌≢◌, ◌<◌, Err, IfOk, IsErrOf, Ok, OnErr, Some, false, length};
 ghost use Rattle.fx_base.specs.Silence.{IsLater, IsLost};
+ghost use Rattle.edit_requests.specs.app_loader.Edits.{IsLoaded};
 ghost use Rattle.app_semantics.specs.Sound.{IsSound};
 ghost use Rattle.row_keeper.specs.Causes.{HasCause};
 ghost use Rattle.row_keeper.specs.declared.keeper.KeeperEnd.TheVariants.{Failed};
@@ -14,9 +15,11 @@ ghost use Rattle.office.specs.Step.{Answered, Does, Left, Reaches, ReachesKeeper
 
 use crate::sessions::{begin, end, show_named};
 use app_cells::App;
+use app_views::{show_items, show_view};
 use app_wire::framer::Request;
 use app_wire::route::{Route, RouteEnd};
 use app_wire::routes::Routes;
+use edit_requests::post_edit;
 use fx_base::Memory;
 use fx_eval::Steps;
 use fx_trees::Schema;
@@ -75,6 +78,7 @@ impl<K: Keeper + Drop> Office<K> {
         requires idle { K.in_transaction keeper ≡ false }
         requires shaped { K.shaped keeper ≡ Some (schema_of app) }
         requires app { IsSound app }
+        requires loaded { IsLoaded app }
         requires opens { CanOpen app.names }
         requires sound { AreSound (schema_of app) (K.told keeper) }
         ensures state { IfOk result (λ o. o.state ≡ started app (K.told keeper)) }
@@ -90,6 +94,7 @@ impl<K: Keeper + Drop> Office<K> {
         requires idle { K.in_transaction keeper ≡ false }
         requires shaped { K.shaped keeper ≡ Some (schema_of app) }
         requires app { IsSound app }
+        requires loaded { IsLoaded app }
         requires opens { CanOpen app.names }
         requires sound { AreSound (schema_of app) (K.told keeper) }
         ensures state { result.state ≡ started app (K.told keeper) }
@@ -175,12 +180,31 @@ impl<K: Keeper + Drop> Office<K> {
                 Ok(reply) => Ok(reply),
                 Err(Memory) => Err(KeeperEnd::Memory),
             },
+            Route::View(name) => {
+                match show_view(self.alloc, &self.app, &self.sessions, &name, moment, steps) {
+                    Ok(reply) => Ok(reply),
+                    Err(Memory) => Err(KeeperEnd::Memory),
+                }
+            }
             Route::Named(name) => {
                 match show_named(self.alloc, &self.app, &self.sessions, &name, moment, steps) {
                     Ok(reply) => Ok(reply),
                     Err(Memory) => Err(KeeperEnd::Memory),
                 }
             }
+            Route::Items(name, gallery, from) => match show_items(
+                self.alloc,
+                &self.app,
+                &self.sessions,
+                &name,
+                &gallery,
+                from,
+                moment,
+                steps,
+            ) {
+                Ok(reply) => Ok(reply),
+                Err(Memory) => Err(KeeperEnd::Memory),
+            },
             Route::Event(name) => match post_event(
                 self.alloc,
                 &self.app,
@@ -213,6 +237,16 @@ impl<K: Keeper + Drop> Office<K> {
                 &name,
                 &request.body,
             ),
+            Route::Edit(name) => match post_edit(
+                self.alloc,
+                &mut self.app,
+                &mut self.desks,
+                &name,
+                &request.body,
+            ) {
+                Ok(reply) => Ok(reply),
+                Err(Memory) => Err(KeeperEnd::Memory),
+            },
             Route::Page(table, after) => show_page(
                 self.alloc,
                 &mut self.keeper,
@@ -221,8 +255,7 @@ impl<K: Keeper + Drop> Office<K> {
                 after,
             ),
             // Not built yet.
-            Route::View(_) | Route::Items(_, _, _) | Route::Edit(_) | Route::Plan | Route::Graph =>
-                Ok(Reply::fixed_refusal(self.alloc, 7, 404)),
+            Route::Plan | Route::Graph => Ok(Reply::fixed_refusal(self.alloc, 7, 404)),
         }
     }
 

@@ -15,6 +15,7 @@ invariant_of-self-in-Ok-end g c = record {
   sound = c.self.invariant.sound;
   kept = c.self.invariant.kept;
   accepted = c.self.invariant.accepted;
+  loaded = c.self.invariant.loaded;
   opens = c.self.invariant.opens;
   fit = c.end.ensures.fit c.self.inside.app.names c.self.invariant.fit;
   replies = c.end.ensures.replies c.self.invariant.replies;

@@ -1,0 +1,33 @@
+-- An app that is edited while it is served.
+use Rattle.std.specs.Prelude.{◌≡◌, ℕ, List, Ok}
+use Rattle.app_cells.specs.declared.app.App.{App}
+use Rattle.edit_requests.specs.app_edits.Frames.{frame_of}
+use Rattle.edit_requests.specs.app_loader.Edits.{StillFit}
+use Rattle.edit_requests.specs.app_loader.Verdicts.{AreSameBreaks}
+use Rattle.app_semantics.specs.Sound.{IsSound}
+use Rattle.app_wire.specs.Framing.{Asked}
+use Rattle.app_wire.specs.Routing.{Routing}
+use Rattle.app_wire.specs.declared.route.Route.TheVariants.{Edit}
+use Rattle.edit_requests.specs.Editing.{refusal_of}
+use Rattle.fx_trees.specs.declared.broken.Broken.{Broken}
+use Rattle.request_checks.specs.Replies.{refusal_reply}
+use Rattle.session_state.specs.Changes.{HoldsTables}
+
+-- What an edit keeps: the app is sound, it is the same beside its formulas, and each session that fits it still does.
+pub record KeepsApp (a b : App) : Type 0 where
+  pub sound : IsSound b
+  pub tables : HoldsTables b.names
+  pub frame : frame_of b ≡ frame_of a
+  pub fit : StillFit a.names b.names
+
+-- the request is an edit, by its route
+abbrev pub IsEdit : Asked → Type 0
+IsEdit request = (name : List ℕ) × Routing request.method request.path (Ok (Edit name))
+
+-- two refusals of it (24), for the same breaks
+pub record AreSameRefusals (said said' : List ℕ) : Type 0 where
+  pub breaks : List Broken
+  pub breaks' : List Broken
+  pub same : AreSameBreaks breaks breaks'
+  pub first : said ≡ refusal_reply (refusal_of breaks)
+  pub second : said' ≡ refusal_reply (refusal_of breaks')
