@@ -6,12 +6,12 @@ use Rattle.fx_base.proofs.Silences.{rose_before}
 use Rattle.row_keeper.specs.Tables.{Tables}
 use Rattle.fx_cli.specs.Opening.{Counted, IsAttached, IsStopped}
 
-begun_faults : {K : Type 0} (attached : K → Option (Option (List ℕ))) (marks : K → Marks) (attaches : K → List ℕ → K → Type 0) (old between : K) (now : ℕ)
-    → (between ≡ old) ⊎ IsAttached attached marks attaches old between → Rose (marks between).faults now → Rose (marks old).faults now
-begun_faults attached marks attaches old between now (inl same) rose = subst (λ k. Rose (marks k).faults now) same rose
-begun_faults attached marks attaches old between now (inr is) rose = rose_before (marks old).faults (marks between).faults now is.later.faults rose
+begun_faults : {K : Type 0} (name : List ℕ) (attached : K → Option (Option (List ℕ))) (marks : K → Marks) (attaches : K → List ℕ → K → Type 0) (old between : K) (now : ℕ)
+    → (between ≡ old) ⊎ IsAttached name attached marks attaches old between → Rose (marks between).faults now → Rose (marks old).faults now
+begun_faults name attached marks attaches old between now (inl same) rose = subst (λ k. Rose (marks k).faults now) same rose
+begun_faults name attached marks attaches old between now (inr is) rose = rose_before (marks old).faults (marks between).faults now is.later.faults rose
 
 -- where a call failed that opens it, its count rose
-pub stopped_rose : {K : Type 0} (told : K → Option Tables) (attached : K → Option (Option (List ℕ))) (marks : K → Marks) (attaches : K → List ℕ → K → Type 0) (old new : K)
-    → IsStopped told attached marks attaches Counted old new → Rose (marks old).faults (marks new).faults
-stopped_rose told attached marks attaches old new h = begun_faults attached marks attaches old h.between (marks new).faults h.begun h.rise
+pub stopped_rose : {K : Type 0} (name : List ℕ) (told : K → Option Tables) (attached : K → Option (Option (List ℕ))) (marks : K → Marks) (attaches : K → List ℕ → K → Type 0) (old new : K)
+    → IsStopped name told attached marks attaches Counted old new → Rose (marks old).faults (marks new).faults
+stopped_rose name told attached marks attaches old new h = begun_faults name attached marks attaches old h.between (marks new).faults h.begun h.rise

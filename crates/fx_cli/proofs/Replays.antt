@@ -8,7 +8,7 @@ use Rattle.app_wire.proofs.Doorways.{last_at_end}
 use Rattle.office.specs.Answers.{Converses, moments_of, with_bytes}
 use Rattle.office.proofs.Plays.{two}
 use Rattle.office.specs.declared.converse.ConvEnd.{ConvEnd}
-use Rattle.fx_cli.specs.Held.{Conversation, EndsIn, GoesOnAfter, Held, HoldsNext, IsHeld, LeavesNone, Replayed, Sends, SendsOne, Standing, all_moments, most_conversations}
+use Rattle.fx_cli.specs.Held.{Conversation, EndsIn, GoesOnAfter, Held, HoldsNext, IsHeld, LeavesNone, Replayed, Sends, SendsOne, Standing, all_moments}
 use Rattle.fx_cli.specs.declared.replay.ReplayEnd.{ReplayEnd}
 use Rattle.fx_cli.specs.declared.replay.ReplayEnd.TheVariants.{Done, Fault, Full}
 
@@ -60,11 +60,11 @@ leaves_any Fault one end is b = tt
 leaves_any Full one end is b = tt
 
 -- a conversation that ends a replay
-pub replay_stops : (one : Bool) (old mid new : Standing) (count between now : ℕ) (clock clock_mid clock_now : Option (List ℕ)) (doors doors_mid doors_now : Option Doorway)
-    (cs : List Conversation) (end : ConvEnd) (stop : ReplayEnd) → length cs < most_conversations → Ticks clock (all_moments cs) clock_mid → Held one old count cs mid between
+pub replay_stops : (most : ℕ) (at_most : ReplayEnd) (one : Bool) (old mid new : Standing) (count between now : ℕ) (clock clock_mid clock_now : Option (List ℕ)) (doors doors_mid doors_now : Option Doorway)
+    (cs : List Conversation) (end : ConvEnd) (stop : ReplayEnd) → length cs < most → Ticks clock (all_moments cs) clock_mid → Held one old count cs mid between
     → Tells (Sends one cs) doors doors_mid → HoldsNext one end mid new between now clock_mid clock_now doors_mid doors_now → EndsIn stop one end
-    → Replayed one old new count now clock clock_now doors doors_now stop
-replay_stops one old mid new count between now clock clock_mid clock_now doors doors_mid doors_now cs end stop few ticks is_held sends h is = record {
+    → Replayed most at_most one old new count now clock clock_now doors doors_now stop
+replay_stops most at_most one old mid new count between now clock clock_mid clock_now doors doors_mid doors_now cs end stop few ticks is_held sends h is = record {
   held = cs;
   last = Some h.conversation;
   mid = mid;
@@ -72,7 +72,7 @@ replay_stops one old mid new count between now clock clock_mid clock_now doors d
   is_held = is_held;
   ends = (few, h.held, subst (EndsIn stop one) (sym h.ended) is, sym h.counted, sym h.left);
   ticks = ticks_more clock cs clock_mid h.conversation clock_now ticks h.ticks;
-  told = two (λ x y z s k. (sends_more one cs h.conversation x y z s k, leaves_any stop one end is z)) sends h.told;
+  told = two (λ x y z s k. (sends_more one cs h.conversation x y z s k, λ _. leaves_any stop one end is z)) sends h.told;
 }
 
 -- one after which it goes on

@@ -2,9 +2,9 @@
 use Rattle.std.proofs.Common.{◌≡◌, ℕ, inl, inr, List, [], Option, Some, None, Result, Ok, Err, String, refl, ap, sym, ◌∙◌, subst}
 use Rattle.std.specs.declared.alloc.Global.{Global}
 use Rattle.app_cells.specs.declared.app.App.{App}
-use Rattle.app_loader.specs.Judged.{Judged, JudgedApp}
-use Rattle.app_loader.specs.app_typing.Judged as judged
-use Rattle.app_loader.specs.Verdicts.{IsOneApp, IsOneVerdict}
+use Rattle.office.specs.app_loader.Judged.{Judged, JudgedApp}
+use Rattle.office.specs.app_loader.app_typing.Judged as judged
+use Rattle.office.specs.app_loader.Verdicts.{IsOneApp, IsOneVerdict}
 use Rattle.fx_base.specs.Faults.{Rose}
 use Rattle.fx_base.specs.Silence.{Marks}
 use Rattle.fx_trees.specs.declared.broken.Broken.{Broken as Break}
@@ -17,8 +17,8 @@ use Rattle.fx_cli.specs.declared.replay.ReplayEnd.TheVariants as replay
 use Rattle.fx_cli.specs.declared.report.Report.{Report}
 use Rattle.fx_cli.specs.declared.report.Report.TheVariants.{Shown, Broken, Usage, OutOfMemory, Unread, KeeperFault, OtherSchema, Replayed}
 use Rattle.fx_cli.specs.declared.words.Form.{Form}
-use Rattle.fx_cli.specs.declared.words.Form.TheVariants.{View, Replay}
-use Rattle.fx_cli.specs.Report.{EndsOver, EndsReplay, EndsWith, HasFile, IsRefusal, JudgedAs, Reports, Takes, Wanted, no_replay, no_show, status_of}
+use Rattle.fx_cli.specs.declared.words.Form.TheVariants.{View, Serve}
+use Rattle.fx_cli.specs.Report.{EndsOver, EndsService, EndsWith, HasFile, IsRefusal, JudgedAs, Reports, Takes, Wanted, no_service, no_show, status_of}
 use Rattle.fx_cli.specs.Telling.{Contents}
 
 abbrev form_in : Form → Wanted → Form
@@ -33,8 +33,8 @@ name_in (Some w) = w.1
 same_form : (wanted : Wanted) (f g : Form) (name other : List ℕ) → wanted ≡ Some (f, name) → wanted ≡ Some (g, other) → f ≡ g
 same_form wanted f g name other h k = ap (form_in f) (sym h ∙ k)
 
-pub not_both : (wanted : Wanted) (name other : List ℕ) → wanted ≡ Some (View, name) → wanted ≡ Some (Replay, other) → ⊥
-not_both wanted name other h k = let same : View ≡ Replay = same_form wanted View Replay name other h k in cc
+pub not_both : (wanted : Wanted) (name other : List ℕ) → wanted ≡ Some (View, name) → wanted ≡ Some (Serve, other) → ⊥
+not_both wanted name other h k = let same : View ≡ Serve = same_form wanted View Serve name other h k in cc
 
 -- bytes that were read of a told file are its first bytes
 same_bytes : {F : Type 0} (told : F → Option Contents) (asked : F → List (List ℕ)) (old new : F) (wanted : Wanted) (form : Form) (bytes read : List ℕ)
@@ -58,7 +58,7 @@ moved told asked old new wanted form other bytes read v has takes is =
 -- none is both accepted and refused
 differ : IsOneVerdict → IsOneApp → (form : Form) (bytes : List ℕ) (a : App) (bs : List Break) → JudgedAs form bytes (Ok a) → JudgedAs form bytes (Err bs) → ⊥
 differ texts apps View bytes a bs p q = texts bytes a bs p q
-differ texts apps Replay bytes a bs p q = apps bytes a bs p q
+differ texts apps Serve bytes a bs p q = apps bytes a bs p q
 
 -- formulas end with 0
 pub built_at : IsOneVerdict → IsOneApp → {F : Type 0} (told : F → Option Contents) (asked : F → List (List ℕ)) (faults : F → ℕ) (old new : F) (shows : App → String Global → Type 0) (ends : App → Report → Type 0) (wanted : Wanted) (r : Report)
@@ -87,25 +87,25 @@ refused_at texts apps told asked faults old new shows ends wanted Usage s form b
 refused_at texts apps told asked faults old new shows ends wanted OutOfMemory s form bytes bs h has is = inr (inl refl)
 refused_at texts apps told asked faults old new shows ends wanted (Unread text) s form bytes bs h has is = inr (inr (inl h.rose))
 refused_at texts apps told asked faults old new shows ends wanted KeeperFault s form bytes bs h has is =
-    absurd (differ texts apps form bytes h.app bs (moved told asked old new wanted form Replay bytes h.bytes (Ok h.app) has h.takes h.judged) is)
+    absurd (differ texts apps form bytes h.app bs (moved told asked old new wanted form Serve bytes h.bytes (Ok h.app) has h.takes h.judged) is)
 refused_at texts apps told asked faults old new shows ends wanted OtherSchema s form bytes bs h has is =
-    absurd (differ texts apps form bytes h.app bs (moved told asked old new wanted form Replay bytes h.bytes (Ok h.app) has h.takes h.judged) is)
+    absurd (differ texts apps form bytes h.app bs (moved told asked old new wanted form Serve bytes h.bytes (Ok h.app) has h.takes h.judged) is)
 refused_at texts apps told asked faults old new shows ends wanted (Replayed end) s form bytes bs h has is =
-    absurd (differ texts apps form bytes h.app bs (moved told asked old new wanted form Replay bytes h.bytes (Ok h.app) has h.takes h.judged) is)
+    absurd (differ texts apps form bytes h.app bs (moved told asked old new wanted form Serve bytes h.bytes (Ok h.app) has h.takes h.judged) is)
 
--- an app is replayed up to an end, but where the keeper can't be opened for it
-ends_at : (end : ReplayEnd) (files_rose sink_rose : Type 0) → EndsReplay (status_of (Replayed end)) files_rose sink_rose
+-- an app is served up to an end, but where the keeper can't be opened for it
+ends_at : (end : ReplayEnd) (files_rose sink_rose : Type 0) → EndsService (status_of (Replayed end)) files_rose sink_rose
 ends_at replay.Done f s = inr (inr (inr (inr (inl refl))))
 ends_at replay.Fault f s = inr (inl refl)
 ends_at replay.Full f s = inr (inr (inr (inl refl)))
 
 pub replayed_at : IsOneVerdict → IsOneApp → {F : Type 0} (told : F → Option Contents) (asked : F → List (List ℕ)) (faults : F → ℕ) (old new : F) (shows : App → String Global → Type 0) (ends : App → Report → Type 0) (wanted : Wanted) (r : Report)
     (sink_rose : Type 0) (bytes : List ℕ) (a : App)
-    → Reports told asked faults old new shows ends wanted r → HasFile told old wanted Replay bytes → JudgedApp bytes (Ok a)
-    → EndsReplay (status_of r) (Rose (faults old) (faults new)) sink_rose
+    → Reports told asked faults old new shows ends wanted r → HasFile told old wanted Serve bytes → JudgedApp bytes (Ok a)
+    → EndsService (status_of r) (Rose (faults old) (faults new)) sink_rose
 replayed_at texts apps told asked faults old new shows ends wanted (Shown text) s bytes a h has is = absurd (not_both wanted h.takes.name has.name h.takes.asks.is_wanted has.is_wanted)
 replayed_at texts apps told asked faults old new shows ends wanted (Broken text) s bytes a h has is =
-    absurd (differ texts apps Replay bytes a h.breaks is (moved told asked old new wanted Replay h.form bytes h.bytes (Err h.breaks) has h.takes h.judged))
+    absurd (differ texts apps Serve bytes a h.breaks is (moved told asked old new wanted Serve h.form bytes h.bytes (Err h.breaks) has h.takes h.judged))
 replayed_at texts apps told asked faults old new shows ends wanted Usage s bytes a h has is = let some = has.is_wanted in cc
 replayed_at texts apps told asked faults old new shows ends wanted OutOfMemory s bytes a h has is = inr (inr (inr (inr (inr (inl refl)))))
 replayed_at texts apps told asked faults old new shows ends wanted (Unread text) s bytes a h has is = inr (inr (inr (inr (inr (inr (inl h.rose))))))
@@ -121,23 +121,23 @@ reports_refused told asked faults old new shows ends form name bytes (end.Refuse
 reports_refused told asked faults old new shows ends form name bytes e OutOfMemory takes tells is = refl
 reports_refused told asked faults old new shows ends form name bytes e r takes tells is = absurd is
 
--- a file was read, and is an app, whose replay came to a report
-pub reports_over : {F K : Type 0} (told : F → Option Contents) (asked : F → List (List ℕ)) (faults : F → ℕ) (old new : F) (tables : K → Option Tables) (attached : K → Option (Option (List ℕ))) (marks : K → Marks) (attaches : K → List ℕ → K → Type 0) (k l : K)
+-- a file was read, and is an app, and serving it came to a report
+pub reports_over : {F K : Type 0} (store : List ℕ) (told : F → Option Contents) (asked : F → List (List ℕ)) (faults : F → ℕ) (old new : F) (tables : K → Option Tables) (attached : K → Option (Option (List ℕ))) (marks : K → Marks) (attaches : K → List ℕ → K → Type 0) (k l : K)
     (serves : ReplayEnd → Standing → Standing → Type 0) (name bytes : List ℕ) (a : App) (r : Report)
-    → Takes told asked old new (Some (Replay, name)) Replay bytes → JudgedApp bytes (Ok a) → EndsOver tables attached marks attaches k l serves a r
-    → Reports told asked faults old new no_show (EndsOver tables attached marks attaches k l serves) (Some (Replay, name)) r
-reports_over told asked faults old new tables attached marks attaches k l serves name bytes a (Shown text) takes judged h = absurd h
-reports_over told asked faults old new tables attached marks attaches k l serves name bytes a (Broken text) takes judged h = absurd h
-reports_over told asked faults old new tables attached marks attaches k l serves name bytes a Usage takes judged h = absurd h
-reports_over told asked faults old new tables attached marks attaches k l serves name bytes a OutOfMemory takes judged h = refl
-reports_over told asked faults old new tables attached marks attaches k l serves name bytes a (Unread text) takes judged h = absurd h
-reports_over told asked faults old new tables attached marks attaches k l serves name bytes a KeeperFault takes judged h = record { bytes = bytes; app = a; takes = takes; judged = judged; ended = h }
-reports_over told asked faults old new tables attached marks attaches k l serves name bytes a OtherSchema takes judged h = record { bytes = bytes; app = a; takes = takes; judged = judged; ended = h }
-reports_over told asked faults old new tables attached marks attaches k l serves name bytes a (Replayed end) takes judged h = record { bytes = bytes; app = a; takes = takes; judged = judged; ended = h }
+    → Takes told asked old new (Some (Serve, name)) Serve bytes → JudgedApp bytes (Ok a) → EndsOver store tables attached marks attaches k l serves a r
+    → Reports told asked faults old new no_show (EndsOver store tables attached marks attaches k l serves) (Some (Serve, name)) r
+reports_over store told asked faults old new tables attached marks attaches k l serves name bytes a (Shown text) takes judged h = absurd h
+reports_over store told asked faults old new tables attached marks attaches k l serves name bytes a (Broken text) takes judged h = absurd h
+reports_over store told asked faults old new tables attached marks attaches k l serves name bytes a Usage takes judged h = absurd h
+reports_over store told asked faults old new tables attached marks attaches k l serves name bytes a OutOfMemory takes judged h = refl
+reports_over store told asked faults old new tables attached marks attaches k l serves name bytes a (Unread text) takes judged h = absurd h
+reports_over store told asked faults old new tables attached marks attaches k l serves name bytes a KeeperFault takes judged h = record { bytes = bytes; app = a; takes = takes; judged = judged; ended = h }
+reports_over store told asked faults old new tables attached marks attaches k l serves name bytes a OtherSchema takes judged h = record { bytes = bytes; app = a; takes = takes; judged = judged; ended = h }
+reports_over store told asked faults old new tables attached marks attaches k l serves name bytes a (Replayed end) takes judged h = record { bytes = bytes; app = a; takes = takes; judged = judged; ended = h }
 
--- a view replays nothing
+-- a view serves nothing
 viewed_by : {F : Type 0} (told : F → Option Contents) (asked : F → List (List ℕ)) (faults : F → ℕ) (old new : F) (shows : App → String Global → Type 0) (ends : App → Report → Type 0) (w : Wanted) (r : Report)
-    → Reports told asked faults old new shows no_replay w r → Reports told asked faults old new shows ends w r
+    → Reports told asked faults old new shows no_service w r → Reports told asked faults old new shows ends w r
 viewed_by told asked faults old new shows ends w (Shown text) h = h
 viewed_by told asked faults old new shows ends w (Broken text) h = h
 viewed_by told asked faults old new shows ends w Usage h = h
@@ -148,10 +148,10 @@ viewed_by told asked faults old new shows ends w OtherSchema h = absurd h.ended
 viewed_by told asked faults old new shows ends w (Replayed end) h = absurd h.ended
 
 pub viewed : {F : Type 0} (told : F → Option Contents) (asked : F → List (List ℕ)) (faults : F → ℕ) (old new : F) (shows : App → String Global → Type 0) (ends : App → Report → Type 0) (v w : Wanted) (r : Report)
-    → v ≡ w → Reports told asked faults old new shows no_replay v r → Reports told asked faults old new shows ends w r
+    → v ≡ w → Reports told asked faults old new shows no_service v r → Reports told asked faults old new shows ends w r
 viewed told asked faults old new shows ends v w r e h = subst (λ (x : Wanted). Reports told asked faults old new shows ends x r) e (viewed_by told asked faults old new shows ends v r h)
 
--- a replay shows nothing
+-- a service shows nothing
 replayed_by : {F : Type 0} (told : F → Option Contents) (asked : F → List (List ℕ)) (faults : F → ℕ) (old new : F) (shows : App → String Global → Type 0) (ends : App → Report → Type 0) (w : Wanted) (r : Report)
     → Reports told asked faults old new no_show ends w r → Reports told asked faults old new shows ends w r
 replayed_by told asked faults old new shows ends w (Shown text) h = absurd h.shown

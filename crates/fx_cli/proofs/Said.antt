@@ -7,8 +7,8 @@ use Rattle.fx_cli.specs.declared.replay.ReplayEnd.{ReplayEnd}
 use Rattle.fx_cli.specs.declared.replay.ReplayEnd.TheVariants as replay
 use Rattle.fx_cli.specs.declared.report.Report.{Report}
 use Rattle.fx_cli.specs.declared.report.Report.TheVariants.{Shown, Broken, Usage, OutOfMemory, Unread, KeeperFault, OtherSchema, Replayed}
-use Rattle.fx_cli.specs.declared.words.Form.TheVariants.{View, Replay}
-use Rattle.fx_cli.specs.Report.{EndsReplay, EndsWith, IsIdle, IsReplay, IsSaid, IsTimeless, Leaves, LeavesKeeper, Reports, Wanted, status_of, text_of, text_of_end}
+use Rattle.fx_cli.specs.declared.words.Form.TheVariants.{View, Serve}
+use Rattle.fx_cli.specs.Report.{EndsService, EndsWith, IsIdle, IsService, IsSaid, IsTimeless, Leaves, LeavesKeeper, Reports, Wanted, status_of, text_of, text_of_end}
 use Rattle.fx_cli.specs.Telling.{Contents, Grows}
 use Rattle.fx_cli.proofs.Reported.{not_both}
 
@@ -17,7 +17,7 @@ other : (m n : ℕ) → nat_eq m n ≡ false → m ≡ n → ⊥
 other m n h e = let same : nat_eq m n ≡ true = eq-eqb m n e in cc
 
 -- a replay that ends with 0 is done
-pub is_done : {F : Type 0} (told : F → Option Contents) (asked : F → List (List ℕ)) (faults : F → ℕ) (old new : F) (shows : App → String Global → Type 0) (ends : App → Report → Type 0) (wanted : Wanted) (r : Report) → Reports told asked faults old new shows ends wanted r → status_of r ≡ 0 → (name : List ℕ) → wanted ≡ Some (Replay, name) → r ≡ Replayed replay.Done
+pub is_done : {F : Type 0} (told : F → Option Contents) (asked : F → List (List ℕ)) (faults : F → ℕ) (old new : F) (shows : App → String Global → Type 0) (ends : App → Report → Type 0) (wanted : Wanted) (r : Report) → Reports told asked faults old new shows ends wanted r → status_of r ≡ 0 → (name : List ℕ) → wanted ≡ Some (Serve, name) → r ≡ Replayed replay.Done
 is_done told asked faults old new shows ends wanted (Shown text) h e name is = absurd (not_both wanted h.takes.name name h.takes.asks.is_wanted is)
 is_done told asked faults old new shows ends wanted (Broken text) h e name is = absurd (other 1 0 refl e)
 is_done told asked faults old new shows ends wanted Usage h e name is = absurd (other 2 0 refl e)
@@ -69,17 +69,17 @@ is_fault (Replayed replay.Full) e = absurd (other 9 6 refl e)
 
 -- what was replayed, up to this end
 pub replay_at : (end : ReplayEnd) → {F : Type 0} (told : F → Option Contents) (asked : F → List (List ℕ)) (faults : F → ℕ) (old new : F) (shows : App → String Global → Type 0) (ends : App → Report → Type 0) (wanted : Wanted) (r : Report) → Reports told asked faults old new shows ends wanted r → r ≡ Replayed end → (o o' : Option (List ℕ)) → Tells (Grows (text_of r)) o o'
-    → IsReplay told asked old new wanted (λ app. ends app (Replayed end)) × Tells (Grows (text_of_end end)) o o'
+    → IsService told asked old new wanted (λ app. ends app (Replayed end)) × Tells (Grows (text_of_end end)) o o'
 replay_at end told asked faults old new shows ends wanted r h e o o' t =
     (subst (λ x. Reports told asked faults old new shows ends wanted x) e h, subst (λ x. Tells (Grows (text_of x)) o o') e t)
 
 -- the replay of an app that couldn't open its keeper
 pub unopened_at : {F : Type 0} (told : F → Option Contents) (asked : F → List (List ℕ)) (faults : F → ℕ) (old new : F) (shows : App → String Global → Type 0) (ends : App → Report → Type 0) (wanted : Wanted) (r : Report) → Reports told asked faults old new shows ends wanted r → r ≡ KeeperFault
-    → IsReplay told asked old new wanted (λ app. ends app KeeperFault)
+    → IsService told asked old new wanted (λ app. ends app KeeperFault)
 unopened_at told asked faults old new shows ends wanted r h e = subst (λ x. Reports told asked faults old new shows ends wanted x) e h
 
 pub differing_at : {F : Type 0} (told : F → Option Contents) (asked : F → List (List ℕ)) (faults : F → ℕ) (old new : F) (shows : App → String Global → Type 0) (ends : App → Report → Type 0) (wanted : Wanted) (r : Report) → Reports told asked faults old new shows ends wanted r → r ≡ OtherSchema
-    → IsReplay told asked old new wanted (λ app. ends app OtherSchema)
+    → IsService told asked old new wanted (λ app. ends app OtherSchema)
 differing_at told asked faults old new shows ends wanted r h e = subst (λ x. Reports told asked faults old new shows ends wanted x) e h
 
 -- a status other than 7 is that of the report, and its text was written
@@ -95,7 +95,7 @@ or_fault wanted status r files_rose sink_rose o o' (inl h) ends = rw h.0 ends
 or_fault wanted status r files_rose sink_rose o o' (inr h) ends = inr (inr (inr h.1))
 
 pub or_fault_replayed : (status : ℕ) (r : Report) (files_rose sink_rose : Type 0) (o o' : Option (List ℕ)) → IsSaid r status sink_rose o o'
-    → EndsReplay (status_of r) files_rose sink_rose → EndsReplay status files_rose sink_rose
+    → EndsService (status_of r) files_rose sink_rose → EndsService status files_rose sink_rose
 or_fault_replayed status r files_rose sink_rose o o' (inl h) ends = rw h.0 ends
 or_fault_replayed status r files_rose sink_rose o o' (inr h) ends = inr (inr (inr (inr (inr (inr (inr h.1))))))
 
@@ -112,7 +112,7 @@ viewed_leaves w name files doors clock once keeper stopped OtherSchema is known 
 viewed_leaves w name files doors clock once keeper stopped (Replayed end) is known same timeless read kept = tt
 
 -- and a replay
-pub replayed_leaves : (w : Wanted) (name : List ℕ) (files doors clock once keeper stopped : Type 0) (r : Report) → w ≡ Some (Replay, name) → (r ≡ Usage → ⊥) → (IsIdle r → doors × clock) → LeavesKeeper keeper stopped r
+pub replayed_leaves : (w : Wanted) (name : List ℕ) (files doors clock once keeper stopped : Type 0) (r : Report) → w ≡ Some (Serve, name) → (r ≡ Usage → ⊥) → (IsIdle r → doors × clock) → LeavesKeeper keeper stopped r
     → Leaves w files doors clock once keeper stopped r
 replayed_leaves w name files doors clock once keeper stopped (Shown text) is known idle kept = ((idle tt).0, kept)
 replayed_leaves w name files doors clock once keeper stopped (Broken text) is known idle kept = ((idle tt).0, (idle tt).1, kept)

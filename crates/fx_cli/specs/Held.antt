@@ -1,9 +1,9 @@
 -- Lists of conversations, and how a replay of them ends.
-use Rattle.std.specs.Prelude.{◌≡◌, ℕ, ◌<◌, ◌≤◌, Bool, true, false, List, [], ◌∷◌, ◌++◌, length, flat_map, Option, Some, None}
+use Rattle.std.specs.Prelude.{◌≡◌, ◌⊎◌, ℕ, ◌<◌, ◌≤◌, Bool, true, false, List, [], ◌∷◌, ◌++◌, length, flat_map, Option, Some, None, IsSome}
 use Rattle.fx_base.specs.Faults.{Rose}
 use Rattle.fx_base.specs.Silence.{Marks}
-use Rattle.fx_base.specs.Telling.{Tells}
-use Rattle.app_wire.specs.Doorway.{Doorway}
+use Rattle.fx_base.specs.Telling.{Stays, Tells}
+use Rattle.app_wire.specs.Doorway.{Doorway, Listens}
 use Rattle.app_wire.specs.Moments.{Ticks}
 use Rattle.office.specs.Answers.{Exchange, IsCount, IsTalk, Plays, moments_of}
 use Rattle.office.specs.State.{Seen, State}
@@ -71,16 +71,15 @@ abbrev pub Sends : Bool → List Conversation → Doorway → Doorway → Type 0
 Sends one [] a b = b ≡ a
 Sends one (c ∷ cs) a b = (between : Doorway) × SendsOne one c a between × Sends one cs between b
 
--- the most conversations of a replay
-abbrev pub most_conversations : ℕ
-most_conversations = 1000000
+-- A replay ended so before it took the most conversations: none was left, or the doors failed in going to the next one.
+abbrev pub EndsEarly : ReplayEnd → ℕ → ℕ → Type 0
+EndsEarly Done count now = count ≤ now
+EndsEarly Fault count now = Rose count now
+EndsEarly Full count now = ⊥
 
--- A replay ended so behind so many conversations: none was left, the doors failed in going to the next one, or no more may
--- be taken.
-abbrev pub EndsBetween : ReplayEnd → ℕ → ℕ → ℕ → Type 0
-EndsBetween Done held count now = (held < most_conversations) × (count ≤ now)
-EndsBetween Fault held count now = (held < most_conversations) × Rose count now
-EndsBetween Full held count now = (held ≡ most_conversations) × (now ≡ count)
+-- It ended so behind so many conversations: as is said where it took the most, or before that.
+abbrev pub EndsBetween : ℕ → ReplayEnd → ReplayEnd → ℕ → ℕ → ℕ → Type 0
+EndsBetween most at_most end held count now = ((held ≡ most) × (end ≡ at_most) × (now ≡ count)) ⊎ ((held < most) × EndsEarly end count now)
 
 -- It ended so by a conversation: one that broke off, where conversations have more than one reply, or one of the most
 -- requests.
@@ -90,10 +89,10 @@ EndsIn Fault one end = (end ≡ conv.Faulted) × (one ≡ false)
 EndsIn Full one end = end ≡ conv.Full
 
 -- it ended so, with a last conversation that ended it, or without one
-abbrev pub ReplayEnds : ReplayEnd → Bool → Standing → ℕ → ℕ → Option Conversation → Standing → ℕ → Type 0
-ReplayEnds end one mid count held None new now = EndsBetween end held count now × (new ≡ mid)
-ReplayEnds end one mid count held (Some c) new now =
-    (held < most_conversations) × IsHeld one mid count c × EndsIn end one c.end × (now ≡ c.after) × (new ≡ c.office)
+abbrev pub ReplayEnds : ℕ → ReplayEnd → ReplayEnd → Bool → Standing → ℕ → ℕ → Option Conversation → Standing → ℕ → Type 0
+ReplayEnds most at_most end one mid count held None new now = EndsBetween most at_most end held count now × (new ≡ mid)
+ReplayEnds most at_most end one mid count held (Some c) new now =
+    (held < most) × IsHeld one mid count c × EndsIn end one c.end × (now ≡ c.after) × (new ≡ c.office)
 
 -- with the last one, if there is one
 abbrev pub and_last : List Conversation → Option Conversation → List Conversation
@@ -106,17 +105,17 @@ LeavesNone Done b = b.coming ≡ []
 LeavesNone Fault b = Unit {0}
 LeavesNone Full b = Unit {0}
 
--- A replay that began with this office and with this count ended so: these conversations were held, with the moments that
--- the clock gave.
-pub record Replayed (one : Bool) (old new : Standing) (count now : ℕ) (clock clock_now : Option (List ℕ)) (doors doors_now : Option Doorway) (end : ReplayEnd) : Type 0 where
+-- A replay of at most so many conversations began with this office and with this count and ended so, which is said where
+-- it took the most: these conversations were held, with the moments that the clock gave.
+pub record Replayed (most : ℕ) (at_most : ReplayEnd) (one : Bool) (old new : Standing) (count now : ℕ) (clock clock_now : Option (List ℕ)) (doors doors_now : Option Doorway) (end : ReplayEnd) : Type 0 where
   pub held : List Conversation
   pub last : Option Conversation
   pub mid : Standing
   pub between : ℕ
   pub is_held : Held one old count held mid between
-  pub ends : ReplayEnds end one mid between (length held) last new now
+  pub ends : ReplayEnds most at_most end one mid between (length held) last new now
   pub ticks : Ticks clock (all_moments (and_last held last)) clock_now
-  pub told : Tells (λ a b. Sends one (and_last held last) a b × LeavesNone end b) doors doors_now
+  pub told : Tells (λ a b. Sends one (and_last held last) a b × (length held < most → LeavesNone end b)) doors doors_now
 
 -- the next conversation was held, and ended so
 pub record HoldsNext (one : Bool) (end : ConvEnd) (old new : Standing) (count now : ℕ) (clock clock_now : Option (List ℕ)) (doors doors_now : Option Doorway) : Type 0 where
@@ -132,3 +131,34 @@ pub record HoldsNext (one : Bool) (end : ConvEnd) (old new : Standing) (count no
 abbrev pub StopsAt : ConvEnd → Bool → Option ReplayEnd → Type 0
 StopsAt end one None = GoesOnAfter one end
 StopsAt end one (Some stop) = EndsIn stop one end
+
+-- what is said where the most conversations were taken: a replay came to its limit, and who listens on a port is done
+abbrev pub end_at_most : Option ℕ → ReplayEnd
+end_at_most None = Full
+end_at_most (Some port) = Done
+
+-- The doors listened on the port, if there is one, and only then may a fault have been counted.
+abbrev pub ListensOn : Option ℕ → ℕ → ℕ → Option Doorway → Option Doorway → Type 0
+ListensOn None count now doors doors_now = (now ≡ count) × (doors_now ≡ doors)
+ListensOn (Some port) count now doors doors_now = (count ≤ now) × Tells (Listens port) doors doors_now
+
+-- The doors listened on the port, if there is one, and then at most so many conversations were held.
+pub record IsHeard (port : Option ℕ) (most : ℕ) (one : Bool) (old new : Standing) (count now : ℕ) (clock clock_now : Option (List ℕ)) (doors doors_now : Option Doorway) (end : ReplayEnd) : Type 0 where
+  pub between : ℕ
+  pub mid : Option Doorway
+  pub listens : ListensOn port count between doors mid
+  pub replayed : Replayed most (end_at_most port) one old new between now clock clock_now mid doors_now end
+
+-- The doors couldn't listen on the port: a fault was counted, and nothing else happened.
+pub record IsDeaf (port : Option ℕ) (old new : Standing) (count now : ℕ) (clock clock_now : Option (List ℕ)) (doors doors_now : Option Doorway) (end : ReplayEnd) : Type 0 where
+  pub has_port : IsSome port
+  pub ended : end ≡ Fault
+  pub rose : Rose count now
+  pub office_stays : new ≡ old
+  pub clock_stays : clock_now ≡ clock
+  pub doors_stay : Tells Stays doors doors_now
+
+-- An app was served on this port, or on none, for at most so many conversations, and that ended so.
+abbrev pub Serves : Option ℕ → ℕ → Bool → Standing → Standing → ℕ → ℕ → Option (List ℕ) → Option (List ℕ) → Option Doorway → Option Doorway → ReplayEnd → Type 0
+Serves port most one old new count now clock clock_now doors doors_now end =
+    IsHeard port most one old new count now clock clock_now doors doors_now end ⊎ IsDeaf port old new count now clock clock_now doors doors_now end

@@ -5,7 +5,7 @@ use Rattle.fx_base.specs.Faults.{Rose}
 use Rattle.fx_base.specs.Silence.{Marks}
 use Rattle.fx_base.specs.Telling.{Tells}
 use Rattle.app_cells.specs.declared.app.App.{App}
-use Rattle.app_loader.specs.Judged.{Judged, JudgedApp, longest}
+use Rattle.office.specs.app_loader.Judged.{Judged, JudgedApp, longest}
 use Rattle.app_wire.specs.Moments.{Tick}
 use Rattle.fx_trees.specs.BrokenText.{ended_line}
 use Rattle.fx_trees.specs.declared.broken.Broken.{Broken as Break}
@@ -22,7 +22,7 @@ use Rattle.fx_cli.specs.declared.replay.ReplayEnd.TheVariants as replay
 use Rattle.fx_cli.specs.declared.report.Report.{Report}
 use Rattle.fx_cli.specs.declared.report.Report.TheVariants.{Shown, Broken, Usage, OutOfMemory, Unread, KeeperFault, OtherSchema, Replayed}
 use Rattle.fx_cli.specs.declared.words.Form.{Form}
-use Rattle.fx_cli.specs.declared.words.Form.TheVariants.{View, Replay}
+use Rattle.fx_cli.specs.declared.words.Form.TheVariants.{View, Serve}
 use Rattle.fx_cli.specs.Telling.{AreFirst, Contents, Grows, GrowsInPart}
 
 unfoldable pub usage_text : List ℕ
@@ -49,7 +49,7 @@ unread_text name = codes "pfx: cannot read " ++ (name ++ codes "\n")
 -- one byte more than the longest file of each form
 abbrev pub most_read : Form → ℕ
 most_read View = longest + 1
-most_read Replay = most_bytes + 1
+most_read Serve = most_bytes + 1
 
 -- a form of words, and a file that goes with it
 abbrev pub Wanted : Type 0
@@ -81,7 +81,7 @@ pub record HasFile {F : Type 0} (told : F → Option Contents) (files : F) (want
 -- the bytes of a file, judged as its form is: a text of named formulas, or an app file
 abbrev pub JudgedAs : Form → List ℕ → Result App (List Break) → Type 0
 JudgedAs View = Judged
-JudgedAs Replay = JudgedApp
+JudgedAs Serve = JudgedApp
 
 -- The file is named formulas that break no rule, and was shown so.
 pub record IsView {F : Type 0} (told : F → Option Contents) (asked : F → List (List ℕ)) (old new : F) (wanted : Wanted) (shows : App → Type 0) : Type 0 where
@@ -91,11 +91,11 @@ pub record IsView {F : Type 0} (told : F → Option Contents) (asked : F → Lis
   pub judged : Judged bytes (Ok app)
   pub shown : shows app
 
--- The file is an app, and its replay came to this.
-pub record IsReplay {F : Type 0} (told : F → Option Contents) (asked : F → List (List ℕ)) (old new : F) (wanted : Wanted) (ends : App → Type 0) : Type 0 where
+-- The file is an app, and serving it came to this.
+pub record IsService {F : Type 0} (told : F → Option Contents) (asked : F → List (List ℕ)) (old new : F) (wanted : Wanted) (ends : App → Type 0) : Type 0 where
   pub bytes : List ℕ
   pub app : App
-  pub takes : Takes told asked old new wanted Replay bytes
+  pub takes : Takes told asked old new wanted Serve bytes
   pub judged : JudgedApp bytes (Ok app)
   pub ended : ends app
 
@@ -116,18 +116,18 @@ pub record IsMissed {F : Type 0} (asked : F → List (List ℕ)) (faults : F →
   pub rose : Rose (faults old) (faults new)
   pub line : text ≡ unread_text name
 
--- When the replay of an app comes to each report: a call failed that opens the keeper, the keeper keeps another schema, or
--- it was served up to an end, as `serves` says.
-abbrev pub EndsOver : {K : Type 0} (told : K → Option Tables) (attached : K → Option (Option (List ℕ))) (marks : K → Marks) (attaches : K → List ℕ → K → Type 0) (old new : K)
+-- When serving an app comes to each report: a call failed that opens the keeper over the store of a name, the keeper keeps
+-- another schema, or it was served up to an end, as `serves` says.
+abbrev pub EndsOver : {K : Type 0} (name : List ℕ) (told : K → Option Tables) (attached : K → Option (Option (List ℕ))) (marks : K → Marks) (attaches : K → List ℕ → K → Type 0) (old new : K)
     (serves : ReplayEnd → Standing → Standing → Type 0) → App → Report → Type 0
-EndsOver told attached marks attaches old new serves app KeeperFault = IsStopped told attached marks attaches Counted old new
-EndsOver told attached marks attaches old new serves app OtherSchema = (other : Schema) × IsAsked told attached marks attaches (schema_of app) (Some other) old new
-EndsOver told attached marks attaches old new serves app (Replayed end) = IsServed told attached marks attaches old new app (serves end)
-EndsOver told attached marks attaches old new serves app OutOfMemory = Unit {0}
-EndsOver told attached marks attaches old new serves app r = ⊥
+EndsOver name told attached marks attaches old new serves app KeeperFault = IsStopped name told attached marks attaches Counted old new
+EndsOver name told attached marks attaches old new serves app OtherSchema = (other : Schema) × IsAsked name told attached marks attaches (schema_of app) (Some other) old new
+EndsOver name told attached marks attaches old new serves app (Replayed end) = IsServed name told attached marks attaches old new app (serves end)
+EndsOver name told attached marks attaches old new serves app OutOfMemory = Unit {0}
+EndsOver name told attached marks attaches old new serves app r = ⊥
 
--- When a run that wants this comes to each report. The values of an app were shown so, as `shows` says, and the replay of
--- an app came to the report, as `ends` says.
+-- When a run that wants this comes to each report. The values of an app were shown so, as `shows` says, and serving an app
+-- came to the report, as `ends` says.
 abbrev pub Reports : {F : Type 0} (told : F → Option Contents) (asked : F → List (List ℕ)) (faults : F → ℕ) (old new : F)
     (shows : App → String Global → Type 0) (ends : App → Report → Type 0) → Wanted → Report → Type 0
 Reports told asked faults old new shows ends wanted (Shown text) = IsView told asked old new wanted (λ app. shows app text)
@@ -135,16 +135,16 @@ Reports told asked faults old new shows ends wanted (Broken text) = IsBroken tol
 Reports told asked faults old new shows ends wanted Usage = wanted ≡ None
 Reports told asked faults old new shows ends wanted OutOfMemory = IsSome wanted
 Reports told asked faults old new shows ends wanted (Unread text) = IsMissed asked faults old new wanted (string_bytes text)
-Reports told asked faults old new shows ends wanted KeeperFault = IsReplay told asked old new wanted (λ app. ends app KeeperFault)
-Reports told asked faults old new shows ends wanted OtherSchema = IsReplay told asked old new wanted (λ app. ends app OtherSchema)
-Reports told asked faults old new shows ends wanted (Replayed end) = IsReplay told asked old new wanted (λ app. ends app (Replayed end))
+Reports told asked faults old new shows ends wanted KeeperFault = IsService told asked old new wanted (λ app. ends app KeeperFault)
+Reports told asked faults old new shows ends wanted OtherSchema = IsService told asked old new wanted (λ app. ends app OtherSchema)
+Reports told asked faults old new shows ends wanted (Replayed end) = IsService told asked old new wanted (λ app. ends app (Replayed end))
 
--- nothing was shown, and nothing was replayed
+-- nothing was shown, and nothing was served
 abbrev pub no_show : App → String Global → Type 0
 no_show app text = ⊥
 
-abbrev pub no_replay : App → Report → Type 0
-no_replay app report = ⊥
+abbrev pub no_service : App → Report → Type 0
+no_service app report = ⊥
 
 -- no conversation was begun
 abbrev pub IsIdle : Report → Type 0
@@ -172,7 +172,7 @@ IsTimeless (Replayed end) = ⊥
 abbrev pub IsReadOnceAtMost : {C : Type 0} → (C → Option (List ℕ)) → C → C → Type 0
 IsReadOnceAtMost told old new = (new ≡ old) ⊎ ((moment : ℕ) × Tick moment (told old) (told new))
 
--- What a replay that came to a report left alone of the keeper: all, but where it was opened. For want of memory a call may
+-- What a run that serves an app and came to a report left alone of the keeper: all, but where it was opened. For want of memory a call may
 -- have stopped that opens it.
 abbrev pub LeavesKeeper : Type 0 → Type 0 → Report → Type 0
 LeavesKeeper keeper stopped (Shown text) = keeper
@@ -185,13 +185,13 @@ LeavesKeeper keeper stopped OtherSchema = Unit {0}
 LeavesKeeper keeper stopped (Replayed end) = Unit {0}
 
 -- What a run that came to a report left alone: the files, the doors, the clock, or the clock but for one reading, and the
--- keeper. For want of memory in a replay a call may have stopped that opens the keeper.
+-- keeper. For want of memory where an app is served a call may have stopped that opens the keeper.
 abbrev pub Leaves : Wanted → Type 0 → Type 0 → Type 0 → Type 0 → Type 0 → Type 0 → Report → Type 0
 Leaves wanted files doors clock once keeper stopped (Shown text) = doors × keeper
 Leaves wanted files doors clock once keeper stopped (Broken text) = doors × clock × keeper
 Leaves wanted files doors clock once keeper stopped Usage = files × doors × clock × keeper
 Leaves wanted files doors clock once keeper stopped OutOfMemory =
-    doors × (Wants Replay wanted → clock × (keeper ⊎ stopped)) × (Wants View wanted → once × keeper)
+    doors × (Wants Serve wanted → clock × (keeper ⊎ stopped)) × (Wants View wanted → once × keeper)
 Leaves wanted files doors clock once keeper stopped (Unread text) = doors × clock × keeper
 Leaves wanted files doors clock once keeper stopped KeeperFault = doors × clock
 Leaves wanted files doors clock once keeper stopped OtherSchema = doors × clock
@@ -220,7 +220,7 @@ IsRefusal (end.Refused all) (Broken text) = string_bytes text ≡ flat_map ended
 IsRefusal e OutOfMemory = Unit {0}
 IsRefusal e r = ⊥
 
--- the status that goes with the end of a replay
+-- the status that goes with the end of a service
 abbrev pub status_of_end : ReplayEnd → ℕ
 status_of_end replay.Done = 0
 status_of_end replay.Fault = 6
@@ -237,7 +237,7 @@ status_of KeeperFault = 5
 status_of OtherSchema = 8
 status_of (Replayed end) = status_of_end end
 
--- what is said at the end of a replay
+-- what is said at the end of a service
 abbrev pub text_of_end : ReplayEnd → List ℕ
 text_of_end replay.Done = []
 text_of_end replay.Fault = fault_text
@@ -265,6 +265,6 @@ IsSaid report status sink_rose out out_now =
 abbrev pub EndsWith : ℕ → ℕ → Type 0 → Type 0 → Type 0
 EndsWith wanted status files_rose sink_rose = (status ≡ wanted) ⊎ (status ≡ 3) ⊎ files_rose ⊎ sink_rose
 
--- a replay of an app ended so: its keeper failed or keeps another schema, the doors failed, the most was answered, or all was
-abbrev pub EndsReplay : ℕ → Type 0 → Type 0 → Type 0
-EndsReplay status files_rose sink_rose = (status ≡ 5) ⊎ (status ≡ 6) ⊎ (status ≡ 8) ⊎ (status ≡ 9) ⊎ EndsWith 0 status files_rose sink_rose
+-- a run that serves an app ended so: its keeper failed or keeps another schema, the doors failed, the most was answered, or all was
+abbrev pub EndsService : ℕ → Type 0 → Type 0 → Type 0
+EndsService status files_rose sink_rose = (status ≡ 5) ⊎ (status ≡ 6) ⊎ (status ≡ 8) ⊎ (status ≡ 9) ⊎ EndsWith 0 status files_rose sink_rose

@@ -2,19 +2,19 @@
 #![tactic(auto)]
 
 ghost use Rattle.std.specs.Prelude.{◌≡◌, ◌≤◌, [], ℕ, Err, List, Ok, Some, false, string_bytes};
-ghost use Rattle.app_loader.specs.Judged.{Judged, JudgedApp};
+ghost use Rattle.office.specs.app_loader.Judged.{Judged, JudgedApp};
 ghost use Rattle.app_cells.specs.declared.app.App.{App};
 ghost use Rattle.fx_base.specs.Faults.{Rose};
 ghost use Rattle.fx_base.specs.Silence.{IsLater};
 ghost use Rattle.fx_base.specs.Telling.{Tells};
-ghost use Rattle.fx_cli.specs.Held.{Replayed};
+ghost use Rattle.fx_cli.specs.Held.{Serves};
 ghost use Rattle.fx_cli.specs.Opening.{IsAsked, IsServed, IsStopped, Unsaid};
 ghost use Rattle.fx_cli.specs.Plain.{IsShownNow};
-ghost use Rattle.fx_cli.specs.Report.{EndsOver, EndsReplay, EndsWith, HasFile, IsReadOnceAtMost, IsReplay, IsSaid, JudgedAs, Leaves, Reports, Wants, status_of, text_of};
+ghost use Rattle.fx_cli.specs.Report.{EndsOver, EndsService, EndsWith, HasFile, IsReadOnceAtMost, IsService, IsSaid, JudgedAs, Leaves, Reports, Wants, status_of, text_of};
 ghost use Rattle.fx_cli.specs.Telling.{Grows};
-ghost use Rattle.fx_cli.specs.Words.{wanted};
+ghost use Rattle.fx_cli.specs.Words.{service, wanted};
 ghost use Rattle.fx_cli.specs.declared.words.Form.{Form};
-ghost use Rattle.fx_cli.specs.declared.words.Form.TheVariants.{Replay, View};
+ghost use Rattle.fx_cli.specs.declared.words.Form.TheVariants.{Serve, View};
 ghost use Rattle.fx_trees.specs.declared.broken.Broken.{Broken};
 ghost use Rattle.fx_trees.specs.declared.schema.Schema.{Schema};
 ghost use Rattle.office.specs.State.{schema_of};
@@ -32,13 +32,13 @@ pub mod words;
 use crate::replay::ReplayEnd;
 use crate::report::{Report, carry_out};
 use crate::sink::write_all;
-use app_loader::{one_app, one_verdict};
 use app_wire::clock::Clock;
 use app_wire::doors::Doors;
 pub use files::{FileEnd, Files};
 use fx_base::Failed;
 use fx_eval::Steps;
 pub use memory::{MemoryFiles, MemorySink};
+use office::{one_app, one_verdict};
 use row_keeper::Keeper;
 pub use sink::Sink;
 use std::alloc::Global;
@@ -47,12 +47,12 @@ pub use system::{RealFiles, StdSink};
 
 /// How a run ends: 0 done, 1 the file breaks a rule, 2 the words are no form, 3 want of memory, 4 a file that could not
 /// be read, 5 a keeper that could not be opened, 6 a fault of the doors, 7 output that could not be written, 8 a keeper
-/// that keeps another schema, 9 the most requests or conversations.
+/// that keeps another schema, 9 the most requests, or the most conversations of a replay.
 #[derive(Clone, Copy, Debug, PartialEq, Eq)]
 pub struct Status(pub u8);
 
 /// All that the program does. `words` are those after its name. What it says is made whole before any of it is written,
-/// and nothing else is written to `out`. A replay opens the keeper for its app, and `view` leaves it alone.
+/// and nothing else is written to `out`. The keeper is opened for an app that is served, and `view` leaves it alone.
 pub fn run<D: Doors, K: Keeper, F: Files, O: Sink, C: Clock, L: Ledger>(
     alloc: Global,
     words: &[String],
@@ -64,38 +64,39 @@ pub fn run<D: Doors, K: Keeper, F: Files, O: Sink, C: Clock, L: Ledger>(
     steps: &mut Steps<L>,
 ) -> Status
     requires idle { K.in_transaction keeper.old ≡ false }
-    // `replay` ends with 0: the file was read and is an app, the keeper was opened for it, and all conversations of the
-    // doors were answered as the office that serves it answers them, from the tables that were there then, no session and
-    // no desk. Nothing is said.
-    ensures headline { result.0 ≡ 0 → Wants Replay (wanted words.now)
-        → IsReplay F.told F.asked files.old files.new (wanted words.now)
-        (λ app. IsServed K.told K.attached K.marks K.attaches keeper.old keeper.new app
-        (λ old new. Replayed (D.single doors.old) old new (D.faults doors.old) (D.faults doors.new) (C.told clock.old) (C.told clock.new) (D.told doors.old) (D.told doors.new) ReplayEnd.Done))
+    // A run that serves an app ends with 0: the file was read and is an app, the keeper was opened for it over the store that
+    // the words name, the doors listened on their port, if they name one, and all conversations, or as many as the words ask
+    // for, were answered as the office that serves it answers them, from the tables that were there then, no session and no
+    // desk. Nothing is said.
+    ensures headline { result.0 ≡ 0 → Wants Serve (wanted words.now)
+        → IsService F.told F.asked files.old files.new (wanted words.now)
+        (λ app. IsServed (service words.now).store K.told K.attached K.marks K.attaches keeper.old keeper.new app
+        (λ old new. Serves (service words.now).port (service words.now).most (D.single doors.old) old new (D.faults doors.old) (D.faults doors.new) (C.told clock.old) (C.told clock.new) (D.told doors.old) (D.told doors.new) ReplayEnd.Done))
         × Tells (Grows []) (O.told out.old) (O.told out.new) }
     // Each run comes to a report, which was said: with its status and its text, or with 7, by a fault of the sink, and in
     // part. `Reports` says when a run comes to each, and `Leaves` what it left alone then.
     ensures ends { (report : Report)
         × Reports F.told F.asked F.faults files.old files.new
         (λ app text. IsShownNow (C.told clock.old) (C.told clock.new) app (string_bytes text))
-        (EndsOver K.told K.attached K.marks K.attaches keeper.old keeper.new
-        (λ end old new. Replayed (D.single doors.old) old new (D.faults doors.old) (D.faults doors.new) (C.told clock.old) (C.told clock.new) (D.told doors.old) (D.told doors.new) end)) (wanted words.now) report
+        (EndsOver (service words.now).store K.told K.attached K.marks K.attaches keeper.old keeper.new
+        (λ end old new. Serves (service words.now).port (service words.now).most (D.single doors.old) old new (D.faults doors.old) (D.faults doors.new) (C.told clock.old) (C.told clock.new) (D.told doors.old) (D.told doors.new) end)) (wanted words.now) report
         × Leaves (wanted words.now) (files.new ≡ files.old) (doors.new ≡ doors.old) (clock.new ≡ clock.old) (IsReadOnceAtMost C.told clock.old clock.new)
-        (keeper.new ≡ keeper.old) (IsStopped K.told K.attached K.marks K.attaches Unsaid keeper.old keeper.new) report
+        (keeper.new ≡ keeper.old) (IsStopped (service words.now).store K.told K.attached K.marks K.attaches Unsaid keeper.old keeper.new) report
         × IsSaid report result.0 (Rose (O.faults out.old) (O.faults out.new)) (O.told out.old) (O.told out.new) }
     // 6: a fault of the doors was counted. 5: one of the keeper. 8: it answered another schema than that of the app.
     ensures fault { result.0 ≡ 6 → Rose (D.faults doors.old) (D.faults doors.new) }
     ensures keeper_fault { result.0 ≡ 5 → Rose (K.marks keeper.old).faults (K.marks keeper.new).faults }
-    ensures other_schema { result.0 ≡ 8 → IsReplay F.told F.asked files.old files.new (wanted words.now)
-        (λ app. (other : Schema) × IsAsked K.told K.attached K.marks K.attaches (schema_of app) (Some other) keeper.old keeper.new) }
+    ensures other_schema { result.0 ≡ 8 → IsService F.told F.asked files.old files.new (wanted words.now)
+        (λ app. (other : Schema) × IsAsked (service words.now).store K.told K.attached K.marks K.attaches (schema_of app) (Some other) keeper.old keeper.new) }
     // A text that is told ends with 0 where it breaks no rule, and each file that is told with 1 where it breaks one,
     // but for want of memory and counted faults.
     ensures built { (bytes : List ℕ) (app : App) → HasFile F.told files.old (wanted words.now) View bytes
         → Judged bytes (Ok app) → EndsWith 0 result.0 (Rose (F.faults files.old) (F.faults files.new)) (Rose (O.faults out.old) (O.faults out.new)) }
     ensures refused { (form : Form) (bytes : List ℕ) (bs : List Broken) → HasFile F.told files.old (wanted words.now) form bytes
         → JudgedAs form bytes (Err bs) → EndsWith 1 result.0 (Rose (F.faults files.old) (F.faults files.new)) (Rose (O.faults out.old) (O.faults out.new)) }
-    // One that is an app is replayed up to an end, but for the same, a keeper that fails and one that keeps another schema.
-    ensures replayed { (bytes : List ℕ) (app : App) → HasFile F.told files.old (wanted words.now) Replay bytes
-        → JudgedApp bytes (Ok app) → EndsReplay result.0 (Rose (F.faults files.old) (F.faults files.new)) (Rose (O.faults out.old) (O.faults out.new)) }
+    // One that is an app is served up to an end, but for the same, a keeper that fails and one that keeps another schema.
+    ensures served { (bytes : List ℕ) (app : App) → HasFile F.told files.old (wanted words.now) Serve bytes
+        → JudgedApp bytes (Ok app) → EndsService result.0 (Rose (F.faults files.old) (F.faults files.new)) (Rose (O.faults out.old) (O.faults out.new)) }
     ensures told { F.told files.new ≡ F.told files.old }
     ensures files_later { F.faults files.old ≤ F.faults files.new }
     ensures doors_later { D.faults doors.old ≤ D.faults doors.new }

@@ -1,11 +1,13 @@
-//! All conversations of doors, one after another.
-ghost use Rattle.std.specs.Prelude.{◌≡◌, ◌≤◌, IfOk, IfSome, None, Ok, OnErr, false};
+//! Conversations of doors, one after another.
+ghost use Rattle.std.specs.Prelude.{◌≡◌, ◌≢◌, ◌≤◌, IfOk, IfSome, None, Ok, OnErr, Some, false};
 ghost use Rattle.fx_base.specs.Faults.{Rose};
 ghost use Rattle.fx_base.specs.Silence.{IsLater};
 ghost use Rattle.fx_base.specs.Telling.{Stays, Tells};
 ghost use Rattle.app_wire.specs.Doorway.{Comes};
-ghost use Rattle.fx_cli.specs.Held.{HoldsNext, Replayed, StopsAt, standing};
+ghost use Rattle.fx_cli.specs.Held.{HoldsNext, Replayed, Serves, StopsAt, standing};
+ghost use Rattle.fx_cli.specs.declared.replay.ReplayEnd.TheVariants.{Fault};
 
+use crate::words::Service;
 use app_wire::clock::Clock;
 use app_wire::doors::Doors;
 use fx_base::Failed;
@@ -14,35 +16,76 @@ use office::{ConvEnd, Office};
 use row_keeper::Keeper;
 use std::sync::ledger::Ledger;
 
-/// The most conversations of a replay.
-pub const MOST_CONVERSATIONS: u32 = 1_000_000;
-
-/// How a replay ended.
+/// How conversations ended.
 #[derive(Clone, Copy, Debug, PartialEq, Eq)]
 pub enum ReplayEnd {
-    /// No conversation is left.
+    /// No conversation is left, or as many were held as a service on a port takes.
     Done,
     /// By a counted fault of the doors, where conversations have more than one reply.
     Fault,
-    /// After the most requests of one conversation, or the most conversations.
+    /// After the most requests of one conversation, or the most conversations of a replay.
     Full,
 }
 
-/// Answers all conversations of the doors, and hangs up each.
+/// Answers the conversations of the doors as a service wants it, which listens on its port first, if it has one.
+pub fn hold_all<K: Keeper + Drop, D: Doors, C: Clock, L: Ledger>(
+    office: &mut Office<K>,
+    service: Service<'_>,
+    doors: &mut D,
+    clock: &mut C,
+    steps: &mut Steps<L>,
+) -> ReplayEnd
+    ensures served { Serves service.entry.port service.entry.most (D.single doors.old) (standing office.old) (standing office.new) (D.faults doors.old) (D.faults doors.new) (C.told clock.old) (C.told clock.new) (D.told doors.old) (D.told doors.new) result }
+    ensures cause { result ≡ ReplayEnd.Fault → Rose (D.faults doors.old) (D.faults doors.new) }
+    ensures later { D.faults doors.old ≤ D.faults doors.new }
+    ensures marks { IsLater office.old.marks office.new.marks }
+    ensures loan { office.new.loan ≡ office.old.loan }
+{
+    match service.port {
+        None => replay(office, doors, clock, steps, service.most, ReplayEnd::Full),
+        Some(port) => hold_on_port(office, port, service.most, doors, clock, steps),
+    }
+}
+
+/// Listens on a port, and answers at most so many conversations.
+fn hold_on_port<K: Keeper + Drop, D: Doors, C: Clock, L: Ledger>(
+    office: &mut Office<K>,
+    port: u16,
+    most: u32,
+    doors: &mut D,
+    clock: &mut C,
+    steps: &mut Steps<L>,
+) -> ReplayEnd
+    ensures served { Serves (Some port) most (D.single doors.old) (standing office.old) (standing office.new) (D.faults doors.old) (D.faults doors.new) (C.told clock.old) (C.told clock.new) (D.told doors.old) (D.told doors.new) result }
+    ensures cause { result ≡ ReplayEnd.Fault → Rose (D.faults doors.old) (D.faults doors.new) }
+    ensures later { D.faults doors.old ≤ D.faults doors.new }
+    ensures marks { IsLater office.old.marks office.new.marks }
+    ensures loan { office.new.loan ≡ office.old.loan }
+{
+    match doors.listen(port) {
+        Ok(()) => replay(office, doors, clock, steps, most, ReplayEnd::Done),
+        Err(Failed) => ReplayEnd::Fault,
+    }
+}
+
+/// Answers conversations of the doors, at most so many, and hangs up each. Where it took the most, it ends so.
 pub fn replay<K: Keeper + Drop, D: Doors, C: Clock, L: Ledger>(
     office: &mut Office<K>,
     doors: &mut D,
     clock: &mut C,
     steps: &mut Steps<L>,
+    most: u32,
+    at_most: ReplayEnd,
 ) -> ReplayEnd
-    ensures replayed { Replayed (D.single doors.old) (standing office.old) (standing office.new) (D.faults doors.old) (D.faults doors.new) (C.told clock.old) (C.told clock.new) (D.told doors.old) (D.told doors.new) result }
+    requires { at_most ≢ Fault }
+    ensures replayed { Replayed most at_most (D.single doors.old) (standing office.old) (standing office.new) (D.faults doors.old) (D.faults doors.new) (C.told clock.old) (C.told clock.new) (D.told doors.old) (D.told doors.new) result }
     ensures cause { result ≡ ReplayEnd.Fault → Rose (D.faults doors.old) (D.faults doors.new) }
     ensures later { D.faults doors.old ≤ D.faults doors.new }
     ensures marks { IsLater office.old.marks office.new.marks }
     ensures loan { office.new.loan ≡ office.old.loan }
     ensures single { D.single doors.new ≡ D.single doors.old }
 {
-    for held in 0..MOST_CONVERSATIONS {
+    for held in 0..most {
         match hold_next(office, doors, clock, steps) {
             Err(Failed) => return ReplayEnd::Fault,
             Ok(None) => return ReplayEnd::Done,
@@ -53,7 +96,7 @@ pub fn replay<K: Keeper + Drop, D: Doors, C: Clock, L: Ledger>(
             }
         }
     }
-    ReplayEnd::Full
+    at_most
 }
 
 /// How a conversation that ended so ends a replay, if it does. `one` says whether each has one reply.

@@ -2,32 +2,32 @@
 ghost use Rattle.std.specs.Prelude.{◌≡◌, ◌≤◌, Some, false, string_bytes};
 ghost use Rattle.fx_base.specs.Faults.{Rose};
 ghost use Rattle.fx_base.specs.Silence.{IsLater};
+ghost use Rattle.office.specs.app_loader.Edits.{IsLoaded};
 ghost use Rattle.app_semantics.specs.Sound.{IsSound};
 ghost use Rattle.office.specs.Ready.{CanOpen};
 ghost use Rattle.office.specs.State.{State, schema_of, started};
 ghost use Rattle.row_requests.specs.Sound.{AreSound};
 ghost use Rattle.session_state.specs.Changes.{HoldsTables};
-ghost use Rattle.fx_cli.specs.Held.{Replayed};
+ghost use Rattle.fx_cli.specs.Held.{Serves};
 ghost use Rattle.fx_cli.specs.Opening.{IsStopped, Unsaid};
 ghost use Rattle.fx_cli.specs.Plain.{IsShown, IsShownNow};
-ghost use Rattle.fx_cli.specs.Report.{EndsOver, IsIdle, IsReadOnceAtMost, IsRefusal, IsShowing, IsTimeless, IsUnread, Leaves, LeavesKeeper, Reports, fault_text, keeper_text, limit_text, memory_text, no_replay, no_show, schema_text, status_of, status_of_end, text_of, text_of_end, unread_text, usage_text};
-ghost use Rattle.fx_cli.specs.Words.{wanted};
-ghost use Rattle.fx_cli.specs.declared.words.Form.TheVariants.{Replay, View};
+ghost use Rattle.fx_cli.specs.Report.{EndsOver, IsIdle, IsReadOnceAtMost, IsRefusal, IsShowing, IsTimeless, IsUnread, Leaves, LeavesKeeper, Reports, fault_text, keeper_text, limit_text, memory_text, no_service, no_show, schema_text, status_of, status_of_end, text_of, text_of_end, unread_text, usage_text};
+ghost use Rattle.fx_cli.specs.Words.{service, wanted};
+ghost use Rattle.fx_cli.specs.declared.words.Form.TheVariants.{Serve, View};
 
 use crate::files::{FileEnd, Files};
 use crate::opening::open_keeper;
-use crate::replay::{ReplayEnd, replay};
+use crate::replay::{ReplayEnd, hold_all};
 use crate::view::view_text;
-use crate::words::{Form, form_of};
+use crate::words::{Form, Service, form_of, service_of};
 use app_cells::App;
-use app_loader::{load, load_named};
 use app_wire::clock::Clock;
 use app_wire::doors::Doors;
 use app_wire::routes::Routes;
 use fx_base::Memory;
 use fx_eval::Steps;
 use fx_trees::{AppEnd, lines};
-use office::Office;
+use office::{Office, load, load_named, loaded_app};
 use row_keeper::{Keeper, KeeperEnd};
 use std::alloc::Global;
 use std::sync::ledger::Ledger;
@@ -169,11 +169,11 @@ pub fn carry_out<D: Doors, K: Keeper, F: Files, C: Clock, L: Ledger>(
     requires idle { K.in_transaction keeper.old ≡ false }
     ensures reports { Reports F.told F.asked F.faults files.old files.new
         (λ app text. IsShownNow (C.told clock.old) (C.told clock.new) app (string_bytes text))
-        (EndsOver K.told K.attached K.marks K.attaches keeper.old keeper.new
-        (λ end old new. Replayed (D.single doors.old) old new (D.faults doors.old) (D.faults doors.new) (C.told clock.old) (C.told clock.new) (D.told doors.old) (D.told doors.new) end)) (wanted words.now) result }
+        (EndsOver (service words.now).store K.told K.attached K.marks K.attaches keeper.old keeper.new
+        (λ end old new. Serves (service words.now).port (service words.now).most (D.single doors.old) old new (D.faults doors.old) (D.faults doors.new) (C.told clock.old) (C.told clock.new) (D.told doors.old) (D.told doors.new) end)) (wanted words.now) result }
     ensures cause { result ≡ Report.Replayed ReplayEnd.Fault → Rose (D.faults doors.old) (D.faults doors.new) }
     ensures leaves { Leaves (wanted words.now) (files.new ≡ files.old) (doors.new ≡ doors.old) (clock.new ≡ clock.old) (IsReadOnceAtMost C.told clock.old clock.new)
-        (keeper.new ≡ keeper.old) (IsStopped K.told K.attached K.marks K.attaches Unsaid keeper.old keeper.new) result }
+        (keeper.new ≡ keeper.old) (IsStopped (service words.now).store K.told K.attached K.marks K.attaches Unsaid keeper.old keeper.new) result }
     ensures later { F.faults files.old ≤ F.faults files.new }
     ensures doors_later { D.faults doors.old ≤ D.faults doors.new }
     ensures keeper_later { IsLater (K.marks keeper.old) (K.marks keeper.new) }
@@ -182,7 +182,16 @@ pub fn carry_out<D: Doors, K: Keeper, F: Files, C: Clock, L: Ledger>(
 {
     match form_of(words) {
         Some((Form::View, name)) => view_file(alloc, name, files, clock, steps),
-        Some((Form::Replay, name)) => replay_file(alloc, name, doors, keeper, files, clock, steps),
+        Some((Form::Serve, name)) => serve_file(
+            alloc,
+            name,
+            service_of(words),
+            doors,
+            keeper,
+            files,
+            clock,
+            steps,
+        ),
         None => Report::Usage,
     }
 }
@@ -196,7 +205,7 @@ fn view_file<F: Files, C: Clock, L: Ledger>(
     steps: &mut Steps<L>,
 ) -> Report
     ensures reports { Reports F.told F.asked F.faults files.old files.new
-        (λ app text. IsShownNow (C.told clock.old) (C.told clock.new) app (string_bytes text)) no_replay (Some (View, name.now)) result }
+        (λ app text. IsShownNow (C.told clock.old) (C.told clock.new) app (string_bytes text)) no_service (Some (View, name.now)) result }
     ensures timeless { IsTimeless result → clock.new ≡ clock.old }
     ensures clock { IsReadOnceAtMost C.told clock.old clock.new }
     ensures later { F.faults files.old ≤ F.faults files.new }
@@ -225,10 +234,11 @@ fn show<L: Ledger>(alloc: Global, app: &App, moment: u64, steps: &mut Steps<L>) 
     }
 }
 
-/// Answers the conversations of the doors over the app of a file and the rows of a keeper.
-fn replay_file<D: Doors, K: Keeper, F: Files, C: Clock, L: Ledger>(
+/// Serves the app of a file, with the rows of a keeper.
+fn serve_file<D: Doors, K: Keeper, F: Files, C: Clock, L: Ledger>(
     alloc: Global,
     name: &str,
+    service: Service<'_>,
     doors: &mut D,
     keeper: &mut K,
     files: &mut F,
@@ -237,11 +247,11 @@ fn replay_file<D: Doors, K: Keeper, F: Files, C: Clock, L: Ledger>(
 ) -> Report
     requires idle { K.in_transaction keeper.old ≡ false }
     ensures reports { Reports F.told F.asked F.faults files.old files.new no_show
-        (EndsOver K.told K.attached K.marks K.attaches keeper.old keeper.new
-        (λ end old new. Replayed (D.single doors.old) old new (D.faults doors.old) (D.faults doors.new) (C.told clock.old) (C.told clock.new) (D.told doors.old) (D.told doors.new) end)) (Some (Replay, name.now)) result }
+        (EndsOver service.entry.store.now K.told K.attached K.marks K.attaches keeper.old keeper.new
+        (λ end old new. Serves service.entry.port service.entry.most (D.single doors.old) old new (D.faults doors.old) (D.faults doors.new) (C.told clock.old) (C.told clock.new) (D.told doors.old) (D.told doors.new) end)) (Some (Serve, name.now)) result }
     ensures cause { result ≡ Report.Replayed ReplayEnd.Fault → Rose (D.faults doors.old) (D.faults doors.new) }
     ensures unheld { IsIdle result → (doors.new ≡ doors.old) × (clock.new ≡ clock.old) }
-    ensures unopened { LeavesKeeper (keeper.new ≡ keeper.old) (IsStopped K.told K.attached K.marks K.attaches Unsaid keeper.old keeper.new) result }
+    ensures unopened { LeavesKeeper (keeper.new ≡ keeper.old) (IsStopped service.entry.store.now K.told K.attached K.marks K.attaches Unsaid keeper.old keeper.new) result }
     ensures later { F.faults files.old ≤ F.faults files.new }
     ensures doors_later { D.faults doors.old ≤ D.faults doors.new }
     ensures keeper_later { IsLater (K.marks keeper.old) (K.marks keeper.new) }
@@ -253,16 +263,19 @@ fn replay_file<D: Doors, K: Keeper, F: Files, C: Clock, L: Ledger>(
         Err(FileEnd::Memory) => return Report::OutOfMemory,
         Err(FileEnd::Failed) => return unread_file(alloc, name),
     };
+    // The law is called for what it says of an app that was loaded: that it can be edited.
+    loaded_app();
     match load(alloc, &file) {
-        Ok(app) => replay_app(alloc, app, doors, keeper, clock, steps),
+        Ok(app) => serve_app(alloc, app, service, doors, keeper, clock, steps),
         Err(end) => refuse(alloc, end),
     }
 }
 
-/// Answers the conversations of the doors over an app and the rows of a keeper, where that can be opened for the app.
-fn replay_app<D: Doors, K: Keeper, C: Clock, L: Ledger>(
+/// Serves an app, with the rows of a keeper, where that can be opened for the app.
+fn serve_app<D: Doors, K: Keeper, C: Clock, L: Ledger>(
     alloc: Global,
     app: App,
+    service: Service<'_>,
     doors: &mut D,
     keeper: &mut K,
     clock: &mut C,
@@ -270,12 +283,13 @@ fn replay_app<D: Doors, K: Keeper, C: Clock, L: Ledger>(
 ) -> Report
     requires idle { K.in_transaction keeper.old ≡ false }
     requires app { IsSound app }
+    requires loaded { IsLoaded app }
     requires opens { CanOpen app.names }
-    ensures ends { EndsOver K.told K.attached K.marks K.attaches keeper.old keeper.new
-        (λ end old new. Replayed (D.single doors.old) old new (D.faults doors.old) (D.faults doors.new) (C.told clock.old) (C.told clock.new) (D.told doors.old) (D.told doors.new) end) app result }
+    ensures ends { EndsOver service.entry.store.now K.told K.attached K.marks K.attaches keeper.old keeper.new
+        (λ end old new. Serves service.entry.port service.entry.most (D.single doors.old) old new (D.faults doors.old) (D.faults doors.new) (C.told clock.old) (C.told clock.new) (D.told doors.old) (D.told doors.new) end) app result }
     ensures cause { result ≡ Report.Replayed ReplayEnd.Fault → Rose (D.faults doors.old) (D.faults doors.new) }
     ensures unheld { IsIdle result → (doors.new ≡ doors.old) × (clock.new ≡ clock.old) }
-    ensures unopened { LeavesKeeper (keeper.new ≡ keeper.old) (IsStopped K.told K.attached K.marks K.attaches Unsaid keeper.old keeper.new) result }
+    ensures unopened { LeavesKeeper (keeper.new ≡ keeper.old) (IsStopped service.entry.store.now K.told K.attached K.marks K.attaches Unsaid keeper.old keeper.new) result }
     ensures doors_later { D.faults doors.old ≤ D.faults doors.new }
     ensures keeper_later { IsLater (K.marks keeper.old) (K.marks keeper.new) }
     ensures idle { K.in_transaction keeper.new ≡ false }
@@ -285,21 +299,22 @@ fn replay_app<D: Doors, K: Keeper, C: Clock, L: Ledger>(
         Ok(routes) => routes,
         Err(Memory) => return Report::OutOfMemory,
     };
-    match open_keeper(keeper, &app.names.schema) {
-        Ok(None) => {
-            Report::Replayed(replay_over(alloc, app, routes, doors, keeper, clock, steps))
-        }
+    match open_keeper(keeper, service.store, &app.names.schema) {
+        Ok(None) => Report::Replayed(serve_over(
+            alloc, app, routes, service, doors, keeper, clock, steps,
+        )),
         Ok(Some(_)) => Report::OtherSchema,
         Err(KeeperEnd::Memory) => Report::OutOfMemory,
         Err(KeeperEnd::Failed) => Report::KeeperFault,
     }
 }
 
-/// Answers the conversations of the doors over an app and the rows of a keeper that has the shape of its tables.
-fn replay_over<D: Doors, K: Keeper, C: Clock, L: Ledger>(
+/// Serves an app, with the rows of a keeper that has the shape of its tables.
+fn serve_over<D: Doors, K: Keeper, C: Clock, L: Ledger>(
     alloc: Global,
     app: App,
     routes: Routes,
+    service: Service<'_>,
     doors: &mut D,
     keeper: &mut K,
     clock: &mut C,
@@ -308,10 +323,11 @@ fn replay_over<D: Doors, K: Keeper, C: Clock, L: Ledger>(
     requires idle { K.in_transaction keeper.old ≡ false }
     requires shaped { K.shaped keeper.old ≡ Some (schema_of app) }
     requires app { IsSound app }
+    requires loaded { IsLoaded app }
     requires opens { CanOpen app.names }
     requires sound { AreSound (schema_of app) (K.told keeper.old) }
-    ensures replayed { (state : State) × (state.tables ≡ K.told keeper.new)
-        × Replayed (D.single doors.old) (record { state = started app (K.told keeper.old); marks = K.marks keeper.old }) (record { state = state; marks = K.marks keeper.new })
+    ensures served { (state : State) × (state.tables ≡ K.told keeper.new)
+        × Serves service.entry.port service.entry.most (D.single doors.old) (record { state = started app (K.told keeper.old); marks = K.marks keeper.old }) (record { state = state; marks = K.marks keeper.new })
         (D.faults doors.old) (D.faults doors.new) (C.told clock.old) (C.told clock.new) (D.told doors.old) (D.told doors.new) result }
     ensures cause { result ≡ ReplayEnd.Fault → Rose (D.faults doors.old) (D.faults doors.new) }
     ensures doors_later { D.faults doors.old ≤ D.faults doors.new }
@@ -319,7 +335,7 @@ fn replay_over<D: Doors, K: Keeper, C: Clock, L: Ledger>(
     ensures idle { K.in_transaction keeper.new ≡ false }
 {
     let mut office = Office::over(alloc, app, routes, keeper);
-    let end = replay(&mut office, doors, clock, steps);
+    let end = hold_all(&mut office, service, doors, clock, steps);
     // It is known of a keeper that is given back what it keeps.
     let _keeper = office.into_keeper();
     end
