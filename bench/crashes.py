@@ -29,9 +29,15 @@ APP = {"format": "pfx-1", "tables": [{"name": "Stock", "columns": COLUMNS}], "fo
 
 
 def free_port():
-    with socket.socket() as door:
-        door.bind(("127.0.0.1", 0))
-        return door.getsockname()[1]
+    """Returns a port that nothing listens on. The system takes none of these for a client's side."""
+    while True:
+        port = CHANCE.randrange(20_000, 30_000)
+        with socket.socket() as door:
+            try:
+                door.bind(("127.0.0.1", port))
+                return port
+            except OSError:
+                continue
 
 
 def ask(port, method, path, body=None):
@@ -108,7 +114,10 @@ def main():
             cut, batch = stream(port, program, kept, batch)
             program.wait()
             program, port = start(folder)
-            found = names(port)
+            try:
+                found = names(port)
+            except OSError as error:
+                sys.exit(f"{error}, and the server ended with {program.poll()}")
             program.kill()
             program.wait()
             if cut is not None and set(found) == all_of(kept + [cut]):
