@@ -1,8 +1,3 @@
-pub mod Lists
-pub mod Pairs
-pub mod RecordTypes
-pub mod Sought
-pub mod Twice
 pub mod Admits
 pub mod Breaks
 pub mod Goes

@@ -1,4 +1,3 @@
-pub mod Gaps
 pub mod Below
 pub mod Ends
 pub mod Judged

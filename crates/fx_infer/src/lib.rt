@@ -1,10 +1,8 @@
 //! Which formulas are admitted, as which typed trees, where and why others are broken, and the rounds of types.
 #![tactic(auto)]
 
-pub mod acted;
 pub mod admitting;
 pub mod below;
-pub mod borrowed;
 pub mod depths;
 pub mod details;
 pub mod elaboration;
@@ -13,14 +11,9 @@ pub mod flaw;
 pub mod giving;
 pub mod joining;
 pub mod judging;
-pub mod limits;
-pub mod mismatches;
-pub mod mistyped;
 pub mod next;
 pub mod round_types;
 pub mod rounds;
-pub mod stuck;
-pub mod texts;
 pub mod too_deep;
 pub mod typed_names;
 pub mod walking;
@@ -30,6 +23,7 @@ pub use details::{detail_of, wanted_detail};
 pub use elaboration::{PlaceKind, Written, elaborate, elaborate_alone};
 pub use ends::InferEnd;
 pub use flaw::{Flaw, Halt};
+pub use fx_details::texts;
 pub use fx_trees::{Broken, Names};
 pub use fx_typing::Typed;
 pub use rounds::type_rounds;

@@ -1,0 +1,5 @@
+pub mod Lists
+pub mod Pairs
+pub mod RecordTypes
+pub mod Sought
+pub mod Twice
