@@ -2,5 +2,4 @@ pub mod Declarations
 pub mod Tops
 pub mod AppNames
 pub mod NameRules
-pub mod ReadyLines
 pub mod Decided

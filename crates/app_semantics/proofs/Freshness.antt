@@ -22,7 +22,7 @@ use Rattle.fx_data.specs.Types.{Shape}
 use Rattle.fx_data.specs.Values.{Data, blank}
 use Rattle.fx_data.specs.declared.faults.Kind.{Kind}
 use Rattle.fx_data.specs.declared.faults.Kind.TheVariants.{InvalidArgument}
-use Rattle.fx_eval.proofs.Wider.{stays}
+use Rattle.fx_semantics.proofs.Wider.{stays}
 use Rattle.fx_scalar.proofs.Single.{AtMostOne, day_one}
 use Rattle.fx_scalar.specs.Answers.{date_answer}
 use Rattle.fx_scalar.specs.ScalarFunctions.{IsToday}

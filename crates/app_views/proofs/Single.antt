@@ -17,7 +17,7 @@ use Rattle.fx_data.specs.Values.{Data, text, boolean}
 use Rattle.fx_data.specs.declared.faults.Fault.{Fault}
 use Rattle.fx_data.specs.declared.controls.Control.TheVariants as control
 use Rattle.fx_data.specs.declared.controls.Control.{Control}
-use Rattle.fx_eval.proofs.Wider.{stays}
+use Rattle.fx_semantics.proofs.Wider.{stays}
 use Rattle.fx_semantics.specs.Around.{record_of}
 use Rattle.fx_semantics.specs.Rows.{rows_in}
 use Rattle.fx_semantics.specs.Sources.{Gives as GivesTold}

@@ -12,7 +12,6 @@ pub mod CallHeads
 pub mod CallPlaces
 pub mod Fields
 pub mod Forms
-pub mod KeptValues
 pub mod Leaves
 pub mod Matching
 pub mod Nodes
@@ -25,4 +24,3 @@ pub mod EvalSteps
 pub mod Taken
 pub mod Values
 pub mod Ways
-pub mod Wider

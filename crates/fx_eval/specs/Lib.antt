@@ -3,7 +3,6 @@ pub mod Laws
 pub mod Lists
 pub mod TableCalls
 pub mod Courses
-pub mod Kept
 pub mod Kinds
 pub mod Moments
 pub mod Parts

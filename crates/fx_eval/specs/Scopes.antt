@@ -1,5 +1,5 @@
 -- What a formula is evaluated in, and which typed trees are ready for it.
-use Rattle.std.specs.Prelude.{◌≡◌, ℕ, true, false, List, map, Option, option_map, IsSome}
+use Rattle.std.specs.Prelude.{◌≡◌, ℕ, Bool, true, false, List, map, Option, Some, None, option_map, IsSome}
 use Rattle.fx_data.specs.declared.faults.Fault.{Fault}
 use Rattle.fx_data.specs.declared.values.Value.{Value}
 use Rattle.fx_data.specs.Types.{Shape}
@@ -31,6 +31,11 @@ pub record Fixed : Type 0 where
   pub types : Source → Option Shape
   pub schema : Schema
   pub limit : ℕ
+
+-- the type that a value fits
+abbrev pub fitted : Bool → Shape → Option Shape
+fitted true t = Some t
+fitted false t = None
 
 -- where a formula stands, by the types of its sources and what is told of them
 abbrev pub around : (Source → Option Shape) → Option (Source → Data) → Held → Around

@@ -1,8 +1,13 @@
 -- What an environment tells, and what is heard of it.
 use Rattle.std.specs.Prelude.{◌≡◌, List, Option, Some, None, option_map}
+use Rattle.fx_base.specs.Silence.{Marks}
 use Rattle.fx_data.specs.Values.{Data}
 use Rattle.fx_trees.specs.declared.sources.Source.{Source}
 use Rattle.row_queries.specs.declared.rows.Row.{Row}
+
+-- no fault is counted, and no doubt comes up
+abbrev pub unmarked : Marks
+unmarked = record { faults = 0; doubt = 0 }
 
 -- the value of each source, the rows of each table by rising ID, and what an environment of its kind tells besides
 pub record Told (B : Type 0) : Type 0 where

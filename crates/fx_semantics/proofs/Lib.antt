@@ -14,3 +14,4 @@ pub mod Single
 pub mod SingleRows
 pub mod SingleWhole
 pub mod Examples
+pub mod Wider

@@ -1,5 +1,5 @@
 -- The law that trees have one value at most: node by node, and by recursion on the tree.
-use Rattle.std.proofs.Common.{◌≡◌, ◌∙◌, ℕ, pos, ◌/◌, List, [], ◌∷◌, ◌++◌, Option, Some, None, ap, sym, subst}
+use Rattle.std.proofs.Common.{◌≡◌, ◌∙◌, List, [], ◌∷◌, ◌++◌, Option, Some, None, ap, sym}
 use Rattle.std.specs.Prelude.{slice_get}
 use Rattle.fx_data.specs.declared.faults.Fault.{Fault}
 use Rattle.fx_data.specs.Types.{Shape, blanks, numbers, texts, booleans, dates, records, tables}
@@ -9,11 +9,10 @@ use Rattle.fx_trees.specs.declared.functions.Fun.TheVariants as fun
 use Rattle.fx_trees.specs.declared.sources.Source.{Source}
 use Rattle.fx_trees.specs.declared.sources.Source.TheVariants as source
 use Rattle.fx_scalar.proofs.OneAnswer.{one_answer}
-use Rattle.fx_scalar.specs.Answers.{date_answer}
 use Rattle.fx_scalar.specs.Errors.{as_record}
 use Rattle.fx_scalar.specs.LazyForms.{ErrorOr}
-use Rattle.fx_scalar.specs.ScalarFunctions.{IsAnswer, IsToday}
-use Rattle.fx_scalar.proofs.Single.{day_one, AtMostOne}
+use Rattle.fx_scalar.specs.ScalarFunctions.{IsAnswer}
+use Rattle.fx_scalar.proofs.Single.{AtMostOne}
 use Rattle.fx_tables.specs.Unions.{union_of}
 use Rattle.fx_trees.specs.Term.{Term, Terms, of, nil, cons, Top}
 use Rattle.fx_trees.specs.Term as top
@@ -22,11 +21,10 @@ use Rattle.fx_value.specs.Coercion.{IsCoerced}
 use Rattle.fx_semantics.specs.Around.{Around, Meaning, AreValues, inside}
 use Rattle.fx_semantics.specs.Errors.{IsCaught}
 use Rattle.fx_semantics.specs.Fresh.{IsCalled, IsNode, IsWithin, OfAll, OfOne, field_of, fields_by, meaning, meanings}
-use Rattle.fx_semantics.specs.Named.{AreNamedAfter, GivesOf, value_of}
 use Rattle.fx_semantics.specs.Sources.{Gives}
-use Rattle.fx_semantics.specs.Unique.{OneNaming, OneValue}
+use Rattle.fx_semantics.specs.Unique.{OneValue}
 use Rattle.fx_semantics.proofs.Parts.{Giving, stands}
-use Rattle.fx_semantics.proofs.Single.{AllSingle, Single, coalesced_one, cons_same, equal_one, error_or_one, formed_one, some_one, then_one, values_one}
+use Rattle.fx_semantics.proofs.Single.{AllSingle, Single, coalesced_one, equal_one, error_or_one, formed_one, some_one, then_one, values_one}
 use Rattle.fx_semantics.proofs.SingleRows.{Once, over_one}
 
 -- a coerced value; a text is read as the function Value reads it
@@ -99,27 +97,3 @@ mutual
 pub one_value : Once → OneValue
 one_value o types values rows item caught t v w =
     single (Gives types (Some values)) o (λ s x y h k. h.1 ∙ sym k.1) t rows item caught v w
-
--- ---- named formulas
-today_one : (moment : ℕ) → AtMostOne (IsToday moment)
-today_one moment v w h k = h.2 ∙ ap date_answer (day_one (pos (moment / 86400)) h.0 k.0 h.1 k.1) ∙ sym k.2
-
-given_one : (moment : ℕ) (cells : List (ℕ × Data)) (s : Source) → AtMostOne (GivesOf moment cells s)
-given_one moment cells (source.Cell x) = some_one (value_of x cells)
-given_one moment cells source.Today = today_one moment
-given_one moment cells s = λ v w h k. absurd h
-
-named_after : Once → (moment : ℕ) (before : List (ℕ × Data)) (cs : List (ℕ × Term)) → AtMostOne (AreNamedAfter moment before cs)
-named_after o moment before [] [] [] h k = λ i. []
-named_after o moment before [] [] (w ∷ ws) h k = absurd k
-named_after o moment before [] (v ∷ vs) ws h k = absurd h
-named_after o moment before (c ∷ cs) [] ws h k = absurd h
-named_after o moment before (c ∷ cs) (v ∷ vs) [] h k = absurd k
-named_after o moment before (c ∷ cs) (v ∷ vs) (w ∷ ws) h k =
-    let number = h.0 ∙ sym k.0 in
-    let value = single (GivesOf moment before) o (given_one moment before) c.1 [] None None v.1 w.1 h.1 k.1 in
-    let same : v ≡ w = λ i. (number i, value i) in
-    cons_same v w vs ws same (named_after o moment (before ++ w ∷ []) cs vs ws (subst (λ x. AreNamedAfter moment (before ++ x ∷ []) cs vs) same h.2) k.2)
-
-pub one_naming : Once → OneNaming
-one_naming o moment cells = named_after o moment [] cells

@@ -4,6 +4,5 @@ pub mod Errors
 pub mod Rows
 pub mod Fresh
 pub mod Sources
-pub mod Named
 pub mod Sound
 pub mod Unique

@@ -1,5 +1,5 @@
--- Trees and named formulas have one value at most.
-use Rattle.std.specs.Prelude.{◌≡◌, ℕ, List, Option, Some}
+-- Trees have one value at most.
+use Rattle.std.specs.Prelude.{◌≡◌, List, Option, Some}
 use Rattle.fx_data.specs.declared.faults.Fault.{Fault}
 use Rattle.fx_data.specs.Types.{Shape}
 use Rattle.fx_data.specs.Values.{Data}
@@ -7,7 +7,6 @@ use Rattle.fx_trees.specs.declared.sources.Source.{Source}
 use Rattle.fx_trees.specs.Term.{Term}
 use Rattle.fx_semantics.specs.Around.{Around}
 use Rattle.fx_semantics.specs.Fresh.{IsValue}
-use Rattle.fx_semantics.specs.Named.{AreNamed}
 use Rattle.fx_semantics.specs.Sources.{Gives}
 
 -- where the values of sources are told
@@ -20,7 +19,3 @@ OneValue =
     (types : Source → Option Shape) (values : Source → Data) (rows : List Data) (item : Option Data) (caught : Option Fault)
     (t : Term) (v w : Data) →
     IsValue (told types values rows item caught) t v → IsValue (told types values rows item caught) t w → v ≡ w
-
--- named formulas have one list of values at most
-abbrev pub OneNaming : Type 0
-OneNaming = (moment : ℕ) (cells : List (ℕ × Term)) (vs ws : List (ℕ × Data)) → AreNamed moment cells vs → AreNamed moment cells ws → vs ≡ ws

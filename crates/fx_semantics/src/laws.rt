@@ -1,6 +1,6 @@
 // Laws of the values of typed trees.
 ghost use Rattle.fx_semantics.specs.Sound.{TypingsLawful, ValuesFit};
-ghost use Rattle.fx_semantics.specs.Unique.{OneNaming, OneValue};
+ghost use Rattle.fx_semantics.specs.Unique.{OneValue};
 
 use fx_tables::row_calls::{
     count_if_once, count_once, greatest_once, least_once, sort_once, sum_once,
@@ -21,18 +21,6 @@ pub fn typings_are_lawful()
 /// A law, and no work: a tree has one value at most where the values of its sources are told.
 pub fn one_value()
     ensures { OneValue }
-{
-    sum_once();
-    least_once();
-    greatest_once();
-    count_once();
-    count_if_once();
-    sort_once();
-}
-
-/// A law, and no work: named formulas have one list of values at most.
-pub fn one_naming()
-    ensures { OneNaming }
 {
     sum_once();
     least_once();

@@ -3,4 +3,4 @@
 
 pub mod laws;
 
-pub use laws::{one_naming, one_value, typings_are_lawful, values_fit};
+pub use laws::{one_value, typings_are_lawful, values_fit};

@@ -20,7 +20,7 @@ use Rattle.fx_data.specs.TypeView.{shape}
 use Rattle.fx_data.specs.ValueView.{view}
 use Rattle.fx_data.specs.Values.{Data, blank}
 use Rattle.fx_data.specs.declared.values.Value.{Value}
-use Rattle.fx_eval.proofs.Wider.{stays}
+use Rattle.fx_semantics.proofs.Wider.{stays}
 use Rattle.fx_scalar.specs.ScalarFunctions.{IsToday}
 use Rattle.fx_semantics.specs.Sound.{IsItemFit}
 use Rattle.fx_trees.specs.Reads.{IsAmong}

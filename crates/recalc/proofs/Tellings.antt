@@ -15,9 +15,8 @@ use Rattle.app_semantics.specs.Telling.{told_on}
 use Rattle.fx_data.specs.TypeView.{shape}
 use Rattle.fx_data.specs.Types.{Shape}
 use Rattle.fx_data.specs.Values.{Data}
-use Rattle.fx_eval.proofs.Wider.{stays}
-use Rattle.fx_eval.specs.Kept.{fitted}
-use Rattle.fx_eval.specs.Scopes.{Held, IsReady, around}
+use Rattle.fx_semantics.proofs.Wider.{stays}
+use Rattle.fx_eval.specs.Scopes.{Held, IsReady, around, fitted}
 use Rattle.fx_scalar.specs.ScalarFunctions.{IsToday}
 use Rattle.fx_semantics.proofs.Lawful.{typings_lawful}
 use Rattle.fx_semantics.specs.Fresh.{IsValue}

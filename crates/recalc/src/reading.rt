@@ -2,7 +2,7 @@
 ghost use Rattle.std.specs.Prelude.{◌≡◌, IfOk, IsSome, Some, length, map};
 ghost use Rattle.app_semantics.specs.Holding.{HoldsFitting};
 ghost use Rattle.fx_data.specs.ValueView.{view};
-ghost use Rattle.fx_eval.specs.Kept.{unmarked};
+ghost use Rattle.fx_eval.specs.Telling.{unmarked};
 ghost use Rattle.std.proofs.Math.Bool.{Bool-set};
 ghost use Rattle.recalc.specs.Holds.{holds_prop};
 ghost use Rattle.recalc.specs.Reading.{fixed_on, told_by, told_values, types_on};

@@ -13,7 +13,7 @@ use Rattle.app_semantics.specs.Properties.{IsForItem, IsPropertyForItem, is_true
 use Rattle.app_semantics.specs.Sound.{IsSound, IsSoundCell}
 use Rattle.app_semantics.specs.Telling.{told_on}
 use Rattle.fx_data.specs.Values.{Data, boolean}
-use Rattle.fx_eval.proofs.Wider.{stays}
+use Rattle.fx_semantics.proofs.Wider.{stays}
 use Rattle.fx_semantics.specs.Around.{record_of}
 use Rattle.fx_semantics.specs.Sources.{Gives as GivesTold}
 use Rattle.fx_semantics.specs.Unique.{OneValue}
