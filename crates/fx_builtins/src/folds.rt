@@ -81,8 +81,8 @@ fn count_and_units(number: Option<Num>) -> (u64, i64)
     }
 }
 
-// A quotient, rounded half away from zero.
-fn quotient(total: i128, count: u64) -> Option<Num>
+/// The quotient of a total, in ten-thousandths, by a count, rounded half away from zero.
+pub fn quotient(total: i128, count: u64) -> Option<Num>
     requires count { 0 < count }
     requires low { neg_ℤ (pos (count * most)) ≤ℤ total }
     requires high { total ≤ℤ pos (count * most) }

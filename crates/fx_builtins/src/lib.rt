@@ -20,7 +20,7 @@ mod units;
 
 pub use date_parts::{date, day_of_month, month, parts_give_the_day, today, weekday, year};
 pub use folding::{contains, ends_with, starts_with};
-pub use folds::{average, max, min, sum};
+pub use folds::{average, max, min, quotient, sum};
 pub use formats::format;
 pub use fx_base::Memory;
 pub use fx_data::{Day, Kind};

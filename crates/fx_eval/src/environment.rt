@@ -8,7 +8,7 @@ ghost use Rattle.fx_eval.specs.Scopes.{Fixed};
 ghost use Rattle.fx_eval.specs.Telling.{Told, tables_told, values_told};
 ghost use Rattle.fx_eval.specs.declared.environment.Stop.TheVariants.{Memory as OutOfMemory};
 ghost use Rattle.fx_semantics.specs.Sources.{Gives};
-ghost use Rattle.row_queries.specs.Answers.{IsCountValue, IsScanValue, IsTotalValue, rows_in};
+ghost use Rattle.row_queries.specs.Answers.{IsCountAnswer, IsScanValue, IsTotalAnswer, rows_in};
 ghost use Rattle.row_queries.specs.Queries.{CanTotal, IsQuery};
 ghost use Rattle.row_queries.specs.RowTests.{HasNoFaults};
 ghost use Rattle.row_queries.specs.Visits.{VisitsAtLeast, VisitsTold};
@@ -121,7 +121,7 @@ pub trait Env {
         requires sound { HasNoFaults query.now.test }
         ensures fixed { fixed self.new ≡ fixed self.old }
         ensures told { Goes (IsLost (marks self.old) (marks self.new)) Stays (told self.old) (told self.new) }
-        ensures value { IfOk result (λ n. IsCountValue (tables_told (told self.new)) query.now n) }
+        ensures value { IfOk result (λ n. IsCountAnswer (fixed self.old).schema.tables (tables_told (told self.new)) query.now n) }
         ensures marks { IsLater (marks self.old) (marks self.new) }
         ensures keeper { IsErrOf result Stop.Keeper → Rose (marks self.old).faults (marks self.new).faults }
         ensures ticked { ticked self.new ≡ ticked self.old }
@@ -136,7 +136,7 @@ pub trait Env {
         requires column { CanTotal (fixed self.old).schema.tables query.now column }
         ensures fixed { fixed self.new ≡ fixed self.old }
         ensures told { Goes (IsLost (marks self.old) (marks self.new)) Stays (told self.old) (told self.new) }
-        ensures value { IfOk result (λ t. IsTotalValue (tables_told (told self.new)) query.now column t) }
+        ensures value { IfOk result (λ t. IsTotalAnswer (fixed self.old).schema.tables (tables_told (told self.new)) query.now column t) }
         ensures marks { IsLater (marks self.old) (marks self.new) }
         ensures keeper { IsErrOf result Stop.Keeper → Rose (marks self.old).faults (marks self.new).faults }
         ensures ticked { ticked self.new ≡ ticked self.old }

@@ -46,7 +46,7 @@ use Rattle.query_semantics.proofs.Sound.{IsSound, filled_sound, none_failed, sou
 use Rattle.query_semantics.proofs.Testing.{AllWorth, Worth, column_value, patterns_test, value_scalar, values_worth}
 use Rattle.query_semantics.specs.Settings.{Setting, around}
 use Rattle.query_semantics.specs.TestValues.{in_scope}
-use Rattle.query_semantics.specs.Wholes.{AreHeldRows, IsHeldRow, IsPlanned, PlansAreWhole}
+use Rattle.query_semantics.specs.Wholes.{IsPlanned, PlansAreWhole}
 use Rattle.row_queries.specs.Conditions.{Condition}
 use Rattle.row_queries.specs.declared.queries.Query.{Query}
 use Rattle.row_queries.specs.declared.ranges.KeyRange.{KeyRange}
@@ -54,7 +54,7 @@ use Rattle.row_queries.specs.declared.rows.Row.{Row}
 use Rattle.row_queries.specs.Queries.{AreAsked, first_fault, first_of, given_of, lies, outcome_on}
 use Rattle.row_queries.specs.Ranges.{in_ranges}
 use Rattle.row_queries.specs.RowTests.{Outcome, met, unmet, failed, all_outcome, and_then, is_met, outcome}
-use Rattle.row_queries.specs.TableRows.{AreCellsOf, AreInIdOrder, IsRowOf, record_of, table_of, values_of}
+use Rattle.row_queries.specs.TableRows.{AreCellsOf, AreHeldRows, AreInIdOrder, IsHeldRow, IsRowOf, record_of, table_of, values_of}
 use Rattle.row_queries.specs.TableRows.{value_at as value_in_row}
 
 -- ---- tables and their rows

@@ -6,7 +6,6 @@ use Rattle.fx_trees.specs.declared.schema.TableShape.{TableShape}
 use Rattle.fx_trees.specs.declared.sources.Source.TheVariants as source
 use Rattle.fx_trees.specs.Lawful.{IsLawfulTable}
 use Rattle.fx_trees.specs.Term.{Term, all}
-use Rattle.fx_value.specs.Keys.{IsProper}
 use Rattle.fx_plan.specs.declared.plans.Sketch.{Sketch}
 use Rattle.fx_plan.specs.Plans.{IsPlan, is_fault}
 use Rattle.fx_plan.specs.QueryExpressions.{sketch_of}
@@ -15,16 +14,8 @@ use Rattle.fx_semantics.specs.Fresh.{IsValue, meanings}
 use Rattle.row_queries.specs.declared.queries.Query.{Query}
 use Rattle.row_queries.specs.declared.rows.Row.{Row}
 use Rattle.row_queries.specs.Queries.{AreAsked, IsQuery, first_fault, first_of, given_of, outcome_on}
-use Rattle.row_queries.specs.TableRows.{AreInIdOrder, IsRowOf, table_of, values_of}
+use Rattle.row_queries.specs.TableRows.{AreHeldRows, IsRowOf, table_of}
 use Rattle.query_semantics.specs.Settings.{Setting, around}
-
--- a row of a table whose values a program can hold: numbers and days in range, texts of scalar values
-abbrev pub IsHeldRow : TableShape → Row → Type 0
-IsHeldRow t r = IsRowOf t r × All IsProper (values_of r)
-
--- the rows of a table, by rising numbers
-abbrev pub AreHeldRows : TableShape → List Row → Type 0
-AreHeldRows t rows = AreInIdOrder rows × All (IsHeldRow t) rows
 
 -- a query planned of a query expression that stands here, over the rows of its table: its table's source gives these rows, its
 -- constants have values in whatever stands in the row's place, and none of them is an error

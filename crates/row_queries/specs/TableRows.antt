@@ -1,10 +1,12 @@
 -- The rows of a table, and the records that they are.
 use Rattle.std.specs.Prelude.{◌≡◌, true, ℕ, ◌*◌, ◌<◌, ◌≤◌, pos, List, [], ◌∷◌, slice_get, unwrap_or, map}
+use Rattle.std.specs.List.{All}
 use Rattle.fx_data.specs.TypeView.{shape}
 use Rattle.fx_data.specs.Values.{Data, blank, number, tab, row_list}
 use Rattle.fx_trees.specs.declared.schema.Column.{Column}
 use Rattle.fx_trees.specs.declared.schema.TableShape.{TableShape}
 use Rattle.fx_trees.specs.Lawful.{id_name}
+use Rattle.fx_value.specs.Keys.{IsProper}
 use Rattle.fx_value.specs.Order.{IsScalar}
 use Rattle.fx_tables.specs.Columns.{with_field}
 use Rattle.fx_tables.specs.Columns.{Row as Fields}
@@ -41,6 +43,14 @@ IsBelowAll id (r ∷ rs) = (id < r.id) × IsBelowAll id rs
 abbrev pub AreInIdOrder : List Row → Type 0
 AreInIdOrder [] = Unit {0}
 AreInIdOrder (r ∷ rs) = IsBelowAll r.id rs × AreInIdOrder rs
+
+-- a row of a table whose values a program can hold: numbers and days in range, texts of scalar values
+abbrev pub IsHeldRow : TableShape → Row → Type 0
+IsHeldRow t r = IsRowOf t r × All IsProper (values_of r)
+
+-- the rows of a table, by rising numbers
+abbrev pub AreHeldRows : TableShape → List Row → Type 0
+AreHeldRows t rows = AreInIdOrder rows × All (IsHeldRow t) rows
 
 -- the rows of a table by its number, where these are the rows of all tables
 abbrev pub rows_at : List (List Row) → ℕ → List Row
