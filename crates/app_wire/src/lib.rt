@@ -16,8 +16,6 @@ pub mod route;
 pub mod routes;
 pub mod stream;
 mod talk;
-#[cfg(test)]
-mod tests;
 
 pub use clock::{Clock, ListClock, SystemClock};
 pub use doors::Doors;

@@ -1,12 +1,14 @@
 //! Writes first what libraries answer where no formula shows it: keys and orders of values, how types join and what
 //! values weigh, the ends of days, values and refusals in their written forms, what a typed tree reads, how numbers
-//! round, the tokens of texts, and the properties of controls. Then it reads formulas of literals, operators and
-//! functions of values, one a line, and writes each with the plain form of what it answers. The day of `Today()` is
-//! that of the moment 1704067200. An empty line and one of `#` are written as they are.
+//! round, the tokens of texts, the properties of controls, the routes of requests, and how conversations go. Then it
+//! reads formulas of literals, operators and functions of values, one a line, and writes each with the plain form of
+//! what it answers. The day of `Today()` is that of the moment 1704067200. An empty line and one of `#` are written as
+//! they are.
 #![tactic(auto)]
 
 mod answers;
 mod arguments;
+mod conversations;
 mod days;
 mod evaluate;
 mod forms;
@@ -19,12 +21,14 @@ mod parts;
 mod reads;
 mod records;
 mod refused;
+mod routes;
 mod tokens;
 mod typed;
 mod weights;
 
 use crate::answers::row;
 use crate::page::Page;
+use app_wire::{Clock, SystemClock};
 use fx_base::Memory;
 use std::io::{self, ErrorKind};
 
@@ -34,6 +38,8 @@ fn main(rt: HostRuntime) -> io::Result<()> {
         Ok(()) => print!(rt; "{}", page.text.as_str())?,
         Err(Memory) => return Err(ErrorKind::OutOfMemory.into()),
     }
+    let is_now = SystemClock::new(&rt).now() > 1_700_000_000;
+    println!(rt; "the system's clock is past 1700000000: {is_now}")?;
     for line in rt.lines(rt.alloc()) {
         let row = row(rt.alloc(), line?.as_str())?;
         println!(rt; "{row}")?;
@@ -51,5 +57,7 @@ fn write(page: &mut Page) -> Result<(), Memory> {
     reads::write(page)?;
     numbers::write(page)?;
     tokens::write(page)?;
-    names::write(page)
+    names::write(page)?;
+    routes::write(page)?;
+    conversations::write(page)
 }

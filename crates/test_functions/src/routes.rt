@@ -1,0 +1,94 @@
+//! The routes of requests.
+
+use crate::page::Page;
+use app_wire::{Method, Request, Route, RouteEnd, Routes};
+use fx_base::Memory;
+use std::alloc::Global;
+
+/// Requests of each route, and of none.
+const REQUESTS: &str = "PUT /s/a
+PUT /s/Az_09-Az_09-Az_09-Az_09-Az_09-12
+DELETE /s/a
+GET /s/a/view
+GET /s/named/named
+GET /s/a/items/List/2
+GET /s/a/items/G%20x/0
+GET /s/a/items/a%2Fb%2f/7
+GET /s/a/items/%25%32%35/7
+GET /s/a/items/Stra%C3%9Fe/7
+GET /s/a/items/Straße/7
+POST /s/a/event
+POST /s/a/input
+POST /desk/d/rows
+POST /desk/d/edit
+GET /rows/Stock/1
+GET /rows/T/4294967295
+GET /rows/T/0000000009
+GET /plan
+GET /graph
+GET /s/a
+POST /rows/T/0
+HEAD /plan
+GET /plan/
+POST /rows/T/4294967296";
+
+pub fn write(page: &mut Page) -> Result<(), Memory> {
+    page.add(
+        "# Requests: the route of each with the parts of its path, or the code of its refusal",
+    )?;
+    let routes = Routes::new(page.alloc)?;
+    for line in REQUESTS.lines() {
+        let (method, path) = line.split_once(' ').unwrap_or((line, ""));
+        let answer = answer(page.alloc, &routes, method_of(method), path.as_bytes())?;
+        let line = format!(in page.alloc; "{line} = {answer}")?;
+        page.add(line.as_str())?;
+    }
+    let answer = answer(page.alloc, &routes, Method::Get, b"/rows/\xc3%A9/0")?;
+    let line = format!(in page.alloc; "a path that is no text = {answer}")?;
+    page.add(line.as_str())
+}
+
+fn method_of(word: &str) -> Method {
+    match word {
+        "GET" => Method::Get,
+        "PUT" => Method::Put,
+        "POST" => Method::Post,
+        "DELETE" => Method::Delete,
+        _ => Method::Other,
+    }
+}
+
+// What a request gets: its route, or the code of its refusal.
+fn answer(alloc: Global, routes: &Routes, method: Method, path: &[u8]) -> Result<String, Memory> {
+    let request = Request {
+        method,
+        path: Vec::from_slice(alloc, path)?,
+        body: Vec::new(alloc),
+    };
+    match routes.route(alloc, &request) {
+        Ok(route) => text(alloc, &route),
+        Err(RouteEnd::NoRoute) => Ok(String::from_str(alloc, "7")?),
+        Err(RouteEnd::WrongMethod) => Ok(String::from_str(alloc, "8")?),
+        Err(RouteEnd::Memory) => Err(Memory),
+    }
+}
+
+// A route and the parts of its path.
+fn text(alloc: Global, route: &Route) -> Result<String, Memory> {
+    Ok(match route {
+        Route::Begin(name) => format!(in alloc; "Begin {}", name.as_str())?,
+        Route::End(name) => format!(in alloc; "End {}", name.as_str())?,
+        Route::View(name) => format!(in alloc; "View {}", name.as_str())?,
+        Route::Named(name) => format!(in alloc; "Named {}", name.as_str())?,
+        Route::Items(name, gallery, from) => {
+            format!(in alloc; "Items {} {} {from}", name.as_str(), gallery.as_str())?
+        }
+        Route::Event(name) => format!(in alloc; "Event {}", name.as_str())?,
+        Route::Input(name) => format!(in alloc; "Input {}", name.as_str())?,
+        Route::Rows(name) => format!(in alloc; "Rows {}", name.as_str())?,
+        Route::Edit(name) => format!(in alloc; "Edit {}", name.as_str())?,
+        Route::Page(table, after) => format!(in alloc; "Page {} {after}", table.as_str())?,
+        Route::Plan => String::from_str(alloc, "Plan")?,
+        Route::Graph => String::from_str(alloc, "Graph")?,
+    })
+}
