@@ -2,3 +2,4 @@ pub mod FramePlaces
 pub mod Standing
 pub mod Counts
 pub mod GivenTexts
+pub mod Numbered

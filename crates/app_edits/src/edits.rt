@@ -7,8 +7,10 @@ ghost use Rattle.app_texts.specs.Texts.{TellsBreak};
 ghost use Rattle.app_edits.specs.Edits as edits;
 ghost use Rattle.app_edits.specs.Edits.{IsEdited, IsFormula, IsGiven};
 ghost use Rattle.app_edits.specs.Frames.{frame_of, written};
+ghost use Rattle.app_edits.specs.Numbers.{AreNumbers};
 
 use crate::copies::{copy_cell, copy_spot, frame_of};
+use crate::numbers::{Place, numbers_of, written_at};
 use crate::places::{is_same, spot_at, spots_of};
 use app_cells::{App, Cell, CellInfo, Frame, Spot};
 use app_file::{FileBreak, Limit};
@@ -17,6 +19,7 @@ use fx_base::{Memory, OrMemory};
 use fx_data::words::Words;
 use fx_trees::{Broken, Rule};
 use std::alloc::Global;
+use std::collections::BTreeMap;
 
 // Whether a place is a named formula's.
 fn is_named(spot: &Spot) -> bool
@@ -84,18 +87,6 @@ fn given_cell(
     read_cell(alloc, frame, spot, text)
 }
 
-// The formula that is written at a place.
-fn written_at<'a>(cells: &'a [CellInfo], spot: &Spot) -> Option<&'a Cell>
-    ensures { option_map (λ c. c.now) result ≡ edits.written_at (map (λ (i : Info). i.cell) cells.now) spot.now }
-{
-    for info in cells {
-        if is_same(spot, &info.cell.spot) {
-            return Some(&info.cell);
-        }
-    }
-    None
-}
-
 // Adds a formula, if there is one.
 fn put_cell(alloc: Global, cell: Option<&Cell>, cells: &mut Vec<Cell>) -> Result<(), Memory>
     ensures { OnOk result (cells.new.items ≡ cells.old.items ++ cons_option (option_map (λ c. c.now) cell.entry) []) }
@@ -106,7 +97,25 @@ fn put_cell(alloc: Global, cell: Option<&Cell>, cells: &mut Vec<Cell>) -> Result
     Ok(())
 }
 
-// The formulas that stand at places: at the edited one what is given, and at each other one what is written there.
+// What stands at a place: at the edited one what is given, and at each other one what is written there.
+fn standing_at<'a>(
+    alloc: Global,
+    numbers: &BTreeMap<Place, usize>,
+    cells: &'a [CellInfo],
+    spot: &Spot,
+    given: &'a Option<Cell>,
+    here: &Spot,
+) -> Result<Option<&'a Cell>, Memory>
+    requires { AreNumbers numbers.now cells.now }
+    ensures { IfOk result (λ o. option_map (λ c. c.now) o ≡ edits.standing (map (λ (i : Info). i.cell) cells.now) spot.now given.now here.now) }
+{
+    if is_same(here, spot) {
+        return Ok(given.as_ref());
+    }
+    written_at(alloc, numbers, cells, here)
+}
+
+// The formulas that stand at places.
 fn standing_cells(
     alloc: Global,
     spots: &[Spot],
@@ -116,13 +125,10 @@ fn standing_cells(
 ) -> Result<Vec<Cell>, Memory>
     ensures { IfOk result (λ v. v.items ≡ filter_map (edits.standing (map (λ (i : Info). i.cell) cells.now) spot.now given.now) spots.now) }
 {
+    let numbers = numbers_of(alloc, cells)?;
     let mut standing = Vec::new(alloc);
     for here in spots {
-        let cell = if is_same(here, spot) {
-            given.as_ref()
-        } else {
-            written_at(cells, here)
-        };
+        let cell = standing_at(alloc, &numbers, cells, spot, given, here)?;
         put_cell(alloc, cell, &mut standing)?;
     }
     Ok(standing)

@@ -3,6 +3,7 @@
 
 pub mod copies;
 pub mod edits;
+pub mod numbers;
 pub mod places;
 
 pub use copies::frame_of;
