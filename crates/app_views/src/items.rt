@@ -1,6 +1,5 @@
 //! The items of galleries.
-ghost use Rattle.std.specs.Prelude.{◌≡◌, ◌<◌, ◌+◌, ◌^◌, ℕ, [], IfOk, IfSome, codes, Some, drop, length, slice_get, take};
-ghost use Rattle.app_semantics.specs.Chosen as chosen;
+ghost use Rattle.std.specs.Prelude.{◌≡◌, ◌<◌, ◌+◌, ◌^◌, ℕ, [], IfOk, IfSome, Some, drop, length, slice_get, take};
 ghost use Rattle.app_semantics.specs.Holding.{HoldsFitting};
 ghost use Rattle.app_semantics.specs.Present.{present};
 ghost use Rattle.app_semantics.specs.Sound.{IsSound};
@@ -21,7 +20,7 @@ use fx_data::{Control, Fault, Fields, Value, Words};
 use fx_eval::Steps;
 use fx_trees::Names;
 use fx_trees::names::ControlName;
-use recalc::{Valued, evaluate};
+use recalc::{Valued, evaluate, id_name, item_id};
 use session_state::Session;
 use std::alloc::Global;
 use std::sync::ledger::Ledger;
@@ -29,41 +28,6 @@ use view_text::{ItemList, ItemView, Items};
 
 /// The most items that are shown at once.
 const MOST_ITEMS: usize = 100;
-
-/// The ten-thousandths of 1.
-const ONE: i64 = 10_000;
-
-// The name of the column that numbers rows.
-fn id_name(alloc: Global) -> Result<Words, Memory>
-    ensures { IfOk result (λ w. w ≡ codes "ID") }
-{
-    Ok(Words::of(alloc, "ID")?)
-}
-
-// An item's id: its `ID` where that is a whole number from 1 to 4,294,967,295.
-fn item_id(alloc: Global, row: &Fields) -> Result<Option<u32>, Memory>
-    ensures { IfOk result (λ o. o ≡ chosen.item_id row.now) }
-{
-    let name = id_name(alloc)?;
-    match row.value(&name) {
-        Some(value) => Ok(whole_id(value)),
-        None => Ok(None),
-    }
-}
-
-// The id that a value is.
-fn whole_id(value: &Value) -> Option<u32>
-    ensures { result ≡ chosen.id_of (Some (view value.now)) }
-{
-    let Value::Number(number) = value else {
-        return None;
-    };
-    let units = number.units();
-    if units < ONE || units % ONE != 0 || units / ONE > i64::from(u32::MAX) {
-        return None;
-    }
-    Some((units / ONE) as u32)
-}
 
 // The item at a position.
 fn item_view<L: Ledger>(
@@ -80,7 +44,8 @@ fn item_view<L: Ledger>(
     requires row { IsItemOf app.now.names gallery row.now }
     ensures { IfOk result (λ i. (moment : ℕ) → IsToday moment valued.now.day → IsItemAt (present app.now session.now moment) (value_of valued.now) gallery at row.now (Some i)) }
 {
-    let id = item_id(alloc, row)?;
+    let name = id_name(alloc)?;
+    let id = item_id(row, &name);
     let shown = item_controls(alloc, app, session, valued, gallery, row, steps)?;
     Ok(ItemView { at, id, shown })
 }

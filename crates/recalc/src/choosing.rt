@@ -4,6 +4,7 @@ ghost use Rattle.std.specs.List.{find};
 ghost use Rattle.app_semantics.specs.Chosen as spec;
 ghost use Rattle.fx_data.specs.ValueView.{view};
 
+use crate::ids::id_name;
 use fx_base::Memory;
 use fx_data::values::{Fields, Value};
 use fx_data::words::Words;
@@ -21,18 +22,11 @@ pub(crate) fn selected(
     match items {
         Value::Fault(fault) => Ok(Value::Fault(fault.copy(alloc)?)),
         Value::Tab(rows) => {
-            let id = id_column(alloc)?;
+            let id = id_name(alloc)?;
             record_of(alloc, chosen_row(chosen, rows.as_slice(), &id))
         }
         _ => Ok(Value::Blank),
     }
-}
-
-// The name of the column that numbers rows.
-fn id_column(alloc: Global) -> Result<Words, Memory>
-    ensures { IfOk result (λ w. w ≡ codes "ID") }
-{
-    Ok(Words::of(alloc, "ID")?)
 }
 
 // A row as a record, and blank where there is none.

@@ -3,9 +3,11 @@
 
 mod choosing;
 mod evaluating;
+pub mod ids;
 mod reading;
 pub mod sources;
 pub mod valued;
 
+pub use ids::{id_name, item_id};
 pub use sources::cell_of_property;
 pub use valued::{Valued, evaluate};

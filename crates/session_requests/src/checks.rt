@@ -1,6 +1,5 @@
 //! The checks of what events and inputs act on.
 ghost use Rattle.std.specs.Prelude.{◌≡◌, ◌<◌, ◌^◌, IfErr, IsTrue, Some, length};
-ghost use Rattle.app_semantics.specs.Chosen.{id_of, item_id as item_id_of};
 ghost use Rattle.fx_data.specs.ValueView.{view};
 ghost use Rattle.fx_trees.specs.Lawful.{id_name};
 ghost use Rattle.session_state.specs.Sessions.{SessionState};
@@ -14,14 +13,12 @@ use crate::event::{Event, Place};
 use crate::input::{Given, Input};
 use crate::shown::{bound, control_named, is_shown, item_row};
 use crate::target::{Item, Target};
-use fx_data::{Control, Fields, Value, Words};
+use fx_data::{Control, Value, Words};
 use fx_trees::Names;
 use fx_trees::controls::{input_ty, is_behaviour};
 use fx_trees::names::ControlName;
+use recalc::item_id;
 use view_text::{Detail, Refusal};
-
-/// The ten-thousandths of 1.
-const ONE: i64 = 10_000;
 
 /// The most bytes of a text that a user gives.
 const MOST_BYTES: usize = 4096;
@@ -41,31 +38,6 @@ pub(crate) fn plain(code: u8) -> Refusal
         code,
         detail: Detail::None,
     }
-}
-
-/// The id of a row, where `id` is the name of the column that numbers rows.
-fn item_id(row: &Fields, id: &Words) -> Option<u32>
-    requires { id.now ≡ id_name }
-    ensures { result ≡ item_id_of row.now }
-{
-    match row.value(id) {
-        Some(value) => whole_id(value),
-        None => None,
-    }
-}
-
-/// The id that a value is.
-fn whole_id(value: &Value) -> Option<u32>
-    ensures { result ≡ id_of (Some (view value.now)) }
-{
-    let Value::Number(number) = value else {
-        return None;
-    };
-    let units = number.units();
-    if units < ONE || units % ONE != 0 || units / ONE > i64::from(u32::MAX) {
-        return None;
-    }
-    Some((units / ONE) as u32)
 }
 
 /// The gallery whose item an event of a control has: the one in which it stands, or the control itself.

@@ -2,7 +2,6 @@
 ghost use Rattle.std.specs.Prelude.{◌≡◌, ◌<◌, IfErr, IfOk, IfSome, OnErr, Ok, IsSome, length, unwrap_or};
 ghost use Rattle.app_semantics.specs.Sound.{IsSound};
 ghost use Rattle.fx_data.specs.Values.{blank};
-ghost use Rattle.fx_trees.specs.Lawful.{id_name};
 ghost use Rattle.fx_trees.specs.declared.sources.Source.TheVariants as source;
 ghost use Rattle.request_checks.specs.Checked.{SessionsKeepReplies};
 ghost use Rattle.request_checks.specs.Directory.{find};
@@ -23,7 +22,7 @@ use app_semantics::fitting_holds;
 use fx_base::Memory;
 use fx_data::Words;
 use fx_eval::Steps;
-use recalc::evaluate;
+use recalc::{evaluate, id_name};
 use request_checks::{Checked, Named, Reply, check_session, place_of};
 use session_state::Session;
 use std::alloc::Global;
@@ -190,7 +189,7 @@ fn judge_event<L: Ledger>(
 {
     fitting_holds();
     let valued = evaluate(alloc, app, session, moment, steps)?;
-    let id = id_column(alloc)?;
+    let id = id_name(alloc)?;
     match event_target(&app.names, session.screen(), valued.as_slice(), event, &id) {
         Ok(target) => {
             let shown = is_shown_for(alloc, app, session, &valued, target, steps)?;
@@ -206,11 +205,4 @@ fn unless_hidden(shown: bool, target: Target) -> Result<Target, Refusal>
     ensures detail { IfErr result (λ r. Fits r.code r.detail) }
 {
     if shown { Ok(target) } else { Err(plain(17)) }
-}
-
-/// The name of the column that numbers rows.
-fn id_column(alloc: Global) -> Result<Words, Memory>
-    ensures { IfOk result (λ w. w ≡ id_name) }
-{
-    Ok(Words::of(alloc, "ID")?)
 }

@@ -1,6 +1,6 @@
 use Rattle.std.proofs.Common.{refl}
 use Rattle.std.specs.Str.{chars}
-use Rattle.recalc.proofs.choosing.id_column.Goals as goal
+use Rattle.recalc.proofs.ids.id_name.Goals as goal
 
 pub returns : goal.returns
 unfolding chars
