@@ -24,3 +24,7 @@ pub mod EvalSteps
 pub mod Taken
 pub mod Values
 pub mod Ways
+pub mod Averages
+pub mod Demanding
+pub mod Queried
+pub mod SketchSizes

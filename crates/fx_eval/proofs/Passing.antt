@@ -43,7 +43,7 @@ held_before told P a b w h =
 
 -- ---- what is heard
 
-heard_back : {B : Type 0} (lost : Type 0) (x y : Option (Told B)) (f : Option (Source → Data)) → Goes lost Stays x y → IsHeard (values_told y) f → IsHeard (values_told x) f
+pub heard_back : {B : Type 0} (lost : Type 0) (x y : Option (Told B)) (f : Option (Source → Data)) → Goes lost Stays x y → IsHeard (values_told y) f → IsHeard (values_told x) f
 heard_back lost x y None k h = tt
 heard_back lost None y (Some g) k h = subst (λ z. values_told z ≡ Some g) k h
 heard_back lost (Some a) None (Some g) k h = absurd cc

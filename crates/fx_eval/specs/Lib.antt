@@ -3,8 +3,10 @@ pub mod Laws
 pub mod Lists
 pub mod TableCalls
 pub mod Courses
+pub mod Demands
 pub mod Kinds
 pub mod Moments
 pub mod Parts
 pub mod Scopes
 pub mod Telling
+pub mod Queries

@@ -25,12 +25,15 @@ pub record Held : Type 0 where
 abbrev pub held : List Value → Option Value → Option Fault → Held
 held rows item caught = record { rows = map view rows; item = option_map view item; caught = caught }
 
--- what an environment leaves as it is: the type of each source that may be read, the tables of the app, and
--- how many rows a query may take that isn't delegated
+-- what an environment leaves as it is: the type of each source that may be read, the tables of the app, how
+-- many rows a query may take that isn't delegated, the loan through which it uses an object that is lent, if it
+-- does, and whether a transaction of that object is begun
 pub record Fixed : Type 0 where
   pub types : Source → Option Shape
   pub schema : Schema
   pub limit : ℕ
+  pub loan : Option ℕ
+  pub in_transaction : Bool
 
 -- the type that a value fits
 abbrev pub fitted : Bool → Shape → Option Shape

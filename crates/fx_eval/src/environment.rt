@@ -1,9 +1,10 @@
 //! What typed trees are evaluated over.
-ghost use Rattle.std.specs.Prelude.{◌≡◌, ℕ, ◌+◌, ◌≤◌, Option, IsSome, IfOk, IsErrOf};
+ghost use Rattle.std.specs.Prelude.{◌≡◌, ℕ, ◌+◌, ◌≤◌, Option, IsSome, IfOk, IfSome, IsErrOf};
 ghost use Rattle.fx_base.specs.Faults.{Rose};
 ghost use Rattle.fx_base.specs.Silence.{Goes, IsLater, IsLost, Marks};
 ghost use Rattle.fx_base.specs.Telling.{Stays};
 ghost use Rattle.fx_data.specs.ValueView.{view};
+ghost use Rattle.fx_eval.specs.Queries.{KeepsTables};
 ghost use Rattle.fx_eval.specs.Scopes.{Fixed};
 ghost use Rattle.fx_eval.specs.Telling.{Told, tables_told, values_told};
 ghost use Rattle.fx_eval.specs.declared.environment.Stop.TheVariants.{Memory as OutOfMemory};
@@ -100,8 +101,16 @@ pub trait Env {
     fn limit(&self) -> u32
         ensures { result ≡ (fixed self.now).limit };
 
-    /// The table of the rows that a query gives, or the first error of its test in the query's order.
-    /// `Keeper` only where a fault was counted.
+    /// The tables of the app, where query expressions are answered by queries of them. Then each may be read, and
+    /// its rows are its value as a source.
+    fn tables(&self) -> Option<&Schema>
+        ensures { IfSome result (λ s. (s.now ≡ (fixed self.now).schema) × KeepsTables (fixed self.now) (told self.now)) }
+    {
+        None
+    }
+
+    /// The table of the rows that a query gives, or the first error of its test in the query's order: of some
+    /// rows that the table can hold, even where none are told. `Keeper` only where a fault was counted.
     fn scan(&mut self, query: &Query) -> Result<Value, Stop>
         requires { IsQuery (fixed self.old).schema.tables query.now }
         ensures fixed { fixed self.new ≡ fixed self.old }
@@ -114,8 +123,8 @@ pub trait Env {
         ensures least { IfOk result (λ v. VisitsAtLeast (rows_in (view v)) (visited self.old) (visited self.new)) }
         ensures most { VisitsTold (tables_told (told self.new)) query.now (visited self.old) (visited self.new) };
 
-    /// How many rows a query gives, whose test has no errors as constants. `Keeper` only where a fault was
-    /// counted.
+    /// How many rows a query gives, whose test has no errors as constants: of some rows that the table can hold,
+    /// even where none are told. `Keeper` only where a fault was counted.
     fn count(&mut self, query: &Query) -> Result<u32, Stop>
         requires query { IsQuery (fixed self.old).schema.tables query.now }
         requires sound { HasNoFaults query.now.test }
@@ -129,7 +138,8 @@ pub trait Env {
         ensures most { VisitsTold (tables_told (told self.new)) query.now (visited self.old) (visited self.new) };
 
     /// What the values of a column of numbers that aren't blank come to, in the rows that a query gives,
-    /// whose test has no errors as constants. `Keeper` only where a fault was counted.
+    /// whose test has no errors as constants: of some rows that the table can hold, even where none are told.
+    /// `Keeper` only where a fault was counted.
     fn total(&mut self, query: &Query, column: u16) -> Result<Totals, Stop>
         requires query { IsQuery (fixed self.old).schema.tables query.now }
         requires sound { HasNoFaults query.now.test }

@@ -5,14 +5,16 @@ ghost use Rattle.fx_base.specs.Silence.{Goes, IsLater, IsLost};
 ghost use Rattle.fx_base.specs.Telling.{Stays};
 ghost use Rattle.fx_data.specs.Types.{Shape};
 ghost use Rattle.fx_data.specs.ValueView.{fields_view, view};
+ghost use Rattle.fx_data.specs.Values.{blank};
 ghost use Rattle.fx_eval.specs.Courses.{IsWorth, ends_in_branch, going};
 ghost use Rattle.fx_eval.specs.Moments.{Went, moment};
 ghost use Rattle.fx_eval.specs.Parts.{AreAsked, AreFilled, AreFine, AreInside, AreSet, AreSome, HasNext, IsAsked, caught_in, inner, terms_of};
+ghost use Rattle.fx_eval.specs.Demands.{CanStand, IsAskedFor};
 ghost use Rattle.fx_eval.specs.Scopes.{CanEvaluate, IsReady, around};
 ghost use Rattle.fx_eval.specs.Telling.{Heard, values_told};
 ghost use Rattle.fx_semantics.specs.Around.{AreEach, AreValues};
 ghost use Rattle.fx_semantics.specs.Fresh.{IsValue, IsWithin, field_of, meaning, meanings};
-ghost use Rattle.fx_semantics.specs.Rows.{IsOver};
+ghost use Rattle.fx_semantics.specs.Rows.{IsOfFound, IsOver};
 ghost use Rattle.fx_eval.specs.Given.{AreGiven, IsGiven, given};
 ghost use Rattle.fx_trees.specs.Term.{all, cons, nil, of};
 ghost use Rattle.fx_trees.specs.Term.{over as over_head, within as scoped};
@@ -20,11 +22,15 @@ ghost use Rattle.fx_typing.specs.WellTyped.{inside, plain};
 ghost use Rattle.fx_value.specs.Fits.{fits_in};
 
 use crate::courses::{Course, Turn};
+use crate::demands::{Asked, Demand, found_formula};
 use crate::environment::{Env, Stop};
+use crate::laws::queries_are_values;
+use crate::queries::{answer as answer_asked, asked_here};
 use crate::scope::Scope;
 use crate::{Answers, Steps, is_formula, list, over, rows_of};
 use fx_base::Memory;
 use fx_data::{Fault, Fields, Value, Words};
+use fx_plan::has_error;
 use fx_scalar::{apply, fitting_can_apply, without_error};
 use fx_semantics::values_fit;
 use fx_trees::{Core, CoreNode, Fun};
@@ -76,7 +82,108 @@ fn tree<E: Env, L: Ledger>(
     ensures fits { (u : Shape) → IsReady (E.fixed env.old).types scope.old core.now u → IfOk result (λ v. fits_in (view v) u ≡ true) }
 {
     values_fit();
-    node(alloc, env, scope, core, steps)
+    value_here(alloc, env, scope, core, steps)
+}
+
+// The value of a tree: by a query where it takes a query expression, and else by its head.
+#[cycle(tree)]
+fn value_here<E: Env, L: Ledger>(
+    alloc: Global,
+    env: &mut E,
+    scope: &mut Scope,
+    core: &Core,
+    steps: &mut Steps<L>,
+) -> Result<Value, Stop>
+    requires { CanEvaluate (E.fixed env.old).types scope.old core.now }
+    ensures went { Went
+        (moment (E.fixed env.old) (E.told env.old) (E.marks env.old) (E.ticked env.old) (E.visited env.old) scope.old steps.old)
+        (moment (E.fixed env.new) (E.told env.new) (E.marks env.new) (E.ticked env.new) (E.visited env.new) scope.new steps.new) }
+    ensures keeper { IsErrOf result Stop.Keeper → Rose (E.marks env.old).faults (E.marks env.new).faults }
+    ensures value { IfOk result (λ v. Heard (values_told (E.told env.new)) (λ told. IsValue (around (E.fixed env.old).types told scope.old) core.now (view v))) }
+{
+    match asked_here(alloc, env, scope, core)? {
+        Some(asked) => query(alloc, env, scope, core, &asked, steps),
+        None => node(alloc, env, scope, core, steps),
+    }
+}
+
+// The value of a tree that takes a query expression. Where a constant is an error, its layers tell which error comes first.
+#[cycle(tree)]
+fn query<E: Env, L: Ledger>(
+    alloc: Global,
+    env: &mut E,
+    scope: &mut Scope,
+    core: &Core,
+    asked: &Asked,
+    steps: &mut Steps<L>,
+) -> Result<Value, Stop>
+    requires ready { CanEvaluate (E.fixed env.old).types scope.old core.now }
+    requires asked { IsAskedFor (E.fixed env.old) (E.told env.old) scope.old core.now asked.now.demand asked.now.sketch }
+    ensures went { Went
+        (moment (E.fixed env.old) (E.told env.old) (E.marks env.old) (E.ticked env.old) (E.visited env.old) scope.old steps.old)
+        (moment (E.fixed env.new) (E.told env.new) (E.marks env.new) (E.ticked env.new) (E.visited env.new) scope.new steps.new) }
+    ensures keeper { IsErrOf result Stop.Keeper → Rose (E.marks env.old).faults (E.marks env.new).faults }
+    ensures value { IfOk result (λ v. Heard (values_told (E.told env.new)) (λ told. IsValue (around (E.fixed env.old).types told scope.old) core.now (view v))) }
+{
+    queries_are_values();
+    let formulas = asked.sketch.constants.as_slice();
+    let constants = constant_values(alloc, env, scope, formulas, steps)?;
+    let values = constants.as_slice();
+    if has_error(values) {
+        node(alloc, env, scope, core, steps)
+    } else {
+        let value = answer_asked(alloc, env, asked, values)?;
+        match asked.demand {
+            Demand::FoundIn => of_found(alloc, env, scope, value, found_formula(core), steps),
+            _ => Ok(value),
+        }
+    }
+}
+
+// The value of a formula in the scope of the row that was found; a blank one or an error is the answer.
+#[cycle(tree)]
+fn of_found<E: Env, L: Ledger>(
+    alloc: Global,
+    env: &mut E,
+    scope: &mut Scope,
+    found: Value,
+    formula: &Core,
+    steps: &mut Steps<L>,
+) -> Result<Value, Stop>
+    requires { CanStand (E.fixed env.old).types scope.old formula.now (view found) }
+    ensures went { Went
+        (moment (E.fixed env.old) (E.told env.old) (E.marks env.old) (E.ticked env.old) (E.visited env.old) scope.old steps.old)
+        (moment (E.fixed env.new) (E.told env.new) (E.marks env.new) (E.ticked env.new) (E.visited env.new) scope.new steps.new) }
+    ensures keeper { IsErrOf result Stop.Keeper → Rose (E.marks env.old).faults (E.marks env.new).faults }
+    ensures value { IfOk result (λ v. Heard (values_told (E.told env.new)) (λ told. IsOfFound (view found) (meaning formula.now) (around (E.fixed env.old).types told scope.old) (view v))) }
+{
+    match found {
+        Value::Rec(fields) => in_scope(alloc, env, scope, Value::Rec(fields), formula, steps),
+        other => Ok(other),
+    }
+}
+
+// The values of the constants of a query expression, which read no row: a blank one stands in its scope.
+#[cycle(tree)]
+fn constant_values<E: Env, L: Ledger>(
+    alloc: Global,
+    env: &mut E,
+    scope: &mut Scope,
+    constants: &[Core],
+    steps: &mut Steps<L>,
+) -> Result<Vec<Value>, Stop>
+    requires { AreFine (E.fixed env.old).types (inner scope.old blank) constants.now }
+    ensures went { Went
+        (moment (E.fixed env.old) (E.told env.old) (E.marks env.old) (E.ticked env.old) (E.visited env.old) scope.old steps.old)
+        (moment (E.fixed env.new) (E.told env.new) (E.marks env.new) (E.ticked env.new) (E.visited env.new) scope.new steps.new) }
+    ensures keeper { IsErrOf result Stop.Keeper → Rose (E.marks env.old).faults (E.marks env.new).faults }
+    ensures value { IfOk result (λ vs. Heard (values_told (E.told env.new)) (λ told. AreValues (meanings (all constants.now)) (around (E.fixed env.old).types told (inner scope.old blank)) (map view vs.items))) }
+{
+    scope.rows.push(Value::Blank)?;
+    // Without `?`, so that the scope is left also where there are no values.
+    let values = part_values(alloc, env, scope, constants, steps);
+    let _ = scope.rows.pop();
+    values
 }
 
 // The value of a tree by its head.

@@ -1,5 +1,10 @@
 // Laws of calls over tables.
 ghost use Rattle.fx_eval.specs.Laws.{ErrorIsWorth, MadeIsWorth, TypedCanMake};
+ghost use Rattle.fx_eval.specs.Demands.{AnswersAreValues, ConstantsAreReady, FoundAreReady};
+
+use fx_semantics::values_fit;
+use query_semantics::{answers_are_values, sketches_can_plan};
+use row_queries::rows_fit;
 
 /// A law, and no work: what a function makes of the rows of a table, and of what its other parts give, is
 /// what the call is worth, and so is an error in the place of the table.
@@ -13,3 +18,17 @@ pub fn made_is_worth()
 pub fn typed_can_make()
     ensures { TypedCanMake }
 {}
+
+/// A law, and no work: the constants of a query expression of which a tree takes something are ready in the scope of a
+/// blank row where the tree is ready, and what a query with their values answers, of which none is an error, is the value of
+/// the tree, or the row in whose scope the tree's formula stands, and is ready.
+pub fn queries_are_values()
+    ensures ready { ConstantsAreReady }
+    ensures worth { AnswersAreValues }
+    ensures found { FoundAreReady }
+{
+    values_fit();
+    sketches_can_plan();
+    answers_are_values();
+    rows_fit();
+}

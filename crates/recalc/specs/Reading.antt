@@ -37,7 +37,7 @@ types_on n reads told (source.Table k) = None
 types_on n reads told x = type_by (is_among x reads) (sources n x) (told x)
 
 abbrev pub fixed_on : Names → List Source → (Source → Data) → Schema → ℕ → Fixed
-fixed_on n reads told schema limit = record { types = types_on n reads told; schema = schema; limit = limit }
+fixed_on n reads told schema limit = record { types = types_on n reads told; schema = schema; limit = limit; loan = None; in_transaction = false }
 
 -- values alone are told
 abbrev pub told_values : (Source → Data) → Told (Unit {0})

@@ -7,6 +7,7 @@ use Rattle.fx_eval.proofs.CallPlaces.{call_fine}
 use Rattle.fx_eval.proofs.Forms.{ThenSet}
 use Rattle.fx_eval.proofs.Nodes.{apply_is, called_is, coerce_is, fields_rise, fields_there, list_fine, list_is, only_is, over_is, record_is, row_is, there}
 use Rattle.fx_eval.proofs.Passing.{as_before, heard_before, held_before, meant_before, went_on}
+use Rattle.fx_eval.proofs.Queried.{answered_went, asked_worth, constants_smaller, constants_there, found_worth, heard_same, plain_worth, plan_there, search_smaller, search_there, stands_there, take_there}
 use Rattle.fx_eval.proofs.Ready.{formula_ready, ready_fits}
 use Rattle.fx_eval.proofs.Rows.{asked_there, each_step, given_step, inside_at, make_there, over_there, part_asked, table_can}
 use Rattle.fx_eval.proofs.Sizes.{field_is_smaller, fields_fall, one_falls, part_is_smaller, parts_fall, rest_falls, table_falls}
@@ -14,10 +15,12 @@ use Rattle.fx_eval.proofs.Standings.{all_ready, any_ready, coalesce_ready, field
 use Rattle.fx_eval.proofs.EvalSteps.{beyond_then, branch_then, end_step, fallback_then, next_falls, next_step, some_there, then_step, turn_step}
 use Rattle.fx_eval.proofs.Values.{field_fine, filled_step, part_fine, values_step}
 use Rattle.fx_eval.specs.Courses.{answers, catches, chooses, goes, going, passes}
+use Rattle.fx_eval.specs.Demands.{CanStand}
 use Rattle.fx_eval.specs.Parts.{AreBranches, AreConditions, AreFine, AreRecoveries, IsSwitched, caught_in, inner, terms_of}
 use Rattle.fx_eval.specs.Scopes.{CanEvaluate, around}
 use Rattle.fx_semantics.specs.Around.{record_of}
 use Rattle.fx_semantics.specs.Fresh.{IsValue, meaning}
+use Rattle.fx_semantics.specs.Rows.{IsOfFound}
 use Rattle.fx_trees.specs.Term.{of, all, call}
 use Rattle.fx_trees.specs.TermView.{branch}
 use Rattle.fx_typing.specs.WellTyped.{inside, plain}
@@ -27,9 +30,73 @@ use Rattle.fx_eval.proofs.evaluate.+tree.Goals as goal
 
 pub tree-returns-clause-fits : goal.tree-returns-clause-fits
 tree-returns-clause-fits g t c = λ u r.
-    IfOk-weaker c.node.result _ (λ v. fits_in (view v) u ≡ true)
+    IfOk-weaker c.value_here.result _ (λ v. fits_in (view v) u ≡ true)
     (λ v k. ready_fits c.values_fit.ensures (g.E.Env.fixed c.args.env.now).types None c.args.scope.now c.args.core.now u r (view v) (k None tt))
+    c.value_here.ensures.value
+
+-- ---- query expressions
+
+pub query-constant_values-requires : goal.query-constant_values-requires
+query-constant_values-requires g t c κs within = (
+  let h = constants_smaller _ _ _ _ _ _ _ c.requires.asked c.as_slice-formulas.ensures in omega (arith, h),
+  (within.0, (within.1, constants_there c.queries_are_values.ensures.ready _ _ _ _ _ _ _ c.requires.ready c.requires.asked c.as_slice-formulas.ensures)),
+)
+
+pub query-node-requires : goal.query-node-requires
+query-node-requires g t c κs within =
+    (omega arith, (within.0, (within.1, as_before (λ types s. CanEvaluate types s c.args.core.now) _ _ c.constant_values.ensures.went c.requires.ready)))
+
+pub query-answer-requires-clause-plan : goal.query-answer-requires-clause-plan
+query-answer-requires-clause-plan g t c =
+    plan_there c.queries_are_values.ensures.ready _ _ _ _ _ _ _ _ _ _ c.constant_values.ensures.went.fixed c.requires.ready c.requires.asked c.as_slice-formulas.ensures (heard_same _ _ _ _ _ _ c.as_slice-values.ensures.value c.in_ok-constants.ensures.value)
+
+pub query-answer-requires-clause-take : goal.query-answer-requires-clause-take
+query-answer-requires-clause-take g t c = take_there _ _ _ _ _ _ _ c.constant_values.ensures.went.fixed c.requires.asked
+
+pub query-answer-requires-clause-faultless : goal.query-answer-requires-clause-faultless
+query-answer-requires-clause-faultless g t c = sym c.has_error.ensures ∙ c.if-has_error.false
+
+pub query-found_formula-requires : goal.query-found_formula-requires
+query-found_formula-requires g t c = search_there _ _ _ _ _ _ c.requires.asked c.in-FoundIn.is
+
+pub query-of_found-requires : goal.query-of_found-requires
+query-of_found-requires g t c κs within = (
+  let h = search_smaller _ _ c.found_formula.ensures in omega (arith, h),
+  (
+    within.0,
+    (
+      within.1,
+      as_before (λ types s. CanStand types s c.found_formula.result.now (view c.in_ok-value.value)) _ _
+          (went_on _ _ _ c.constant_values.ensures.went (answered_went _ _ _ _ _ _ _ _ _ _ _ _ c.answer.ensures.fixed c.answer.ensures.told c.answer.ensures.marks c.answer.ensures.ticked c.answer.ensures.visited))
+          (stands_there c.queries_are_values.ensures.found _ _ _ _ _ _ _ _ _ _ _ _ _ c.constant_values.ensures.went.fixed c.requires.ready c.requires.asked c.as_slice-formulas.ensures
+          (heard_same _ _ _ _ _ _ c.as_slice-values.ensures.value c.in_ok-constants.ensures.value) (sym (sym c.has_error.ensures ∙ c.if-has_error.false)) c.in_ok-value.ensures.value c.in-FoundIn.is c.found_formula.ensures),
+    ),
+  ),
+)
+
+pub query-returns-then-has_error-clause-value : goal.query-returns-then-has_error-clause-value
+query-returns-then-has_error-clause-value g t c =
+    IfOk-weaker c.node.result _ _
+    (λ v k told h. meant_before told (meaning c.args.core.now) (λ s. s) _ _ c.constant_values.ensures.went (view v) (k told h))
     c.node.ensures.value
+
+pub query-returns-in-FoundIn-clause-value : goal.query-returns-in-FoundIn-clause-value
+query-returns-in-FoundIn-clause-value g t c =
+    IfOk-weaker c.of_found.result _ _
+    (λ w k told h. found_worth _ _ _ _ (view c.in_ok-value.value) (view w) c.in-FoundIn.is c.found_formula.ensures
+    (asked_worth c.queries_are_values.ensures.worth _ _ _ _ _ _ _ _ _ _ _ _ _ _ c.constant_values.ensures.went.fixed c.constant_values.ensures.went.told c.answer.ensures.told c.requires.asked c.as_slice-formulas.ensures
+    (heard_same _ _ _ _ _ _ c.as_slice-values.ensures.value c.in_ok-constants.ensures.value) (sym (sym c.has_error.ensures ∙ c.if-has_error.false)) c.in_ok-value.ensures.value told (heard_before _ _ c.of_found.ensures.went told h))
+    (held_before told (λ a. IsOfFound (view c.in_ok-value.value) (meaning c.found_formula.result.now) a (view w)) _ _ (went_on _ _ _ c.constant_values.ensures.went (answered_went _ _ _ _ _ _ _ _ _ _ _ _ c.answer.ensures.fixed c.answer.ensures.told c.answer.ensures.marks c.answer.ensures.ticked c.answer.ensures.visited)) (k told h)))
+    c.of_found.ensures.value
+
+pub query-returns : goal.query-returns
+query-returns g t c = record {
+  went = went_on _ _ _ c.constant_values.ensures.went (answered_went _ _ _ _ _ _ _ _ _ _ _ _ c.answer.ensures.fixed c.answer.ensures.told c.answer.ensures.marks c.answer.ensures.ticked c.answer.ensures.visited);
+  keeper = λ e. absurd cc;
+  value = λ told h. plain_worth _ _ _ _ c.in_default.not-FoundIn
+      (asked_worth c.queries_are_values.ensures.worth _ _ _ _ _ _ _ _ _ _ _ _ _ _ c.constant_values.ensures.went.fixed c.constant_values.ensures.went.told c.answer.ensures.told c.requires.asked c.as_slice-formulas.ensures
+      (heard_same _ _ _ _ _ _ c.as_slice-values.ensures.value c.in_ok-constants.ensures.value) (sym (sym c.has_error.ensures ∙ c.if-has_error.false)) c.in_ok-value.ensures.value told h);
+}
 
 -- ---- nodes
 

@@ -14,7 +14,19 @@ use Rattle.fx_trees.specs.Term.{all, over, term_size, terms_size}
 use Rattle.fx_eval.proofs.evaluate.+tree.Given as goal
 
 abbrev pub decreases-tree : goal.decreases-tree
-decreases-tree g l = 8 * term_size l.core.now + 1
+decreases-tree g l = 8 * term_size l.core.now + 3
+
+abbrev pub decreases-value_here : goal.decreases-value_here
+decreases-value_here g l = 8 * term_size l.core.now + 2
+
+abbrev pub decreases-query : goal.decreases-query
+decreases-query g l = 8 * term_size l.core.now + 1
+
+abbrev pub decreases-constant_values : goal.decreases-constant_values
+decreases-constant_values g l = 8 * terms_size (all l.constants.now) + 3
+
+abbrev pub decreases-of_found : goal.decreases-of_found
+decreases-of_found g l = 8 * term_size l.formula.now + 5
 
 abbrev pub decreases-node : goal.decreases-node
 decreases-node g l = 8 * term_size l.core.now
@@ -23,10 +35,10 @@ abbrev pub decreases-within : goal.decreases-within
 decreases-within g l = 8 * (term_size l.part.now + term_size l.formula.now) + 5
 
 abbrev pub decreases-in_scope : goal.decreases-in_scope
-decreases-in_scope g l = 8 * term_size l.formula.now + 2
+decreases-in_scope g l = 8 * term_size l.formula.now + 4
 
 abbrev pub decreases-catch_error : goal.decreases-catch_error
-decreases-catch_error g l = 8 * term_size l.formula.now + 2
+decreases-catch_error g l = 8 * term_size l.formula.now + 4
 
 abbrev pub decreases-field_values : goal.decreases-field_values
 decreases-field_values g l = 8 * terms_size (all (terms_of l.fields.now)) + 2
@@ -44,10 +56,10 @@ abbrev pub decreases-part_answers : goal.decreases-part_answers
 decreases-part_answers g l = 8 * terms_size (all l.parts.now) + 4
 
 abbrev pub decreases-answer : goal.decreases-answer
-decreases-answer g l = 8 * term_size l.part.now + 4
+decreases-answer g l = 8 * term_size l.part.now + 6
 
 abbrev pub decreases-each : goal.decreases-each
-decreases-each g l = 8 * term_size l.formula.now + 3
+decreases-each g l = 8 * term_size l.formula.now + 5
 
 abbrev pub decreases-go_through-loop-part : goal.decreases-go_through-loop-part
 decreases-go_through-loop-part g l = terms_size (all l.rest)
