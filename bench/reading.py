@@ -130,6 +130,16 @@ for short, file in FILES.items():
             CODE.setdefault((file.crate, name), short)
 
 
+def code_of(crate, name):
+    """Returns the file in which an item of a crate's code stands, which the crate may pass on from another."""
+    while (crate, name) not in CODE and f"{crate}/src/lib" in FILES:
+        passed, name = FILES[f"{crate}/src/lib"].code_uses.get(name, (None, name))
+        if passed in (None, crate):
+            return None
+        crate = passed
+    return CODE.get((crate, name))
+
+
 def is_plain(short):
     """Says whether a file tells what something is, and not only how data of a recursive type is numbered and gets smaller."""
     return not short.endswith(("Code", "Falls"))
@@ -178,7 +188,7 @@ def follow(file, short, text, seen):
             reach(short, first, seen)
         if first in file.code_uses:
             crate, name = file.code_uses[first]
-            short_of = CODE.get((file.crate if crate == "crate" else crate, name))
+            short_of = code_of(file.crate if crate == "crate" else crate, name)
             if short_of:
                 reach(short_of, name, seen)
         elif first in file.items and file.path.endswith(".rt"):

@@ -13,7 +13,7 @@ use app_cells::App;
 use app_semantics::fitting_holds;
 use fx_base::Memory;
 use fx_data::Words;
-use fx_eval::Steps;
+use recalc::Steps;
 use request_checks::{Named, Reply, place_of};
 use session_state::Session;
 use std::alloc::Global;

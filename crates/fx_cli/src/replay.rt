@@ -11,8 +11,7 @@ use crate::words::Service;
 use app_wire::clock::Clock;
 use app_wire::doors::Doors;
 use fx_base::Failed;
-use fx_eval::Steps;
-use office::{ConvEnd, Office};
+use office::{ConvEnd, Office, Steps};
 use row_keeper::Keeper;
 use std::sync::ledger::Ledger;
 

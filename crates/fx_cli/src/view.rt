@@ -7,8 +7,7 @@ ghost use Rattle.fx_cli.specs.Plain.{IsShown, line_of};
 
 use app_cells::App;
 use fx_base::Memory;
-use fx_eval::Steps;
-use office::named_list;
+use office::{Steps, named_list};
 use session_state::Session;
 use std::alloc::Global;
 use std::sync::ledger::Ledger;

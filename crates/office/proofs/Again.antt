@@ -40,7 +40,7 @@ use Rattle.row_requests.proofs.Again.{checks_again}
 use Rattle.request_checks.proofs.Again.{Asks, passed}
 use Rattle.request_checks.proofs.Directories.{find_put}
 use Rattle.office.proofs.Isolation.{does_of, plays_leave_desk, plays_leave_session, route_is}
-use Rattle.office.proofs.Steps.{left_all}
+use Rattle.office.proofs.StepLemmas.{left_all}
 
 -- it is the last of its desk, and what was said is kept
 pub record IsKept (desks : List (Named Kept)) (name body said : List ℕ) : Type 0 where

@@ -7,5 +7,5 @@ pub mod Plays
 pub mod Replies
 pub mod Settling
 pub mod Silence
-pub mod Steps
+pub mod StepLemmas
 pub mod Taken

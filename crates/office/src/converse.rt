@@ -14,7 +14,7 @@ use app_wire::framer::Framer;
 use app_wire::next::{Found, next_request};
 use app_wire::reply::fixed_reply;
 use fx_base::Failed;
-use fx_eval::Steps;
+use recalc::Steps;
 use row_keeper::Keeper;
 use std::sync::ledger::Ledger;
 

@@ -12,5 +12,6 @@ pub use converse::{ConvEnd, MOST_REQUESTS};
 pub use edit_requests::{load, load_named, loaded_app, one_app, one_verdict};
 pub use machine::Office;
 pub use named::named_list;
+pub use recalc::Steps;
 pub use request_checks::Reply;
 pub use sessions::MOST_SESSIONS;

@@ -8,8 +8,7 @@ ghost use Rattle.office.specs.NamedReply.{IsNamedBody, IsNamedList, named_values
 
 use app_cells::App;
 use fx_base::Memory;
-use fx_eval::Steps;
-use recalc::{Valued, evaluate};
+use recalc::{Steps, Valued, evaluate};
 use session_state::Session;
 use std::alloc::Global;
 use std::sync::ledger::Ledger;

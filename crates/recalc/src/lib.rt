@@ -8,6 +8,7 @@ mod reading;
 pub mod sources;
 pub mod valued;
 
+pub use fx_eval::Steps;
 pub use ids::{id_name, item_id};
 pub use sources::cell_of_property;
 pub use valued::{Valued, evaluate};

@@ -3,8 +3,7 @@ ghost use Rattle.std.specs.Prelude.{◌≡◌, ◌<◌, false};
 
 use crate::visits::Visits;
 use app_wire::clock::ListClock;
-use fx_cli::{MemorySink, RealFiles, run};
-use fx_eval::Steps;
+use fx_cli::{MemorySink, RealFiles, Steps, run};
 use sql_keeper::SqlKeeper;
 use std::alloc::{AllocError, Global};
 use std::io;

@@ -2,7 +2,7 @@ use Rattle.std.proofs.Common.{refl}
 use Rattle.std.proofs.lemmas.Result.{IfOk-weaker}
 use Rattle.app_wire.specs.Framing.{asked}
 use Rattle.request_checks.specs.Replies.{said}
-use Rattle.office.proofs.Steps.{left_all, routed, unrouted, wrong_method}
+use Rattle.office.proofs.StepLemmas.{left_all, routed, unrouted, wrong_method}
 use Rattle.office.proofs.machine.Office.carry_out.Goals as goal
 
 pub returns-in-Ok-clause-step : goal.returns-in-Ok-clause-step

@@ -1,6 +1,6 @@
 use Rattle.std.proofs.Common.{ap, sym}
 use Rattle.office.specs.State.{Seen}
-use Rattle.office.proofs.Steps.{reaches_page}
+use Rattle.office.proofs.StepLemmas.{reaches_page}
 use Rattle.office.proofs.machine.Office.take.Goals as goal
 
 pub returns-in-Page-clause-reached : goal.returns-in-Page-clause-reached
