@@ -18,7 +18,7 @@ use Rattle.app_cells.specs.Spots.{IsControl, IsFrame, IsPlaced, IsSpot, screen_o
 use Rattle.app_names.specs.declared.declarations.Declared.{Declared}
 use Rattle.app_names.specs.declared.declarations.Thing.{Thing}
 use Rattle.app_names.specs.declared.declarations.Thing.TheVariants as thing
-use Rattle.app_names.specs.Declarations.{begin_of, called_as, declaration, declared_among, declared_at, declared_by, declared_by_record, declared_in, declared_of, declared_on, first_name, given_names, is_among, is_declared, is_thing, new_behind, things_behind, things_of, variables_in}
+use Rattle.app_names.specs.Declarations.{called_as, declaration, declared_among, declared_at, declared_by, declared_by_record, declared_in, declared_of, declared_on, first_name, given_names, is_among, is_declared, is_thing, new_behind, things_behind, things_of, variables_in}
 
 -- what holds of all things of a list holds of the one at a place
 pub at_place : {A : Type 0} (P : A → Type 0) (xs : List A) (k : ℕ) → All P xs → IfSome (slice_get xs k) P
@@ -53,10 +53,10 @@ IsThing f thing.Collection = Unit {0}
 abbrev pub Fits : Frame → Declared → Type 0
 Fits f d = IsThing f d.thing
 
-variables_fit : (f : Frame) (s : ℕ) (xs : List (List ℕ)) (ts : Forest) → s < length f.screens → All (Fits f) (variables_in s xs ts)
-variables_fit f s [] ts h = All-nil (Fits f)
-variables_fit f s (x ∷ xs) none h = All-nil (Fits f)
-variables_fit f s (x ∷ xs) (more t ts) h = All-cons (Fits f) (record { thing = thing.Variable (Some s); name = x; at = begin_of t }) (variables_in s xs ts) h (variables_fit f s xs ts h)
+variables_fit : (f : Frame) (s : ℕ) (xs : List (List ℕ)) (ps : List ℕ) → s < length f.screens → All (Fits f) (variables_in s xs ps)
+variables_fit f s [] ps h = All-nil (Fits f)
+variables_fit f s (x ∷ xs) [] h = All-nil (Fits f)
+variables_fit f s (x ∷ xs) (at ∷ ps) h = All-cons (Fits f) (record { thing = thing.Variable (Some s); name = x; at = at }) (variables_in s xs ps) h (variables_fit f s xs ps h)
 
 record_fits : (f : Frame) (s : ℕ) (ts : Forest) → s < length f.screens → All (Fits f) (declared_by_record s ts)
 record_fits f s none h = All-nil (Fits f)
@@ -76,7 +76,7 @@ record_fits f s (more (node at tree.all ts) ks) h = All-nil (Fits f)
 record_fits f s (more (node at tree.any ts) ks) h = All-nil (Fits f)
 record_fits f s (more (node at tree.chain ts) ks) h = All-nil (Fits f)
 record_fits f s (more (node at (tree.alias x) ts) ks) h = All-nil (Fits f)
-record_fits f s (more (node at (tree.rec xs) ts) ks) h = variables_fit f s xs ts h
+record_fits f s (more (node at (tree.rec xs ps) ts) ks) h = variables_fit f s xs ps h
 record_fits f s (more (node at tree.list ts) ks) h = All-nil (Fits f)
 record_fits f s (more (node at tree.woven ts) ks) h = All-nil (Fits f)
 
@@ -150,7 +150,7 @@ at_fits f fs r tree.all ts k = All-nil (Fits f)
 at_fits f fs r tree.any ts k = All-nil (Fits f)
 at_fits f fs r tree.chain ts k = All-nil (Fits f)
 at_fits f fs r (tree.alias x) ts k = All-nil (Fits f)
-at_fits f fs r (tree.rec xs) ts k = All-nil (Fits f)
+at_fits f fs r (tree.rec xs ps) ts k = All-nil (Fits f)
 at_fits f fs r tree.list ts k = All-nil (Fits f)
 at_fits f fs r tree.woven ts k = All-nil (Fits f)
 

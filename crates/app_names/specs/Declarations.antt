@@ -40,17 +40,14 @@ abbrev pub declaration : Option Thing → Option (List ℕ × ℕ) → List Decl
 declaration (Some k) (Some named) = record { thing = k; name = named.0; at = named.1 } ∷ []
 declaration k named = []
 
--- Fields of a record are variables of a screen. A field's name has no byte of its own in a tree: it is told at its value.
-abbrev pub begin_of : Tree → ℕ
-begin_of (node at h ts) = at
-
-abbrev pub variables_in : ℕ → List (List ℕ) → Forest → List Declared
-variables_in s (x ∷ xs) (more t ts) = record { thing = thing.Variable (Some s); name = x; at = begin_of t } ∷ variables_in s xs ts
-variables_in s xs ts = []
+-- fields of a record are variables of a screen, each at its name
+abbrev pub variables_in : ℕ → List (List ℕ) → List ℕ → List Declared
+variables_in s (x ∷ xs) (at ∷ ps) = record { thing = thing.Variable (Some s); name = x; at = at } ∷ variables_in s xs ps
+variables_in s xs ps = []
 
 -- what the first part of `UpdateContext` declares on a screen
 abbrev pub declared_by_record : ℕ → Forest → List Declared
-declared_by_record s (more (node at (tree.rec xs) ts) ks) = variables_in s xs ts
+declared_by_record s (more (node at (tree.rec xs ps) ts) ks) = variables_in s xs ps
 declared_by_record s ts = []
 
 -- `UpdateContext` declares variables of the formula's screen

@@ -1,13 +1,13 @@
 //! The variables and collections that formulas declare.
 ghost use Rattle.std.specs.Prelude.{◌≡◌, ◌++◌, OnOk, option_map};
-ghost use Rattle.fx_trees.specs.Tree.{forest, names_of, parts_of};
+ghost use Rattle.fx_trees.specs.Tree.{forest, names_of, parts_of, places_of};
 ghost use Rattle.app_names.specs.Declarations as table;
 ghost use Rattle.app_names.specs.Declarations.{declared_among, declared_in};
 ghost use Rattle.app_names.specs.Tops.{below, declared_here};
 
 use fx_base::Memory;
 use fx_data::words::Words;
-use fx_trees::expr::{Expr, Node};
+use fx_trees::expr::{Expr, FieldName, Node};
 use fx_trees::functions::Acting;
 use fx_trees::signatures::{SigShape, Signature, signature_in};
 use std::alloc::Global;
@@ -66,16 +66,16 @@ fn first_name(parts: &[Expr]) -> Option<(&Words, u32)>
 fn declare_variables(
     alloc: Global,
     screen: u32,
-    fields: &[(Words, Expr)],
+    fields: &[(FieldName, Expr)],
     found: &mut Vec<Declared>,
 ) -> Result<(), Memory>
-    ensures { OnOk result (found.new.items ≡ found.old.items ++ table.variables_in screen (names_of fields.now) (parts_of fields.now)) }
+    ensures { OnOk result (found.new.items ≡ found.old.items ++ table.variables_in screen (names_of fields.now) (places_of fields.now)) }
 {
-    for (name, value) in fields {
+    for (name, _) in fields {
         found.push(Declared {
             thing: Thing::Variable(Some(screen)),
-            name: name.copy(alloc)?,
-            at: value.at,
+            name: name.text.copy(alloc)?,
+            at: name.at,
         })?;
     }
     Ok(())
@@ -224,7 +224,7 @@ fn declare_fields(
     alloc: Global,
     functions: &[Signature],
     screen: Option<u32>,
-    fields: &[(Words, Expr)],
+    fields: &[(FieldName, Expr)],
     found: &mut Vec<Declared>,
 ) -> Result<(), Memory>
     ensures { OnOk result (found.new.items ≡ found.old.items ++ declared_among functions.now screen (parts_of fields.now)) }

@@ -90,7 +90,7 @@ module _ (p : Place) (screen : Option ℕ) where
   here_silent s tree.any ts qs q g e = refl
   here_silent s tree.chain ts qs q g e = refl
   here_silent s (tree.alias z) ts qs q g e = refl
-  here_silent s (tree.rec z) ts qs q g e = refl
+  here_silent s (tree.rec z ps) ts qs q g e = refl
   here_silent s tree.list ts qs q g e = refl
   here_silent s tree.woven ts qs q g e = refl
 

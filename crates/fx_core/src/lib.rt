@@ -3,7 +3,7 @@
 //! This crate has nothing of its own: it passes on what its parts hold.
 #![tactic(auto)]
 
-pub use fx_trees::expr::{Args, Expr, Node, Op, Parts};
+pub use fx_trees::expr::{Args, Expr, FieldName, Node, Op, Parts};
 pub use fx_trees::{
     Acting, Column, ColumnList, Core, CoreArgs, CoreFields, CoreNode, Deed, Fun, Names, Schema,
     SigShape, Signature, Source, Sources, TableList, TableShape, Target,

@@ -9,7 +9,7 @@ use Rattle.std.specs.declared.cmp.Ordering.{Ordering}
 use Rattle.std.specs.declared.cmp.Ordering.TheVariants.{Less, Equal, Greater}
 use Rattle.fx_data.specs.Types.{Shape, ColumnList, no_columns, column}
 use Rattle.fx_trees.specs.SourceTypes.{put_column}
-use Rattle.fx_trees.specs.Tree.{Tree, names_of}
+use Rattle.fx_trees.specs.Tree.{Tree, NamedTree, names_of}
 use Rattle.fx_trees.specs.Term.{Term}
 use Rattle.fx_typing.specs.WellTyped.{columns_by}
 use Rattle.fx_typing.specs.Builds.{field_names, field_parts, put_field, put_fields, types_of}
@@ -43,7 +43,7 @@ no_fields_more [] (y ∷ ys) h = refl
 no_fields_more (n ∷ ns) [] h = refl
 no_fields_more (n ∷ ns) (y ∷ ys) h = elim h [ inl e ↦ absurd cc | inr e ↦ absurd cc ]
 
-pub put_end : {A : Type 0} (g : A → Term × Shape) (fs : List (List ℕ × Tree)) (vs : List A) (i : ℕ) → i ≡ min (length fs) (length vs) → i ≤ length fs →
+pub put_end : {A : Type 0} (g : A → Term × Shape) (fs : List NamedTree) (vs : List A) (i : ℕ) → i ≡ min (length fs) (length vs) → i ≤ length fs →
     columns_in (put_fields (names_of (drop i fs)) (map g (drop i vs))) ≡ no_columns
 put_end g fs vs i m h =
     ap columns_in (no_fields_more (names_of (drop i fs)) (map g (drop i vs))
@@ -53,11 +53,11 @@ put_end g fs vs i m h =
     ]))
 
 -- one field more
-pub put_more : {A : Type 0} (g : A → Term × Shape) (fs : List (List ℕ × Tree)) (vs : List A) (i k : ℕ) (f : List ℕ × Tree) (v : A) → i + 1 ≡ k →
+pub put_more : {A : Type 0} (g : A → Term × Shape) (fs : List NamedTree) (vs : List A) (i k : ℕ) (f : NamedTree) (v : A) → i + 1 ≡ k →
     i < length fs → f ≡ get_or fs i f → i < length vs → v ≡ get_or vs i v →
-    columns_in (put_fields (names_of (drop i fs)) (map g (drop i vs))) ≡ put_column f.0 (g v).1 (columns_in (put_fields (names_of (drop k fs)) (map g (drop k vs))))
+    columns_in (put_fields (names_of (drop i fs)) (map g (drop i vs))) ≡ put_column f.0.text (g v).1 (columns_in (put_fields (names_of (drop k fs)) (map g (drop k vs))))
 put_more g fs vs i k f v n h e l d =
     ap (λ gs. columns_in (put_fields (names_of gs) (map g (drop i vs)))) (drop_at fs i f h e)
-    ∙ ap (λ zs. columns_in (put_fields (f.0 ∷ names_of (drop (i + 1) fs)) (map g zs))) (drop_at vs i v l d)
-    ∙ put_columns_in f.0 (g v) (put_fields (names_of (drop (i + 1) fs)) (map g (drop (i + 1) vs)))
-    ∙ ap (λ j. put_column f.0 (g v).1 (columns_in (put_fields (names_of (drop j fs)) (map g (drop j vs))))) n
+    ∙ ap (λ zs. columns_in (put_fields (f.0.text ∷ names_of (drop (i + 1) fs)) (map g zs))) (drop_at vs i v l d)
+    ∙ put_columns_in f.0.text (g v) (put_fields (names_of (drop (i + 1) fs)) (map g (drop (i + 1) vs)))
+    ∙ ap (λ j. put_column f.0.text (g v).1 (columns_in (put_fields (names_of (drop j fs)) (map g (drop j vs))))) n

@@ -15,7 +15,7 @@ use fx_data::types::{Columns, Ty};
 use fx_data::words::Words;
 use fx_operators::join_all;
 use fx_scopes::Scopes;
-use fx_trees::expr::Expr;
+use fx_trees::expr::{Expr, FieldName};
 use fx_typing::Typed;
 use fx_typing::columns::{put_column, row_columns};
 use std::alloc::Global;
@@ -86,7 +86,7 @@ pub fn type_limit(alloc: Global, ty: &Ty) -> Result<Words, Memory>
 }
 
 // The type of a record of these fields.
-fn record_type(alloc: Global, fields: &[(Words, Expr)], values: &[&Typed]) -> Result<Ty, Memory>
+fn record_type(alloc: Global, fields: &[(FieldName, Expr)], values: &[&Typed]) -> Result<Ty, Memory>
     ensures { IfOk result (λ t. shape t ≡ (builds.record_by (builds.put_fields
         (tree.names_of fields.now) (map (λ v. typed v.now) values.now))).1) }
 {
@@ -94,7 +94,7 @@ fn record_type(alloc: Global, fields: &[(Words, Expr)], values: &[&Typed]) -> Re
     let mut place = fields.len().min(values.len());
     while place > 0 {
         place -= 1;
-        let name = fields[place].0.copy(alloc)?;
+        let name = fields[place].0.text.copy(alloc)?;
         columns = put_column(name, values[place].ty.copy(alloc)?, columns)?;
     }
     Ok(Ty::Rec(columns))
@@ -103,7 +103,7 @@ fn record_type(alloc: Global, fields: &[(Words, Expr)], values: &[&Typed]) -> Re
 /// The limit that a record of these fields passes.
 pub fn record_limit(
     alloc: Global,
-    fields: &[(Words, Expr)],
+    fields: &[(FieldName, Expr)],
     values: &[&Typed],
 ) -> Result<Words, Memory>
     ensures { IfOk result (λ w. w ≡ told.type_limit (builds.record_by (builds.put_fields

@@ -21,7 +21,7 @@ use fx_data::types::Columns;
 use fx_data::words::Words;
 use fx_scopes::Part;
 use fx_scopes::tables::item_columns;
-use fx_trees::expr::{Expr, Node};
+use fx_trees::expr::{Expr, FieldName, Node};
 use fx_trees::names::Names;
 use fx_trees::rows::{Answer, row_of};
 use fx_trees::signatures::SigShape;
@@ -30,11 +30,11 @@ use fx_typing::{Piece, Typed, Wrong};
 use std::alloc::Global;
 
 // Whether one of the fields has this name.
-fn has_field(name: &Words, fields: &[(Words, Expr)]) -> bool
+fn has_field(name: &Words, fields: &[(FieldName, Expr)]) -> bool
     ensures { result ≡ typing.is_one_of name.now (tree.names_of fields.now) }
 {
     for (other, _) in fields {
-        if other.is(name) {
+        if other.text.is(name) {
             return true;
         }
     }
@@ -42,12 +42,12 @@ fn has_field(name: &Words, fields: &[(Words, Expr)]) -> bool
 }
 
 // The first name that stood before.
-fn twice_in(alloc: Global, fields: &[(Words, Expr)]) -> Result<Words, Memory>
+fn twice_in(alloc: Global, fields: &[(FieldName, Expr)]) -> Result<Words, Memory>
     ensures { IfOk result (λ w. w ≡ told.twice_after [] (tree.names_of fields.now)) }
 {
     for (place, (name, _)) in fields.iter().enumerate() {
-        if has_field(name, &fields[..place]) {
-            return name.copy(alloc);
+        if has_field(&name.text, &fields[..place]) {
+            return name.text.copy(alloc);
         }
     }
     nothing(alloc)

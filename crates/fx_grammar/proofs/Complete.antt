@@ -4,7 +4,7 @@ use Rattle.fx_lexer.specs.declared.token.Symbol.TheVariants as symbol
 use Rattle.fx_lexer.specs.declared.token.Word.TheVariants as word
 use Rattle.fx_trees.specs.declared.expr.Op.{Op}
 use Rattle.fx_trees.specs.declared.expr.Op.TheVariants as op
-use Rattle.fx_trees.specs.Tree.{Tree, node, Head, none, more, forest, names_of, parts_of}
+use Rattle.fx_trees.specs.Tree.{Tree, NamedTree, node, Head, none, more, forest, names_of, parts_of}
 use Rattle.fx_trees.specs.Tree as tree
 use Rattle.fx_grammar.specs.declared.item.Item.{Item}
 use Rattle.fx_grammar.specs.declared.item.Meaning.{Meaning}
@@ -18,8 +18,8 @@ use Rattle.fx_grammar.specs.declared.line.Line.{Line}
 use Rattle.fx_grammar.specs.declared.line.Line.TheVariants.{Chain, Several, By, Prefix, Power, Percent, Access, Atom}
 use Rattle.fx_grammar.specs.declared.line.Mark.{Mark}
 use Rattle.fx_grammar.specs.declared.line.Mark.TheVariants as mark
-use Rattle.fx_grammar.specs.Grammar.{place, separates, part_of, head_of, operator, under, leaf_of, callee, Parses, plain, ended, one, many, first, next, no_alias, aliased, no_sign, signed, base, raised, no_percent, percent, no_dot, dotted, leaf, a_global, a_call, brackets, a_record, a_list, a_weave, Parts, alone, further, Args, no_args, some_args, Field, field, SomeFields, one_field, further_field, Fields, no_fields, some_fields, Strands, no_strands, piece, island}
-use Rattle.fx_grammar.specs.Reading.{◌>>=◌, Seen, Reader, Turn, loop_from, within, going, is_mark, after, name_of, name_at, name_after, closes, between, left_turn, tail_turn, field_at, percent_at, alias_at, aliased_by, parts_turn, parts_with, gathered, without_last, signed_by, raised_by, shut, shut_node, args_by, args_with, label_at, field_with, fields_turn, fields_by, fields_with, strand_by, strand_at, strands_turn, leaf_by, record_by, atom_by, line_at}
+use Rattle.fx_grammar.specs.Grammar.{place, field_name, separates, part_of, head_of, operator, under, leaf_of, callee, Parses, plain, ended, one, many, first, next, no_alias, aliased, no_sign, signed, base, raised, no_percent, percent, no_dot, dotted, leaf, a_global, a_call, brackets, a_record, a_list, a_weave, Parts, alone, further, Args, no_args, some_args, Field, field, SomeFields, one_field, further_field, Fields, no_fields, some_fields, Strands, no_strands, piece, island}
+use Rattle.fx_grammar.specs.Reading.{◌>>=◌, label, Seen, Reader, Turn, loop_from, within, going, is_mark, after, name_of, name_at, name_after, closes, between, left_turn, tail_turn, field_at, percent_at, alias_at, aliased_by, parts_turn, parts_with, gathered, without_last, signed_by, raised_by, shut, shut_node, args_by, args_with, label_at, field_with, fields_turn, fields_by, fields_with, strand_by, strand_at, strands_turn, leaf_by, record_by, atom_by, line_at}
 use Rattle.fx_grammar.proofs.Tokens.{meaning_of, after_it, rank, left_level, Below, Stops, lower, stops_under, stops_part, stops_operator, no_operator, none_after, stops_separator, no_between, between_it, closes_below, closes_no_semicolon, closes_no_step, step_ends, IsClosing, not_closed, closes_it}
 use Rattle.fx_grammar.proofs.Shapes.{shorter, shorter_field, positive, positive_parts, opens, opens_parts, opens_fields, unsigned}
 use Rattle.fx_grammar.proofs.Turns.{Comes, comes_first, comes_from, comes_over, comes_on, within_ok, left_over, left_on, tail_over, tail_on, parts_over, parts_on, fields_over, fields_on, strands_over, strands_on, atom_is, access_is, percent_is, power_is, prefix_is, alias_is, by_is, several_is, chain_is, parts_are, field_is, args_are, fields_are, strands_are, strand_is, atom_has}
@@ -145,10 +145,12 @@ island_it : (inner : Reader) (x : Item) (us : List Item) (t : Tree) (d : ℕ) (y
 island_it inner x us t d y rest e f g =
     strand_is inner x us ∙ ap (strand_by inner x us) e ∙ ap going (then _ _ (shut mark.CloseBrace) f ∙ shut_it mark.CloseBrace t d y rest g)
 
-label_it : (x y : Item) (cs : List ℕ) (us : List Item) → x.meaning ≡ m.Name cs → y.meaning ≡ m.Symbol symbol.Colon → label_at (x ∷ y ∷ us) ≡ Some (cs, us)
-label_it x y cs us e f = then _ _ (λ x. after mark.Colon x.1 >>= λ us. Some (x.0, us)) (name_it x cs (y ∷ us) e) ∙ then _ _ (λ us. Some (cs, us)) (after_it mark.Colon y us f)
+label_it : (x y : Item) (cs : List ℕ) (us : List Item) → x.meaning ≡ m.Name cs → y.meaning ≡ m.Symbol symbol.Colon → label_at (x ∷ y ∷ us) ≡ Some (field_name x cs, us)
+label_it x y cs us e f =
+    then _ _ (λ v. after mark.Colon v.1 >>= λ w. Some (label v.0 (x ∷ y ∷ us), w)) (name_it x cs (y ∷ us) e)
+    ∙ then _ _ (λ us. Some (field_name x cs, us)) (after_it mark.Colon y us f)
 
-abbrev FieldsCome : Reader → List Item → Seen (List (List ℕ × Tree)) → Type 0
+abbrev FieldsCome : Reader → List Item → Seen (List NamedTree) → Type 0
 FieldsCome read ts w = Comes (fields_turn read) (field_with read ts >>= λ u. loop_from (fields_turn read) (u.0 ∷ [], u.1, u.2)) w
 
 abbrev StrandsCome : Reader → List Item → Seen (List Tree) → Type 0
@@ -157,10 +159,10 @@ StrandsCome inner ts w = Comes (strands_turn inner) (loop_from (strands_turn inn
 comma_not_brace : (y : Item) (rest : List Item) → y.meaning ≡ m.Symbol symbol.CloseBrace → after mark.Comma (y ∷ rest) ≡ None
 comma_not_brace y rest e = let f : is_mark mark.Comma y.meaning ≡ false = ap (is_mark mark.Comma) e in rw f refl
 
-fields_gives : (read : Reader) (ts : List Item) (fs : List (List ℕ × Tree)) (d : ℕ) (y : Item) (rest : List Item) → after mark.CloseBrace ts ≡ None → FieldsCome read ts (fs, d, y ∷ rest) → y.meaning ≡ m.Symbol symbol.CloseBrace → fields_with read ts ≡ Some (fs, d, rest)
+fields_gives : (read : Reader) (ts : List Item) (fs : List NamedTree) (d : ℕ) (y : Item) (rest : List Item) → after mark.CloseBrace ts ≡ None → FieldsCome read ts (fs, d, y ∷ rest) → y.meaning ≡ m.Symbol symbol.CloseBrace → fields_with read ts ≡ Some (fs, d, rest)
 fields_gives read ts fs d y rest shut_not c e = fields_are read ts ∙ ap (fields_by read ts) shut_not ∙ by (field_with read ts) (comes_over _ _ (fs, d, y ∷ rest) c (fields_over read (fs, d, y ∷ rest) (comma_not_brace y rest e)))
   where
-    by : (o : Option (Seen (List ℕ × Tree))) → (o >>= λ u. loop_from (fields_turn read) (u.0 ∷ [], u.1, u.2)) ≡ Some (fs, d, y ∷ rest) → (o >>= λ u. loop_from (fields_turn read) (u.0 ∷ [], u.1, u.2) >>= shut mark.CloseBrace) ≡ Some (fs, d, rest)
+    by : (o : Option (Seen NamedTree)) → (o >>= λ u. loop_from (fields_turn read) (u.0 ∷ [], u.1, u.2)) ≡ Some (fs, d, y ∷ rest) → (o >>= λ u. loop_from (fields_turn read) (u.0 ∷ [], u.1, u.2) >>= shut mark.CloseBrace) ≡ Some (fs, d, rest)
     by None g = cc
     by (Some u) g = then _ _ (shut mark.CloseBrace) g ∙ shut_it mark.CloseBrace fs d y rest e
 
@@ -246,24 +248,24 @@ mutual
       ∙ then _ (ps, d, z ∷ rest) (shut k) (parts_end m Comma ts ps d (z ∷ rest) (subst (λ r. PartsCome m Comma ts (ps, d, r)) q (complete_parts p m h (ap closes q ∙ closes_it k z rest c e))) (comma_over z rest k e n))
       ∙ shut_it k ps d z rest e
 
-  complete_field : {d : ℕ} {ts : List Item} {f : List ℕ × Tree} {rest : List Item} → Field d ts f rest → (m : ℕ) → d ≤ suc m → Below 11 rest → field_with (line_at (suc m) (Several join.Or)) ts ≡ Some (f, d, rest)
+  complete_field : {d : ℕ} {ts : List Item} {f : NamedTree} {rest : List Item} → Field d ts f rest → (m : ℕ) → d ≤ suc m → Below 11 rest → field_with (line_at (suc m) (Several join.Or)) ts ≡ Some (f, d, rest)
   complete_field (field d x y cs us t rest e f p) m h s =
-      field_is _ (x ∷ y ∷ us) ∙ then _ (cs, us) (λ x. line_at (suc m) (Several join.Or) x.1 >>= λ u. Some ((x.0, u.0), u.1, u.2)) (label_it x y cs us e f) ∙ then _ (t, d, rest) (λ u. Some ((cs, u.0), u.1, u.2)) (complete p m h s)
+      field_is _ (x ∷ y ∷ us) ∙ then _ (field_name x cs, us) (λ x. line_at (suc m) (Several join.Or) x.1 >>= λ u. Some ((x.0, u.0), u.1, u.2)) (label_it x y cs us e f) ∙ then _ (t, d, rest) (λ u. Some ((field_name x cs, u.0), u.1, u.2)) (complete p m h s)
 
-  complete_some : {d : ℕ} {ts : List Item} {fs : List (List ℕ × Tree)} {rest : List Item} → SomeFields d ts fs rest → (m : ℕ) → d ≤ suc m → Below 11 rest → FieldsCome (line_at (suc m) (Several join.Or)) ts (fs, d, rest)
+  complete_some : {d : ℕ} {ts : List Item} {fs : List NamedTree} {rest : List Item} → SomeFields d ts fs rest → (m : ℕ) → d ≤ suc m → Below 11 rest → FieldsCome (line_at (suc m) (Several join.Or)) ts (fs, d, rest)
   complete_some (one_field d ts f rest p) m h s =
       comes_from _ _ _ (then _ (f, d, rest) (λ u. loop_from (fields_turn (line_at (suc m) (Several join.Or))) (u.0 ∷ [], u.1, u.2)) (complete_field p m h s))
   complete_some (further_field d e ts fs x us f rest h g p) m b s =
       comes_on _ _ (fs, d, x ∷ us) _ (complete_some h m (omega arith) (below_by 11 x us _ g (omega arith))) (fields_on _ (fs, d, x ∷ us) (f, e, rest) us (after_it mark.Comma x us g) (complete_field p m (omega arith) s)) (let k = shorter_field p in omega arith)
 
-  complete_fields : {d : ℕ} {ts : List Item} {fs : List (List ℕ × Tree)} {end : List Item} → Fields d ts fs end → (y : Item) (rest : List Item) → end ≡ y ∷ rest → y.meaning ≡ m.Symbol symbol.CloseBrace → (m : ℕ) → d ≤ m
+  complete_fields : {d : ℕ} {ts : List Item} {fs : List NamedTree} {end : List Item} → Fields d ts fs end → (y : Item) (rest : List Item) → end ≡ y ∷ rest → y.meaning ≡ m.Symbol symbol.CloseBrace → (m : ℕ) → d ≤ m
       → fields_with (line_at m (Several join.Or)) ts ≡ Some (fs, d, rest)
   complete_fields (no_fields ts) y rest q e m h = fields_are _ ts ∙ ap (fields_by (line_at m (Several join.Or)) ts) (ap (after mark.CloseBrace) q ∙ after_it mark.CloseBrace y rest e)
   complete_fields (some_fields d ts fs end p) y rest q e zero h = let i = positive_some p in absurd (omega arith)
   complete_fields (some_fields d ts fs end p) y rest q e (suc m) h =
       fields_gives _ ts fs d y rest (not_closed mark.CloseBrace ts refl (opens_fields p)) (subst (λ r. FieldsCome (line_at (suc m) (Several join.Or)) ts (fs, d, r)) q (complete_some p m h (subst (Below 11) (sym q) (below_by 11 y rest _ e (omega arith))))) e
 
-  positive_some : {d : ℕ} {ts : List Item} {fs : List (List ℕ × Tree)} {rest : List Item} → SomeFields d ts fs rest → 0 < d
+  positive_some : {d : ℕ} {ts : List Item} {fs : List NamedTree} {rest : List Item} → SomeFields d ts fs rest → 0 < d
   positive_some (one_field d ts f rest (field d' x y cs us t rest' e g p)) = positive p
   positive_some (further_field d e ts fs x us f rest h g p) = let i = positive_some h in omega arith
 

@@ -2,7 +2,7 @@
 use Rattle.std.proofs.Common.{◌≡◌, ℕ, ◌<◌, ◌≤◌, Bool, true, false, List, [], ◌∷◌, length, refl, ap, ◌∙◌, Some, None, arith}
 use Rattle.fx_lexer.specs.declared.token.Symbol.TheVariants as symbol
 use Rattle.fx_lexer.specs.declared.token.Word.TheVariants as word
-use Rattle.fx_trees.specs.Tree.{Tree, Head}
+use Rattle.fx_trees.specs.Tree.{Tree, NamedTree, Head}
 use Rattle.fx_grammar.specs.declared.item.Item.{Item}
 use Rattle.fx_grammar.specs.declared.item.Meaning.{Meaning}
 use Rattle.fx_grammar.specs.declared.item.Meaning.TheVariants as m
@@ -47,14 +47,14 @@ mutual
   shorter_args (no_args ts) = omega arith
   shorter_args (some_args d ts ps rest h) = let g = shorter_parts h in omega arith
 
-  pub shorter_field : {d : ℕ} {ts : List Item} {f : List ℕ × Tree} {rest : List Item} → Field d ts f rest → length rest < length ts
+  pub shorter_field : {d : ℕ} {ts : List Item} {f : NamedTree} {rest : List Item} → Field d ts f rest → length rest < length ts
   shorter_field (field d x y cs us t rest e f p) = let g = shorter p in omega arith
 
-  pub shorter_some : {d : ℕ} {ts : List Item} {fs : List (List ℕ × Tree)} {rest : List Item} → SomeFields d ts fs rest → length rest < length ts
+  pub shorter_some : {d : ℕ} {ts : List Item} {fs : List NamedTree} {rest : List Item} → SomeFields d ts fs rest → length rest < length ts
   shorter_some (one_field d ts f rest p) = shorter_field p
   shorter_some (further_field d e ts fs x us f rest h g p) = let i = shorter_some h in let k = shorter_field p in omega arith
 
-  pub shorter_fields : {d : ℕ} {ts : List Item} {fs : List (List ℕ × Tree)} {rest : List Item} → Fields d ts fs rest → length rest ≤ length ts
+  pub shorter_fields : {d : ℕ} {ts : List Item} {fs : List NamedTree} {rest : List Item} → Fields d ts fs rest → length rest ≤ length ts
   shorter_fields (no_fields ts) = omega arith
   shorter_fields (some_fields d ts fs rest h) = let g = shorter_some h in omega arith
 
@@ -171,7 +171,7 @@ mutual
   unblocked_parts (alone s d ts t rest p) = unblocked p
   unblocked_parts (further s d e ts ps x us t rest h f p) = unblocked_parts h
 
-pub unblocked_fields : {d : ℕ} {ts : List Item} {fs : List (List ℕ × Tree)} {rest : List Item} → SomeFields d ts fs rest → blocked ts ≡ false
+pub unblocked_fields : {d : ℕ} {ts : List Item} {fs : List NamedTree} {rest : List Item} → SomeFields d ts fs rest → blocked ts ≡ false
 unblocked_fields (one_field d ts f rest (field d' x y cs us t rest' e g p)) = opens_by x _ e refl
 unblocked_fields (further_field d e ts fs x us f rest h g p) = unblocked_fields h
 
@@ -201,7 +201,7 @@ opens {ts = ts} p = unblocked_opens ts (unblocked p)
 pub opens_parts : {s : Separator} {d : ℕ} {ts : List Item} {ps : List Tree} {rest : List Item} → Parts s d ts ps rest → closes ts ≡ false
 opens_parts {ts = ts} p = unblocked_opens ts (unblocked_parts p)
 
-pub opens_fields : {d : ℕ} {ts : List Item} {fs : List (List ℕ × Tree)} {rest : List Item} → SomeFields d ts fs rest → closes ts ≡ false
+pub opens_fields : {d : ℕ} {ts : List Item} {fs : List NamedTree} {rest : List Item} → SomeFields d ts fs rest → closes ts ≡ false
 opens_fields {ts = ts} p = unblocked_opens ts (unblocked_fields p)
 
 -- no formula begins with `=`

@@ -4,7 +4,8 @@ use Rattle.std.proofs.lemmas.Bool.Decides.{nat_tests}
 use Rattle.fx_lexer.specs.declared.token.Symbol.TheVariants as symbol
 use Rattle.fx_lexer.specs.declared.token.Word.TheVariants as word
 use Rattle.fx_trees.specs.declared.expr.Op.{Op}
-use Rattle.fx_trees.specs.Tree.{Tree, node, Head, none, more, forest, names_of, parts_of}
+use Rattle.fx_trees.specs.declared.expr.FieldName.{FieldName}
+use Rattle.fx_trees.specs.Tree.{Tree, NamedTree, node, Head, none, more, forest, names_of, parts_of}
 use Rattle.fx_trees.specs.Tree as tree
 use Rattle.fx_grammar.specs.declared.item.Item.{Item}
 use Rattle.fx_grammar.specs.declared.item.Meaning.{Meaning}
@@ -19,8 +20,8 @@ use Rattle.fx_grammar.specs.declared.line.Line.{Line}
 use Rattle.fx_grammar.specs.declared.line.Line.TheVariants.{Chain, Several, By, Alias, Prefix, Power, Percent, Access, Atom}
 use Rattle.fx_grammar.specs.declared.line.Mark.{Mark}
 use Rattle.fx_grammar.specs.declared.line.Mark.TheVariants as mark
-use Rattle.fx_grammar.specs.Grammar.{place, separates, part_of, head_of, operator, under, sign, leaf_of, callee, Parses, plain, ended, one, many, first, next, no_alias, aliased, no_sign, signed, base, raised, no_percent, percent, no_dot, dotted, leaf, a_global, a_call, brackets, a_record, a_list, a_weave, Parts, alone, further, Args, no_args, some_args, Field, field, SomeFields, one_field, further_field, Fields, no_fields, some_fields, Strands, no_strands, piece, island}
-use Rattle.fx_grammar.specs.Reading.{◌>>=◌, Seen, Reader, Turn, turned, loop, loop_from, unless_over, within, going, is_mark, after, name_of, name_at, name_after, closes, separated, going_on, between, operator_at, sign_at, left_turn, tail_turn, field_at, percent_at, alias_at, aliased_by, parts_turn, parts_with, gathered, without_last, signed_by, raised_by, shut, shut_node, args_by, args_with, label_at, field_with, fields_turn, fields_by, fields_with, strand_by, strand_at, strands_turn, strands_with, called_by, leaf_by, record_by, atom_by, atom_with, line_at}
+use Rattle.fx_grammar.specs.Grammar.{place, field_name, separates, part_of, head_of, operator, under, sign, leaf_of, callee, Parses, plain, ended, one, many, first, next, no_alias, aliased, no_sign, signed, base, raised, no_percent, percent, no_dot, dotted, leaf, a_global, a_call, brackets, a_record, a_list, a_weave, Parts, alone, further, Args, no_args, some_args, Field, field, SomeFields, one_field, further_field, Fields, no_fields, some_fields, Strands, no_strands, piece, island}
+use Rattle.fx_grammar.specs.Reading.{◌>>=◌, label, Seen, Reader, Turn, turned, loop, loop_from, unless_over, within, going, is_mark, after, name_of, name_at, name_after, closes, separated, going_on, between, operator_at, sign_at, left_turn, tail_turn, field_at, percent_at, alias_at, aliased_by, parts_turn, parts_with, gathered, without_last, signed_by, raised_by, shut, shut_node, args_by, args_with, label_at, field_with, fields_turn, fields_by, fields_with, strand_by, strand_at, strands_turn, strands_with, called_by, leaf_by, record_by, atom_by, atom_with, line_at}
 use Rattle.fx_grammar.proofs.Tokens.{meaning_of, is_itself}
 use Rattle.fx_grammar.proofs.Turns.{atom_is, access_is, percent_is, power_is, prefix_is, alias_is, by_is, several_is, chain_is, none_at, parts_are, field_is, args_are, fields_are, strands_are, strand_is, atom_has}
 
@@ -300,34 +301,41 @@ args_sound k n read h ts = subst (Kept (ArgsAre k n ts)) (sym (args_are k read t
     by (Some us) a = (a.0, subst (λ r. Args 0 ts [] r) a.1 (no_args ts), a.2, omega arith)
 
 -- fields
-abbrev FieldIs : ℕ → List Item → Seen (List ℕ × Tree) → Type 0
+abbrev FieldIs : ℕ → List Item → Seen NamedTree → Type 0
 FieldIs n ts u = Field u.1 ts u.0 u.2 × (u.1 ≤ n)
 
-abbrev LabelIs : List Item → Option (List ℕ × List Item) → Type 0
+abbrev LabelIs : List Item → Option (FieldName × List Item) → Type 0
 LabelIs ts None = Unit {0}
-LabelIs ts (Some v) = (x y : Item) × (ts ≡ x ∷ y ∷ v.1) × (x.meaning ≡ m.Name v.0) × (y.meaning ≡ m.Symbol symbol.Colon)
+LabelIs ts (Some v) = (x y : Item) × (cs : List ℕ) × (ts ≡ x ∷ y ∷ v.1) × (x.meaning ≡ m.Name cs) × (y.meaning ≡ m.Symbol symbol.Colon) × (v.0 ≡ field_name x cs)
+
+named_at : (cs : List ℕ) (ts : List Item) (x : Item) (us : List Item) → ts ≡ x ∷ us → label cs ts ≡ field_name x cs
+named_at cs ts x us e = ap (label cs) e
 
 label_is : (ts : List Item) → LabelIs ts (label_at ts)
 label_is ts = bind_by (LabelIs ts) (NameIs ts) (name_at ts) _ (name_is ts) tt
-    (λ v a. bind_by (LabelIs ts) (AfterIs mark.Colon v.1) (after mark.Colon v.1) _ (after_is mark.Colon v.1) tt (λ us b. (a.0, b.0, a.1 ∙ ap (λ r. a.0 ∷ r) b.1, a.2, b.2)))
+    (λ v a. bind_by (LabelIs ts) (AfterIs mark.Colon v.1) (after mark.Colon v.1) _ (after_is mark.Colon v.1) tt (λ us b. (a.0, b.0, v.0, a.1 ∙ ap (λ r. a.0 ∷ r) b.1, a.2, b.2, named_at v.0 ts a.0 v.1 a.1)))
 
 field_sound : (n : ℕ) (read : Reader) → IsSound (Several join.Or) n read → (ts : List Item) → Kept (FieldIs n ts) (field_with read ts)
 field_sound n read h ts = subst (Kept (FieldIs n ts)) (sym (field_is read ts))
     (bind_by (Kept (FieldIs n ts)) (LabelIs ts) (label_at ts) _ (label_is ts) tt
     (λ v a. bind_by (Kept (FieldIs n ts)) (Kept (Is (Several join.Or) n v.1)) (read v.1) _ (h v.1) tt
-    (λ u p. (subst (λ r. Field u.1 r (v.0, u.0) u.2) (sym a.2) (field u.1 a.0 a.1 v.0 v.1 u.0 u.2 a.3 a.4 p.0), p.1))))
+    (λ u p. (
+      subst (λ (x : FieldName). Field u.1 ts (x, u.0) u.2) (sym a.6)
+          (subst (λ r. Field u.1 r (field_name a.0 a.2, u.0) u.2) (sym a.3) (field u.1 a.0 a.1 a.2 v.1 u.0 u.2 a.4 a.5 p.0)),
+      p.1,
+    ))))
 
-abbrev SomeAre : ℕ → List Item → Seen (List (List ℕ × Tree)) → Type 0
+abbrev SomeAre : ℕ → List Item → Seen (List NamedTree) → Type 0
 SomeAre n ts w = SomeFields w.1 ts w.0 w.2 × (w.1 ≤ n)
 
-abbrev pub FieldsAre : ℕ → List Item → Seen (List (List ℕ × Tree)) → Type 0
+abbrev pub FieldsAre : ℕ → List Item → Seen (List NamedTree) → Type 0
 FieldsAre n ts w = (z : Item) × Fields w.1 ts w.0 (z ∷ w.2) × (z.meaning ≡ m.Symbol symbol.CloseBrace) × (w.1 ≤ n)
 
 fields_sound : (n : ℕ) (read : Reader) → IsSound (Several join.Or) n read → (ts : List Item) → Kept (FieldsAre n ts) (fields_with read ts)
 unfolding fields_turn
 fields_sound n read h ts = subst (Kept (FieldsAre n ts)) (sym (fields_are read ts)) (by (after mark.CloseBrace ts) (after_is mark.CloseBrace ts))
   where
-    turn_keeps : (w : Seen (List (List ℕ × Tree))) → SomeAre n ts w → KeptTurn (SomeAre n ts) (fields_turn read w)
+    turn_keeps : (w : Seen (List NamedTree)) → SomeAre n ts w → KeptTurn (SomeAre n ts) (fields_turn read w)
     turn_keeps w p =
         unless_keeps (SomeAre n ts) (AfterIs mark.Comma w.2) (after mark.Comma w.2) _ (after_is mark.Comma w.2)
         (λ us a. bind_by (KeptTurn (SomeAre n ts)) (Kept (FieldIs n us)) (field_with read us) _ (field_sound n read h us) tt

@@ -2,7 +2,7 @@
 use Rattle.std.proofs.Common.{◌≡◌, ℕ, zero, suc, ◌<◌, ◌≤◌, max, false, List, [], ◌∷◌, ◌++◌, length, refl, ap, ◌∙◌, Option, Some, None, arith, leb, le-leb}
 use Rattle.std.proofs.lemmas.Bool.Decides.{nat_tests}
 use Rattle.fx_trees.specs.declared.expr.Op.{Op}
-use Rattle.fx_trees.specs.Tree.{Tree, node, Head, none, more, forest, names_of, parts_of}
+use Rattle.fx_trees.specs.Tree.{Tree, NamedTree, node, Head, none, more, forest, names_of, parts_of}
 use Rattle.fx_trees.specs.Tree as tree
 use Rattle.fx_grammar.specs.declared.item.Item.{Item}
 use Rattle.fx_grammar.specs.declared.line.Join.{Join}
@@ -98,15 +98,15 @@ pub parts_fail : (s : Separator) (read : Reader) (w : Seen (List Tree)) (us : Li
 unfolding parts_turn
 parts_fail s read w us e f = rw (e, f) refl
 
-pub fields_over : (read : Reader) (w : Seen (List (List ℕ × Tree))) → after mark.Comma w.2 ≡ None → fields_turn read w ≡ Some None
+pub fields_over : (read : Reader) (w : Seen (List NamedTree)) → after mark.Comma w.2 ≡ None → fields_turn read w ≡ Some None
 unfolding fields_turn
 fields_over read w e = rw e refl
 
-pub fields_on : (read : Reader) (w : Seen (List (List ℕ × Tree))) (u : Seen (List ℕ × Tree)) (us : List Item) → after mark.Comma w.2 ≡ Some us → field_with read us ≡ Some u → fields_turn read w ≡ Some (Some (w.0 ++ u.0 ∷ [], max w.1 u.1, u.2))
+pub fields_on : (read : Reader) (w : Seen (List NamedTree)) (u : Seen NamedTree) (us : List Item) → after mark.Comma w.2 ≡ Some us → field_with read us ≡ Some u → fields_turn read w ≡ Some (Some (w.0 ++ u.0 ∷ [], max w.1 u.1, u.2))
 unfolding fields_turn
 fields_on read w u us e f = rw (e, f) refl
 
-pub fields_fail : (read : Reader) (w : Seen (List (List ℕ × Tree))) (us : List Item) → after mark.Comma w.2 ≡ Some us → field_with read us ≡ None → fields_turn read w ≡ None
+pub fields_fail : (read : Reader) (w : Seen (List NamedTree)) (us : List Item) → after mark.Comma w.2 ≡ Some us → field_with read us ≡ None → fields_turn read w ≡ None
 unfolding fields_turn
 fields_fail read w us e f = rw (e, f) refl
 
@@ -233,14 +233,14 @@ parts_go s read w ps d rest us u e end c f g i j = comes_on (parts_turn s read) 
 pub parts_stuck : (s : Separator) (read : Reader) (w : Option (Seen (List Tree))) (ps : List Tree) (d : ℕ) (rest us : List Item) → Comes (parts_turn s read) w (ps, d, rest) → between s rest ≡ Some us → read us ≡ None → w ≡ None
 parts_stuck s read w ps d rest us c f g = comes_to_none (parts_turn s read) w (ps, d, rest) c (parts_fail s read (ps, d, rest) us f g)
 
-pub fields_end : (read : Reader) (w : Option (Seen (List (List ℕ × Tree)))) (fs : List (List ℕ × Tree)) (d : ℕ) (rest : List Item) → Comes (fields_turn read) w (fs, d, rest) → after mark.Comma rest ≡ None → w ≡ Some (fs, d, rest)
+pub fields_end : (read : Reader) (w : Option (Seen (List NamedTree))) (fs : List NamedTree) (d : ℕ) (rest : List Item) → Comes (fields_turn read) w (fs, d, rest) → after mark.Comma rest ≡ None → w ≡ Some (fs, d, rest)
 fields_end read w fs d rest c e = comes_over (fields_turn read) w (fs, d, rest) c (fields_over read (fs, d, rest) e)
 
-pub fields_go : (read : Reader) (w : Option (Seen (List (List ℕ × Tree)))) (fs : List (List ℕ × Tree)) (d : ℕ) (rest us : List Item) (f : List ℕ × Tree) (e : ℕ) (end : List Item) → Comes (fields_turn read) w (fs, d, rest) → after mark.Comma rest ≡ Some us → field_with read us ≡ Some (f, e, end) → length us < length rest → length end < length us
+pub fields_go : (read : Reader) (w : Option (Seen (List NamedTree))) (fs : List NamedTree) (d : ℕ) (rest us : List Item) (f : NamedTree) (e : ℕ) (end : List Item) → Comes (fields_turn read) w (fs, d, rest) → after mark.Comma rest ≡ Some us → field_with read us ≡ Some (f, e, end) → length us < length rest → length end < length us
     → Comes (fields_turn read) w (fs ++ f ∷ [], max d e, end)
 fields_go read w fs d rest us f e end c g h i j = comes_on (fields_turn read) w (fs, d, rest) _ c (fields_on read (fs, d, rest) (f, e, end) us g h) (omega arith)
 
-pub fields_stuck : (read : Reader) (w : Option (Seen (List (List ℕ × Tree)))) (fs : List (List ℕ × Tree)) (d : ℕ) (rest us : List Item) → Comes (fields_turn read) w (fs, d, rest) → after mark.Comma rest ≡ Some us → field_with read us ≡ None → w ≡ None
+pub fields_stuck : (read : Reader) (w : Option (Seen (List NamedTree))) (fs : List NamedTree) (d : ℕ) (rest us : List Item) → Comes (fields_turn read) w (fs, d, rest) → after mark.Comma rest ≡ Some us → field_with read us ≡ None → w ≡ None
 fields_stuck read w fs d rest us c g h = comes_to_none (fields_turn read) w (fs, d, rest) c (fields_fail read (fs, d, rest) us g h)
 
 pub strands_end : (inner : Reader) (w : Option (Seen (List Tree))) (ps : List Tree) (d : ℕ) (rest : List Item) → Comes (strands_turn inner) w (ps, d, rest) → strand_at inner rest ≡ Some None → w ≡ Some (ps, d, rest)

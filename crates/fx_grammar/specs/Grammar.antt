@@ -2,9 +2,10 @@
 use Rattle.std.specs.Prelude.{◌≡◌, ℕ, suc, max, Bool, true, false, List, [], ◌∷◌, ◌++◌, Option, Some, None}
 use Rattle.fx_lexer.specs.declared.token.Symbol.TheVariants as symbol
 use Rattle.fx_lexer.specs.declared.token.Word.TheVariants as word
+use Rattle.fx_trees.specs.declared.expr.FieldName.{FieldName}
 use Rattle.fx_trees.specs.declared.expr.Op.{Op}
 use Rattle.fx_trees.specs.declared.expr.Op.TheVariants as op
-use Rattle.fx_trees.specs.Tree.{Tree, node, Head, none, more, forest, names_of, parts_of}
+use Rattle.fx_trees.specs.Tree.{Tree, NamedTree, node, Head, none, more, forest, names_of, places_of, parts_of}
 use Rattle.fx_trees.specs.Tree as tree
 use Rattle.fx_grammar.specs.declared.item.Item.{Item}
 use Rattle.fx_grammar.specs.declared.item.Meaning.{Meaning}
@@ -22,6 +23,10 @@ use Rattle.fx_grammar.specs.declared.line.Line.TheVariants.{Chain, Several, By, 
 abbrev pub place : List Item → ℕ
 place [] = 0
 place (x ∷ us) = x.at
+
+-- a field has this name, at this token
+abbrev pub field_name : Item → List ℕ → FieldName
+field_name x cs = record { text = cs; at = x.at }
 
 -- which tokens stand between parts
 abbrev pub separates : Separator → Meaning → Bool
@@ -149,9 +154,9 @@ mutual
         → x.meaning ≡ m.Symbol symbol.OpenParen → Parses Chain d us t (y ∷ rest) → y.meaning ≡ m.Symbol symbol.CloseParen
         → Parses Atom (suc d) (x ∷ us) t rest
     -- atom = "{" [ field { "," field } ] "}"
-    a_record : (d : ℕ) (x : Item) (us : List Item) (fs : List (List ℕ × Tree)) (y : Item) (rest : List Item)
+    a_record : (d : ℕ) (x : Item) (us : List Item) (fs : List NamedTree) (y : Item) (rest : List Item)
         → x.meaning ≡ m.Symbol symbol.OpenBrace → Fields d us fs (y ∷ rest) → y.meaning ≡ m.Symbol symbol.CloseBrace
-        → Parses Atom (suc d) (x ∷ us) (node x.at (tree.rec (names_of fs)) (parts_of fs)) rest
+        → Parses Atom (suc d) (x ∷ us) (node x.at (tree.rec (names_of fs) (places_of fs)) (parts_of fs)) rest
     -- atom = "[" [ args ] "]"
     a_list : (d : ℕ) (x : Item) (us : List Item) (ps : List Tree) (y : Item) (rest : List Item)
         → x.meaning ≡ m.Symbol symbol.OpenBracket → Args d us ps (y ∷ rest) → y.meaning ≡ m.Symbol symbol.CloseBracket
@@ -173,20 +178,20 @@ mutual
     some_args : (d : ℕ) (ts : List Item) (ps : List Tree) (rest : List Item) → Parts Comma d ts ps rest → Args d ts ps rest
 
   -- field = Name ":" or
-  pub data Field : ℕ → List Item → List ℕ × Tree → List Item → Type 0 where
+  pub data Field : ℕ → List Item → NamedTree → List Item → Type 0 where
     field : (d : ℕ) (x y : Item) (cs : List ℕ) (us : List Item) (t : Tree) (rest : List Item)
-        → x.meaning ≡ m.Name cs → y.meaning ≡ m.Symbol symbol.Colon → Parses (Several join.Or) d us t rest → Field d (x ∷ y ∷ us) (cs, t) rest
+        → x.meaning ≡ m.Name cs → y.meaning ≡ m.Symbol symbol.Colon → Parses (Several join.Or) d us t rest → Field d (x ∷ y ∷ us) (field_name x cs, t) rest
 
   -- field { "," field }
-  pub data SomeFields : ℕ → List Item → List (List ℕ × Tree) → List Item → Type 0 where
-    one_field : (d : ℕ) (ts : List Item) (f : List ℕ × Tree) (rest : List Item) → Field d ts f rest → SomeFields d ts (f ∷ []) rest
-    further_field : (d e : ℕ) (ts : List Item) (fs : List (List ℕ × Tree)) (x : Item) (us : List Item) (f : List ℕ × Tree) (rest : List Item)
+  pub data SomeFields : ℕ → List Item → List NamedTree → List Item → Type 0 where
+    one_field : (d : ℕ) (ts : List Item) (f : NamedTree) (rest : List Item) → Field d ts f rest → SomeFields d ts (f ∷ []) rest
+    further_field : (d e : ℕ) (ts : List Item) (fs : List NamedTree) (x : Item) (us : List Item) (f : NamedTree) (rest : List Item)
         → SomeFields d ts fs (x ∷ us) → x.meaning ≡ m.Symbol symbol.Comma → Field e us f rest → SomeFields (max d e) ts (fs ++ f ∷ []) rest
 
   -- [ field { "," field } ]
-  pub data Fields : ℕ → List Item → List (List ℕ × Tree) → List Item → Type 0 where
+  pub data Fields : ℕ → List Item → List NamedTree → List Item → Type 0 where
     no_fields : (ts : List Item) → Fields 0 ts [] ts
-    some_fields : (d : ℕ) (ts : List Item) (fs : List (List ℕ × Tree)) (rest : List Item) → SomeFields d ts fs rest → Fields d ts fs rest
+    some_fields : (d : ℕ) (ts : List Item) (fs : List NamedTree) (rest : List Item) → SomeFields d ts fs rest → Fields d ts fs rest
 
   -- { Piece | "{" chain "}" }: each piece is a text, each island its formula
   pub data Strands : ℕ → List Item → List Tree → List Item → Type 0 where

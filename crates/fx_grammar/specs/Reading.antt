@@ -5,7 +5,8 @@ use Rattle.fx_lexer.specs.declared.token.Symbol.TheVariants as symbol
 use Rattle.fx_lexer.specs.declared.token.Word.TheVariants as word
 use Rattle.fx_trees.specs.declared.expr.Op.{Op}
 use Rattle.fx_trees.specs.declared.expr.Op.TheVariants as op
-use Rattle.fx_trees.specs.Tree.{Tree, node, Head, none, more, forest, names_of, parts_of}
+use Rattle.fx_trees.specs.declared.expr.FieldName.{FieldName}
+use Rattle.fx_trees.specs.Tree.{Tree, NamedTree, node, Head, none, more, forest, names_of, places_of, parts_of}
 use Rattle.fx_trees.specs.Tree as tree
 use Rattle.fx_grammar.specs.declared.item.Item.{Item}
 use Rattle.fx_grammar.specs.declared.item.Meaning.{Meaning}
@@ -217,21 +218,25 @@ args_by k inner ts (Some rest) = Some ([], 0, rest)
 unfoldable pub args_with : Mark → Reader → List Item → Option (Seen (List Tree))
 args_with k inner ts = args_by k inner ts (after k ts)
 
-abbrev pub label_at : List Item → Option (List ℕ × List Item)
-label_at ts = name_at ts >>= λ x. after mark.Colon x.1 >>= λ us. Some (x.0, us)
+-- the name of a field, at the first of these tokens
+abbrev pub label : List ℕ → List Item → FieldName
+label cs ts = record { text = cs; at = place ts }
 
-unfoldable pub field_with : Reader → List Item → Option (Seen (List ℕ × Tree))
+abbrev pub label_at : List Item → Option (FieldName × List Item)
+label_at ts = name_at ts >>= λ x. after mark.Colon x.1 >>= λ us. Some (label x.0 ts, us)
+
+unfoldable pub field_with : Reader → List Item → Option (Seen NamedTree)
 field_with read ts = label_at ts >>= λ x. read x.1 >>= λ u. Some ((x.0, u.0), u.1, u.2)
 
-unfoldable pub fields_turn : Reader → Seen (List (List ℕ × Tree)) → Turn (List (List ℕ × Tree))
+unfoldable pub fields_turn : Reader → Seen (List NamedTree) → Turn (List NamedTree)
 fields_turn read w = unless_over (after mark.Comma w.2) (λ us. field_with read us >>= λ u. Some (Some (w.0 ++ u.0 ∷ [], max w.1 u.1, u.2)))
 
-abbrev pub fields_by : Reader → List Item → Option (List Item) → Option (Seen (List (List ℕ × Tree)))
+abbrev pub fields_by : Reader → List Item → Option (List Item) → Option (Seen (List NamedTree))
 fields_by read ts None = field_with read ts >>= λ u. loop_from (fields_turn read) (u.0 ∷ [], u.1, u.2) >>= shut mark.CloseBrace
 fields_by read ts (Some rest) = Some ([], 0, rest)
 
 -- fields up to the closing brace, with it
-unfoldable pub fields_with : Reader → List Item → Option (Seen (List (List ℕ × Tree)))
+unfoldable pub fields_with : Reader → List Item → Option (Seen (List NamedTree))
 fields_with read ts = fields_by read ts (after mark.CloseBrace ts)
 
 -- a piece or an island at the front of a weave's text
@@ -267,8 +272,8 @@ leaf_by x us h = Some (node x.at h none, 1, us)
 abbrev pub global_by : ℕ → List Item → Option (Seen Tree)
 global_by at us = name_at us >>= λ y. after mark.CloseBracket y.1 >>= λ rest. Some (node at (tree.global y.0) none, 1, rest)
 
-abbrev pub record_by : Item → Seen (List (List ℕ × Tree)) → Option (Seen Tree)
-record_by x s = Some (node x.at (tree.rec (names_of s.0)) (parts_of s.0), suc s.1, s.2)
+abbrev pub record_by : Item → Seen (List NamedTree) → Option (Seen Tree)
+record_by x s = Some (node x.at (tree.rec (names_of s.0) (places_of s.0)) (parts_of s.0), suc s.1, s.2)
 
 abbrev pub atom_by : ℕ → (Line → Reader) → Item → List Item → Meaning → Option (Seen Tree)
 atom_by n inner x us (m.Number z) = leaf_by x us (tree.num z)

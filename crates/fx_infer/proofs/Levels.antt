@@ -1,7 +1,7 @@
 -- A tree is no deeper than the grammar says.
 use Rattle.std.proofs.Common.{◌≡◌, ℕ, ◌≤◌, max, List, [], ◌∷◌, ◌++◌, All, arith}
 use Rattle.std.proofs.lemmas.List.Elements.{All-cons, All-nil}
-use Rattle.fx_trees.specs.Tree.{Tree, node, none, more, forest, names_of, parts_of}
+use Rattle.fx_trees.specs.Tree.{Tree, NamedTree, node, none, more, forest, names_of, parts_of}
 use Rattle.fx_trees.specs.Tree as tree
 use Rattle.fx_grammar.specs.declared.item.Item.{Item}
 use Rattle.fx_grammar.specs.declared.line.Line.{Line}
@@ -16,7 +16,7 @@ forest_end [] t = omega arith
 forest_end (p ∷ ps) t = omega (arith, forest_end ps t)
 
 -- one field more
-fields_end : (fs : List (List ℕ × Tree)) (f : List ℕ × Tree) → forest_depth (parts_of (fs ++ f ∷ [])) ≡ max (forest_depth (parts_of fs)) (tree_depth f.1)
+fields_end : (fs : List NamedTree) (f : NamedTree) → forest_depth (parts_of (fs ++ f ∷ [])) ≡ max (forest_depth (parts_of fs)) (tree_depth f.1)
 fields_end [] f = omega arith
 fields_end (g ∷ fs) f = omega (arith, fields_end fs f)
 
@@ -63,17 +63,17 @@ mutual
   args_depth _ _ _ _ (no_args ts) = omega arith
   args_depth _ _ _ _ (some_args d ts ps rest p) = parts_depth _ d ts ps rest p
 
-  field_depth : (d : ℕ) (ts : List Item) (f : List ℕ × Tree) (rest : List Item) → Field d ts f rest → tree_depth f.1 ≤ d
+  field_depth : (d : ℕ) (ts : List Item) (f : NamedTree) (rest : List Item) → Field d ts f rest → tree_depth f.1 ≤ d
   field_depth _ _ _ _ (field d x y cs us t rest e f p) = line_depth _ d us t rest p
 
-  some_depth : (d : ℕ) (ts : List Item) (fs : List (List ℕ × Tree)) (rest : List Item) → SomeFields d ts fs rest → forest_depth (parts_of fs) ≤ d
+  some_depth : (d : ℕ) (ts : List Item) (fs : List NamedTree) (rest : List Item) → SomeFields d ts fs rest → forest_depth (parts_of fs) ≤ d
   some_depth _ _ _ _ (one_field d ts f rest p) = let a = field_depth d ts f rest p in omega (arith, a)
   some_depth _ _ _ _ (further_field d e ts fs x us f rest p c q) =
       let a = some_depth d ts fs (x ∷ us) p in
       let b = field_depth e us f rest q in
       omega (arith, a, b, fields_end fs f)
 
-  fields_depth : (d : ℕ) (ts : List Item) (fs : List (List ℕ × Tree)) (rest : List Item) → Fields d ts fs rest → forest_depth (parts_of fs) ≤ d
+  fields_depth : (d : ℕ) (ts : List Item) (fs : List NamedTree) (rest : List Item) → Fields d ts fs rest → forest_depth (parts_of fs) ≤ d
   fields_depth _ _ _ _ (no_fields ts) = omega arith
   fields_depth _ _ _ _ (some_fields d ts fs rest p) = some_depth d ts fs rest p
 

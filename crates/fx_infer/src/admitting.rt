@@ -36,7 +36,7 @@ use fx_operators::local::{make, make_form};
 use fx_operators::operators::function_of;
 use fx_scopes::dots::dot;
 use fx_scopes::{Grant, Meaning, Part, Place, Scopes, Stand, as_value, in_globals, meaning_of};
-use fx_trees::expr::{Expr, Node, Op};
+use fx_trees::expr::{Expr, FieldName, Node, Op};
 use fx_trees::functions::{Form, Fun};
 use fx_trees::names::Names;
 use fx_trees::{Rule, make_core};
@@ -208,12 +208,12 @@ fn alias_target<'a>(
 }
 
 // The names of fields.
-fn names_in(alloc: Global, fields: &[(Words, Expr)]) -> Result<Vec<Words>, Memory>
+fn names_in(alloc: Global, fields: &[(FieldName, Expr)]) -> Result<Vec<Words>, Memory>
     ensures { IfOk result (λ ns. ns.items ≡ tree.names_of fields.now) }
 {
     let mut names = Vec::new(alloc);
     for (name, _) in fields {
-        names.push(name.copy(alloc)?)?;
+        names.push(name.text.copy(alloc)?)?;
     }
     Ok(names)
 }
@@ -253,7 +253,7 @@ fn record_as<'a>(
 fn record_by<'a>(
     alloc: Global,
     allowed: Grant,
-    fields: &[(Words, Expr)],
+    fields: &[(FieldName, Expr)],
     all: Vec<Part<'a>>,
 ) -> Result<Part<'a>, Wrong>
     ensures { Answers part (and_then (parts.values (map part all.entry.items))

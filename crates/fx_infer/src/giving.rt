@@ -15,7 +15,7 @@ use fx_base::Memory;
 use fx_data::types::Ty;
 use fx_data::words::Words;
 use fx_scopes::{Grant, Part, Place, Stand};
-use fx_trees::expr::{Expr, Node};
+use fx_trees::expr::{Expr, FieldName, Node};
 use fx_trees::functions::Acting;
 use fx_trees::names::Names;
 use fx_trees::signatures::{SigShape, signature_in};
@@ -126,7 +126,7 @@ fn give_rows(
 fn give_fields(
     alloc: Global,
     screen: Option<u32>,
-    fields: &[(Words, Expr)],
+    fields: &[(FieldName, Expr)],
     values: &[Part],
     given: &mut Vec<Given>,
 ) -> Result<(), Memory>
@@ -137,7 +137,7 @@ fn give_fields(
         let Some(value) = values.get(place) else {
             return Ok(());
         };
-        give_screen(alloc, screen, name, value, given)?;
+        give_screen(alloc, screen, &name.text, value, given)?;
     }
     Ok(())
 }

@@ -3,7 +3,7 @@ use Rattle.std.proofs.Common.{◌≡◌, ◌⊎◌, inl, inr, ℕ, true, List, [
 use Rattle.fx_lexer.specs.declared.token.Symbol.TheVariants as symbol
 use Rattle.fx_lexer.specs.declared.token.Word.TheVariants as word
 use Rattle.fx_trees.specs.declared.expr.Op.{Op}
-use Rattle.fx_trees.specs.Tree.{Tree, Head}
+use Rattle.fx_trees.specs.Tree.{Tree, NamedTree, Head}
 use Rattle.fx_grammar.specs.declared.item.Item.{Item}
 use Rattle.fx_grammar.specs.declared.item.Meaning.{Meaning}
 use Rattle.fx_grammar.specs.declared.item.Meaning.TheVariants as m
@@ -275,14 +275,14 @@ mutual
   goes_args (no_args ts) w fs f i h = h
   goes_args (some_args d ts ps rest k) w fs f i h = to_close w fs ts (goes_parts k w fs f i)
 
-  goes_field : {d : ℕ} {ts : List Item} {g : List ℕ × Tree} {rest : List Item} → Field d ts g rest → (w : Whole) (fs : List Frame) → Ends w state.AfterAlias (frame.Record ∷ fs) rest → Ends w state.Label fs ts
+  goes_field : {d : ℕ} {ts : List Item} {g : NamedTree} {rest : List Item} → Field d ts g rest → (w : Whole) (fs : List Frame) → Ends w state.AfterAlias (frame.Record ∷ fs) rest → Ends w state.Label fs ts
   goes_field (field d x y cs us t rest e g p) w fs f = via w state.Label fs x (y ∷ us) (m.Name cs) e (via w state.Colon fs y us (m.Symbol symbol.Colon) g (goes p w (frame.Record ∷ fs) f))
 
-  goes_some : {d : ℕ} {ts : List Item} {gs : List (List ℕ × Tree)} {rest : List Item} → SomeFields d ts gs rest → (w : Whole) (fs : List Frame) → Ends w state.AfterAlias (frame.Record ∷ fs) rest → Ends w state.Label fs ts
+  goes_some : {d : ℕ} {ts : List Item} {gs : List NamedTree} {rest : List Item} → SomeFields d ts gs rest → (w : Whole) (fs : List Frame) → Ends w state.AfterAlias (frame.Record ∷ fs) rest → Ends w state.Label fs ts
   goes_some (one_field d ts g rest p) w fs f = goes_field p w fs f
   goes_some (further_field d e ts gs x us g rest h i p) w fs f = goes_some h w fs (via w state.AfterAlias (frame.Record ∷ fs) x us (m.Symbol symbol.Comma) i (goes_field p w fs f))
 
-  goes_fields : {d : ℕ} {ts : List Item} {gs : List (List ℕ × Tree)} {rest : List Item} → Fields d ts gs rest → (w : Whole) (fs : List Frame) → Ends w state.AfterAlias (frame.Record ∷ fs) rest → Ends w state.FirstLabel fs rest → Ends w state.FirstLabel fs ts
+  goes_fields : {d : ℕ} {ts : List Item} {gs : List NamedTree} {rest : List Item} → Fields d ts gs rest → (w : Whole) (fs : List Frame) → Ends w state.AfterAlias (frame.Record ∷ fs) rest → Ends w state.FirstLabel fs rest → Ends w state.FirstLabel fs ts
   goes_fields (no_fields ts) w fs f h = h
   goes_fields (some_fields d ts gs rest k) w fs f h = to_first w fs ts (goes_some k w fs f)
 

@@ -2,8 +2,9 @@
 use Rattle.std.proofs.Common.{◌≡◌, ℕ, zero, suc, ◌+◌, ◌-◌, ◌<◌, ◌≤◌, max, length, List, [], ◌∷◌, ◌++◌, Option, Some, None, Result, Ok, Err, refl, ap, sym, ◌∙◌, subst, arith, sub-one, add-one}
 use Rattle.std.specs.Prelude.{IfSome}
 use Rattle.std.specs.Borrow.{Bor}
-use Rattle.fx_trees.specs.Tree.{Tree, Head, node, more, none, forest}
+use Rattle.fx_trees.specs.Tree.{Tree, NamedTree, Head, node, more, none, forest}
 use Rattle.fx_trees.specs.Tree as tree
+use Rattle.fx_trees.specs.declared.expr.FieldName.{FieldName}
 use Rattle.fx_trees.specs.declared.expr.Op.{Op}
 use Rattle.fx_trees.specs.declared.expr.Op.TheVariants as op
 use Rattle.fx_grammar.specs.declared.item.Item.{Item}
@@ -19,7 +20,7 @@ use Rattle.fx_grammar.specs.declared.line.Line.TheVariants.{Chain, Several, By, 
 use Rattle.fx_grammar.specs.declared.line.Mark.{Mark}
 use Rattle.fx_grammar.specs.declared.line.Mark.TheVariants as mark
 use Rattle.fx_grammar.specs.Grammar.{place, part_of, head_of, under}
-use Rattle.fx_grammar.specs.Reading.{◌>>=◌, Seen, Reader, Turn, after, sign_at, alias_at, field_at, percent_at, loop_from, left_turn, tail_turn, parts_turn, parts_with, gathered, without_last, signed_by, raised_by, aliased_by, shut, args_by, args_with, fields_by, fields_with, field_with, fields_turn, strand_by, strand_at, strands_turn, label_at, operator_at, between, within, atom_by, atom_with, line_at}
+use Rattle.fx_grammar.specs.Reading.{◌>>=◌, label, Seen, Reader, Turn, after, sign_at, alias_at, field_at, percent_at, loop_from, left_turn, tail_turn, parts_turn, parts_with, gathered, without_last, signed_by, raised_by, aliased_by, shut, args_by, args_with, fields_by, fields_with, field_with, fields_turn, strand_by, strand_at, strands_turn, label_at, operator_at, between, within, atom_by, atom_with, line_at}
 use Rattle.fx_grammar.proofs.Turns.{Comes, comes_from, none_at, atom_is, atom_has, access_is, percent_is, power_is, prefix_is, alias_is, by_is, several_is, chain_is, parts_are, args_are, fields_are, strand_is, field_is, strands_are, within_ok, within_none, left_goes, parts_go, fields_go, strands_go}
 use Rattle.fx_parser.specs.declared.descent_end.End.{End}
 use Rattle.fx_parser.specs.declared.descent_end.End.TheVariants.{Refused, Memory}
@@ -219,12 +220,12 @@ pub parts_goes : (s : Separator) (read : Reader) (w : Option (Seen (List Tree)))
     → length us < length rest → length end < length us → qs ≡ ps ++ u ∷ [] → k ≡ max d e → Comes (parts_turn s read) w (qs, k, end)
 parts_goes s read w ps d rest us u e end qs k c f g i j p m = subst (λ (v : Seen (List Tree)). Comes (parts_turn s read) w v) (λ i. (sym p i, sym m i, end)) (parts_go s read w ps d rest us u e end c (sym f) g i j)
 
-pub fields_first : (read : Reader) (ts : List Item) (f : List ℕ × Tree) (d : ℕ) (rest : List Item) (fs : List (List ℕ × Tree)) → field_with read ts ≡ Some (f, d, rest) → fs ≡ f ∷ [] → Comes (fields_turn read) (field_with read ts >>= λ u. loop_from (fields_turn read) (u.0 ∷ [], u.1, u.2)) (fs, d, rest)
-fields_first read ts f d rest fs e p = subst (λ (fs : List (List ℕ × Tree)). Comes (fields_turn read) (field_with read ts >>= λ u. loop_from (fields_turn read) (u.0 ∷ [], u.1, u.2)) (fs, d, rest)) (sym p) (comes_from _ _ _ (ap (λ v. v >>= λ u. loop_from (fields_turn read) (u.0 ∷ [], u.1, u.2)) e))
+pub fields_first : (read : Reader) (ts : List Item) (f : NamedTree) (d : ℕ) (rest : List Item) (fs : List NamedTree) → field_with read ts ≡ Some (f, d, rest) → fs ≡ f ∷ [] → Comes (fields_turn read) (field_with read ts >>= λ u. loop_from (fields_turn read) (u.0 ∷ [], u.1, u.2)) (fs, d, rest)
+fields_first read ts f d rest fs e p = subst (λ (fs : List NamedTree). Comes (fields_turn read) (field_with read ts >>= λ u. loop_from (fields_turn read) (u.0 ∷ [], u.1, u.2)) (fs, d, rest)) (sym p) (comes_from _ _ _ (ap (λ v. v >>= λ u. loop_from (fields_turn read) (u.0 ∷ [], u.1, u.2)) e))
 
-pub fields_goes : (read : Reader) (w : Option (Seen (List (List ℕ × Tree)))) (fs : List (List ℕ × Tree)) (d : ℕ) (rest us : List Item) (f : List ℕ × Tree) (e : ℕ) (end : List Item) (gs : List (List ℕ × Tree)) (k : ℕ) → Comes (fields_turn read) w (fs, d, rest) → Some us ≡ after mark.Comma rest → field_with read us ≡ Some (f, e, end)
+pub fields_goes : (read : Reader) (w : Option (Seen (List NamedTree))) (fs : List NamedTree) (d : ℕ) (rest us : List Item) (f : NamedTree) (e : ℕ) (end : List Item) (gs : List NamedTree) (k : ℕ) → Comes (fields_turn read) w (fs, d, rest) → Some us ≡ after mark.Comma rest → field_with read us ≡ Some (f, e, end)
     → length us < length rest → length end < length us → gs ≡ fs ++ f ∷ [] → k ≡ max d e → Comes (fields_turn read) w (gs, k, end)
-fields_goes read w fs d rest us f e end gs k c g h i j p m = subst (λ (v : Seen (List (List ℕ × Tree))). Comes (fields_turn read) w v) (λ i. (sym p i, sym m i, end)) (fields_go read w fs d rest us f e end c (sym g) h i j)
+fields_goes read w fs d rest us f e end gs k c g h i j p m = subst (λ (v : Seen (List NamedTree)). Comes (fields_turn read) w v) (λ i. (sym p i, sym m i, end)) (fields_go read w fs d rest us f e end c (sym g) h i j)
 
 pub strands_goes : (inner : Reader) (w : Option (Seen (List Tree))) (ps : List Tree) (d : ℕ) (rest : List Item) (u : Tree) (e : ℕ) (end : List Item) (qs : List Tree) (k : ℕ) → Comes (strands_turn inner) w (ps, d, rest) → strand_at inner rest ≡ Some (Some (u, e, end)) → length end < length rest
     → qs ≡ ps ++ u ∷ [] → k ≡ max d e → Comes (strands_turn inner) w (qs, k, end)
@@ -253,17 +254,17 @@ fields_empty read ts rest e = fields_are read ts ∙ ap (fields_by read ts) (sym
 fields_as : (read : Reader) (ts : List Item) → None ≡ after mark.CloseBrace ts → fields_with read ts ≡ (fields_from read ts >>= shut mark.CloseBrace)
 fields_as read ts e = fields_are read ts ∙ ap (fields_by read ts) (sym e) ∙ by (field_with read ts)
   where
-    by : (o : Option (Seen (List ℕ × Tree))) → (o >>= λ u. loop_from (fields_turn read) (u.0 ∷ [], u.1, u.2) >>= shut mark.CloseBrace) ≡ ((o >>= λ u. loop_from (fields_turn read) (u.0 ∷ [], u.1, u.2)) >>= shut mark.CloseBrace)
+    by : (o : Option (Seen NamedTree)) → (o >>= λ u. loop_from (fields_turn read) (u.0 ∷ [], u.1, u.2) >>= shut mark.CloseBrace) ≡ ((o >>= λ u. loop_from (fields_turn read) (u.0 ∷ [], u.1, u.2)) >>= shut mark.CloseBrace)
     by None = refl
     by (Some u) = refl
 
 pub fields_none : (read : Reader) (ts : List Item) → None ≡ after mark.CloseBrace ts → fields_from read ts ≡ None → fields_with read ts ≡ None
 fields_none read ts e f = none_then _ _ (shut mark.CloseBrace) (fields_as read ts e) f
 
-pub fields_open : (read : Reader) (ts : List Item) (fs : List (List ℕ × Tree)) (d : ℕ) (rest : List Item) → None ≡ after mark.CloseBrace ts → fields_from read ts ≡ Some (fs, d, rest) → after mark.CloseBrace rest ≡ None → fields_with read ts ≡ None
+pub fields_open : (read : Reader) (ts : List Item) (fs : List NamedTree) (d : ℕ) (rest : List Item) → None ≡ after mark.CloseBrace ts → fields_from read ts ≡ Some (fs, d, rest) → after mark.CloseBrace rest ≡ None → fields_with read ts ≡ None
 fields_open read ts fs d rest e f g = some_then _ _ (shut mark.CloseBrace) (fs, d, rest) (fields_as read ts e) f ∙ ap (λ v. v >>= λ us. Some (fs, d, us)) g
 
-pub fields_read : (read : Reader) (ts : List Item) (fs : List (List ℕ × Tree)) (d : ℕ) (rest us : List Item) → None ≡ after mark.CloseBrace ts → fields_from read ts ≡ Some (fs, d, rest) → after mark.CloseBrace rest ≡ Some us → fields_with read ts ≡ Some (fs, d, us)
+pub fields_read : (read : Reader) (ts : List Item) (fs : List NamedTree) (d : ℕ) (rest us : List Item) → None ≡ after mark.CloseBrace ts → fields_from read ts ≡ Some (fs, d, rest) → after mark.CloseBrace rest ≡ Some us → fields_with read ts ≡ Some (fs, d, us)
 fields_read read ts fs d rest us e f g = some_then _ _ (shut mark.CloseBrace) (fs, d, rest) (fields_as read ts e) f ∙ ap (λ v. v >>= λ us. Some (fs, d, us)) g
 
 pub some_fields_none : (read : Reader) (ts : List Item) → field_with read ts ≡ None → fields_from read ts ≡ None
@@ -272,12 +273,17 @@ some_fields_none read ts e = ap (λ v. v >>= λ u. loop_from (fields_turn read) 
 pub field_none : (read : Reader) (ts : List Item) → None ≡ label_at ts → field_with read ts ≡ None
 field_none read ts e = field_is read ts ∙ ap (λ v. v >>= λ x. read x.1 >>= λ u. Some ((x.0, u.0), u.1, u.2)) (sym e)
 
-pub field_stuck : (read : Reader) (ts : List Item) (cs : List ℕ) (us : List Item) → Some (cs, us) ≡ label_at ts → read us ≡ None → field_with read ts ≡ None
+pub field_stuck : (read : Reader) (ts : List Item) (cs : FieldName) (us : List Item) → Some (cs, us) ≡ label_at ts → read us ≡ None → field_with read ts ≡ None
 field_stuck read ts cs us e f = field_is read ts ∙ ap (λ v. v >>= λ x. read x.1 >>= λ u. Some ((x.0, u.0), u.1, u.2)) (sym e) ∙ ap (λ v. v >>= λ u. Some ((cs, u.0), u.1, u.2)) f
 
-pub field_read : (read : Reader) (ts : List Item) (cs : List ℕ) (us : List Item) (t : Tree) (d : ℕ) (rest : List Item) (ds : List ℕ) → Some (cs, us) ≡ label_at ts → read us ≡ Some (t, d, rest) → ds ≡ cs → field_with read ts ≡ Some ((ds, t), d, rest)
-field_read read ts cs us t d rest ds e f g =
-    field_is read ts ∙ ap (λ v. v >>= λ x. read x.1 >>= λ u. Some ((x.0, u.0), u.1, u.2)) (sym e) ∙ ap (λ v. v >>= λ u. Some ((cs, u.0), u.1, u.2)) f ∙ ap (λ x. Some ((x, t), d, rest)) (sym g)
+abbrev named : List ℕ → ℕ → FieldName
+named cs at = record { text = cs; at = at }
+
+pub field_read : (read : Reader) (ts : List Item) (cs : List ℕ) (us : List Item) (t : Tree) (d : ℕ) (rest : List Item) (ds : List ℕ) (at : ℕ) → Some (label cs ts, us) ≡ label_at ts → read us ≡ Some (t, d, rest) → ds ≡ cs → at ≡ place ts
+    → field_with read ts ≡ Some ((named ds at, t), d, rest)
+field_read read ts cs us t d rest ds at e f g h =
+    field_is read ts ∙ ap (λ v. v >>= λ x. read x.1 >>= λ u. Some ((x.0, u.0), u.1, u.2)) (sym e) ∙ ap (λ v. v >>= λ u. Some ((label cs ts, u.0), u.1, u.2)) f
+    ∙ ap (λ x. Some ((named x (place ts), t), d, rest)) (sym g) ∙ ap (λ k. Some ((named ds k, t), d, rest)) (sym h)
 
 -- weaves
 weave_as : (n : ℕ) (inner : Line → Reader) (x : Item) (us : List Item) → atom_by n inner x us m.Opening ≡ ((loop_from (strands_turn (inner Chain)) ([], 0, us) >>= shut mark.CloseWeave) >>= λ s. within n (node x.at tree.woven (forest s.0)) (suc s.1) s.2)

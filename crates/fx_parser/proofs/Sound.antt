@@ -1,7 +1,7 @@
 -- What is accepted has a tree.
 use Rattle.std.proofs.Common.{◌≡◌, ◌⊎◌, inl, inr, ℕ, suc, max, true, false, List, [], ◌∷◌, ◌++◌, refl, ap, sym, subst, Option, Some, None}
 use Rattle.fx_lexer.specs.declared.token.Symbol.TheVariants as symbol
-use Rattle.fx_trees.specs.Tree.{Tree, node, Head, none, more, forest, names_of, parts_of}
+use Rattle.fx_trees.specs.Tree.{Tree, NamedTree, node, Head, none, more, forest, names_of, parts_of}
 use Rattle.fx_trees.specs.Tree as tree
 use Rattle.fx_grammar.specs.declared.item.Item.{Item}
 use Rattle.fx_grammar.specs.declared.item.Meaning.{Meaning}
@@ -9,7 +9,7 @@ use Rattle.fx_grammar.specs.declared.item.Meaning.TheVariants as m
 use Rattle.fx_grammar.specs.declared.line.Join.TheVariants as join
 use Rattle.fx_grammar.specs.declared.line.Separator.TheVariants.{Between, Comma}
 use Rattle.fx_grammar.specs.declared.line.Line.TheVariants.{Chain, Several, Alias, Percent, Access}
-use Rattle.fx_grammar.specs.Grammar.{separates, leaf_of, callee, Parses, ended, aliased, percent, dotted, a_global, a_call, brackets, a_record, a_list, a_weave, no_args, some_args, field, SomeFields, one_field, further_field, no_fields, some_fields, Strands, no_strands, piece, island}
+use Rattle.fx_grammar.specs.Grammar.{field_name, separates, leaf_of, callee, Parses, ended, aliased, percent, dotted, a_global, a_call, brackets, a_record, a_list, a_weave, no_args, some_args, field, SomeFields, one_field, further_field, no_fields, some_fields, Strands, no_strands, piece, island}
 use Rattle.fx_grammar.specs.Grammar.{bare, marked}
 use Rattle.fx_grammar.specs.Formulas.{no_entries, last_entry, further_entry}
 use Rattle.fx_parser.specs.declared.state.Whole.{Whole}
@@ -216,7 +216,7 @@ first_by : (w : Whole) (fs : List Frame) (x : Item) (us : List Item) → Led w f
 first_by w fs x us (inl g) y e = let k = name_at w fs us state.Colon x g in record_by _ _ y (x ∷ us) e (k.2 x k.0 k.1)
 first_by w fs x us (inr g) y e = let k = brace_from w fs us state.AfterAccess (follow_of x.meaning) x.meaning (follow_is x.meaning) g in empty_record _ _ y x us e k.0 k.1
 
-more_fields : {d : ℕ} {us : List Item} {gs : List (List ℕ × Tree)} {rest : List Item} → SomeFields d us gs rest → (ts : List Item) (x : Item) → x.meaning ≡ m.Symbol symbol.Comma → HasFields ts (x ∷ us) → HasFields ts rest
+more_fields : {d : ℕ} {us : List Item} {gs : List NamedTree} {rest : List Item} → SomeFields d us gs rest → (ts : List Item) (x : Item) → x.meaning ≡ m.Symbol symbol.Comma → HasFields ts (x ∷ us) → HasFields ts rest
 more_fields (one_field d us f rest p) ts x e h = (max h.0 d, _, further_field h.0 d ts h.1 x us f rest h.2 e p)
 more_fields (further_field d c us gs y vs f rest p g q) ts x e h = let k = more_fields p ts x e h in (max k.0 c, _, further_field k.0 c ts k.1 y vs f rest k.2 g q)
 
@@ -226,7 +226,7 @@ label_by r E ts (z ∷ u) h (inl g) = (z, u, h, g.0, g.1)
 label_by r E ts (z ∷ u) h (inr (e, (y, v, k, f, b))) = (y, v, more_fields k.2 ts z e h, f, b)
 
 colon_by : (r : Room) (E : List Item → Type 0) (y : Item) (cs : List ℕ) (x : Item) (us rest : List Item) → y.meaning ≡ m.Name cs → x.meaning ≡ m.Symbol symbol.Colon → Has (Several join.Or) us rest → Exit frame.Record r E rest → Labels r E (y ∷ x ∷ us)
-colon_by r E y cs x us rest e f h g = label_by r E (y ∷ x ∷ us) rest (h.0, (cs, h.1) ∷ [], one_field h.0 (y ∷ x ∷ us) (cs, h.1) rest (field h.0 y x cs us h.1 rest e f h.2)) g
+colon_by r E y cs x us rest e f h g = label_by r E (y ∷ x ∷ us) rest (h.0, (field_name y cs, h.1) ∷ [], one_field h.0 (y ∷ x ∷ us) (field_name y cs, h.1) rest (field h.0 y x cs us h.1 rest e f h.2)) g
 
 colon_ok : (w : Whole) (fs : List Frame) (x : Item) (us : List Item) → Led w fs us (colon x.meaning) → Wants w state.Colon fs (x ∷ us)
 colon_ok w fs x us g y cs e = let k = colon_from w fs us x.meaning g in colon_by _ _ y cs x us k.1.0 e k.0 k.1.1 k.1.2

@@ -1,6 +1,6 @@
 -- What is left behind a tree stands at the end of the tokens.
 use Rattle.std.proofs.Common.{◌≡◌, ℕ, List, [], ◌∷◌, ◌++◌, refl, ap, sym, ◌∙◌}
-use Rattle.fx_trees.specs.Tree.{Tree}
+use Rattle.fx_trees.specs.Tree.{Tree, NamedTree}
 use Rattle.fx_grammar.specs.declared.item.Item.{Item}
 use Rattle.fx_grammar.specs.declared.line.Separator.{Separator}
 use Rattle.fx_grammar.specs.declared.line.Line.{Line}
@@ -57,14 +57,14 @@ mutual
   suffix_args (no_args ts) = same ts
   suffix_args (some_args d ts ps rest h) = suffix_parts h
 
-  suffix_field : {d : ℕ} {ts : List Item} {f : List ℕ × Tree} {rest : List Item} → Field d ts f rest → Suffix ts rest
+  suffix_field : {d : ℕ} {ts : List Item} {f : NamedTree} {rest : List Item} → Field d ts f rest → Suffix ts rest
   suffix_field (field d x y cs us t rest e f p) = after (after (suffix p))
 
-  suffix_some : {d : ℕ} {ts : List Item} {fs : List (List ℕ × Tree)} {rest : List Item} → SomeFields d ts fs rest → Suffix ts rest
+  suffix_some : {d : ℕ} {ts : List Item} {fs : List NamedTree} {rest : List Item} → SomeFields d ts fs rest → Suffix ts rest
   suffix_some (one_field d ts f rest p) = suffix_field p
   suffix_some (further_field d e ts fs x us f rest h g p) = then (past (suffix_some h)) (suffix_field p)
 
-  suffix_fields : {d : ℕ} {ts : List Item} {fs : List (List ℕ × Tree)} {rest : List Item} → Fields d ts fs rest → Suffix ts rest
+  suffix_fields : {d : ℕ} {ts : List Item} {fs : List NamedTree} {rest : List Item} → Fields d ts fs rest → Suffix ts rest
   suffix_fields (no_fields ts) = same ts
   suffix_fields (some_fields d ts fs rest h) = suffix_some h
 

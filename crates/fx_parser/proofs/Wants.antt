@@ -2,7 +2,7 @@
 use Rattle.std.proofs.Common.{◌≡◌, ◌⊎◌, ℕ, suc, max, true, false, List, [], ◌∷◌, refl, Option, Some, None}
 use Rattle.fx_lexer.specs.declared.token.Symbol.TheVariants as symbol
 use Rattle.fx_lexer.specs.declared.token.Word.TheVariants as word
-use Rattle.fx_trees.specs.Tree.{Tree, node, Head, none, more, forest, names_of, parts_of}
+use Rattle.fx_trees.specs.Tree.{Tree, NamedTree, node, Head, none, more, forest, names_of, parts_of}
 use Rattle.fx_trees.specs.Tree as tree
 use Rattle.fx_grammar.specs.declared.item.Item.{Item}
 use Rattle.fx_grammar.specs.declared.item.Meaning.{Meaning}
@@ -48,7 +48,7 @@ room_in (Some frame.Record) w = or_room
 room_in (Some frame.Island) w = chain_room
 
 abbrev pub HasFields : List Item → List Item → Type 0
-HasFields ts rest = (d : ℕ) × (gs : List (List ℕ × Tree)) × SomeFields d ts gs rest
+HasFields ts rest = (d : ℕ) × (gs : List NamedTree) × SomeFields d ts gs rest
 
 abbrev pub HasStrands : List Item → List Item → Type 0
 HasStrands ts rest = (d : ℕ) × (ps : List Tree) × Strands d ts ps rest

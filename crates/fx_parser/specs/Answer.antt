@@ -1,14 +1,15 @@
 -- What the descent answers.
 use Rattle.std.specs.Prelude.{◌≡◌, ℕ, List, [], ◌∷◌, Option, Some, None, Result, Ok, Err, option_map}
 use Rattle.std.specs.Borrow.{Bor}
+use Rattle.fx_trees.specs.declared.expr.FieldName.{FieldName}
 use Rattle.fx_trees.specs.declared.expr.Op.{Op}
-use Rattle.fx_trees.specs.Tree.{Tree, Head}
+use Rattle.fx_trees.specs.Tree.{Tree, NamedTree, Head}
 use Rattle.fx_trees.specs.Tree as tree
 use Rattle.fx_parser.specs.declared.front.Sign.{Sign}
 use Rattle.fx_parser.specs.declared.front.Sign.TheVariants.{Minus, Not}
 use Rattle.fx_grammar.specs.declared.item.Item.{Item}
 use Rattle.fx_grammar.specs.declared.line.Mark.TheVariants as mark
-use Rattle.fx_grammar.specs.Reading.{◌>>=◌, Seen, Reader, after, field_with, fields_turn, loop_from}
+use Rattle.fx_grammar.specs.Reading.{◌>>=◌, Seen, Reader, after, field_with, fields_turn, label, loop_from}
 use Rattle.fx_grammar.specs.Formulas.{IsDeeper}
 use Rattle.fx_parser.specs.declared.descent_end.End.{End}
 use Rattle.fx_parser.specs.declared.descent_end.End.TheVariants.{Refused, Memory}
@@ -30,6 +31,10 @@ rest_of = option_map (λ x. x.now)
 -- the name that was sought, and the tokens after it
 abbrev pub name_of : Option (Bor (List ℕ) × Bor (List Item)) → Option (List ℕ × List Item)
 name_of = option_map (λ x. (x.0.now, x.1.now))
+
+-- the name of a field that was sought at the front of these tokens, and the tokens after its colon
+abbrev pub label_of : List Item → Option (Bor (List ℕ) × Bor (List Item)) → Option (FieldName × List Item)
+label_of ts = option_map (λ x. (label x.0.now ts, x.1.now))
 
 -- the node that a sign makes
 abbrev pub sign_head : Sign → Head
@@ -53,7 +58,7 @@ abbrev pub first_seen : Option (Bor Item × Bor (List Item)) → Option (Item ×
 first_seen = option_map (λ x. (x.0.now, x.1.now))
 
 -- one or more fields, with commas between them
-abbrev pub fields_from : Reader → List Item → Option (Seen (List (List ℕ × Tree)))
+abbrev pub fields_from : Reader → List Item → Option (Seen (List NamedTree))
 fields_from read ts = field_with read ts >>= λ u. loop_from (fields_turn read) (u.0 ∷ [], u.1, u.2)
 
 -- the tokens of a formula after a first `=`, where there is one

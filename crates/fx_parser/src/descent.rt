@@ -9,10 +9,9 @@ ghost use Rattle.fx_parser.specs.Answer.{Gives, seen, strand_seen, fields_from};
 use crate::descent_end::End;
 use crate::front::{after, between, first, label_at, operator_at, part_of, place, sign_at, under};
 use crate::tails::{alias_behind, apply, dots, gather, global, percents, shut, sign_before};
-use fx_data::words::Words;
 use fx_grammar::{Item, Join, Left, Line, Mark, Meaning, Separator};
 use fx_lexer::{Symbol, Word};
-use fx_trees::expr::{Args, Expr, Op, Parts};
+use fx_trees::expr::{Args, Expr, FieldName, Op, Parts};
 use fx_trees::make_expr;
 use std::alloc::Global;
 
@@ -378,7 +377,7 @@ fn field<'t>(
     alloc: Global,
     limit: u32,
     tokens: &'t [Item],
-) -> Result<((Words, Expr), u32, &'t [Item]), End>
+) -> Result<((FieldName, Expr), u32, &'t [Item]), End>
     ensures gives { Gives seen result (read.field_with (read.line_at limit (Line.Several Join.Or)) tokens.now) }
     ensures shallow { IfOk result (λ x. x.1 ≤ limit) }
     ensures shorter { IfOk result (λ x. length x.2.now < length tokens.now) }
@@ -387,7 +386,11 @@ fn field<'t>(
         None => Err(End::Refused),
         Some((name, others)) => {
             let (tree, depth, rest) = line(alloc, Line::Several(Join::Or), limit, others)?;
-            Ok(((name.copy(alloc)?, tree), depth, rest))
+            let name = FieldName {
+                text: name.copy(alloc)?,
+                at: place(tokens),
+            };
+            Ok(((name, tree), depth, rest))
         }
     }
 }

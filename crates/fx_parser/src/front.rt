@@ -2,7 +2,7 @@
 ghost use Rattle.std.specs.Prelude.{◌≡◌, ◌<◌, Option, IfSome, option_map, length};
 ghost use Rattle.fx_grammar.specs.Grammar as grammar;
 ghost use Rattle.fx_grammar.specs.Reading as read;
-ghost use Rattle.fx_parser.specs.Answer.{rest_of, name_of, sign_of, first_of, first_seen};
+ghost use Rattle.fx_parser.specs.Answer.{label_of, rest_of, name_of, sign_of, first_of, first_seen};
 
 use fx_data::words::Words;
 use fx_grammar::{Item, Join, Left, Line, Mark, Meaning, Separator};
@@ -123,7 +123,7 @@ pub fn name_after(mark: Mark, tokens: &[Item]) -> Option<(&Words, &[Item])>
 
 /// The name of a field, and the tokens after its colon.
 pub fn label_at(tokens: &[Item]) -> Option<(&Words, &[Item])>
-    ensures value { name_of result ≡ read.label_at tokens.now }
+    ensures value { label_of tokens.now result ≡ read.label_at tokens.now }
     ensures shorter { IfSome result (λ x. length x.1.now < length tokens.now) }
 {
     match name_at(tokens) {

@@ -9,7 +9,8 @@ use Rattle.fx_lexer.specs.declared.element.Enclosing.TheVariants as around
 use Rattle.fx_lexer.specs.declared.element.Mode.TheVariants.{Formula}
 use Rattle.fx_lexer.specs.Spelling.{symbol_spelling}
 use Rattle.fx_lexer.specs.Lexed.{width, mode_in, after}
-use Rattle.fx_trees.specs.Tree.{Tree, node, Head, Forest, none, more, forest, names_of, parts_of}
+use Rattle.fx_trees.specs.declared.expr.FieldName.{FieldName}
+use Rattle.fx_trees.specs.Tree.{Tree, NamedTree, node, Head, Forest, none, more, forest, names_of, places_of, parts_of}
 use Rattle.fx_trees.specs.Tree as tree
 use Rattle.fx_grammar.specs.declared.item.Item.{Item}
 use Rattle.fx_grammar.specs.declared.item.Meaning.{Meaning}
@@ -19,9 +20,9 @@ use Rattle.fx_grammar.specs.declared.line.Join.TheVariants as join
 use Rattle.fx_grammar.specs.declared.line.Separator.{Separator}
 use Rattle.fx_grammar.specs.declared.line.Separator.TheVariants.{Between, Comma}
 use Rattle.fx_grammar.specs.declared.line.Line.TheVariants.{Several, Atom}
-use Rattle.fx_grammar.specs.Grammar.{place, separates, part_of, head_of, callee, Parses, many, a_call, a_record, a_list, Parts, alone, further, Args, no_args, some_args, Field, field, SomeFields, one_field, further_field, Fields, no_fields, some_fields}
+use Rattle.fx_grammar.specs.Grammar.{field_name, place, separates, part_of, head_of, callee, Parses, many, a_call, a_record, a_list, Parts, alone, further, Args, no_args, some_args, Field, field, SomeFields, one_field, further_field, Fields, no_fields, some_fields}
 use Rattle.fx_printer.specs.Printing.{spaced, name_text, and_text, or_text, cat_text, comma_text, chain_text, label_text, in_brackets}
-use Rattle.fx_printer.specs.SameTree.{unplaced, all_unplaced}
+use Rattle.fx_printer.specs.SameTree.{unplaced, all_unplaced, unplaced_head}
 use Rattle.fx_printer.specs.Fewest.{count}
 use Rattle.fx_lexer.proofs.Follows.{SymbolEnds}
 use Rattle.fx_printer.proofs.Ahead.{Rest, tok, space_then, sign_then, name_then, Safe, safe_space, safe_open, safe_close, safe_comma, safe_colon, safe_semicolon, safe_bracket, safe_brace}
@@ -185,7 +186,7 @@ several_is j es a v t u us p k n f r =
     }
   where
     by : (j : Join) (a b : ℕ) (ts us : Forest) → all_unplaced ts ≡ all_unplaced us → unplaced (node a (head_of j) ts) ≡ unplaced (node b (head_of j) us)
-    by j a b ts us e = ap (node 0 (head_of j)) e
+    by j a b ts us e = ap (node 0 (unplaced_head (head_of j))) e
 
 -- arguments, which there may be none of
 pub record ToldArgs (w : Weight) (xs : List Item) (ts : Forest) (n : ℕ → List Item) : Type 0 where
@@ -229,7 +230,7 @@ call_is {w = c} es a j xs g hd v ts h e lead p k n f r =
             to = x.to + width (41 ∷ []);
             depth = suc x.depth;
             seen = node at hd (forest x.trees);
-            same = ap (node 0 hd) x.same;
+            same = ap (node 0 (unplaced_head hd)) x.same;
             parses = a_call x.depth (tok j xs g at) (tok (kind.Symbol symbol.OpenParen) (40 ∷ []) (m.Symbol symbol.OpenParen) i) hd (q.items (i + width (40 ∷ []))) x.trees (tok (kind.Symbol symbol.CloseParen) (41 ∷ []) (m.Symbol symbol.CloseParen) x.to) (n (x.to + width (41 ∷ []))) e refl x.args refl;
             counted = λ i j. let o = x.counted i j in let u = callee_counts g hd i j e in omega (arith, o, u);
           };
@@ -263,7 +264,9 @@ pub record ToldField (w : Weight) (xs : List Item) (name : List ℕ) (t : Tree) 
   pub depth : ℕ
   pub seen : Tree
   pub same : unplaced seen ≡ unplaced t
-  pub parses : Field depth xs (name, seen) (n to)
+  pub label : FieldName
+  pub labelled : label.text ≡ name
+  pub parses : Field depth xs (label, seen) (n to)
   pub counted : (i j : ℕ) → count i j xs ≡ w i j + count i j (n to)
 
 pub record SaysField (w : Weight) (es : List Enclosing) (cs : List ℕ) (name : List ℕ) (t : Tree) (n : ℕ → List Item) : Type 0 where
@@ -288,6 +291,8 @@ field_is {x = a} es c cs v t h p k n f r =
             depth = x.depth;
             seen = x.seen;
             same = x.same;
+            label = field_name (tok kind.Name w (m.Name (c ∷ cs)) at) (c ∷ cs);
+            labelled = refl;
             parses = field x.depth (tok kind.Name w (m.Name (c ∷ cs)) at) (tok (kind.Symbol symbol.Colon) (58 ∷ []) (m.Symbol symbol.Colon) i) (c ∷ cs) (q.items j) x.seen (n x.to) refl refl x.parses;
             counted = λ g l. let o = x.counted g l in omega (arith, o);
           };
@@ -296,10 +301,10 @@ field_is {x = a} es c cs v t h p k n f r =
 
 pub record GoesFields (w : Weight) (xs : List Item) (ns : List (List ℕ)) (ts : Forest) (n : ℕ → List Item) : Type 0 where
   pub to : ℕ
-  pub fields : List (List ℕ × Tree)
+  pub fields : List NamedTree
   pub names : names_of fields ≡ ns
   pub same : all_unplaced (parts_of fields) ≡ all_unplaced ts
-  pub joins : (d : ℕ) (ws : List Item) (fs : List (List ℕ × Tree)) → SomeFields d ws fs xs → (e : ℕ) × SomeFields e ws (fs ++ fields) (n to)
+  pub joins : (d : ℕ) (ws : List Item) (fs : List NamedTree) → SomeFields d ws fs xs → (e : ℕ) × SomeFields e ws (fs ++ fields) (n to)
   pub counted : (i j : ℕ) → count i j xs ≡ w i j + count i j (n to)
 
 pub record SaysOnFields (w : Weight) (es : List Enclosing) (cs : List ℕ) (ns : List (List ℕ)) (ts : Forest) (n : ℕ → List Item) : Type 0 where
@@ -331,11 +336,11 @@ more_fields_is {x = m1} {y = m2} es c cs v w ns t ts h safe p q k n f r =
       goes = λ at.
           let g = x.told (z.go at) in
           let i = y.goes g.to in
-          let one : List ℕ × Tree = (c ∷ cs, g.seen) in
+          let one : NamedTree = (g.label, g.seen) in
           record {
             to = i.to;
             fields = one ∷ i.fields;
-            names = ap (λ a. (c ∷ cs) ∷ a) i.names;
+            names = λ j. g.labelled j ∷ i.names j;
             same = λ j. more (g.same j) (i.same j);
             joins = λ d ws fs u.
                 let a = i.joins (max d g.depth) ws (fs ++ one ∷ []) (further_field d g.depth ws fs (z.front at) (x.items (z.go at)) one (y.items g.to) u (is_comma (z.front at).meaning (z.divides at)) g.parses) in
@@ -356,7 +361,7 @@ more_fields_is {x = m1} {y = m2} es c cs v w ns t ts h safe p q k n f r =
 pub record ToldFields (w : Weight) (xs : List Item) (ns : List (List ℕ)) (ts : Forest) (n : ℕ → List Item) : Type 0 where
   pub to : ℕ
   pub depth : ℕ
-  pub fields : List (List ℕ × Tree)
+  pub fields : List NamedTree
   pub names : names_of fields ≡ ns
   pub same : all_unplaced (parts_of fields) ≡ all_unplaced ts
   pub parses : Fields depth xs fields (n to)
@@ -385,17 +390,17 @@ some_fields_is {x = m1} {y = m2} es c cs v w ns t ts h safe p q k n f r =
       told = λ at.
           let g = x.told at in
           let i = y.goes g.to in
-          let one : List ℕ × Tree = (c ∷ cs, g.seen) in
+          let one : NamedTree = (g.label, g.seen) in
           let a = i.joins g.depth (x.items at) (one ∷ []) (one_field g.depth (x.items at) one (y.items g.to) g.parses) in
-          record { to = i.to; depth = a.0; fields = one ∷ i.fields; names = ap (λ e. (c ∷ cs) ∷ e) i.names; same = λ j. more (g.same j) (i.same j); parses = some_fields a.0 (x.items at) (one ∷ i.fields) (n i.to) a.1; counted = λ o r. let u = g.counted o r in let v = i.counted o r in omega (arith, u, v) };
+          record { to = i.to; depth = a.0; fields = one ∷ i.fields; names = λ j. g.labelled j ∷ i.names j; same = λ j. more (g.same j) (i.same j); parses = some_fields a.0 (x.items at) (one ∷ i.fields) (n i.to) a.1; counted = λ o r. let u = g.counted o r in let v = i.counted o r in omega (arith, u, v) };
     } in
     subst (λ a. SaysFields (λ i j. m1 i j + m2 i j) es a ((c ∷ cs) ∷ ns) (more t ts) n) (sym (append_assoc l (v ++ w) k ∙ ap (λ a. l ++ a) (append_assoc v w k))) on
 
-pub record_is : {w : Weight} (es : List Enclosing) (a : ℕ) (v : List ℕ) (ns : List (List ℕ)) (ts : Forest) → mode_in es ≡ Formula → SpeaksFields w (around.Brace ∷ es) v ns ts → Speaks w Atom es (123 ∷ (v ++ 125 ∷ [])) (node a (tree.rec ns) ts)
-record_is {w = c} es a v ns ts h p k n f r =
+pub record_is : {w : Weight} (es : List Enclosing) (a : ℕ) (v : List ℕ) (ns : List (List ℕ)) (ps : List ℕ) (ts : Forest) → mode_in es ≡ Formula → SpeaksFields w (around.Brace ∷ es) v ns ts → Speaks w Atom es (123 ∷ (v ++ 125 ∷ [])) (node a (tree.rec ns ps) ts)
+record_is {w = c} es a v ns ps ts h p k n f r =
     let q = p (125 ∷ k) _ (safe_brace k) (sign_then symbol.CloseBrace (around.Brace ∷ es) es k n refl refl tt r) in
     let b = sign_then symbol.OpenBrace es (around.Brace ∷ es) (v ++ 125 ∷ k) q.items h refl tt q.rest in
-    let z : Says c Atom es (123 ∷ (v ++ 125 ∷ k)) (node a (tree.rec ns) ts) n = record {
+    let z : Says c Atom es (123 ∷ (v ++ 125 ∷ k)) (node a (tree.rec ns ps) ts) n = record {
       items = _;
       rest = b;
       told = λ at.
@@ -403,8 +408,8 @@ record_is {w = c} es a v ns ts h p k n f r =
           let x = q.told i in record {
             to = x.to + width (125 ∷ []);
             depth = suc x.depth;
-            seen = node at (tree.rec (names_of x.fields)) (parts_of x.fields);
-            same = λ j. node 0 (tree.rec (x.names j)) (x.same j);
+            seen = node at (tree.rec (names_of x.fields) (places_of x.fields)) (parts_of x.fields);
+            same = λ j. node 0 (tree.rec (x.names j) []) (x.same j);
             parses = a_record x.depth (tok (kind.Symbol symbol.OpenBrace) (123 ∷ []) (m.Symbol symbol.OpenBrace) at) (q.items i) x.fields (tok (kind.Symbol symbol.CloseBrace) (125 ∷ []) (m.Symbol symbol.CloseBrace) x.to) (n (x.to + width (125 ∷ []))) refl x.parses refl;
             counted = λ i j. let o = x.counted i j in omega (arith, o);
           };

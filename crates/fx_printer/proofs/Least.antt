@@ -4,7 +4,7 @@ use Rattle.fx_lexer.specs.declared.token.Symbol.TheVariants as symbol
 use Rattle.fx_lexer.specs.declared.token.Word.TheVariants as word
 use Rattle.fx_trees.specs.declared.expr.Op.{Op}
 use Rattle.fx_trees.specs.declared.expr.Op.TheVariants as op
-use Rattle.fx_trees.specs.Tree.{Tree, node, Head, Forest, none, more, forest, names_of, parts_of}
+use Rattle.fx_trees.specs.Tree.{Tree, NamedTree, node, Head, Forest, none, more, forest, names_of, parts_of}
 use Rattle.fx_trees.specs.Tree as tree
 use Rattle.fx_grammar.specs.declared.item.Item.{Item}
 use Rattle.fx_grammar.specs.declared.item.Meaning.{Meaning}
@@ -33,7 +33,7 @@ LeastIn l ts t rest = Least (λ b c. cost b c l t) ts rest
 abbrev LeastParts : Separator → List Item → List Tree → List Item → Type 0
 LeastParts s ts ps rest = Least (λ b c. weight_parts b c (between_count c s) (part_of s) (forest ps)) ts rest
 
-abbrev LeastFields : List Item → List (List ℕ × Tree) → List Item → Type 0
+abbrev LeastFields : List Item → List NamedTree → List Item → Type 0
 LeastFields ts fs rest = Least (λ b c. weight_parts b c c (Several join.Or) (parts_of fs)) ts rest
 
 abbrev LeastStrands : List Item → List Tree → List Item → Type 0
@@ -60,11 +60,11 @@ parts_join : (b c k : ℕ) (l : Line) (ps : List Tree) (t : Tree) → weight_par
 parts_join b c k l [] t = omega arith
 parts_join b c k l (p ∷ ps) t = let h = further_joins b c k l ps t in omega (arith, h)
 
-further_fields_join : (b c k : ℕ) (l : Line) (fs : List (List ℕ × Tree)) (f : List ℕ × Tree) → weight_further b c k l (parts_of (fs ++ f ∷ [])) ≡ weight_further b c k l (parts_of fs) + (k + cost b c l f.1)
+further_fields_join : (b c k : ℕ) (l : Line) (fs : List NamedTree) (f : NamedTree) → weight_further b c k l (parts_of (fs ++ f ∷ [])) ≡ weight_further b c k l (parts_of fs) + (k + cost b c l f.1)
 further_fields_join b c k l [] f = omega arith
 further_fields_join b c k l (g ∷ fs) f = let h = further_fields_join b c k l fs f in omega (arith, h)
 
-fields_join : (b c k : ℕ) (l : Line) (fs : List (List ℕ × Tree)) (f : List ℕ × Tree) → weight_parts b c k l (parts_of (fs ++ f ∷ [])) ≤ weight_parts b c k l (parts_of fs) + (k + cost b c l f.1)
+fields_join : (b c k : ℕ) (l : Line) (fs : List NamedTree) (f : NamedTree) → weight_parts b c k l (parts_of (fs ++ f ∷ [])) ≤ weight_parts b c k l (parts_of fs) + (k + cost b c l f.1)
 fields_join b c k l [] f = omega arith
 fields_join b c k l (g ∷ fs) f = let h = further_fields_join b c k l fs f in omega (arith, h)
 
@@ -290,17 +290,17 @@ mutual
   least_args (no_args ts) = none_is ts (λ b c. refl)
   least_args (some_args d ts ps rest p) = least_parts p
 
-  least_field : {d : ℕ} {ts : List Item} {f : List ℕ × Tree} {rest : List Item} → Field d ts f rest → LeastIn (Several join.Or) ts f.1 rest
+  least_field : {d : ℕ} {ts : List Item} {f : NamedTree} {rest : List Item} → Field d ts f rest → LeastIn (Several join.Or) ts f.1 rest
   least_field (field d x y cs us t rest e f p) =
       let i : LeastIn (Several join.Or) (y ∷ us) t rest = led us rest y (is y (m.Symbol symbol.Colon) f (λ b c. refl)) (least p) (λ b c. omega arith) in
       led (y ∷ us) rest x (is x (m.Name cs) e (λ b c. refl)) i (λ b c. omega arith)
 
-  least_some_fields : {d : ℕ} {ts : List Item} {fs : List (List ℕ × Tree)} {rest : List Item} → SomeFields d ts fs rest → LeastFields ts fs rest
+  least_some_fields : {d : ℕ} {ts : List Item} {fs : List NamedTree} {rest : List Item} → SomeFields d ts fs rest → LeastFields ts fs rest
   least_some_fields (one_field d ts f rest p) = lower ts rest (least_field p) (λ b c. omega arith)
   least_some_fields (further_field d e ts fs x us f rest p g q) =
       joined (λ c. c) ts us rest x (λ b c. ap (counts b c) g) (least_some_fields p) (least_field q) (λ b c. fields_join b c c (Several join.Or) fs f)
 
-  least_fields : {d : ℕ} {ts : List Item} {fs : List (List ℕ × Tree)} {rest : List Item} → Fields d ts fs rest → LeastFields ts fs rest
+  least_fields : {d : ℕ} {ts : List Item} {fs : List NamedTree} {rest : List Item} → Fields d ts fs rest → LeastFields ts fs rest
   least_fields (no_fields ts) = none_is ts (λ b c. refl)
   least_fields (some_fields d ts fs rest p) = least_some_fields p
 

@@ -12,7 +12,7 @@ use Rattle.fx_lexer.specs.Spelling.{class_at, is_quote, doubled}
 use Rattle.fx_lexer.specs.Lexed.{Lexeme, mode_in, Reads, stop, skip, token}
 use Rattle.fx_trees.specs.declared.expr.Op.{Op}
 use Rattle.fx_trees.specs.declared.expr.Op.TheVariants as op
-use Rattle.fx_trees.specs.Tree.{Tree, node, Head, Forest, none, more, forest, names_of, parts_of}
+use Rattle.fx_trees.specs.Tree.{Tree, NamedTree, node, Head, Forest, none, more, forest, names_of, places_of, parts_of}
 use Rattle.fx_trees.specs.Tree as tree
 use Rattle.fx_grammar.specs.declared.item.Item.{Item}
 use Rattle.fx_grammar.specs.declared.item.Meaning.{Meaning}
@@ -58,7 +58,7 @@ mutual
     proper_any : (a : ℕ) (t u : Tree) (us : Forest) → Proper t → AllProper (more u us) → Proper (node a tree.any (more t (more u us)))
     proper_chain : (a : ℕ) (t u : Tree) (us : Forest) → Proper t → AllProper (more u us) → Proper (node a tree.chain (more t (more u us)))
     proper_alias : (a : ℕ) (cs : List ℕ) (t : Tree) → HasSome cs → Proper t → Proper (node a (tree.alias cs) (more t none))
-    proper_record : (a : ℕ) (ns : List (List ℕ)) (ts : Forest) → ProperFields ns ts → Proper (node a (tree.rec ns) ts)
+    proper_record : (a : ℕ) (ns : List (List ℕ)) (ps : List ℕ) (ts : Forest) → ProperFields ns ts → Proper (node a (tree.rec ns ps) ts)
     proper_list : (a : ℕ) (ts : Forest) → AllProper ts → Proper (node a tree.list ts)
     proper_woven : (a : ℕ) (ts : Forest) → AllProper ts → Proper (node a tree.woven ts)
 
@@ -90,9 +90,9 @@ push : (ps : List Tree) (t : Tree) → AllProper (forest ps) → Proper t → Al
 push [] t p h = proper_more t none h proper_none
 push (u ∷ ps) t p h = let s = split p in proper_more u (forest (ps ++ t ∷ [])) s.0 (push ps t s.1 h)
 
-push_field : (fs : List (List ℕ × Tree)) (f : List ℕ × Tree) → ProperFields (names_of fs) (parts_of fs) → HasSome f.0 → Proper f.1 → ProperFields (names_of (fs ++ f ∷ [])) (parts_of (fs ++ f ∷ []))
-push_field [] f p g h = proper_more_fields f.0 [] f.1 none g h proper_no_fields
-push_field (e ∷ fs) f p g h = let s = split_fields p in proper_more_fields e.0 (names_of (fs ++ f ∷ [])) e.1 (parts_of (fs ++ f ∷ [])) s.0 s.1 (push_field fs f s.2 g h)
+push_field : (fs : List NamedTree) (f : NamedTree) → ProperFields (names_of fs) (parts_of fs) → HasSome f.0.text → Proper f.1 → ProperFields (names_of (fs ++ f ∷ [])) (parts_of (fs ++ f ∷ []))
+push_field [] f p g h = proper_more_fields f.0.text [] f.1 none g h proper_no_fields
+push_field (e ∷ fs) f p g h = let s = split_fields p in proper_more_fields e.0.text (names_of (fs ++ f ∷ [])) e.1 (parts_of (fs ++ f ∷ [])) s.0 s.1 (push_field fs f s.2 g h)
 
 all_is : (a : ℕ) (ts : Forest) → AllProper ts → Proper (node a tree.all ts)
 all_is a none p = proper_no_all a
@@ -168,7 +168,7 @@ mutual
   proper (a_global x y z cs rest e f g) b = let c = b.1 in let k = c.1 in (proper_global x.at cs (named y.meaning cs f c.0), k.1)
   proper (a_call d x y h us ps z rest e f k g) b = let c = b.1 in let r = proper_args k c.1 in (callee_proper x.at x.meaning h (forest ps) b.0 e r.0, r.1.1)
   proper (brackets d x us t y rest e p f) b = let r = proper p b.1 in (r.0, r.1.1)
-  proper (a_record d x us fs y rest e k f) b = let r = proper_fields k b.1 in (proper_record x.at (names_of fs) (parts_of fs) r.0, r.1.1)
+  proper (a_record d x us fs y rest e k f) b = let r = proper_fields k b.1 in (proper_record x.at (names_of fs) (places_of fs) (parts_of fs) r.0, r.1.1)
   proper (a_list d x us ps y rest e k f) b = let r = proper_args k b.1 in (proper_list x.at (forest ps) r.0, r.1.1)
   proper (a_weave d x us ps y rest e k f) b = let r = proper_strands k b.1 in (proper_woven x.at (forest ps) r.0, r.1.1)
 
@@ -180,14 +180,14 @@ mutual
   proper_args (no_args ts) b = (proper_none, b)
   proper_args (some_args d ts ps rest h) b = proper_parts h b
 
-  pub proper_field : {d : ℕ} {ts : List Item} {f : List ℕ × Tree} {rest : List Item} → Field d ts f rest → AllGood ts → (HasSome f.0 × Proper f.1) × AllGood rest
+  pub proper_field : {d : ℕ} {ts : List Item} {f : NamedTree} {rest : List Item} → Field d ts f rest → AllGood ts → (HasSome f.0.text × Proper f.1) × AllGood rest
   proper_field (field d x y cs us t rest e f p) b = let c = b.1 in let r = proper p c.1 in ((named x.meaning cs e b.0, r.0), r.1)
 
-  pub proper_some : {d : ℕ} {ts : List Item} {fs : List (List ℕ × Tree)} {rest : List Item} → SomeFields d ts fs rest → AllGood ts → ProperFields (names_of fs) (parts_of fs) × AllGood rest
-  proper_some (one_field d ts f rest p) b = let r = proper_field p b in let q = r.0 in (proper_more_fields f.0 [] f.1 none q.0 q.1 proper_no_fields, r.1)
+  pub proper_some : {d : ℕ} {ts : List Item} {fs : List NamedTree} {rest : List Item} → SomeFields d ts fs rest → AllGood ts → ProperFields (names_of fs) (parts_of fs) × AllGood rest
+  proper_some (one_field d ts f rest p) b = let r = proper_field p b in let q = r.0 in (proper_more_fields f.0.text [] f.1 none q.0 q.1 proper_no_fields, r.1)
   proper_some (further_field d e ts fs x us f rest h g p) b = let r = proper_some h b in let s = proper_field p r.1.1 in let q = s.0 in (push_field fs f r.0 q.0 q.1, s.1)
 
-  pub proper_fields : {d : ℕ} {ts : List Item} {fs : List (List ℕ × Tree)} {rest : List Item} → Fields d ts fs rest → AllGood ts → ProperFields (names_of fs) (parts_of fs) × AllGood rest
+  pub proper_fields : {d : ℕ} {ts : List Item} {fs : List NamedTree} {rest : List Item} → Fields d ts fs rest → AllGood ts → ProperFields (names_of fs) (parts_of fs) × AllGood rest
   proper_fields (no_fields ts) b = (proper_no_fields, b)
   proper_fields (some_fields d ts fs rest h) b = proper_some h b
 

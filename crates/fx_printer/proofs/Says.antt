@@ -124,7 +124,7 @@ leaf_text (proper_one_any a t p) = tt
 leaf_text (proper_any a t u us p q) = tt
 leaf_text (proper_chain a t u us p q) = tt
 leaf_text (proper_alias a cs t h p) = tt
-leaf_text (proper_record a ns ts p) = tt
+leaf_text (proper_record a ns ps ts p) = tt
 leaf_text (proper_list a ts p) = tt
 leaf_text (proper_woven a ts p) = tt
 
@@ -162,7 +162,7 @@ mutual
   says (proper_chain a t u us p q) es e = several_is join.Chain es a (shown_parts chain_text (Several join.Or) (more t (more u us))) t u us (parts_is (Between join.Chain) es (within (Several join.Or) t (shown t)) (shown_further chain_text (Several join.Or) (more u us)) t (more u us) (further_safe (Between join.Chain) chain_text es (semicolons es e) (Several join.Or) (more u us)) (within_is (Several join.Or) es t e (says p es e)) (says_on q (Between join.Chain) chain_text es e (semicolons es e)))
   says (proper_alias a [] t h p) es e = absurd h
   says (proper_alias a (c ∷ cs) t h p) es e = alias_is es a c cs (within Prefix t (shown t)) t e (within_is Prefix es t e (says p es e))
-  says (proper_record a ns ts p) es e = record_is es a (shown_fields ns ts) ns ts e (says_fields p (around.Brace ∷ es) refl)
+  says (proper_record a ns ps ts p) es e = record_is es a (shown_fields ns ts) ns ps ts e (says_fields p (around.Brace ∷ es) refl)
   says (proper_list a ts p) es e = list_is es a (shown_parts comma_text Chain ts) ts e (says_args p es e)
   says (proper_woven a ts p) es e = woven_is es a (shown_strands false ts) ts e (says_strands p false es)
 

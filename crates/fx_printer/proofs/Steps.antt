@@ -24,7 +24,7 @@ use Rattle.fx_grammar.specs.declared.line.Line.{Line}
 use Rattle.fx_grammar.specs.declared.line.Line.TheVariants.{Chain, Several, By, Alias, Prefix, Power, Percent, Access, Atom}
 use Rattle.fx_grammar.specs.Grammar.{place, operator, sign, leaf_of, Parses, next, aliased, signed, raised, percent, dotted, leaf, a_global, brackets}
 use Rattle.fx_printer.specs.Printing.{looseness, line_of_op, left_line, right_line, operator_spelling, spaced, name_text, line_of, within, shown}
-use Rattle.fx_printer.specs.SameTree.{unplaced}
+use Rattle.fx_printer.specs.SameTree.{unplaced, unplaced_head}
 use Rattle.fx_printer.specs.Fewest.{counts, count}
 use Rattle.fx_lexer.proofs.Follows.{SymbolEnds}
 use Rattle.fx_printer.proofs.Ahead.{Rest, tok, space_then, sign_then, word_then, name_then, name_no_digit, Safe, safe_space, safe_close, safe_bracket, safe_percent, safe_dot}
@@ -240,7 +240,7 @@ sign_is {w = c} y hd es a v t h e f ends p k n s r =
         to = x.to;
         depth = suc x.depth;
         seen = node at hd (more x.seen none);
-        same = λ i. node 0 hd (more (x.same i) none);
+        same = λ i. node 0 (unplaced_head hd) (more (x.same i) none);
         parses = signed x.depth (tok (kind.Symbol y) (symbol_spelling y) (m.Symbol y) at) hd (q.items (at + width (symbol_spelling y))) x.seen (n x.to) e x.parses;
         counted = λ i j.
             let a = x.counted i j in

@@ -43,7 +43,7 @@ mutual
   weight_unplaced b c (node at tree.any ts) = by_several (is_several (all_unplaced ts)) (is_several ts) _ _ _ _ (several_unplaced ts) (parts_unplaced b c 0 (Several join.And) ts) (ap (λ x. b + x) (parts_unplaced b c c Chain ts))
   weight_unplaced b c (node at tree.chain ts) = parts_unplaced b c 0 (Several join.Or) ts
   weight_unplaced b c (node at (tree.alias cs) ts) = part_unplaced b c Prefix ts
-  weight_unplaced b c (node at (tree.rec ns) ts) = parts_unplaced b c c (Several join.Or) ts
+  weight_unplaced b c (node at (tree.rec ns ps) ts) = parts_unplaced b c c (Several join.Or) ts
   weight_unplaced b c (node at tree.list ts) = parts_unplaced b c c Chain ts
   weight_unplaced b c (node at tree.woven ts) = strands_unplaced b c ts
   weight_unplaced b c (node at h ts) = refl

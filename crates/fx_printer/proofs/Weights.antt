@@ -39,7 +39,7 @@ abbrev mutual
   weight b c (node at tree.any ts) = cond (is_several ts) (weight_parts b c 0 (Several join.And) ts) (b + weight_parts b c c Chain ts)
   weight b c (node at tree.chain ts) = weight_parts b c 0 (Several join.Or) ts
   weight b c (node at (tree.alias cs) ts) = weight_part b c Prefix ts
-  weight b c (node at (tree.rec ns) ts) = weight_parts b c c (Several join.Or) ts
+  weight b c (node at (tree.rec ns ps) ts) = weight_parts b c c (Several join.Or) ts
   weight b c (node at tree.list ts) = weight_parts b c c Chain ts
   weight b c (node at tree.woven ts) = weight_strands b c ts
   weight b c (node at h ts) = 0

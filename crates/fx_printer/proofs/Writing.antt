@@ -11,7 +11,7 @@ use Rattle.std.proofs.lemmas.Str.Ascii.{IsAscii-nil, IsAscii-from_all}
 use Rattle.std.proofs.lemmas.Int.{ints}
 use Rattle.fx_number.specs.Decimal.{greatest, IsInRange}
 use Rattle.fx_number.specs.Spelling.{text_of, magnitude_text, point_and}
-use Rattle.fx_trees.specs.Tree.{Tree, forest, names_of, parts_of}
+use Rattle.fx_trees.specs.Tree.{Tree, NamedTree, forest, names_of, parts_of}
 use Rattle.fx_grammar.specs.declared.line.Line.{Line}
 use Rattle.fx_grammar.specs.declared.line.Line.TheVariants.{Several}
 use Rattle.fx_grammar.specs.declared.line.Join.TheVariants as join
@@ -39,11 +39,11 @@ further_more b l ps i d h = at_drop_more (λ xs. shown_further b l (forest xs)) 
 pub further_end : (b : List ℕ) (l : Line) (ps : List Tree) (i : ℕ) → length ps ≤ i → shown_further b l (forest (drop i ps)) ≡ []
 further_end b l ps i h = at_drop_all (λ xs. shown_further b l (forest xs)) ps i h
 
-pub fields_more : (fs : List (List ℕ × Tree)) (i : ℕ) (d : List ℕ × Tree) → i < length fs
-    → shown_further_fields (names_of (drop i fs)) (parts_of (drop i fs)) ≡ comma_text ++ (label_text (get_or fs i d).0 ++ (within (Several join.Or) (get_or fs i d).1 (shown (get_or fs i d).1) ++ shown_further_fields (names_of (drop (i + 1) fs)) (parts_of (drop (i + 1) fs))))
+pub fields_more : (fs : List NamedTree) (i : ℕ) (d : NamedTree) → i < length fs
+    → shown_further_fields (names_of (drop i fs)) (parts_of (drop i fs)) ≡ comma_text ++ (label_text (get_or fs i d).0.text ++ (within (Several join.Or) (get_or fs i d).1 (shown (get_or fs i d).1) ++ shown_further_fields (names_of (drop (i + 1) fs)) (parts_of (drop (i + 1) fs))))
 fields_more fs i d h = at_drop_more (λ xs. shown_further_fields (names_of xs) (parts_of xs)) fs i d h
 
-pub fields_end : (fs : List (List ℕ × Tree)) (i : ℕ) → length fs ≤ i → shown_further_fields (names_of (drop i fs)) (parts_of (drop i fs)) ≡ []
+pub fields_end : (fs : List NamedTree) (i : ℕ) → length fs ≤ i → shown_further_fields (names_of (drop i fs)) (parts_of (drop i fs)) ≡ []
 fields_end fs i h = at_drop_all (λ xs. shown_further_fields (names_of xs) (parts_of xs)) fs i h
 
 pub strands_more : (after : Bool) (ps : List Tree) (i : ℕ) (d : Tree) → i < length ps

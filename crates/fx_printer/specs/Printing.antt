@@ -197,7 +197,7 @@ abbrev mutual
   shown (node at tree.any ts) = if is_several ts then shown_parts or_text (Several join.And) ts else word_spelling word.Or ++ in_brackets (shown_parts comma_text Chain ts)
   shown (node at tree.chain ts) = shown_parts chain_text (Several join.Or) ts
   shown (node at (tree.alias cs) ts) = shown_part Prefix ts ++ (spaced (word_spelling word.As) ++ name_text cs)
-  shown (node at (tree.rec ns) ts) = symbol_spelling symbol.OpenBrace ++ (shown_fields ns ts ++ symbol_spelling symbol.CloseBrace)
+  shown (node at (tree.rec ns ps) ts) = symbol_spelling symbol.OpenBrace ++ (shown_fields ns ts ++ symbol_spelling symbol.CloseBrace)
   shown (node at tree.list ts) = symbol_spelling symbol.OpenBracket ++ (shown_parts comma_text Chain ts ++ symbol_spelling symbol.CloseBracket)
   shown (node at tree.woven ts) = 36 ∷ 34 ∷ (shown_strands false ts ++ 34 ∷ [])
 

@@ -1,12 +1,18 @@
 -- Trees that differ in positions alone.
-use Rattle.std.specs.Prelude.{◌≡◌, ℕ, List}
-use Rattle.fx_trees.specs.Tree.{Tree, node, Forest, none, more}
+use Rattle.std.specs.Prelude.{◌≡◌, ℕ, List, []}
+use Rattle.fx_trees.specs.Tree.{Tree, node, Head, Forest, none, more}
+use Rattle.fx_trees.specs.Tree as tree
 use Rattle.fx_grammar.specs.Formulas.{HasTree}
+
+-- a head without the positions of names
+abbrev pub unplaced_head : Head → Head
+unplaced_head (tree.rec ns ps) = tree.rec ns []
+unplaced_head h = h
 
 -- the tree with 0 for each position
 abbrev mutual
   pub unplaced : Tree → Tree
-  unplaced (node at h ts) = node 0 h (all_unplaced ts)
+  unplaced (node at h ts) = node 0 (unplaced_head h) (all_unplaced ts)
 
   pub all_unplaced : Forest → Forest
   all_unplaced none = none

@@ -19,7 +19,7 @@ use fx_data::words::Words;
 use fx_grammar::{Join, Left, Line};
 use fx_lexer::Word;
 use fx_number::Num;
-use fx_trees::expr::{Expr, Node, Op};
+use fx_trees::expr::{Expr, FieldName, Node, Op};
 use std::alloc::Global;
 
 /// The text of a formula's tree, as the Power Fx formula reference spells it: one space on both sides of an operator
@@ -242,7 +242,7 @@ fn write_list(alloc: Global, parts: &[Expr], out: &mut Writer) -> Result<(), Mem
 
 /// Adds a record.
 #[cycle(print)]
-fn write_record(alloc: Global, fields: &[(Words, Expr)], out: &mut Writer) -> Result<(), Memory>
+fn write_record(alloc: Global, fields: &[(FieldName, Expr)], out: &mut Writer) -> Result<(), Memory>
     ensures { OnOk result (out.new ≡ out.old ++ 123 ∷ (shown_fields (names_of fields.now) (parts_of fields.now) ++ 125 ∷ [])) }
 {
     out.push_plain("{")?;
@@ -252,13 +252,13 @@ fn write_record(alloc: Global, fields: &[(Words, Expr)], out: &mut Writer) -> Re
 
 /// Adds fields with commas between them.
 #[cycle(print)]
-fn write_fields(alloc: Global, fields: &[(Words, Expr)], out: &mut Writer) -> Result<(), Memory>
+fn write_fields(alloc: Global, fields: &[(FieldName, Expr)], out: &mut Writer) -> Result<(), Memory>
     ensures { OnOk result (out.new ≡ out.old ++ shown_fields (names_of fields.now) (parts_of fields.now)) }
 {
     match fields {
         [] => Ok(()),
         [(name, part), others @ ..] => {
-            write_field(alloc, name, part, out)?;
+            write_field(alloc, &name.text, part, out)?;
             write_further_fields(alloc, others, out)
         }
     }
@@ -269,14 +269,14 @@ fn write_fields(alloc: Global, fields: &[(Words, Expr)], out: &mut Writer) -> Re
 #[tactic(auto, using(crate::proofs::Writing::fields_more, crate::proofs::Writing::fields_end, crate::proofs::Falls::field_falls))]
 fn write_further_fields(
     alloc: Global,
-    fields: &[(Words, Expr)],
+    fields: &[(FieldName, Expr)],
     out: &mut Writer,
 ) -> Result<(), Memory>
     ensures { OnOk result (out.new ≡ out.old ++ shown_further_fields (names_of fields.now) (parts_of fields.now)) }
 {
     for (name, part) in fields {
         out.push_plain(", ")?;
-        write_field(alloc, name, part, out)?;
+        write_field(alloc, &name.text, part, out)?;
     }
     Ok(())
 }

@@ -1,8 +1,9 @@
 -- Formulas as rose trees: a position, a head, and the parts under it.
 use Rattle.std.specs.Prelude.{ℕ, suc, ◌+◌, ℤ, Bool, List, [], ◌∷◌}
+use Rattle.fx_trees.specs.declared.expr.FieldName.{FieldName}
 use Rattle.fx_trees.specs.declared.expr.Op.{Op}
 
--- what stands at a node, without its parts
+-- what stands at a node, without its parts; of the names of fields also the positions
 pub data Head : Type 0 where
   num : ℤ → Head
   text : List ℕ → Head
@@ -20,7 +21,7 @@ pub data Head : Type 0 where
   any : Head
   chain : Head
   alias : List ℕ → Head
-  rec : List (List ℕ) → Head
+  rec : List (List ℕ) → List ℕ → Head
   list : Head
   woven : Head
 
@@ -38,13 +39,22 @@ abbrev pub forest : List Tree → Forest
 forest [] = none
 forest (t ∷ ts) = more t (forest ts)
 
+-- a field, with its name
+abbrev pub NamedTree : Type 0
+NamedTree = FieldName × Tree
+
 -- the names of fields, in order
-abbrev pub names_of : List (List ℕ × Tree) → List (List ℕ)
+abbrev pub names_of : List NamedTree → List (List ℕ)
 names_of [] = []
-names_of (f ∷ fs) = f.0 ∷ names_of fs
+names_of (f ∷ fs) = f.0.text ∷ names_of fs
+
+-- where they stand, in order
+abbrev pub places_of : List NamedTree → List ℕ
+places_of [] = []
+places_of (f ∷ fs) = f.0.at ∷ places_of fs
 
 -- the formulas of fields, in order
-abbrev pub parts_of : List (List ℕ × Tree) → Forest
+abbrev pub parts_of : List NamedTree → Forest
 parts_of [] = none
 parts_of (f ∷ fs) = more f.1 (parts_of fs)
 

@@ -4,8 +4,9 @@ use Rattle.std.proofs.Common.{ap}
 use Rattle.std.specs.Coded.{Coded, code_by, coded_list, coded×, coded_ℕ}
 use base.Stored.{Gv, gnil, gnum, gcons}
 use denote.Struct.Codes.{itself}
-use Rattle.fx_trees.specs.Tree.{Tree, node, Forest, none, more, Head}
+use Rattle.fx_trees.specs.Tree.{Tree, NamedTree, node, Forest, none, more, Head}
 use Rattle.fx_trees.specs.Tree as tree
+use Rattle.fx_trees.specs.declared.expr.FieldName.{FieldName}
 use Rattle.fx_trees.specs.declared.expr.Op.{Op}
 use Rattle.fx_trees.specs.declared.expr.Op.TheVariants as op
 use Rattle.fx_data.specs.ValueCode.{text_back, to_int, of_text, int_back, to_text, of_int}
@@ -87,7 +88,7 @@ of_head (tree.global cs) = gcons (gnum 3) (of_text cs)
 of_head (tree.dot cs) = gcons (gnum 4) (of_text cs)
 of_head (tree.call cs) = gcons (gnum 5) (of_text cs)
 of_head (tree.alias cs) = gcons (gnum 6) (of_text cs)
-of_head (tree.rec xs) = gcons (gnum 7) (of_texts xs)
+of_head (tree.rec xs ps) = gcons (gnum 7) (gcons (of_texts xs) (of_text ps))
 of_head (tree.pair o) = gcons gnil (of_op o)
 
 abbrev to_plain : ℕ → Head
@@ -103,6 +104,10 @@ to_plain (suc (suc (suc (suc (suc (suc (suc (suc zero)))))))) = tree.woven
 to_plain (suc (suc (suc (suc (suc (suc (suc (suc (suc zero))))))))) = tree.truth true
 to_plain (suc (suc (suc (suc (suc (suc (suc (suc (suc (suc n)))))))))) = tree.truth false
 
+abbrev to_record : Gv → Head
+to_record (gcons xs ps) = tree.rec (to_texts xs) (to_text ps)
+to_record _ = tree.list
+
 abbrev to_holding : ℕ → Gv → Head
 to_holding zero g = tree.num (to_int g)
 to_holding (suc zero) g = tree.text (to_text g)
@@ -111,7 +116,7 @@ to_holding (suc (suc (suc zero))) g = tree.global (to_text g)
 to_holding (suc (suc (suc (suc zero)))) g = tree.dot (to_text g)
 to_holding (suc (suc (suc (suc (suc zero))))) g = tree.call (to_text g)
 to_holding (suc (suc (suc (suc (suc (suc zero)))))) g = tree.alias (to_text g)
-to_holding (suc (suc (suc (suc (suc (suc (suc n))))))) g = tree.rec (to_texts g)
+to_holding (suc (suc (suc (suc (suc (suc (suc n))))))) g = to_record g
 
 abbrev pub to_head : Gv → Head
 to_head (gnum n) = to_plain n
@@ -138,7 +143,7 @@ head_back (tree.global cs) = ap tree.global (text_back cs)
 head_back (tree.dot cs) = ap tree.dot (text_back cs)
 head_back (tree.call cs) = ap tree.call (text_back cs)
 head_back (tree.alias cs) = ap tree.alias (text_back cs)
-head_back (tree.rec xs) = ap tree.rec (texts_back xs)
+head_back (tree.rec xs ps) = λ i. tree.rec (texts_back xs i) (text_back ps i)
 head_back (tree.pair o) = ap tree.pair (op_back o)
 
 abbrev mutual
@@ -172,5 +177,8 @@ tree_code = code_by Gv itself of_tree to_tree tree_back
 abbrev pub trees_code : Coded (List Tree)
 trees_code = coded_list tree_code
 
-abbrev pub fields_code : Coded (List (List ℕ × Tree))
-fields_code = coded_list (coded× (coded_list coded_ℕ) tree_code)
+abbrev name_code : Coded FieldName
+name_code = code_by (List ℕ × ℕ) (coded× (coded_list coded_ℕ) coded_ℕ) (λ f. (f.text, f.at)) (λ p. record { text = p.0; at = p.1 }) (λ f. refl)
+
+abbrev pub fields_code : Coded (List NamedTree)
+fields_code = coded_list (coded× name_code tree_code)

@@ -100,11 +100,19 @@ pub struct Args {
     items: Vec<Expr>,
 }
 
+/// The name of a field, where it is written.
+#[derive(Drop)]
+pub struct FieldName {
+    pub text: Words,
+    /// The byte of the source, counted from 0, at which the name begins.
+    pub at: u32,
+}
+
 /// Fields in order, each with its name and its formula.
 #[cycle(expr)]
 #[derive(Drop)]
 pub struct Parts {
-    items: Vec<(Words, Expr)>,
+    items: Vec<(FieldName, Expr)>,
 }
 
 impl Model for Expr {
@@ -147,11 +155,11 @@ impl Model for Args {
 }
 
 impl Model for Parts {
-    ghost use Rattle.std.specs.Prelude.{List, ℕ};
-    ghost use Rattle.fx_trees.specs.Tree.{Tree, forest_size, parts_of};
+    ghost use Rattle.std.specs.Prelude.{List};
+    ghost use Rattle.fx_trees.specs.Tree.{NamedTree, forest_size, parts_of};
     ghost use Rattle.fx_trees.specs.TreeCode.{fields_code};
 
-    ghost Value = { List (List ℕ × Tree) };
+    ghost Value = { List NamedTree };
 
     ghost coded = { fields_code };
 
@@ -163,6 +171,18 @@ impl Model for Parts {
     ghost use Rattle.fx_trees.specs.TreeFalls.{fields_fall};
 
     ghost size_decreases = { λ a h. omega (arith, fields_fall a.items.items) };
+}
+
+impl FieldName {
+    /// The same name once more.
+    pub fn copy(&self, alloc: Global) -> Result<FieldName, Memory>
+        ensures { IfOk result (λ n. n ≡ self.now) }
+    {
+        Ok(FieldName {
+            text: self.text.copy(alloc)?,
+            at: self.at,
+        })
+    }
 }
 
 impl Args {
@@ -232,7 +252,7 @@ impl Parts {
     }
 
     /// Adds a field at the end.
-    pub fn push(&mut self, name: Words, item: Expr) -> Result<(), Memory>
+    pub fn push(&mut self, name: FieldName, item: Expr) -> Result<(), Memory>
         ensures ok { OnOk result (self.new ≡ self.old ++ (name, item) ∷ []) }
         ensures err { OnErr result (self.new ≡ self.old) }
     {
@@ -255,7 +275,7 @@ impl Parts {
     }
 
     /// The field at this place, counted from 0.
-    pub fn get(&self, place: usize) -> Option<&(Words, Expr)>
+    pub fn get(&self, place: usize) -> Option<&(FieldName, Expr)>
         ensures { MatchOption result (length self.now ≤ place)
             (λ f. slice_get self.now place ≡ Some f.now) }
     {
@@ -263,14 +283,14 @@ impl Parts {
     }
 
     /// The fields as a slice.
-    pub fn as_slice(&self) -> &[(Words, Expr)]
+    pub fn as_slice(&self) -> &[(FieldName, Expr)]
         ensures { result.now ≡ self.now }
     {
         self.items.as_slice()
     }
 
     /// The fields as a vector.
-    pub fn into_items(self) -> Vec<(Words, Expr)>
+    pub fn into_items(self) -> Vec<(FieldName, Expr)>
         ensures { result.items ≡ self }
     {
         self.items

@@ -37,7 +37,7 @@ pub plus_text : (p : Place) → judge p (outermost false) (node 0 (tree.pair op.
 plus_text p = refl
 
 -- {b: 1, a: true} has its fields by rising names
-pub record_rises : (p : Place) → judge p (outermost false) (node 0 (tree.rec (codes "b" ∷ codes "a" ∷ [])) (more (node 4 (tree.num (pos 10000)) none) (more (node 10 (tree.truth true) none) none)))
+pub record_rises : (p : Place) → judge p (outermost false) (node 0 (tree.rec (codes "b" ∷ codes "a" ∷ []) (1 ∷ 7 ∷ [])) (more (node 4 (tree.num (pos 10000)) none) (more (node 10 (tree.truth true) none) none)))
     ≡ Ok (plainly (
       of (rec (codes "a" ∷ codes "b" ∷ [])) (cons (of (const (boolean true)) nil) (cons (of (const (number (pos 10000))) nil) nil)),
       records (column (codes "a") booleans (column (codes "b") numbers no_columns)),
@@ -45,11 +45,11 @@ pub record_rises : (p : Place) → judge p (outermost false) (node 0 (tree.rec (
 record_rises p = refl
 
 -- {a: 1, a: 1} names a field twice
-pub field_twice : (p : Place) → judge p (outermost false) (node 0 (tree.rec (codes "a" ∷ codes "a" ∷ [])) (more (node 4 (tree.num (pos 10000)) none) (more (node 10 (tree.num (pos 10000)) none) none))) ≡ Err (0, 5)
+pub field_twice : (p : Place) → judge p (outermost false) (node 0 (tree.rec (codes "a" ∷ codes "a" ∷ []) (1 ∷ 7 ∷ [])) (more (node 4 (tree.num (pos 10000)) none) (more (node 10 (tree.num (pos 10000)) none) none))) ≡ Err (0, 5)
 field_twice p = refl
 
 -- {a: 1}.b has no such field, and {a: 1}.a is a number
-pub no_field : (p : Place) → judge p (outermost false) (node 0 (tree.dot (codes "b")) (more (node 0 (tree.rec (codes "a" ∷ [])) (more (node 4 (tree.num (pos 10000)) none) none)) none)) ≡ Err (0, 12)
+pub no_field : (p : Place) → judge p (outermost false) (node 0 (tree.dot (codes "b")) (more (node 0 (tree.rec (codes "a" ∷ []) (1 ∷ [])) (more (node 4 (tree.num (pos 10000)) none) none)) none)) ≡ Err (0, 12)
 no_field p = refl
 
 -- [1, "a"] has no common type, and [1] has the column Value

@@ -142,10 +142,10 @@ record_as_sound p s a_target ns xs q h e = as_part_sound p s (record_of ns xs) q
 record_as_sound p s aliased_target ns xs q h e = as_part_sound p s (record_of ns xs) q e (λ y i. record_typed (context_of p s) ns xs y h i)
 record_as_sound p s (a_meaning b) ns xs q h e = as_part_sound p s (record_of ns xs) q e (λ y i. record_typed (context_of p s) ns xs y h i)
 
-pub rec_sound : (p : Place) (ns : List (List ℕ)) → IsSoundAt p (tree.rec ns)
-rec_sound p ns s qs q e t m =
+pub rec_sound : (p : Place) (ns : List (List ℕ)) (ps : List ℕ) → IsSoundAt p (tree.rec ns ps)
+rec_sound p ns ps s qs q e t m =
     let a = then_ok (values qs) (record_as s.grant ns) q e in
-    record_as_sound p s s.grant ns a.0 q (values_typed (context_of p s) qs a.0 a.1 (each_plain p s (tree.rec ns) (length qs) [] qs (λ d. refl) t)) a.2
+    record_as_sound p s s.grant ns a.0 q (values_typed (context_of p s) qs a.0 a.1 (each_plain p s (tree.rec ns ps) (length qs) [] qs (λ d. refl) t)) a.2
 
 pub list_sound : (p : Place) → IsSoundAt p tree.list
 list_sound p s qs q e t m = as_part_sound p s (and_then (values qs) list_of) q e (λ y i. by_values y i)

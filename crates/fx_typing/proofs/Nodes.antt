@@ -292,28 +292,28 @@ module _ (p : Place) (s : Setting) where
   alias_goes (on_screen b) x a c t i = absurd i
 
   -- ---- records
-  plain_record : (ns : List (List ℕ)) (qs : List Part) (xs : List (Term × Shape)) (q : Part) → IsForRecord s.grant → Values qs xs → as_part (record_of ns xs) ≡ Ok q →
-      Node p s (tree.rec ns) qs q
-  plain_record ns qs xs q i v e =
+  plain_record : (ns : List (List ℕ)) (ps : List ℕ) (qs : List Part) (xs : List (Term × Shape)) (q : Part) → IsForRecord s.grant → Values qs xs → as_part (record_of ns xs) ≡ Ok q →
+      Node p s (tree.rec ns ps) qs q
+  plain_record ns ps qs xs q i v e =
       let a = as_part_ok (record_of ns xs) q e in
       let b = if_ok (are_distinct ns) (bounded (Ok (record_by (put_fields ns xs)))) 5 a.0 a.1 in
       let c = bounded_ok (Ok (record_by (put_fields ns xs))) a.0 b.1 in
       let same_record : record_by (put_fields ns xs) ≡ a.0 = ok_is (record_by (put_fields ns xs)) a.0 c.0 in
       let fits : is_bounded (record_by (put_fields ns xs)).1 ≡ true = ap (λ (z : Term × Shape). is_bounded z.1) same_record ∙ c.1 in
-      subst (Node p s (tree.rec ns) qs) (ap plainly same_record ∙ a.2) (Nodes.a_record i v b.0 fits)
+      subst (Node p s (tree.rec ns ps) qs) (ap plainly same_record ∙ a.2) (Nodes.a_record i v b.0 fits)
 
-  record_ok : (g : Grant) (ns : List (List ℕ)) (qs : List Part) (xs : List (Term × Shape)) (q : Part) → s.grant ≡ g → Values qs xs → record_as g ns xs ≡ Ok q →
-      Node p s (tree.rec ns) qs q
-  record_ok (on_screen b) ns qs xs q i v e =
+  record_ok : (g : Grant) (ns : List (List ℕ)) (ps : List ℕ) (qs : List Part) (xs : List (Term × Shape)) (q : Part) → s.grant ≡ g → Values qs xs → record_as g ns xs ≡ Ok q →
+      Node p s (tree.rec ns ps) qs q
+  record_ok (on_screen b) ns ps qs xs q i v e =
       let a = if_ok (are_distinct ns) (Ok (assigned ns xs)) 5 q e in
-      subst (Node p s (tree.rec ns) qs) (ok_is (assigned ns xs) q a.1) (Nodes.screen_variables i v a.0)
-  record_ok a_column ns qs xs q i v e = plain_record ns qs xs q (subst IsForRecord (sym i) tt) v e
-  record_ok a_target ns qs xs q i v e = plain_record ns qs xs q (subst IsForRecord (sym i) tt) v e
-  record_ok aliased_target ns qs xs q i v e = plain_record ns qs xs q (subst IsForRecord (sym i) tt) v e
-  record_ok (a_meaning b) ns qs xs q i v e = plain_record ns qs xs q (subst IsForRecord (sym i) tt) v e
-  record_ok nothing ns qs xs q i v e = plain_record ns qs xs q (subst IsForRecord (sym i) tt) v e
-  record_ok acting ns qs xs q i v e = plain_record ns qs xs q (subst IsForRecord (sym i) tt) v e
-  record_ok an_alias ns qs xs q i v e = plain_record ns qs xs q (subst IsForRecord (sym i) tt) v e
+      subst (Node p s (tree.rec ns ps) qs) (ok_is (assigned ns xs) q a.1) (Nodes.screen_variables i v a.0)
+  record_ok a_column ns ps qs xs q i v e = plain_record ns ps qs xs q (subst IsForRecord (sym i) tt) v e
+  record_ok a_target ns ps qs xs q i v e = plain_record ns ps qs xs q (subst IsForRecord (sym i) tt) v e
+  record_ok aliased_target ns ps qs xs q i v e = plain_record ns ps qs xs q (subst IsForRecord (sym i) tt) v e
+  record_ok (a_meaning b) ns ps qs xs q i v e = plain_record ns ps qs xs q (subst IsForRecord (sym i) tt) v e
+  record_ok nothing ns ps qs xs q i v e = plain_record ns ps qs xs q (subst IsForRecord (sym i) tt) v e
+  record_ok acting ns ps qs xs q i v e = plain_record ns ps qs xs q (subst IsForRecord (sym i) tt) v e
+  record_ok an_alias ns ps qs xs q i v e = plain_record ns ps qs xs q (subst IsForRecord (sym i) tt) v e
 
   record_is : (g : Grant) (ns : List (List ℕ)) (xs : List (Term × Shape)) → IsForRecord g → record_as g ns xs ≡ as_part (record_of ns xs)
   record_is (on_screen b) ns xs i = absurd i
@@ -390,8 +390,8 @@ module _ (p : Place) (s : Setting) where
       let b = then_ok (values qs) chain_by a.0 u.1 in
       subst (Node p s tree.chain qs) a.2 (chain_ok qs b.0 a.0 (last_type (types_of b.0)) (not_false (may_act s.grant) u.0) (values_ok qs b.0 b.1) refl b.2)
   node_ok st (tree.alias x) qs q e = alias_ok s.grant x qs q refl e
-  node_ok st (tree.rec ns) qs q e =
-      let a = record_parts (values qs) refl e in record_ok s.grant ns qs a.0 q refl (values_ok qs a.0 a.1) a.2
+  node_ok st (tree.rec ns ps) qs q e =
+      let a = record_parts (values qs) refl e in record_ok s.grant ns ps qs a.0 q refl (values_ok qs a.0 a.1) a.2
     where
       record_parts : (r : Result (List (Term × Shape)) ℕ) → values qs ≡ r → and_then r (record_as s.grant ns) ≡ Ok q →
           (xs : List (Term × Shape)) × (values qs ≡ Ok xs) × (record_as s.grant ns xs ≡ Ok q)

@@ -206,7 +206,7 @@ admit_quiet p s tree.all qs e k = as_part_quiet _ (formed_quiet form.All (pieces
 admit_quiet p s tree.any qs e k = as_part_quiet _ (formed_quiet form.Any (pieces qs) (pieces_quiet qs k))
 admit_quiet p s tree.chain qs e k = as_part_quiet _ (unless_refuses TreeQuiet (may_act s.grant) 9 (and_then (values qs) chain_by) (act_of s.grant e))
 admit_quiet p s (tree.alias x) qs e k = alias_by_quiet s.grant x qs k
-admit_quiet p s (tree.rec ns) qs e k = then_quiet AllQuiet PartQuiet (values qs) (record_as s.grant ns) (any_values qs k) (λ xs m. record_as_quiet s.grant ns xs m)
+admit_quiet p s (tree.rec ns ps) qs e k = then_quiet AllQuiet PartQuiet (values qs) (record_as s.grant ns) (any_values qs k) (λ xs m. record_as_quiet s.grant ns xs m)
 admit_quiet p s tree.list qs e k = as_part_quiet _ (then_quiet AllQuiet TreeQuiet (values qs) list_of (any_values qs k) (λ xs m. list_quiet xs m))
 admit_quiet p s tree.woven qs e k = as_part_quiet (woven_by qs) (woven_quiet qs k)
 
@@ -277,7 +277,7 @@ calm_at m g (tree.dot x) n done e = act_of g e
 calm_at m g (tree.call x) n done e = subst (λ b. Calm (plan_call b (called_as m x) n done)) (sym (act_of g e)) (calm_call (called_as m x) n done)
 calm_at m g tree.chain n done e = subst (λ b. may_do (if_acting b) ≡ false) (sym (act_of g e)) refl
 calm_at m g (tree.alias x) n done e = calm_alias g
-calm_at m g (tree.rec ns) n done e = calm_field g e
+calm_at m g (tree.rec ns ps) n done e = calm_field g e
 calm_at m g h n done e = refl
 
 -- a formula that may not act doesn't

@@ -58,7 +58,7 @@ plan_is m g (tree.call x) n done = call_is (may_act g) (called_as m x) n done
 plan_is m g (tree.dot x) n done = refl
 plan_is m g tree.chain n done = refl
 plan_is m g (tree.alias x) n done = refl
-plan_is m g (tree.rec ns) n done = refl
+plan_is m g (tree.rec ns ps) n done = refl
 plan_is m g h n done = refl
 
 stood_is : (m : Names) (s : Setting) (st : Standing) (g : Grant) (done : List Part) → setting_by m s (planned st g) done ≡ stood m s st g (first_of done)

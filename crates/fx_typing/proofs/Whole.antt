@@ -43,7 +43,7 @@ sound_locally p law s tree.all qs q e t m = tree_sound p s q (all_typed p s qs q
 sound_locally p law s tree.any qs q e t m = tree_sound p s q (any_typed p s qs q e t)
 sound_locally p law s tree.chain qs q e t m = chain_sound p s qs q e t m
 sound_locally p law s (tree.alias x) qs q e t m = alias_sound p x s qs q e t m
-sound_locally p law s (tree.rec ns) qs q e t m = rec_sound p ns s qs q e t m
+sound_locally p law s (tree.rec ns ps) qs q e t m = rec_sound p ns ps s qs q e t m
 sound_locally p law s tree.list qs q e t m = list_sound p s qs q e t m
 sound_locally p law s tree.woven qs q e t m = tree_sound p s q (woven_typed p s qs q e t)
 

@@ -243,7 +243,7 @@ stuck_in (Some (sig.One f)) qs = stuck_by (row_of f).answer (all_pieces qs)
 stuck_in s qs = []
 
 abbrev pub named_twice : Names → Head → List Part → List ℕ
-named_twice n (tree.rec ns) qs = twice_after [] ns
+named_twice n (tree.rec ns ps) qs = twice_after [] ns
 named_twice n (tree.call x) qs = taken_in (called_as n x) qs
 named_twice n h qs = []
 
@@ -311,7 +311,7 @@ list_limit None = []
 abbrev pub limit_passed : Place → Setting → Head → List Part → List ℕ
 limit_passed p s (tree.call x) qs =
     if is_too_deep p s (tree.call x) qs then counted (codes "nested") (suc (depth_of s.scopes)) else call_limit p s (called_as p.names x) qs
-limit_passed p s (tree.rec ns) qs = type_limit (record_by (put_fields ns (or_none (values qs)))).1
+limit_passed p s (tree.rec ns ps) qs = type_limit (record_by (put_fields ns (or_none (values qs)))).1
 limit_passed p s h qs = list_limit (join_all (Some blanks) (or_none (values qs)))
 
 -- what is said of a node of these parts that breaks a rule

@@ -118,10 +118,10 @@ pub data Node (p : Place) (s : Setting) : Head → List Part → Part → Type 0
   rows_with_name : {x : List ℕ} {a : Option (List ℕ)} {c : Term} {t : Shape} → IsForAlias s.grant →
       Node p s (tree.alias x) (piece (value a c t) ∷ []) (piece (value (Some x) c t))
   target_with_name : {x y : List ℕ} → s.grant ≡ aliased_target → Node p s (tree.alias x) (target None y ∷ []) (target (Some x) y)
-  a_record : {ns : List (List ℕ)} {qs : List Part} {xs : List (Term × Shape)} → IsForRecord s.grant → Values qs xs → are_distinct ns ≡ true →
-      is_bounded (record_by (put_fields ns xs)).1 ≡ true → Node p s (tree.rec ns) qs (plainly (record_by (put_fields ns xs)))
-  screen_variables : {ns : List (List ℕ)} {b : Bool} {qs : List Part} {xs : List (Term × Shape)} → s.grant ≡ on_screen b → Values qs xs →
-      are_distinct ns ≡ true → Node p s (tree.rec ns) qs (assigned ns xs)
+  a_record : {ns : List (List ℕ)} {ps : List ℕ} {qs : List Part} {xs : List (Term × Shape)} → IsForRecord s.grant → Values qs xs → are_distinct ns ≡ true →
+      is_bounded (record_by (put_fields ns xs)).1 ≡ true → Node p s (tree.rec ns ps) qs (plainly (record_by (put_fields ns xs)))
+  screen_variables : {ns : List (List ℕ)} {ps : List ℕ} {b : Bool} {qs : List Part} {xs : List (Term × Shape)} → s.grant ≡ on_screen b → Values qs xs →
+      are_distinct ns ≡ true → Node p s (tree.rec ns ps) qs (assigned ns xs)
   a_list : {qs : List Part} {xs : List (Term × Shape)} {y : Term × Shape} → Values qs xs → Rows (list_join xs) xs y → is_bounded y.1 ≡ true →
       Node p s tree.list qs (plainly y)
   empty_weave : Node p s tree.woven [] (plainly (of (const (values.text [])) nil, texts))

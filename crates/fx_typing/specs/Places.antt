@@ -49,7 +49,7 @@ part_plan m g (tree.dot x) n i first = planned plain (a_meaning (may_act g))
 part_plan m g (tree.call x) n i first = called_part (may_act g) (called_as m x) n i first
 part_plan m g tree.chain n i first = planned plain (if_acting (may_act g))
 part_plan m g (tree.alias x) n i first = planned plain (alias_grant g)
-part_plan m g (tree.rec ns) n i first = planned plain (field_grant g)
+part_plan m g (tree.rec ns ps) n i first = planned plain (field_grant g)
 part_plan m g h n i first = planned plain nothing
 
 -- a part that stands there: where the whole does; in the scope of a row of the first part, or in that of

@@ -119,7 +119,7 @@ plan_at m g (tree.dot x) n done = planned plain (a_meaning (may_act g))
 plan_at m g (tree.call x) n done = plan_call (may_act g) (called_as m x) n done
 plan_at m g tree.chain n done = planned plain (if_acting (may_act g))
 plan_at m g (tree.alias x) n done = planned plain (alias_grant g)
-plan_at m g (tree.rec ns) n done = planned plain (field_grant g)
+plan_at m g (tree.rec ns ps) n done = planned plain (field_grant g)
 plan_at m g h n done = planned plain nothing
 
 -- the scope of a row of the first part

@@ -81,7 +81,7 @@ record_gives s g ns qs = []
 
 abbrev pub gives : Place → Setting → Head → List Part → List Given
 gives p s (tree.call x) qs = call_gives (called_as p.names x) qs
-gives p s (tree.rec ns) qs = record_gives p.screen s.grant ns qs
+gives p s (tree.rec ns ps) qs = record_gives p.screen s.grant ns qs
 gives p s h qs = []
 
 -- the parts behind the done ones, also where some are broken

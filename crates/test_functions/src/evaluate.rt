@@ -7,7 +7,7 @@ use crate::typed::{Stop, Typed};
 use fx_data::{Value, Words};
 use fx_scalar::today;
 use fx_sig::signature;
-use fx_trees::expr::{Expr, Node};
+use fx_trees::expr::{Expr, FieldName, Node};
 use fx_trees::literals::{enumeration_of, with_literal};
 use fx_trees::rows::row_of;
 use fx_trees::{Fun, Scalar, SigShape};
@@ -125,11 +125,15 @@ fn error(alloc: Global, args: &[Expr], depth: u32) -> Result<Typed, Stop> {
 
 // The values of fields.
 #[cycle(evaluate)]
-fn fields(alloc: Global, parts: &[(Words, Expr)], depth: u32) -> Result<Vec<(Words, Value)>, Stop> {
+fn fields(
+    alloc: Global,
+    parts: &[(FieldName, Expr)],
+    depth: u32,
+) -> Result<Vec<(Words, Value)>, Stop> {
     let mut fields = Vec::new(alloc);
     for (name, part) in parts {
         let value = evaluate(alloc, part, depth)?.value;
-        fields.push((name.copy(alloc)?, value))?;
+        fields.push((name.text.copy(alloc)?, value))?;
     }
     Ok(fields)
 }

@@ -25,10 +25,10 @@ loop-place-preserved c =
     (omega (arith, c.loop-place-test.true)) f c.index-fields-place.is v c.index-values-place.is in
     let put = λ (n : List ℕ) (t : Ty). put_column n (shape t) (column_list c.loop-place.columns) in
     let one = c.in_ok-columns.ensures
-    ∙ ap (λ n. put n c.in_ok-copy.field-0) (c.in_ok-name.ensures ∙ ap (λ f. f.0) (sym c.index-fields-place.is))
-    ∙ ap (put c.index-fields-place.result.0) (c.in_ok-copy.ensures ∙ ap (λ v. v.now.ty) (sym c.index-values-place.is)) in
+    ∙ ap (λ n. put n c.in_ok-copy.field-0) (c.in_ok-name.ensures ∙ ap (λ f. f.0.text) (sym c.index-fields-place.is))
+    ∙ ap (put c.index-fields-place.result.0.text) (c.in_ok-copy.ensures ∙ ap (λ v. v.now.ty) (sym c.index-values-place.is)) in
     record {
       in_fields = omega arith;
       in_values = omega arith;
-      made = one ∙ ap (put_column c.index-fields-place.result.0 (shape c.index-values-place.result.now.ty)) i.made ∙ sym step;
+      made = one ∙ ap (put_column c.index-fields-place.result.0.text (shape c.index-values-place.result.now.ty)) i.made ∙ sym step;
     }

@@ -147,7 +147,7 @@ pub field-returns-in_err-tree-in-Some-clause-gives : goal.field-returns-in_err-t
 field-returns-in_err-tree-in-Some-clause-gives t c = let p = err_from_is_err_and c.from_residual.result c.from_residual.ensures.1 in rw (p.1, p.2) (passed seen seen _ _ _ c.in_err-tree-in-Some.ensures.gives (field_stuck _ _ _ _ c.in-Some.ensures.value))
 
 pub field-returns-in_ok-copy-in-Some-clause-gives : goal.field-returns-in_ok-copy-in-Some-clause-gives
-field-returns-in_ok-copy-in-Some-clause-gives t c = field_read _ _ _ _ _ _ _ _ c.in-Some.ensures.value c.in_ok-tree-in-Some.ensures.gives c.in_ok-copy-in-Some.ensures
+field-returns-in_ok-copy-in-Some-clause-gives t c = field_read _ _ _ _ _ _ _ _ _ c.in-Some.ensures.value c.in_ok-tree-in-Some.ensures.gives c.in_ok-copy-in-Some.ensures c.place.ensures
 
 pub fields-returns-in-Some-clause-gives : goal.fields-returns-in-Some-clause-gives
 fields-returns-in-Some-clause-gives t c = rw c.new.ensures (fields_empty _ _ _ c.in-Some.ensures.value)
