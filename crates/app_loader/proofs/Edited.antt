@@ -1,6 +1,6 @@
 -- From what an edit leaves of the formulas to the edited app.
 use Rattle.std.proofs.Common.{◌≡◌, ℕ, List, [], ◌∷◌, All, map, Result, Ok, Err, IfErr, IfOk, ap, sym, subst, ◌∙◌}
-use Rattle.app_soundness.specs.fx_infer.Depths.{TreesAreNoDeeper}
+use Rattle.fx_infer.specs.Depths.{TreesAreNoDeeper}
 use Rattle.fx_trees.specs.declared.app_end.AppEnd.{AppEnd}
 use Rattle.fx_trees.specs.declared.app_end.AppEnd.TheVariants as end
 use Rattle.fx_trees.specs.declared.broken.Broken.{Broken}
@@ -10,9 +10,9 @@ use Rattle.app_cells.specs.declared.frame.Frame.{Frame}
 use Rattle.app_cells.specs.Spots.{IsFrame, IsPlaced}
 use Rattle.app_edits.specs.Edits.{IsEdited}
 use Rattle.app_edits.specs.Frames.{frame_of, without_items}
-use Rattle.app_soundness.specs.Accepted.{AreSingle}
-use Rattle.app_soundness.specs.app_typing.Cells.{AreShallow}
-use Rattle.app_soundness.specs.app_typing.Judged.{Tells}
+use Rattle.app_loader.specs.Accepted.{AreSingle}
+use Rattle.app_loader.specs.Cells.{AreShallow}
+use Rattle.app_loader.specs.JudgedFormulas.{Tells}
 use Rattle.app_loader.specs.Edits.{IsLoaded, JudgedEdit, StillFit}
 use Rattle.app_loader.specs.Judged.{JudgedFormulas}
 use Rattle.app_loader.proofs.FitToJudge.{left_shallow, left_single}

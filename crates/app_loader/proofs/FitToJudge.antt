@@ -2,8 +2,8 @@
 use Rattle.std.proofs.Common.{◌≡◌, ℕ, ◌≤◌, List, All, Option, Some, None, IfSome, Ok, ap, sym, subst, arith}
 use Rattle.std.specs.Prelude.{encode_utf8_all}
 use Rattle.std.specs.Str.{chars}
-use Rattle.app_soundness.specs.fx_infer.Below.{tree_depth}
-use Rattle.app_soundness.specs.fx_infer.Depths.{TreesAreNoDeeper}
+use Rattle.fx_infer.specs.Below.{tree_depth}
+use Rattle.fx_infer.specs.Depths.{TreesAreNoDeeper}
 use Rattle.app_cells.specs.declared.app.App.{App}
 use Rattle.app_cells.specs.declared.cell.Cell.{Cell}
 use Rattle.app_cells.specs.declared.cell.Spot.{Spot}
@@ -12,8 +12,8 @@ use Rattle.app_edits.specs.Edits.{IsEdited}
 use Rattle.app_edits.specs.Frames.{frame_of, written}
 use Rattle.app_edits.proofs.Counts.{single}
 use Rattle.app_edits.proofs.Standing.{all_hold}
-use Rattle.app_soundness.specs.Accepted.{AreSingle}
-use Rattle.app_soundness.specs.app_typing.Cells.{AreShallow}
+use Rattle.app_loader.specs.Accepted.{AreSingle}
+use Rattle.app_loader.specs.Cells.{AreShallow}
 use Rattle.app_edits.proofs.GivenTexts.{GivenParts, given_parts}
 use Rattle.app_loader.proofs.OneEdit.{edited_parts}
 

@@ -13,11 +13,11 @@ use Rattle.app_cells.specs.declared.frame.Frame.{Frame}
 use Rattle.app_cells.specs.Spots.{IsFrame, IsPlaced}
 use Rattle.app_edits.specs.Frames.{frame_of, without_items, written}
 use Rattle.app_names.proofs.LawfulNames.{unbroken}
-use Rattle.app_soundness.specs.app_typing.Cells.{AreShallow, cell_of}
-use Rattle.app_soundness.specs.app_typing.Infos.{AreElaborated, IsElaborated}
-use Rattle.app_soundness.specs.app_typing.Judged.{IsAppOf}
-use Rattle.app_soundness.proofs.of_app_typing.Below.{final_same}
-use Rattle.app_soundness.proofs.Soundness.{IfApp, app_parts}
+use Rattle.app_loader.specs.Cells.{AreShallow, cell_of}
+use Rattle.app_loader.specs.Infos.{AreElaborated, IsElaborated}
+use Rattle.app_loader.specs.JudgedFormulas.{IsAppOf}
+use Rattle.app_loader.proofs.Below.{final_same}
+use Rattle.app_loader.proofs.Soundness.{IfApp, app_parts}
 use Rattle.app_loader.specs.Edits.{IsLoaded}
 use Rattle.app_loader.specs.Judged.{AreNamed, JudgedFormulas, misnamed, named}
 

@@ -7,7 +7,7 @@ use Rattle.std.specs.declared.cmp.Ordering.TheVariants.{Less, Equal, Greater}
 use Rattle.std.proofs.lemmas.Cmp.{nat_list_cmp_total}
 use Rattle.fx_data.specs.TypeView.{shape}
 use Rattle.fx_data.specs.Types.{Shape}
-use Rattle.app_soundness.proofs.of_fx_infer.Only.{ty_one}
+use Rattle.fx_infer.proofs.Only.{ty_one}
 use Rattle.fx_trees.specs.Reads.{AreRising, IsAmong, IsBelowAll, number_of, rank_of, source_order, sources_in}
 use Rattle.fx_trees.specs.Term.{Term}
 use Rattle.fx_trees.specs.declared.broken.Broken.{Broken}
@@ -15,9 +15,9 @@ use Rattle.fx_trees.specs.declared.names.Names.{Names}
 use Rattle.fx_trees.specs.declared.sources.Source.{Source}
 use Rattle.app_cells.specs.declared.app.CellInfo.{CellInfo}
 use Rattle.app_cells.specs.declared.cell.Cell.{Cell}
-use Rattle.app_soundness.specs.app_typing.Admitted.{AreRefused}
-use Rattle.app_soundness.specs.app_typing.Cells.{judged}
-use Rattle.app_soundness.specs.app_typing.Infos.{AreElaborated, IsElaborated}
+use Rattle.app_loader.specs.Admitted.{AreRefused}
+use Rattle.app_loader.specs.Cells.{judged}
+use Rattle.app_loader.specs.Infos.{AreElaborated, IsElaborated}
 use Rattle.app_loader.proofs.Judging.{judged_alike}
 use Rattle.app_loader.proofs.Rounds.{AreAlike, functions_at}
 use Rattle.fx_trees.specs.Rules as rules

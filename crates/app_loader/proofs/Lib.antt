@@ -18,3 +18,15 @@ pub mod OneEdit
 pub mod FitToJudge
 pub mod Loaded
 pub mod Edited
+mod Writes
+mod BreakLists
+mod Looks
+mod Arrows
+pub mod Below
+mod Ended
+pub mod Pure
+pub mod Contexts
+pub mod Cells
+pub mod Soundness
+pub mod Silence
+pub mod Silent

@@ -1,7 +1,7 @@
 -- An app file that is accepted is loaded.
 use Rattle.std.proofs.Common.{◌≡◌, ℕ, suc, ◌+◌, List, [], ◌∷◌, ◌++◌, length, map, Result, Ok, Err, refl, ap, sym, subst, ◌∙◌}
 use Rattle.std.proofs.lemmas.List.{map-append}
-use Rattle.app_soundness.specs.fx_infer.Depths.{EntriesAreNoDeeper, TreesAreNoDeeper}
+use Rattle.fx_infer.specs.Depths.{EntriesAreNoDeeper, TreesAreNoDeeper}
 use Rattle.fx_trees.specs.declared.broken.Broken.{Broken}
 use Rattle.app_file.specs.Files.{IsRead}
 use Rattle.app_file.specs.declared.file.AppFile.{AppFile}

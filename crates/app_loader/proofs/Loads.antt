@@ -22,13 +22,13 @@ use Rattle.app_cells.specs.declared.frame.Frame.{Frame}
 use Rattle.app_names.specs.AppNames.{AreNames}
 use Rattle.app_names.specs.NameRules.{in_app, name_breaks}
 use Rattle.app_semantics.specs.Sound.{IsSound}
-use Rattle.app_soundness.proofs.Soundness.{app_parts}
-use Rattle.app_soundness.specs.Accepted.{AcceptedIsSilent, AcceptedIsSound, AreSingle, IsAccepted}
+use Rattle.app_loader.proofs.Soundness.{app_parts}
+use Rattle.app_loader.specs.Accepted.{AcceptedIsSilent, AcceptedIsSound, AreSingle, IsAccepted}
 use Rattle.app_texts.specs.Texts.{IsNamedReading, IsReading, TellsBreaks}
-use Rattle.app_soundness.proofs.of_app_typing.Below.{final_same}
-use Rattle.app_soundness.specs.app_typing.Cells.{cell_of}
-use Rattle.app_soundness.specs.app_typing.Judged.{JudgedCells, Tells}
-use Rattle.app_soundness.specs.app_typing.Types.{AreLawfullyTyped, HaveLawfulTrees}
+use Rattle.app_loader.proofs.Below.{final_same}
+use Rattle.app_loader.specs.Cells.{cell_of}
+use Rattle.app_loader.specs.JudgedFormulas.{JudgedCells, Tells}
+use Rattle.app_loader.specs.Types.{AreLawfullyTyped, HaveLawfulTrees}
 use Rattle.app_loader.specs.Judged as judge
 use Rattle.app_loader.specs.Judged.{AreNamed, Judged, JudgedApp, JudgedFile, JudgedFormulas, JudgedText, longest}
 

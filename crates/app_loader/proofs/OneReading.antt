@@ -5,7 +5,7 @@ use Rattle.std.specs.Str.{chars}
 use Rattle.fx_data.specs.TypeView.{shape}
 use Rattle.fx_data.specs.declared.types.Ty.{Ty}
 use Rattle.fx_grammar.proofs.Meanings.{one_tree_of}
-use Rattle.app_soundness.proofs.of_fx_infer.Only.{ty_one}
+use Rattle.fx_infer.proofs.Only.{ty_one}
 use Rattle.fx_lexer.proofs.Readings.{lexed_one}
 use Rattle.fx_parser.specs.Texts.{AreNamedEnd, IsNamedText}
 use Rattle.fx_parser.specs.declared.end.ParseEnd.{ParseEnd}

@@ -37,10 +37,10 @@ use Rattle.app_names.specs.NameRules.{in_app, name_breaks}
 use Rattle.app_texts.specs.declared.file_texts.Text.{Text}
 use Rattle.app_texts.specs.Files.{frame_of, texts_of}
 use Rattle.app_texts.specs.Texts.{AreFormulasOf, AreNamedAt, AreReadAt, IsNamedReading, IsReading, IsTold, bare, broken, formulas, in_text, named_broken, named_formulas}
-use Rattle.app_soundness.specs.app_typing.Admitted.{AreRefused, Breaks, in_cell}
-use Rattle.app_soundness.specs.app_typing.Cells.{cell_of, judged, place_of}
-use Rattle.app_soundness.specs.app_typing.Infos.{unbuilt_breaks}
-use Rattle.app_soundness.specs.app_typing.Judged.{AreSettled, JudgedCells, app, cyclic, refused, unbuilt, unsettled, unsettling}
+use Rattle.app_loader.specs.Admitted.{AreRefused, Breaks, in_cell}
+use Rattle.app_loader.specs.Cells.{cell_of, judged, place_of}
+use Rattle.app_loader.specs.Infos.{unbuilt_breaks}
+use Rattle.app_loader.specs.JudgedFormulas.{AreSettled, JudgedCells, app, cyclic, refused, unbuilt, unsettled, unsettling}
 use Rattle.app_loader.specs.Judged as judge
 use Rattle.app_loader.specs.Judged.{AreNamed, Judged, JudgedApp, JudgedFile, JudgedFormulas, JudgedText, misnamed, named, no_text, text, too_long}
 use Rattle.app_loader.specs.Verdicts.{AreSameBreaks, IsOneRefusalOfAFile, IsOneRefusalOfAText, IsSameBreak, bad_part, circle, same, too_deep}

@@ -13,14 +13,14 @@ use Rattle.app_cells.specs.declared.cell.Cell.{Cell}
 use Rattle.app_cells.specs.declared.frame.Frame.{Frame}
 use Rattle.app_names.specs.AppNames.{AreNames}
 use Rattle.app_names.specs.NameRules.{name_breaks}
-use Rattle.app_soundness.proofs.Soundness.{IfApp, app_parts}
+use Rattle.app_loader.proofs.Soundness.{IfApp, app_parts}
 use Rattle.app_texts.specs.Files.{frame_of}
 use Rattle.app_texts.specs.Texts.{AreFormulasOf, AreNamedAt, bare}
-use Rattle.app_soundness.specs.app_typing.Admitted.{AreRefused}
-use Rattle.app_soundness.specs.app_typing.Cells.{cell_of}
-use Rattle.app_soundness.specs.app_typing.Cycles.{IsCycle}
-use Rattle.app_soundness.specs.app_typing.Infos.{unbuilt_breaks}
-use Rattle.app_soundness.specs.app_typing.Judged.{AreSettled, IsAppOf, JudgedCells, app, cyclic, refused, unbuilt, unsettling}
+use Rattle.app_loader.specs.Admitted.{AreRefused}
+use Rattle.app_loader.specs.Cells.{cell_of}
+use Rattle.app_loader.specs.Cycles.{IsCycle}
+use Rattle.app_loader.specs.Infos.{unbuilt_breaks}
+use Rattle.app_loader.specs.JudgedFormulas.{AreSettled, IsAppOf, JudgedCells, app, cyclic, refused, unbuilt, unsettling}
 use Rattle.app_loader.specs.Judged as judge
 use Rattle.app_loader.specs.Judged.{AreNamed, Judged, JudgedApp, JudgedFile, JudgedFormulas, JudgedText, longest, misnamed, named, no_text, text, too_long}
 use Rattle.app_loader.specs.Verdicts.{IsOneApp, IsOneAppOfAFile, IsOneAppOfAText, IsOneVerdict, IsSameApp}

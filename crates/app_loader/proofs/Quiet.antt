@@ -25,12 +25,12 @@ use Rattle.app_cells.specs.declared.frame.Frame.{Frame}
 use Rattle.app_edits.specs.Frames.{frame_of, without_items}
 use Rattle.app_names.specs.AppNames.{collections_among, variables_among}
 use Rattle.app_names.specs.Declarations.{declared_in, declared_of, given_names, is_among, is_declared, new_behind, things_behind, things_of}
-use Rattle.app_soundness.specs.app_typing.Cells.{cell_of, place_of}
-use Rattle.app_soundness.specs.app_typing.Infos.{IsElaborated}
-use Rattle.app_soundness.proofs.of_app_typing.Below.{final_same}
-use Rattle.app_soundness.proofs.Cells.{zip_right}
-use Rattle.app_soundness.proofs.Pure.{pure_at}
-use Rattle.app_soundness.proofs.Silence.{silent}
+use Rattle.app_loader.specs.Cells.{cell_of, place_of}
+use Rattle.app_loader.specs.Infos.{IsElaborated}
+use Rattle.app_loader.proofs.Below.{final_same}
+use Rattle.app_loader.proofs.Cells.{zip_right}
+use Rattle.app_loader.proofs.Pure.{pure_at}
+use Rattle.app_loader.proofs.Silence.{silent}
 use Rattle.app_loader.specs.Edits.{StillFit}
 use Rattle.app_loader.proofs.Framed.{IsJudged}
 

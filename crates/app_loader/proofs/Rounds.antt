@@ -7,12 +7,12 @@ use Rattle.app_cells.specs.declared.frame.Frame.{Frame}
 use Rattle.app_names.specs.AppNames.{AreNames, collections_among, variables_among}
 use Rattle.app_loader.proofs.Functions.{things_alike}
 use Rattle.app_loader.proofs.Judging.{round_alike}
-use Rattle.app_soundness.proofs.of_app_typing.Below.{final_same}
+use Rattle.app_loader.proofs.Below.{final_same}
 use Rattle.fx_trees.specs.declared.signatures.Signature.{Signature}
 use Rattle.fx_typing.specs.Rounds.{AfterRounds, Cell, IsFinal, SameNames, StillChanges, next_types, types_in}
 use Rattle.fx_trees.specs.declared.names.Names.{Names}
 use Rattle.fx_sig.specs.Entries.{entry}
-use Rattle.app_soundness.proofs.of_fx_infer.Only.{after_one, final_settles}
+use Rattle.fx_infer.proofs.Only.{after_one, final_settles}
 
 same_after : (cs : List Cell) (n : Names) (k : ℕ) (m : Names) → AfterRounds cs n k m → SameNames n m
 same_after cs n zero m a = a.0

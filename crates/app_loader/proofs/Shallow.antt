@@ -4,8 +4,8 @@ use Rattle.std.specs.Prelude.{encode_utf8_all}
 use Rattle.std.specs.Str.{chars}
 use Rattle.std.proofs.lemmas.List.Elements.{All-append, All-cons, All-head, All-map, All-nil, All-tail}
 use Rattle.fx_grammar.specs.Formulas.{Entry}
-use Rattle.app_soundness.specs.fx_infer.Below.{tree_depth}
-use Rattle.app_soundness.specs.fx_infer.Depths.{EntriesAreNoDeeper, TreesAreNoDeeper}
+use Rattle.fx_infer.specs.Below.{tree_depth}
+use Rattle.fx_infer.specs.Depths.{EntriesAreNoDeeper, TreesAreNoDeeper}
 use Rattle.fx_parser.specs.Texts.{IsNamedText, named_of}
 use Rattle.fx_parser.specs.declared.entries.Named.{Named}
 use Rattle.fx_trees.specs.declared.broken.Broken.{Broken}
@@ -15,7 +15,7 @@ use Rattle.app_cells.specs.declared.frame.Frame.{Frame}
 use Rattle.app_texts.specs.declared.file_texts.Text.{Text}
 use Rattle.app_texts.specs.Files.{texts_of}
 use Rattle.app_texts.specs.Texts.{AreNamedAt, AreNamedCells, AreReadAt, IsNamedReading, IsReading, bare}
-use Rattle.app_soundness.specs.app_typing.Cells.{AreShallow}
+use Rattle.app_loader.specs.Cells.{AreShallow}
 use Rattle.app_loader.proofs.Singles.{both_none, named_parts, reading_parts}
 
 abbrev IsShallow : Cell → Type 0

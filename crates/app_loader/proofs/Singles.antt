@@ -30,8 +30,8 @@ use Rattle.app_texts.specs.declared.file_texts.Text.{Text}
 use Rattle.app_texts.specs.Files.{control_texts, frame_of, is_written, property_texts, screen_texts, text_at, texts_of}
 use Rattle.app_texts.specs.Texts.{AreFormulasOf, AreNamedAt, AreNamedCells, AreReadAt, IsNamedReading, IsReading, bare, broken, formulas, named_broken, named_formulas}
 use Rattle.fx_parser.specs.declared.entries.Named.{Named}
-use Rattle.app_soundness.proofs.Cells.{items_ascii}
-use Rattle.app_soundness.specs.Accepted.{AreSingle}
+use Rattle.app_loader.proofs.Cells.{items_ascii}
+use Rattle.app_loader.specs.Accepted.{AreSingle}
 
 -- what is the formula of no gallery's items
 abbrev IsOther : Spot → Type 0

@@ -4,7 +4,7 @@ use Rattle.std.specs.Borrow.{Bor}
 use Rattle.app_loader.proofs.Judging.{admit_alike, as_called, deep_alike, node_alike, part_alike, parts_alike, setting_alike}
 use Rattle.fx_data.specs.Types.{Shape}
 use Rattle.fx_trees.specs.declared.signatures.Signature.{Signature}
-use Rattle.app_soundness.proofs.of_fx_infer.Breaks.{told_broken, told_parts}
+use Rattle.fx_infer.proofs.Breaks.{told_broken, told_parts}
 use Rattle.fx_typing.specs.Details.{HasToldBroken, IsToldBroken, IsToldBrokenWhole, call_limit, call_names, column_in, commas, counted, detail_of, head_name, no_variable, taken_in, takes_table, unjoined, wanted_detail}
 use Rattle.fx_typing.specs.Parts.{Part, Setting, parts_in}
 use Rattle.fx_typing.specs.Plans.{depth_of, setting_at}

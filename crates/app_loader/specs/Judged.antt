@@ -15,8 +15,8 @@ use Rattle.app_cells.specs.declared.frame.Frame.{Frame}
 use Rattle.app_texts.specs.Texts.{IsNamedReading, IsReading}
 use Rattle.app_names.specs.AppNames.{AreNames}
 use Rattle.app_names.specs.NameRules.{in_app, name_breaks}
-use Rattle.app_soundness.specs.Accepted.{AreSingle}
-use Rattle.app_soundness.specs.app_typing.Judged.{JudgedCells}
+use Rattle.app_loader.specs.Accepted.{AreSingle}
+use Rattle.app_loader.specs.JudgedFormulas.{JudgedCells}
 
 -- the most bytes of a text of named formulas
 abbrev pub longest : ℕ

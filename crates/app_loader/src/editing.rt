@@ -3,14 +3,15 @@ ghost use Rattle.std.specs.Prelude.{◌≡◌, Err, IfErr, IfOk, Ok};
 ghost use Rattle.app_edits.specs.Frames.{frame_of};
 ghost use Rattle.app_loader.specs.Edits.{IsLoaded, IsOneEdit, IsOneEdited, IsOneEditRefusal, JudgedEdit, LoadedApp, StillFit};
 ghost use Rattle.app_semantics.specs.Sound.{IsSound};
-ghost use Rattle.app_soundness.specs.app_typing.Judged.{Tells};
+ghost use Rattle.app_loader.specs.JudgedFormulas.{Tells};
 ghost use Rattle.fx_data.specs.Words.{scalars_of};
 ghost use Rattle.session_state.specs.Changes.{HoldsTables};
 
+use crate::judging::only;
 use crate::loading::load_formulas;
+use crate::no_deeper;
 use app_cells::App;
 use app_edits::edit_cells;
-use app_soundness::{no_deeper, only};
 use app_texts::read_is_sound;
 use fx_base::OrMemory;
 use fx_data::Words;

@@ -2,10 +2,19 @@
 //! app and an edit to the edited app likewise.
 #![tactic(auto)]
 
+pub mod admitting;
+pub mod cycles;
+pub mod edges;
 pub mod editing;
 pub mod finding;
+pub mod infos;
+pub mod judging;
+pub mod laws;
 pub mod loading;
+pub mod trees;
+pub mod types;
 pub mod verdicts;
+pub mod writing;
 
 pub use app_cells::{App, CellInfo};
 pub use editing::{edit, loaded_app, one_edit, one_edit_refusal, one_edited};

@@ -25,7 +25,7 @@ pub enum Thing {
 pub struct Declared {
     pub thing: Thing,
     pub name: Words,
-    /// The byte of the text at which the name begins, and of a field's name the byte at which its value does.
+    /// The byte of the text at which the name begins.
     pub at: u32,
 }
 

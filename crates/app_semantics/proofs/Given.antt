@@ -19,7 +19,7 @@ use Rattle.fx_scalar.specs.ScalarFunctions.{IsToday}
 use Rattle.fx_semantics.proofs.Tables.{RowsFit, rows_in_fit}
 use Rattle.fx_semantics.specs.Rows.{rows_in}
 use Rattle.fx_tables.proofs.FitRows.{RowFits}
-use Rattle.fx_tables.specs.Columns.{Row}
+use Rattle.fx_value.specs.Columns.{Row}
 use Rattle.fx_trees.specs.Controls.{input_type}
 use Rattle.fx_trees.specs.SourceTypes.{chosen_of as chosen_type, item_columns, item_type, sources}
 use Rattle.fx_trees.specs.declared.names.ControlName.{ControlName}

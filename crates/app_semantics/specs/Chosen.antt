@@ -6,7 +6,7 @@ use Rattle.fx_data.specs.Lookup.{item_of}
 use Rattle.fx_data.specs.Values.{Data, blank, number, fault}
 use Rattle.fx_semantics.specs.Around.{record_of}
 use Rattle.fx_semantics.specs.Rows.{rows_in}
-use Rattle.fx_tables.specs.Columns.{Row}
+use Rattle.fx_value.specs.Columns.{Row}
 use Rattle.fx_trees.specs.Lawful.{id_name}
 
 -- a row has this number as its ID

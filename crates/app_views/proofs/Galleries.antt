@@ -23,7 +23,7 @@ use Rattle.fx_semantics.specs.Around.{record_of}
 use Rattle.fx_semantics.specs.Rows.{rows_in}
 use Rattle.fx_semantics.specs.Sound.{IsItemFit}
 use Rattle.fx_tables.proofs.FitRows.{RowFits}
-use Rattle.fx_tables.specs.Columns.{Row}
+use Rattle.fx_value.specs.Columns.{Row}
 use Rattle.fx_trees.specs.Controls.{has_property}
 use Rattle.fx_trees.specs.Lawful.{Has, IsLawfulProperty}
 use Rattle.fx_trees.specs.SourceTypes.{item_columns, item_type}

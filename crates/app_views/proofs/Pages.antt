@@ -9,7 +9,7 @@ use Rattle.app_views.specs.Views.{AreGiven, AreItemsIn, AreItemsUnless, AreRowIt
 use Rattle.fx_data.specs.Values.{Data}
 use Rattle.fx_data.specs.declared.faults.Fault.{Fault}
 use Rattle.fx_semantics.specs.Rows.{rows_in}
-use Rattle.fx_tables.specs.Columns.{Row}
+use Rattle.fx_value.specs.Columns.{Row}
 use Rattle.view_text.specs.declared.views.Items.{Items}
 
 -- ---- items of a value

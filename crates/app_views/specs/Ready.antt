@@ -7,7 +7,7 @@ use Rattle.fx_data.specs.Types.{Shape}
 use Rattle.fx_data.specs.declared.controls.Control.TheVariants as control
 use Rattle.fx_scalar.specs.ScalarFunctions.{IsToday}
 use Rattle.fx_semantics.specs.Around.{record_of}
-use Rattle.fx_tables.specs.Columns.{Row}
+use Rattle.fx_value.specs.Columns.{Row}
 use Rattle.fx_trees.specs.SourceTypes.{item_type}
 use Rattle.fx_trees.specs.declared.names.ControlName.{ControlName}
 use Rattle.fx_trees.specs.declared.names.Names.{Names}

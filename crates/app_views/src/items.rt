@@ -9,7 +9,7 @@ ghost use Rattle.app_views.specs.Views.{AreFreshItems, AreGiven, AreItemsFrom, A
 ghost use Rattle.fx_data.specs.ValueView.{view};
 ghost use Rattle.fx_scalar.specs.ScalarFunctions.{IsToday};
 ghost use Rattle.fx_semantics.specs.Rows.{rows_in as rows_of_value};
-ghost use Rattle.fx_tables.specs.Columns.{Row};
+ghost use Rattle.fx_value.specs.Columns.{Row};
 ghost use Rattle.recalc.specs.Values.{value_of};
 
 use crate::displaying::is_seen;

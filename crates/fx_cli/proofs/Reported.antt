@@ -3,7 +3,7 @@ use Rattle.std.proofs.Common.{◌≡◌, ℕ, inl, inr, List, [], Option, Some, 
 use Rattle.std.specs.declared.alloc.Global.{Global}
 use Rattle.app_cells.specs.declared.app.App.{App}
 use Rattle.office.specs.app_loader.Judged.{Judged, JudgedApp}
-use Rattle.office.specs.app_loader.app_typing.Judged as judged
+use Rattle.office.specs.app_loader.JudgedFormulas as judged
 use Rattle.office.specs.app_loader.Verdicts.{IsOneApp, IsOneVerdict}
 use Rattle.fx_base.specs.Faults.{Rose}
 use Rattle.fx_base.specs.Silence.{Marks}

@@ -8,7 +8,7 @@ use Rattle.fx_builtins.specs.Folds.{IsSum, average_of, total}
 use Rattle.fx_data.specs.declared.faults.Kind.TheVariants.{Numeric}
 use Rattle.fx_data.specs.declared.aggregates.Totals.{Totals}
 use Rattle.fx_number.specs.Decimal.{IsInRange, rounded}
-use Rattle.fx_tables.specs.Aggregates.{IsLeast, IsWithin, SumsUp, sum_of}
+use Rattle.fx_value.specs.Aggregates.{IsLeast, IsWithin, SumsUp, sum_of}
 
 -- the sum of numbers in range is in that of so many, also behind others
 within_from : (zs : List ℤ) (n : ℕ) (a : ℤ) → IsWithin n a → AllByRecursion IsInRange zs → IsWithin (n + length zs) (fold ◌+ℤ◌ a zs)

@@ -14,7 +14,7 @@ use Rattle.fx_trees.specs.declared.functions.Fun.{Fun}
 use Rattle.fx_trees.specs.declared.functions.Fun.TheVariants as fun
 use Rattle.fx_trees.specs.declared.schema.TableShape.{TableShape}
 use Rattle.fx_trees.specs.Term.{Term, all, cons, nil}
-use Rattle.query_semantics.specs.Consumers.{over_query}
+use Rattle.fx_plan.specs.Consumers.{over_query}
 use Rattle.row_queries.specs.declared.queries.Query.{Query}
 use Rattle.row_queries.specs.declared.rows.Row.{Row}
 

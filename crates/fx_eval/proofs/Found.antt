@@ -8,7 +8,7 @@ use Rattle.fx_semantics.specs.Rows.{IsOfFound}
 use Rattle.fx_tables.specs.RowCalls.{first_of, holds, kept_rows, looked_up}
 use Rattle.fx_tables.proofs.FirstErrors.{found_passes}
 use Rattle.fx_eval.specs.TableCalls.{value_found}
-use Rattle.fx_tables.specs.Columns.{Row}
+use Rattle.fx_value.specs.Columns.{Row}
 use Rattle.fx_tables.specs.Unions.{fault_or, is_fault}
 
 -- the row where the first condition holds, and the formula's value for it

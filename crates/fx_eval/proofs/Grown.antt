@@ -4,7 +4,7 @@ use Rattle.fx_data.specs.Values.{Data}
 use Rattle.fx_semantics.specs.Around.{Around, Meaning, AreEach, inside, record_of}
 use Rattle.fx_semantics.specs.Fresh.{meaning, meanings}
 use Rattle.fx_eval.specs.Given.{Given, IsGiven, AreGiven}
-use Rattle.fx_tables.specs.Columns.{Row}
+use Rattle.fx_value.specs.Columns.{Row}
 use Rattle.fx_trees.specs.Term.{Term, Top, all}
 use Rattle.fx_typing.specs.WellTyped.{standing_at}
 

@@ -15,7 +15,7 @@ use Rattle.fx_eval.specs.TableCalls.{AreColumns, AreNames, ArePairs, CanMake, Is
 use Rattle.fx_eval.proofs.Found.{found_is}
 use Rattle.fx_eval.proofs.Parts.{AreOf, are_of}
 use Rattle.fx_eval.proofs.Verdicts.{verdicts_are}
-use Rattle.fx_tables.specs.Columns.{Row}
+use Rattle.fx_value.specs.Columns.{Row}
 use Rattle.fx_tables.specs.Unions.{is_fault}
 use Rattle.fx_trees.specs.Term.{Top}
 

@@ -3,7 +3,7 @@ use Rattle.std.proofs.Common.{◌≡◌, ℕ, suc, List, [], ◌∷◌, length, 
 use Rattle.fx_data.specs.Values.{Data}
 use Rattle.fx_semantics.specs.Around.{Around, Meaning, AreEach}
 use Rattle.fx_eval.specs.Given.{Given, once, each, IsGiven, AreGiven}
-use Rattle.fx_tables.specs.Columns.{Row}
+use Rattle.fx_value.specs.Columns.{Row}
 use Rattle.fx_trees.specs.Term.{Top}
 use Rattle.fx_typing.specs.WellTyped.{Standing, plain, inside, bound, catching, standing_at}
 

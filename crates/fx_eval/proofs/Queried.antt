@@ -51,13 +51,13 @@ use Rattle.fx_trees.specs.Term as top
 use Rattle.fx_typing.specs.Acts.{acts, any_acts}
 use Rattle.fx_typing.specs.WellTyped.{AllStand, AreTyped, Context, first_type, parts_count, row_type}
 use Rattle.fx_value.specs.Fits.{fits_in}
-use Rattle.query_semantics.proofs.Placing.{column_typed, lawful_at, some_is}
-use Rattle.query_semantics.proofs.Wholes.{fit_rows, rows_back}
-use Rattle.query_semantics.specs.Constants.{HaveTypes, ReadsTables, SketchesCanPlan, in_row, row_shape}
-use Rattle.query_semantics.specs.Consumers.{AreTotalsOf, CountsAreValues, FirstsAreValues, FoundAreValues, ScansAreFirstRows, ScansAreValues, TotalsAreValues, over_query}
-use Rattle.query_semantics.specs.Limited.{first_rows}
-use Rattle.query_semantics.specs.Settings.{Setting}
-use Rattle.query_semantics.specs.Wholes.{IsPlanned}
+use Rattle.fx_plan.proofs.Placing.{column_typed, lawful_at, some_is}
+use Rattle.fx_plan.proofs.Wholes.{fit_rows, rows_back}
+use Rattle.fx_plan.specs.Constants.{HaveTypes, ReadsTables, SketchesCanPlan, in_row, row_shape}
+use Rattle.fx_plan.specs.Consumers.{AreTotalsOf, CountsAreValues, FirstsAreValues, FoundAreValues, ScansAreFirstRows, ScansAreValues, TotalsAreValues, over_query}
+use Rattle.fx_plan.specs.Limited.{first_rows}
+use Rattle.fx_plan.specs.Settings.{Setting}
+use Rattle.fx_plan.specs.Wholes.{IsPlanned}
 use Rattle.row_queries.specs.Answers.{AreRowsFor, IsScanValue, table_or_fault}
 use Rattle.row_queries.specs.declared.queries.Query.{Query}
 use Rattle.row_queries.specs.declared.rows.Row.{Row}

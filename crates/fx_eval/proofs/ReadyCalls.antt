@@ -25,7 +25,7 @@ use Rattle.fx_eval.specs.Given.{Given, once, each, AreGiven, IsGiven, columns_in
 use Rattle.fx_eval.specs.TableCalls.{AreColumns, AreFor, AreFormulas, AreNames, ArePairs, CanMake, IsCount, IsFormula, IsJoining, IsSearch}
 use Rattle.fx_eval.proofs.Parts.{AreOf, are_of, each_many, is_of}
 use Rattle.fx_eval.proofs.Places.{ArePaired, at_least, at_most, formula_behind, inner_behind, name_at, paired_by, whole}
-use Rattle.fx_tables.specs.Columns.{Row, renamed, with_column}
+use Rattle.fx_value.specs.Columns.{Row, renamed, with_column}
 use Rattle.fx_tables.specs.Unions.{is_fault}
 use Rattle.fx_trees.specs.Term.{Term, Terms, of, nil, cons, const, Top, over}
 use Rattle.fx_typing.specs.Columns.{added, and_then, dropped, field_in, if_there, label_of, names_there, shown, with_new, with_renamed}

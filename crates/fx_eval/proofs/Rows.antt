@@ -29,7 +29,7 @@ use Rattle.fx_eval.specs.declared.answers.Answers.{Answers}
 use Rattle.fx_eval.specs.Given.{AreGiven, Given, IsGiven, given}
 use Rattle.fx_eval.specs.TableCalls.{CanMake, IsMadeOf}
 use Rattle.fx_tables.specs.Unions.{is_fault}
-use Rattle.fx_tables.specs.Columns.{Row}
+use Rattle.fx_value.specs.Columns.{Row}
 use Rattle.fx_trees.specs.Term.{Term, Terms, of, cons, all, over}
 use Rattle.fx_value.specs.Fits.{fits_in}
 use Rattle.fx_typing.specs.WellTyped.{Context, AreTyped, AllStand, Stands, Standing, plain, inside, bound, catching, context_for, first_type, head_of, parts_count, standing_at, standing_of}

@@ -15,7 +15,7 @@ use Rattle.fx_trees.specs.declared.schema.TableShape.{TableShape}
 use Rattle.fx_trees.specs.declared.sources.Source.TheVariants as source
 use Rattle.fx_trees.specs.Term.{Term, Terms, of, nil, cons, Top, all, term_size, terms_size}
 use Rattle.fx_trees.specs.Term as top
-use Rattle.query_semantics.proofs.Placing.{in_front, joined, some_is, some_map, some_then}
+use Rattle.fx_plan.proofs.Placing.{in_front, joined, some_is, some_map, some_then}
 
 abbrev weight : List Term → ℕ
 weight ds = terms_size (all ds)

@@ -13,7 +13,7 @@ use Rattle.fx_tables.specs.RowCalls.{holds}
 use Rattle.fx_eval.specs.Given.{Given, once, each, IsName, given}
 use Rattle.fx_eval.specs.TableCalls.{AreFor, AreFormulas, AreNames, value_found, verdicts_behind, with_condition}
 use Rattle.fx_eval.specs.declared.answers.Answers.{Answers}
-use Rattle.fx_tables.specs.Columns.{Row}
+use Rattle.fx_value.specs.Columns.{Row}
 use Rattle.fx_tables.specs.Unions.{fault_or, is_fault}
 use Rattle.fx_value.proofs.JoinSteps.{left}
 

@@ -7,7 +7,7 @@ use Rattle.fx_tables.specs.RowCalls.{verdict_of}
 use Rattle.fx_eval.specs.Given.{Given, once, each}
 use Rattle.fx_eval.specs.TableCalls.{AreFormulas, verdicts, verdicts_behind, with_condition}
 use Rattle.fx_eval.proofs.Parts.{AreOf}
-use Rattle.fx_tables.specs.Columns.{Row}
+use Rattle.fx_value.specs.Columns.{Row}
 
 -- two conditions as one before the others
 pub verdict_twice : (q d : Data) (ds : List Data) → verdict_of (verdict_of (q ∷ d ∷ []) ∷ ds) ≡ verdict_of (q ∷ d ∷ ds)

@@ -20,7 +20,7 @@ use Rattle.fx_semantics.specs.Around.{Around, AreValues}
 use Rattle.fx_semantics.specs.Fresh.{IsValue, meaning, meanings}
 use Rattle.fx_semantics.specs.Rows.{IsOfFound}
 use Rattle.fx_tables.specs.AggregateCalls.{IsNumberOrBlank, IsSumValue, number_or_blank}
-use Rattle.fx_tables.specs.Aggregates.{SumsUp}
+use Rattle.fx_value.specs.Aggregates.{SumsUp}
 use Rattle.fx_tables.specs.RowCalls.{IsCountValue}
 use Rattle.fx_tables.specs.RowCalls.{first_of as first_row}
 use Rattle.fx_trees.specs.declared.functions.Fun.{Fun}
@@ -30,8 +30,8 @@ use Rattle.fx_trees.specs.declared.schema.TableShape.{TableShape}
 use Rattle.fx_trees.specs.declared.sources.Source.{Source}
 use Rattle.fx_trees.specs.Lawful.{IsLawfulTable}
 use Rattle.fx_trees.specs.Term.{Term, all, nil, cons}
-use Rattle.query_semantics.specs.Consumers.{over_query}
-use Rattle.query_semantics.specs.Limited.{first_rows}
+use Rattle.fx_plan.specs.Consumers.{over_query}
+use Rattle.fx_plan.specs.Limited.{first_rows}
 use Rattle.row_queries.specs.Answers.{IsCountAnswer, IsScanValue, IsTotalAnswer, OfRows}
 use Rattle.row_queries.specs.declared.queries.Query.{Query}
 use Rattle.row_queries.specs.declared.rows.Row.{Row}

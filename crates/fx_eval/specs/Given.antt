@@ -7,7 +7,7 @@ use Rattle.fx_trees.specs.declared.rows.Takes.{Takes}
 use Rattle.fx_trees.specs.declared.rows.Takes.TheVariants as takes
 use Rattle.fx_eval.specs.declared.answers.Answers.{Answers}
 use Rattle.fx_eval.specs.declared.answers.Answers.TheVariants.{Once, Each}
-use Rattle.fx_tables.specs.Columns.{Row}
+use Rattle.fx_value.specs.Columns.{Row}
 use Rattle.fx_trees.specs.Term.{Top}
 use Rattle.fx_typing.specs.WellTyped.{Standing, plain, inside, standing_at}
 

@@ -9,7 +9,7 @@ use Rattle.fx_semantics.specs.Around.{Around, record_of}
 use Rattle.fx_semantics.specs.Fresh.{IsValue}
 use Rattle.fx_trees.specs.declared.functions.Fun.{Fun}
 use Rattle.fx_trees.specs.declared.sources.Source.{Source}
-use Rattle.fx_tables.specs.Columns.{Row}
+use Rattle.fx_value.specs.Columns.{Row}
 use Rattle.fx_trees.specs.Term.{Term, over}
 use Rattle.fx_typing.specs.WellTyped.{Standing, plain, inside, bound, catching, standing_at}
 use Rattle.fx_typing.specs.Ways.{is_comparable}

@@ -9,7 +9,7 @@ use Rattle.fx_tables.specs.AggregateCalls.{IsSumOf, IsLeastOf, IsGreatestOf, ave
 use Rattle.fx_tables.specs.ColumnCalls.{CanAdd, CanRename, renamed_columns, with_columns, without_columns}
 use Rattle.fx_tables.specs.Ends.{emptiness_of, first_rows, last_of, last_rows}
 use Rattle.fx_tables.specs.RowCalls.{AreKeysOrErrors, IsCountIfOf, IsCountValue, IsSortOf, distinct_or, filtered, first_of, for_all_of, holds, looked_up, verdict_of}
-use Rattle.fx_tables.specs.Columns.{Row, only}
+use Rattle.fx_value.specs.Columns.{Row, only}
 use Rattle.fx_tables.specs.Unions.{fault_or}
 use Rattle.fx_eval.specs.Given.{Given, once, each, columns_in, count_in, names_in, pairs_in, separator_in, values_in}
 

@@ -6,7 +6,7 @@ ghost use Rattle.fx_data.specs.declared.values.Value.TheVariants.{Boolean};
 ghost use Rattle.fx_tables.specs.RowCalls.{holds as holds_in, verdict_of};
 ghost use Rattle.fx_eval.specs.Given.{given};
 ghost use Rattle.fx_eval.specs.TableCalls.{AreFormulas, found_in, IsSearch, value_found, verdicts as verdicts_of, with_condition};
-ghost use Rattle.fx_tables.specs.Columns.{Row};
+ghost use Rattle.fx_value.specs.Columns.{Row};
 ghost use Rattle.fx_tables.specs.Unions.{fault_or, is_fault};
 
 use crate::answers::{Answers, values_of};

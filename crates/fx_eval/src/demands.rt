@@ -8,12 +8,12 @@ ghost use Rattle.fx_number.specs.Decimal.{IsInRange};
 ghost use Rattle.fx_plan.specs.QueryExpressions.{sketch_of};
 ghost use Rattle.fx_semantics.specs.Rows.{rows_in};
 ghost use Rattle.fx_tables.specs.AggregateCalls.{IsSumValue, number_or_blank as number_or_blank_of};
-ghost use Rattle.fx_tables.specs.Aggregates.{SumsUp};
+ghost use Rattle.fx_value.specs.Aggregates.{SumsUp};
 ghost use Rattle.fx_tables.specs.RowCalls.{IsCountValue, first_of};
 ghost use Rattle.fx_trees.specs.declared.functions.Fun.TheVariants as fun;
 ghost use Rattle.fx_trees.specs.Lawful.{IsLawfulSchema};
 ghost use Rattle.fx_trees.specs.Term.{all, cons, const, nil, of};
-ghost use Rattle.query_semantics.specs.Consumers.{over_query};
+ghost use Rattle.fx_plan.specs.Consumers.{over_query};
 
 use fx_base::Memory;
 use fx_builtins::quotient;

@@ -2,8 +2,8 @@
 ghost use Rattle.fx_eval.specs.Laws.{ErrorIsWorth, MadeIsWorth, TypedCanMake};
 ghost use Rattle.fx_eval.specs.Demands.{AnswersAreValues, ConstantsAreReady, FoundAreReady};
 
+use fx_plan::{answers_are_values, sketches_can_plan};
 use fx_semantics::values_fit;
-use query_semantics::{answers_are_values, sketches_can_plan};
 use row_queries::rows_fit;
 
 /// A law, and no work: what a function makes of the rows of a table, and of what its other parts give, is

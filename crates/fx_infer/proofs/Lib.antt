@@ -5,8 +5,6 @@ pub mod Lasts
 pub mod Places
 pub mod Wholes
 pub mod Levels
-mod After
 mod Known
 pub mod Only
-mod Same
 mod Walked

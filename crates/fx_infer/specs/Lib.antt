@@ -5,7 +5,4 @@ pub mod Operands
 pub mod Written
 pub mod Depths
 pub mod CellView
-pub mod GivenView
 pub mod Limit
-pub mod SameTypes
-pub mod TypesView

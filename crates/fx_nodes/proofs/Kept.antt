@@ -2,7 +2,7 @@
 use Rattle.std.proofs.Common.{◌≡◌, ℕ, List, [], ◌∷◌, ◌++◌, Bool, true, false, Result, Ok, Err, refl, sym, ap, subst, ◌∙◌, arith, ltb-true, ltb-false, if◌then◌else◌}
 use Rattle.std.specs.Prelude.{min, nat_lt}
 use Rattle.fx_typing.specs.Parts.{lowest, all_or_lowest}
-use Rattle.fx_operators.proofs.Stops.{stops}
+use Rattle.fx_typing.proofs.Stops.{stops}
 use Rattle.fx_typing.specs.Answers.{Answers, Wrong}
 use Rattle.fx_base.specs.declared.or_memory.OrMemory.TheVariants.{Refused as Breaks, Memory}
 use Rattle.fx_trees.specs.Rules.{number_of}

@@ -5,7 +5,7 @@ use Rattle.fx_trees.specs.Term.{Term}
 use Rattle.fx_typing.specs.Columns.{and_then}
 use Rattle.fx_typing.specs.Local.{value, label, put_first}
 use Rattle.fx_typing.specs.Parts.{Part, piece, meant, target, assigned, values, put_value}
-use Rattle.fx_operators.proofs.Stops.{stops}
+use Rattle.fx_typing.proofs.Stops.{stops}
 use Rattle.fx_typing.specs.Answers.{Answers, Wrong}
 use Rattle.fx_nodes.specs.Lists.{behind, value_of}
 use Rattle.fx_nodes.proofs.Kept.{last_then}

@@ -8,3 +8,15 @@ pub mod Places
 pub mod Planned
 pub mod SpanLaws
 pub mod Suiting
+pub mod Placing
+pub mod Carried
+pub mod Constancy
+pub mod Columns
+pub mod Testing
+pub mod Arranged
+pub mod Sound
+pub mod Wholes
+pub mod Limiting
+pub mod Retyped
+pub mod Firsts
+pub mod Consumers

@@ -9,3 +9,9 @@ pub mod Ranges
 pub mod SitePlaces
 pub mod Sites
 pub mod Spans
+pub mod Settings
+pub mod Constants
+pub mod TestValues
+pub mod Wholes
+pub mod Limited
+pub mod Consumers

@@ -4,6 +4,7 @@
 mod call_names;
 pub mod conditions;
 pub mod filling;
+pub mod laws;
 pub mod patterns;
 pub mod plans;
 pub mod ranges;

@@ -14,7 +14,7 @@ use Rattle.fx_trees.specs.SourceTypes.{put_column}
 use Rattle.fx_tables.proofs.FitColumns.{all_renamed_fit, dropped_fit, rows_only_fit, rises_put}
 use Rattle.fx_tables.specs.AggregateCalls.{characters_in}
 use Rattle.fx_tables.specs.ColumnCalls.{in_turn, renamed_columns, without_columns}
-use Rattle.fx_tables.specs.Columns.{LacksColumn, Row, only, renamed, with_column, with_field}
+use Rattle.fx_value.specs.Columns.{LacksColumn, Row, only, renamed, with_column, with_field}
 use Rattle.fx_tables.proofs.FitRows.{RowFits}
 use Rattle.fx_trees.specs.Term.{Term, Terms, of, nil, cons, const}
 use Rattle.fx_typing.specs.Columns.{and_then, by_label, dropped, field_in, if_free, if_there, label_of, names_there, shown, with_renamed}

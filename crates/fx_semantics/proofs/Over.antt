@@ -16,8 +16,8 @@ use Rattle.fx_tables.specs.ColumnCalls.{renamed_columns, with_columns, without_c
 use Rattle.fx_tables.specs.Ends.{emptiness_of, first_rows, last_of, last_rows}
 use Rattle.fx_tables.specs.RowCalls.{CanBeRowType, holds, IsCountValue, distinct_or, filtered, first_of, for_all_of, looked_up}
 use Rattle.fx_builtins.specs.Folds.{IsGreatest, IsLeast}
-use Rattle.fx_tables.specs.Aggregates.{numbers_in}
-use Rattle.fx_tables.specs.Columns.{Row, only, with_column}
+use Rattle.fx_value.specs.Aggregates.{numbers_in}
+use Rattle.fx_value.specs.Columns.{Row, only, with_column}
 use Rattle.fx_trees.specs.Term.{Term, Terms, nil, cons, Top, over}
 use Rattle.fx_typing.specs.Columns.{added, dropped, shown, renamed, field_in, label_of, row_columns, value_column, with_new}
 use Rattle.fx_typing.specs.WellTyped.{Context, Standing, inside, standing_at, context_for, Stands, AllStand, paired, answered, as_table}

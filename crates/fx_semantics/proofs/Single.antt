@@ -8,7 +8,7 @@ use Rattle.fx_trees.specs.declared.functions.Form.{Form}
 use Rattle.fx_trees.specs.declared.functions.Form.TheVariants as form
 use Rattle.fx_scalar.specs.LazyForms.{AtAll, AtAny, ByCondition, CaughtOr, ErrorOr, UnlessBlank, equality}
 use Rattle.fx_scalar.proofs.Single.{AtMostOne}
-use Rattle.fx_tables.specs.Columns.{Row}
+use Rattle.fx_value.specs.Columns.{Row}
 use Rattle.fx_semantics.specs.Around.{Around, Meaning, AreEach, AreValues, catching, record_of}
 use Rattle.fx_semantics.specs.Forms.{IsAll, IsAny, IsCaughtBy, IsCoalesced, IsFormed, IsIf, IsMatched, IsRecovered, IsSwitch}
 use Rattle.fx_semantics.proofs.Parts.{Giving, stands}

@@ -11,7 +11,7 @@ use Rattle.fx_tables.specs.Laws.{CountIfOnce, CountOnce, GreatestOnce, LeastOnce
 use Rattle.fx_tables.specs.RowCalls.{IsCountIfOf, IsSortOf, distinct_or, filtered, first_of, for_all_of, looked_up, verdict_of}
 use Rattle.fx_scalar.specs.LazyForms.{ErrorOr}
 use Rattle.fx_scalar.proofs.Single.{AtMostOne}
-use Rattle.fx_tables.specs.Columns.{Row, only}
+use Rattle.fx_value.specs.Columns.{Row, only}
 use Rattle.fx_semantics.specs.Around.{Around, Meaning, AreEach, AreValues}
 use Rattle.fx_semantics.specs.Rows.{AreNames, AreNew, ArePairs, IsConcat, IsLookedUp, IsMade, IsNamed, IsOfFound, IsOver, IsTaken, IsVerdict, OfEach, OfVerdicts, is_falling, rows_in, table_of}
 use Rattle.fx_semantics.proofs.Parts.{Giving, stands}

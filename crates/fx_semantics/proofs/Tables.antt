@@ -15,7 +15,7 @@ use Rattle.fx_tables.specs.RowCalls.{CanBeRowType, IsFirstErrorOr, IsCountValue,
 use Rattle.fx_tables.proofs.FitRows.{first_rows_fit, kept_fit, last_rows_fit, ordered_fit, RowFits}
 use Rattle.fx_tables.proofs.FitDistinct.{distinct_fit}
 use Rattle.fx_tables.proofs.ValueRows.{values_fit as by_values_fit}
-use Rattle.fx_tables.specs.Columns.{Row}
+use Rattle.fx_value.specs.Columns.{Row}
 use Rattle.fx_tables.specs.Distinct.{distinct_of, value_row}
 use Rattle.fx_typing.specs.Columns.{row_columns, value_column}
 use Rattle.fx_typing.specs.WellTyped.{Context}

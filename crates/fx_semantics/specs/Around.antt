@@ -4,7 +4,7 @@ use Rattle.fx_data.specs.declared.faults.Fault.{Fault}
 use Rattle.fx_data.specs.declared.faults.Kind.{Kind}
 use Rattle.fx_data.specs.Values.{Data, rec, field_list}
 use Rattle.fx_trees.specs.declared.sources.Source.{Source}
-use Rattle.fx_tables.specs.Columns.{Row}
+use Rattle.fx_value.specs.Columns.{Row}
 
 -- what each source may give, the rows and records of the scopes from the outside, the gallery's item if
 -- there is one, and the error that was caught around, if one was

@@ -9,7 +9,7 @@ use Rattle.fx_tables.specs.AggregateCalls.{IsSumOf, IsLeastOf, IsGreatestOf, ave
 use Rattle.fx_tables.specs.ColumnCalls.{renamed_columns, with_columns, without_columns}
 use Rattle.fx_tables.specs.Ends.{emptiness_of, first_rows, last_of, last_rows}
 use Rattle.fx_tables.specs.RowCalls.{IsCountIfOf, IsCountValue, IsSortOf, distinct_or, filtered, first_of, for_all_of, looked_up, verdict_of}
-use Rattle.fx_tables.specs.Columns.{Row, only}
+use Rattle.fx_value.specs.Columns.{Row, only}
 use Rattle.fx_scalar.specs.LazyForms.{ErrorOr}
 use Rattle.fx_semantics.specs.Around.{Around, Meaning, AreEach, AreValues, inside}
 

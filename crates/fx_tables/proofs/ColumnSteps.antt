@@ -16,7 +16,7 @@ use Rattle.fx_data.specs.declared.values.Value.{Value}
 use Rattle.fx_data.proofs.Risings.{rising_filter}
 use Rattle.fx_value.proofs.Widenings.{own_name, same_name}
 use Rattle.fx_value.proofs.Unions.{below}
-use Rattle.fx_tables.specs.Columns.{Row, with_field, without, with_column}
+use Rattle.fx_value.specs.Columns.{Row, with_field, without, with_column}
 
 -- a name is not below itself
 pub not_below_itself : (n : List ℕ) → IsBelow n n → ⊥

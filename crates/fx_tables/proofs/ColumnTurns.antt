@@ -6,7 +6,7 @@ use Rattle.fx_tables.specs.ColumnCalls.{CanAdd, CanRename, renamed_columns, with
 use Rattle.fx_tables.specs.NewColumn.{column_seen, renaming_seen}
 use Rattle.fx_tables.specs.declared.column_calls.NewColumn.{NewColumn}
 use Rattle.fx_tables.specs.declared.column_calls.Renaming.{Renaming}
-use Rattle.fx_tables.specs.Columns.{Row, renamed, with_column, without}
+use Rattle.fx_value.specs.Columns.{Row, renamed, with_column, without}
 
 -- a column that is new, and what comes behind it
 pub next_new : (columns rest : List NewColumn) (x : NewColumn) (rows : List Row) → columns ≡ x ∷ rest → CanAdd (map column_seen columns) rows → CanAdd (column_seen x ∷ map column_seen rest) rows

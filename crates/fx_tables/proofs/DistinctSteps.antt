@@ -15,9 +15,9 @@ use Rattle.fx_data.specs.ValueView.{view}
 use Rattle.fx_data.specs.declared.values.Value.{Value}
 use Rattle.fx_value.specs.Order.{order, AreOfOneType, IsScalar}
 use Rattle.fx_value.specs.Keys.{key_bytes, IsProper, KeysOrder}
-use Rattle.fx_tables.specs.Columns.{Row}
+use Rattle.fx_value.specs.Columns.{Row}
 use Rattle.fx_tables.specs.Distinct.{distinct_of, value_row}
-use Rattle.fx_tables.specs.Ordered.{AreKeys}
+use Rattle.fx_value.specs.Ordered.{AreKeys}
 use Rattle.fx_tables.specs.Seen.{HoldsFirsts, is_key_among, key_order}
 
 -- whether a value is among these, as the order tells them apart

@@ -8,8 +8,8 @@ use Rattle.fx_data.specs.Types.{Shape, blanks, numbers, texts, booleans, dates, 
 use Rattle.fx_data.specs.Values.{Data, tab, field_list, row_list}
 use Rattle.fx_value.specs.Fits.{fits_in, fields_fit, rows_fit}
 use Rattle.fx_value.proofs.Widenings.{both}
-use Rattle.fx_tables.specs.Columns.{Row}
-use Rattle.fx_tables.specs.Ordered.{IsOrderedBy}
+use Rattle.fx_value.specs.Columns.{Row}
+use Rattle.fx_value.specs.Ordered.{IsOrderedBy}
 use Rattle.fx_tables.specs.RowCalls.{holds, kept_rows}
 
 first_of_both : (a b : Bool) → (a && b) ≡ true → a ≡ true

@@ -7,7 +7,7 @@ use Rattle.std.proofs.lemmas.List.Elements.{filter-append}
 use Rattle.fx_data.specs.Values.{Data}
 use Rattle.fx_data.specs.ValueView.{view}
 use Rattle.fx_data.specs.declared.values.Value.{Value}
-use Rattle.fx_tables.specs.Columns.{Row}
+use Rattle.fx_value.specs.Columns.{Row}
 use Rattle.fx_tables.specs.RowCalls.{holds, is_blank, kept_rows}
 
 kept_first : (r : Row) (rs : List Row) (d : Data) (ds : List Data) → kept_rows (r ∷ rs) (d ∷ ds) ≡ (if holds d then r ∷ [] else []) ++ kept_rows rs ds

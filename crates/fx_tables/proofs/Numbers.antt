@@ -5,7 +5,7 @@ use Rattle.fx_data.specs.ValueView.{view}
 use Rattle.fx_data.specs.declared.values.Value.{Value}
 use Rattle.fx_builtins.specs.Folds.{present}
 use Rattle.fx_tables.specs.AggregateCalls.{IsNumberOrBlank, number_or_blank}
-use Rattle.fx_tables.specs.Aggregates.{number_of, numbers_in}
+use Rattle.fx_value.specs.Aggregates.{number_of, numbers_in}
 
 pub present_numbers : (vs : List Value) → present (map (λ v. number_of (view v)) vs) ≡ numbers_in (map view vs)
 present_numbers [] = refl

@@ -4,8 +4,8 @@ use Rattle.std.specs.Prelude.{MatchOption}
 use Rattle.std.specs.List.{find}
 use Rattle.fx_data.specs.Values.{Data, tab, row_list}
 use Rattle.fx_tables.specs.RowCalls.{IsFirstErrorOr, IsTableBy}
-use Rattle.fx_tables.specs.Columns.{Row}
-use Rattle.fx_tables.specs.Ordered.{OrderedOnce}
+use Rattle.fx_value.specs.Columns.{Row}
+use Rattle.fx_value.specs.Ordered.{OrderedOnce}
 use Rattle.fx_tables.specs.Unions.{is_fault}
 
 -- where there is one value of which P holds, there is one answer

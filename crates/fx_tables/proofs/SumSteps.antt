@@ -10,7 +10,7 @@ use Rattle.fx_data.specs.ValueView.{view}
 use Rattle.fx_data.specs.declared.aggregates.Totals.{Totals}
 use Rattle.fx_data.specs.declared.values.Value.{Value}
 use Rattle.fx_data.specs.declared.values.Value.TheVariants.{Blank, Number, Text, Boolean, Date, Rec, Tab, Fault}
-use Rattle.fx_tables.specs.Aggregates.{number_of, numbers_in, sum_of, IsLeast, IsGreatest, IsLesser, IsGreater, SumsUp}
+use Rattle.fx_value.specs.Aggregates.{number_of, numbers_in, sum_of, IsLeast, IsGreatest, IsLesser, IsGreater, SumsUp}
 
 pub numbers_with : (ds : List Data) (d : Data) (z : ℤ) → d ≡ number z → numbers_in (ds ++ d ∷ []) ≡ numbers_in ds ++ z ∷ []
 numbers_with ds d z e = filter_map-append number_of ds (d ∷ []) ∙ ap (λ x. numbers_in ds ++ cons_option (number_of x) []) e

@@ -14,7 +14,7 @@ use Rattle.fx_value.specs.Coercion.{CanWiden, Widens, same, joined, widened_fiel
 use Rattle.fx_value.specs.Fits.{fits_in, fields_fit}
 use Rattle.fx_value.proofs.Unions.{union_of_none, rises_list}
 use Rattle.fx_value.proofs.Widenings.{both, own_name}
-use Rattle.fx_tables.specs.Columns.{Row}
+use Rattle.fx_value.specs.Columns.{Row}
 use Rattle.fx_tables.specs.Distinct.{value_name}
 use Rattle.fx_tables.specs.Unions.{is_fault, fault_or, fields_in, CanBeRow, rows_of}
 

@@ -13,7 +13,7 @@ use Rattle.fx_value.specs.Fits.{fits_in, fields_fit, rows_fit}
 use Rattle.fx_value.proofs.Widenings.{both, own_name}
 use Rattle.fx_tables.specs.AggregateCalls.{characters_in}
 use Rattle.fx_tables.specs.RowCalls.{CanBeRowType, is_blank, rows_by_values}
-use Rattle.fx_tables.specs.Columns.{Row}
+use Rattle.fx_value.specs.Columns.{Row}
 use Rattle.fx_tables.specs.Distinct.{value_name}
 use Rattle.fx_tables.specs.Unions.{fields_in, is_fault}
 use Rattle.fx_typing.specs.Columns.{row_columns, value_column}

@@ -4,7 +4,7 @@ use Rattle.std.specs.List.{flat_map}
 use Rattle.fx_data.specs.Values.{Data, blank, number, text, fault}
 use Rattle.fx_data.specs.declared.faults.Kind.{Kind}
 use Rattle.fx_builtins.specs.Folds.{IsGreatest, IsLeast, IsSum, average_of}
-use Rattle.fx_tables.specs.Aggregates.{numbers_in}
+use Rattle.fx_value.specs.Aggregates.{numbers_in}
 use Rattle.fx_tables.specs.Unions.{fault_or}
 use Rattle.fx_builtins.specs.Texts.{joined, made}
 use Rattle.fx_tables.specs.RowCalls.{IsFirstErrorOr}

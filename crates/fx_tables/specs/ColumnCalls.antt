@@ -2,7 +2,7 @@
 use Rattle.std.specs.Prelude.{◌≡◌, ℕ, true, List, [], ◌∷◌, map, length, All, Result, Ok}
 use Rattle.fx_data.specs.Types.{ColumnList, Shape}
 use Rattle.fx_data.specs.Values.{Data}
-use Rattle.fx_tables.specs.Columns.{LacksColumn, Row, renamed, with_column, without}
+use Rattle.fx_value.specs.Columns.{LacksColumn, Row, renamed, with_column, without}
 use Rattle.fx_typing.specs.Columns.{and_then}
 use Rattle.fx_value.specs.Fits.{fits_in}
 

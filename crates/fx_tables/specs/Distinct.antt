@@ -5,7 +5,7 @@ use Rattle.std.specs.Ordering.{is_eq}
 use Rattle.fx_data.specs.Words.{scalars_of}
 use Rattle.fx_data.specs.Values.{Data}
 use Rattle.fx_value.specs.Order.{order}
-use Rattle.fx_tables.specs.Columns.{Row}
+use Rattle.fx_value.specs.Columns.{Row}
 
 -- the name of the column that scalars stand in
 abbrev pub value_name : List ℕ

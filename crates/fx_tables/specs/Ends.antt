@@ -3,7 +3,7 @@ use Rattle.std.specs.Prelude.{ℕ, ◌-◌, ◌==◌, ℤ, pos, List, length, ta
 use Rattle.fx_data.specs.Values.{Data, number, boolean, tab, fault, row_list}
 use Rattle.fx_builtins.specs.Numbers.{whole_part_of}
 use Rattle.fx_tables.specs.RowCalls.{first_of}
-use Rattle.fx_tables.specs.Columns.{Row}
+use Rattle.fx_value.specs.Columns.{Row}
 
 -- the last row as a record, or blank where there is none
 abbrev pub last_of : List Row → Data

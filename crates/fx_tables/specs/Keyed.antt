@@ -1,7 +1,7 @@
 -- A row beside its key.
 use Rattle.fx_data.specs.Values.{Data}
 use Rattle.fx_data.specs.ValueView.{view}
-use Rattle.fx_tables.specs.Columns.{Row}
+use Rattle.fx_value.specs.Columns.{Row}
 use Rattle.fx_tables.specs.declared.ordering.Keyed.{Keyed}
 
 -- the key, and the row

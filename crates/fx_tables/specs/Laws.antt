@@ -3,7 +3,7 @@ use Rattle.std.specs.Prelude.{◌≡◌, Bool, List}
 use Rattle.fx_data.specs.Values.{Data}
 use Rattle.fx_tables.specs.AggregateCalls.{IsGreatestOf, IsLeastOf, IsSumOf}
 use Rattle.fx_tables.specs.RowCalls.{IsCountIfOf, IsCountValue, IsSortOf}
-use Rattle.fx_tables.specs.Columns.{Row}
+use Rattle.fx_value.specs.Columns.{Row}
 
 -- no two answers stand in a relation with the same thing
 abbrev pub HasOneAnswer : {X : Type 0} → (X → Data → Type 0) → Type 0

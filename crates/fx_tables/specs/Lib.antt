@@ -1,8 +1,5 @@
-pub mod Aggregates
-pub mod Columns
 pub mod Distinct
 pub mod Keyed
-pub mod Ordered
 pub mod Seen
 pub mod Unions
 pub mod AggregateCalls

@@ -5,9 +5,9 @@ use Rattle.fx_number.specs.Decimal.{IsInRange}
 use Rattle.fx_data.specs.Types.{Shape, tables}
 use Rattle.fx_data.specs.Values.{Data, blank, number, boolean, rec, tab, fault, RowList, no_rows, row, field_list, row_list}
 use Rattle.fx_data.specs.declared.faults.Kind.TheVariants.{Numeric}
-use Rattle.fx_tables.specs.Columns.{Row}
+use Rattle.fx_value.specs.Columns.{Row}
 use Rattle.fx_tables.specs.Distinct.{distinct_of, value_row}
-use Rattle.fx_tables.specs.Ordered.{AreKeys, IsOrderedBy}
+use Rattle.fx_value.specs.Ordered.{AreKeys, IsOrderedBy}
 use Rattle.fx_tables.specs.Unions.{fault_or, fields_in, is_fault}
 
 -- the first error of these values, and where there is none a value of which P holds

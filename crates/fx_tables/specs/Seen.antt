@@ -9,7 +9,7 @@ use Rattle.std.specs.declared.cmp.Ordering.{Ordering}
 use Rattle.std.specs.declared.vec.Vec.{Vec}
 use Rattle.fx_data.specs.Values.{Data}
 use Rattle.fx_value.specs.Keys.{key_bytes}
-use Rattle.fx_tables.specs.Columns.{Row}
+use Rattle.fx_value.specs.Columns.{Row}
 use Rattle.fx_tables.specs.Distinct.{distinct_of, value_row}
 
 -- the order of keys

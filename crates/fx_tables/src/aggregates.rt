@@ -4,7 +4,7 @@ ghost use Rattle.fx_data.specs.Types.{numbers as number_type};
 ghost use Rattle.fx_data.specs.ValueView.{view};
 ghost use Rattle.fx_builtins.specs.Folds.{present};
 ghost use Rattle.fx_tables.specs.AggregateCalls.{IsGreatestOf, IsLeastOf, IsSumOf, IsSumValue, averaged, number_or_blank};
-ghost use Rattle.fx_tables.specs.Aggregates.{number_of, numbers_in};
+ghost use Rattle.fx_value.specs.Aggregates.{number_of, numbers_in};
 ghost use Rattle.fx_value.specs.Fits.{fits_in};
 
 use crate::errors::{made_error, without_errors};

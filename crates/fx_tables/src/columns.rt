@@ -9,7 +9,7 @@ ghost use Rattle.fx_data.specs.Rising.{AreRising};
 ghost use Rattle.fx_data.specs.Values.{blank};
 ghost use Rattle.fx_data.specs.ValueView.{view, fields_view};
 ghost use Rattle.fx_data.specs.Words.{scalars_of};
-ghost use Rattle.fx_tables.specs.Columns.{LacksColumn, only as only_of, renamed as renamed_of, with_column, with_field as with_field_of, without as without_of};
+ghost use Rattle.fx_value.specs.Columns.{LacksColumn, only as only_of, renamed as renamed_of, with_column, with_field as with_field_of, without as without_of};
 
 use fx_base::Memory;
 use fx_data::values::{Fields, Rows, Value};

@@ -6,7 +6,7 @@ ghost use Rattle.fx_data.specs.ValueView.{view};
 ghost use Rattle.fx_value.specs.Keys.{IsProper};
 ghost use Rattle.fx_value.specs.Order.{AreOfOneType, IsScalar};
 ghost use Rattle.fx_tables.specs.Distinct.{distinct_of, value_row as value_row_of};
-ghost use Rattle.fx_tables.specs.Ordered.{AreKeys};
+ghost use Rattle.fx_value.specs.Ordered.{AreKeys};
 ghost use Rattle.fx_tables.specs.Seen.{HoldsFirsts};
 
 use crate::unions::value_row;

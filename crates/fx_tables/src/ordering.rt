@@ -3,7 +3,7 @@ ghost use Rattle.std.specs.Prelude.{◌≡◌, IfOk, map, length};
 ghost use Rattle.std.specs.List.{zip};
 ghost use Rattle.fx_data.specs.ValueView.{view};
 ghost use Rattle.fx_tables.specs.Keyed.{pair_of};
-ghost use Rattle.fx_tables.specs.Ordered.{IsOrderedBy, OrderedOnce, directed as directed_order};
+ghost use Rattle.fx_value.specs.Ordered.{IsOrderedBy, OrderedOnce, directed as directed_order};
 
 use fx_base::Memory;
 use fx_data::values::{Fields, Rows, Value};

@@ -2,7 +2,7 @@
 ghost use Rattle.std.specs.Prelude.{◌≡◌, ◌++◌, ◌∷◌, [], ◌+◌, ◌-◌, ◌^◌, ◌<◌, ◌≤◌, ◌+ℤ◌, IsSomeAnd, List, map};
 ghost use Rattle.fx_data.specs.Values.{Data};
 ghost use Rattle.fx_data.specs.ValueView.{view};
-ghost use Rattle.fx_tables.specs.Aggregates.{IsGreater, IsLesser, IsWithin, SumsUp, numbers_in};
+ghost use Rattle.fx_value.specs.Aggregates.{IsGreater, IsLesser, IsWithin, SumsUp, numbers_in};
 
 use fx_data::aggregates::Totals;
 use fx_data::values::Value;

@@ -35,3 +35,4 @@ pub mod ColumnLists
 pub mod Pairs
 pub mod SameColumns
 pub mod Tellings
+pub mod Stops

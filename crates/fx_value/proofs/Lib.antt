@@ -8,3 +8,4 @@ pub mod SameLemmas
 pub mod Unions
 pub mod WideningSteps
 pub mod Widenings
+pub mod RowOrders

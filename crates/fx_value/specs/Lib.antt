@@ -7,3 +7,6 @@ pub mod Coercion
 pub mod Fits
 pub mod Join
 pub mod Weight
+pub mod Columns
+pub mod Ordered
+pub mod Aggregates

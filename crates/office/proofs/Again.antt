@@ -21,7 +21,7 @@ use Rattle.session_requests.specs.Laws as laws
 use Rattle.session_requests.specs.Posting.{PostsEvent, PostsEventChecked, PostsInput, PostsInputChecked}
 use Rattle.session_requests.specs.declared.event.Event.{Event as Sent}
 use Rattle.session_requests.specs.declared.input.Input.{Input as Given}
-use Rattle.edit_requests.specs.Editing.{Ends as Edited, PostsChecked as EditChecked, PostsEdit, accepted_reply as edit_reply, edit_checks}
+use Rattle.office.specs.DeskEdits.{Ends as Edited, PostsChecked as EditChecked, PostsEdit, accepted_reply as edit_reply, edit_checks}
 use Rattle.fx_trees.specs.declared.broken.Broken.{Broken}
 use Rattle.request_checks.specs.Bodies.{edit_in}
 use Rattle.request_checks.specs.declared.edit.Edit.{Edit as Change}
@@ -35,7 +35,7 @@ use Rattle.office.specs.Answers.{Exchange, Plays}
 use Rattle.office.specs.Isolation.{AreOfOthers, Caller, IsOf, caller_of, desk, kept_of, kept_of_session, session}
 use Rattle.office.specs.State.{State, schema_of}
 use Rattle.office.specs.Step.{Answered, Does, Left, Reaches}
-use Rattle.edit_requests.proofs.Repeats.{acts_once as edits_again}
+use Rattle.office.proofs.Repeats.{acts_once as edits_again}
 use Rattle.row_requests.proofs.Again.{checks_again}
 use Rattle.request_checks.proofs.Again.{Asks, passed}
 use Rattle.request_checks.proofs.Directories.{find_put}

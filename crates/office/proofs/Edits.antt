@@ -7,7 +7,7 @@ use Rattle.session_state.specs.Once.{Kept}
 use Rattle.session_state.specs.Sessions.{SessionState}
 use Rattle.app_cells.specs.declared.app.App.{App}
 use Rattle.app_cells.specs.declared.frame.Frame.{Frame}
-use Rattle.edit_requests.specs.app_loader.Edits.{IsLoaded, StillFit}
+use Rattle.app_loader.specs.Edits.{IsLoaded, StillFit}
 use Rattle.request_checks.specs.Replies.{KeepReplies}
 use Rattle.request_checks.specs.declared.directory.Named.{Named}
 use Rattle.row_requests.specs.Sound.{AreSound}

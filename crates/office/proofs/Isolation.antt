@@ -31,7 +31,7 @@ use Rattle.office.specs.Ready.{AreFit, IsSettled}
 use Rattle.office.specs.Sessions.{ShowsNamed, ShowsNamedTo, begins, most_sessions}
 use Rattle.office.specs.State.{State, schema_of}
 use Rattle.office.specs.Step.{Answered, Does, DoesAt, Step}
-use Rattle.edit_requests.proofs.Repeats.{leaves_others as edits_leave}
+use Rattle.office.proofs.Repeats.{leaves_others as edits_leave}
 use Rattle.row_requests.proofs.Again.{posts_others}
 use Rattle.request_checks.proofs.Directories.{find_other}
 use Rattle.office.proofs.Directories.{find_without, found_fits}

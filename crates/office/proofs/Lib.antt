@@ -9,3 +9,5 @@ pub mod Settling
 pub mod Silence
 pub mod StepLemmas
 pub mod Taken
+pub mod Desks
+pub mod Repeats

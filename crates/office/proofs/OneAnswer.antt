@@ -8,9 +8,9 @@ use Rattle.app_wire.specs.declared.route.Route.TheVariants.{Begin, End, View, Na
 use Rattle.app_wire.specs.declared.route.RouteEnd.{RouteEnd}
 use Rattle.app_wire.specs.declared.route.RouteEnd.TheVariants.{NoRoute, WrongMethod, Memory}
 use Rattle.app_cells.specs.declared.app.App.{App}
-use Rattle.edit_requests.specs.app_loader.Verdicts.{IsSameApp}
-use Rattle.edit_requests.specs.Editing.{IsSame}
-use Rattle.edit_requests.specs.Laws.{AreRefused, IsOneOutcome as IsOneEditOutcome}
+use Rattle.app_loader.specs.Verdicts.{IsSameApp}
+use Rattle.office.specs.DeskEdits.{IsSame}
+use Rattle.office.specs.DeskEditLaws.{AreRefused, IsOneOutcome as IsOneEditOutcome}
 use Rattle.fx_trees.specs.declared.schema.TableShape.{TableShape}
 use Rattle.row_keeper.specs.Tables.{Tables}
 use Rattle.session_state.specs.Once.{Kept}

@@ -6,7 +6,7 @@ use Rattle.fx_data.specs.Values.{Data}
 use Rattle.fx_trees.specs.Lawful.{IsLawful}
 use Rattle.fx_trees.specs.declared.names.Names.{Names}
 use Rattle.app_cells.specs.declared.app.App.{App}
-use Rattle.edit_requests.specs.app_edits.Frames.{frame_of}
+use Rattle.app_edits.specs.Frames.{frame_of}
 use Rattle.app_semantics.specs.Present.{present}
 use Rattle.app_semantics.specs.Sound.{IsSound}
 use Rattle.app_wire.specs.Framing.{Asked}

@@ -1,14 +1,14 @@
 -- An app that is edited while it is served.
 use Rattle.std.specs.Prelude.{◌≡◌, ℕ, List, Ok}
 use Rattle.app_cells.specs.declared.app.App.{App}
-use Rattle.edit_requests.specs.app_edits.Frames.{frame_of}
-use Rattle.edit_requests.specs.app_loader.Edits.{StillFit}
-use Rattle.edit_requests.specs.app_loader.Verdicts.{AreSameBreaks}
+use Rattle.app_edits.specs.Frames.{frame_of}
+use Rattle.app_loader.specs.Edits.{StillFit}
+use Rattle.app_loader.specs.Verdicts.{AreSameBreaks}
 use Rattle.app_semantics.specs.Sound.{IsSound}
 use Rattle.app_wire.specs.Framing.{Asked}
 use Rattle.app_wire.specs.Routing.{Routing}
 use Rattle.app_wire.specs.declared.route.Route.TheVariants.{Edit}
-use Rattle.edit_requests.specs.Editing.{refusal_of}
+use Rattle.office.specs.DeskEdits.{refusal_of}
 use Rattle.fx_trees.specs.declared.broken.Broken.{Broken}
 use Rattle.request_checks.specs.Replies.{refusal_reply}
 use Rattle.session_state.specs.Changes.{HoldsTables}

@@ -7,4 +7,6 @@ pub mod Sessions
 pub mod Settled
 pub mod State
 pub mod Step
-pub use Rattle.edit_requests.specs.app_loader
+pub use Rattle.app_loader.specs as app_loader
+pub mod DeskEdits
+pub mod DeskEditLaws

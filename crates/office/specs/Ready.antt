@@ -2,7 +2,7 @@
 use Rattle.std.specs.Prelude.{◌≡◌, ◌<◌, length, Bool, false, List, Option, Some}
 use Rattle.std.specs.List.{AllByRecursion}
 use Rattle.app_cells.specs.declared.app.App.{App}
-use Rattle.edit_requests.specs.app_loader.Edits.{IsLoaded}
+use Rattle.app_loader.specs.Edits.{IsLoaded}
 use Rattle.app_semantics.specs.Sound.{IsSound}
 use Rattle.fx_trees.specs.declared.names.Names.{Names}
 use Rattle.fx_trees.specs.declared.schema.Schema.{Schema}

@@ -3,7 +3,7 @@ use Rattle.std.specs.Prelude.{◌≡◌, ◌⊎◌, ℕ, List, Some, Result, Ok,
 use Rattle.fx_base.specs.Faults.{Rose}
 use Rattle.fx_base.specs.Silence.{Goes, IsLost, Marks}
 use Rattle.fx_base.specs.Telling.{Stays}
-use Rattle.edit_requests.specs.app_loader.Verdicts.{IsSameApp}
+use Rattle.app_loader.specs.Verdicts.{IsSameApp}
 use Rattle.app_views.specs.Shows.{ShowsItems, ShowsView}
 use Rattle.row_keeper.specs.Tables.{Tables}
 use Rattle.app_wire.specs.Framing.{Asked}
@@ -13,7 +13,7 @@ use Rattle.app_wire.specs.declared.route.Route.{Route}
 use Rattle.app_wire.specs.declared.route.Route.TheVariants.{Begin, End, View, Named, Items, Event, Input, Rows, Edit, Page}
 use Rattle.app_wire.specs.declared.route.RouteEnd.{RouteEnd}
 use Rattle.app_wire.specs.declared.route.RouteEnd.TheVariants.{NoRoute, WrongMethod, Memory}
-use Rattle.edit_requests.specs.Editing.{PostsEdit}
+use Rattle.office.specs.DeskEdits.{PostsEdit}
 use Rattle.view_text.specs.ReplyText.{ok_text}
 use Rattle.row_requests.specs.DeskRows.{PostsRows, ReachesRows}
 use Rattle.row_requests.specs.Page.{ReachesPage, ShowsPage}

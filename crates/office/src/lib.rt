@@ -1,15 +1,18 @@
 //! The office: an app, its live sessions and desks, the keeper of its rows, and the conversations that it answers.
 #![tactic(auto)]
 
+mod accepting;
 pub mod converse;
+pub mod desk_edit_laws;
 pub mod laws;
 pub mod machine;
 pub mod named;
+pub mod posting;
 pub mod sessions;
 
 pub use app_cells::App;
+pub use app_loader::{load, load_named, loaded_app, one_app, one_verdict};
 pub use converse::{ConvEnd, MOST_REQUESTS};
-pub use edit_requests::{load, load_named, loaded_app, one_app, one_verdict};
 pub use machine::Office;
 pub use named::named_list;
 pub use recalc::Steps;

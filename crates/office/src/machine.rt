@@ -1,7 +1,7 @@
 //! The office, one request at a time.
 ghost use Rattle.std.specs.Prelude.{◌≡◌, ◌≢◌, ◌<◌, Err, IfOk, IsErrOf, Ok, OnErr, Some, false, length};
 ghost use Rattle.fx_base.specs.Silence.{IsLater, IsLost};
-ghost use Rattle.edit_requests.specs.app_loader.Edits.{IsLoaded};
+ghost use Rattle.app_loader.specs.Edits.{IsLoaded};
 ghost use Rattle.app_semantics.specs.Sound.{IsSound};
 ghost use Rattle.row_keeper.specs.Causes.{HasCause};
 ghost use Rattle.row_keeper.specs.declared.keeper.KeeperEnd.TheVariants.{Failed};
@@ -13,13 +13,13 @@ ghost use Rattle.office.specs.Ready.{CanOpen};
 ghost use Rattle.office.specs.State.{schema_of, started};
 ghost use Rattle.office.specs.Step.{Answered, Does, Left, Reaches, ReachesKeeper, Step};
 
+use crate::posting::post_edit;
 use crate::sessions::{begin, end, show_named};
 use app_cells::App;
 use app_views::{show_items, show_view};
 use app_wire::framer::Request;
 use app_wire::route::{Route, RouteEnd};
 use app_wire::routes::Routes;
-use edit_requests::post_edit;
 use fx_base::Memory;
 use fx_trees::Schema;
 use recalc::Steps;

@@ -12,7 +12,7 @@ use Rattle.fx_trees.specs.Rows.{row_of, takes_at}
 use Rattle.fx_trees.specs.declared.schema.TableShape.{TableShape}
 use Rattle.fx_trees.specs.Term.{Term, Terms, of, nil, cons, all, names_of, parts_of, Top}
 use Rattle.fx_trees.specs.Term as top
-use Rattle.query_semantics.specs.Limited.{first_rows, limited, parts_limited, takes_first_whole}
+use Rattle.fx_plan.specs.Limited.{first_rows, limited, parts_limited, takes_first_whole}
 use Rattle.query_limits.specs.Limits.{depth_at, each_limited, fields_limited, with_limited_parts}
 
 -- a tree: its first rows, or itself with its parts limited

@@ -5,7 +5,7 @@ use Rattle.fx_plan.specs.SitePlaces.{is_scoped}
 use Rattle.fx_plan.specs.Sites.{count_of, deeper}
 use Rattle.fx_trees.specs.declared.schema.TableShape.{TableShape}
 use Rattle.fx_trees.specs.Term.{Term, of}
-use Rattle.query_semantics.specs.Limited.{limited, parts_limited, takes_first_whole}
+use Rattle.fx_plan.specs.Limited.{limited, parts_limited, takes_first_whole}
 
 -- a tree that stays itself, with its parts limited
 abbrev pub with_limited_parts : List TableShape → ℕ → ℕ → Term → Term

@@ -9,7 +9,7 @@ ghost use Rattle.fx_trees.specs.Term.{all, cons, names_of, nil, of, parts_of};
 ghost use Rattle.fx_trees.specs.Term as top;
 ghost use Rattle.fx_trees.specs.Lawful.{IsLawfulSchema};
 ghost use Rattle.query_limits.specs.Limits.{depth_at, each_limited, fields_limited, with_limited_parts};
-ghost use Rattle.query_semantics.specs.Limited.{first_rows as first_rows_of, limited, takes_first_whole};
+ghost use Rattle.fx_plan.specs.Limited.{first_rows as first_rows_of, limited, takes_first_whole};
 
 use fx_base::Memory;
 use fx_data::{Ty, Value, Words};

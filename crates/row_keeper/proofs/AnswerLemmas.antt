@@ -8,7 +8,7 @@ use Rattle.std.proofs.lemmas.List.Elements.{All-filter, All-from_recursion, All-
 use Rattle.fx_data.specs.Values.{Data, blank, boolean, fault}
 use Rattle.fx_data.specs.declared.faults.Fault.{Fault}
 use Rattle.fx_data.specs.declared.aggregates.Totals.{Totals}
-use Rattle.fx_tables.specs.Aggregates.{SumsUp, numbers_in}
+use Rattle.fx_value.specs.Aggregates.{SumsUp, numbers_in}
 use Rattle.fx_trees.specs.declared.schema.TableShape.{TableShape}
 use Rattle.row_queries.specs.Conditions.{Condition, ConditionList, all_of, also, always, any_of, compares, constant, contains, flag, is_blank, no_conditions, opposite, starts}
 use Rattle.row_queries.specs.Queries.{AreAsked, IsQuery, IsScanned, IsTotalled, lies, first_fault, first_of, given_of, outcome_on, rows_or_fault}

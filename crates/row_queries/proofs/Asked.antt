@@ -13,7 +13,7 @@ use Rattle.std.proofs.lemmas.List.Elements.{All-from_recursion, recursion_from_A
 use Rattle.std.proofs.lemmas.List.Sorted.{All-permutation, ranks_by, sum_by-IsPermutation}
 use Rattle.std.proofs.lemmas.List.Sums.{sum_by-cons}
 use Rattle.fx_value.specs.Order.{order}
-use Rattle.fx_tables.proofs.OrderSteps.{directed_total, sorted_once}
+use Rattle.fx_value.proofs.RowOrders.{directed_total, sorted_once}
 use Rattle.row_queries.specs.Laws.{AskedOnce}
 use Rattle.row_queries.specs.Queries.{by_column, lies, row_order}
 use Rattle.row_queries.specs.TableRows.{AreInIdOrder, IsBelowAll, value_at, values_of}

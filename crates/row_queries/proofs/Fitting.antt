@@ -16,8 +16,8 @@ use Rattle.fx_trees.specs.declared.schema.Column.{Column}
 use Rattle.fx_trees.specs.declared.schema.TableShape.{TableShape}
 use Rattle.fx_trees.specs.Lawful.{AreDistinct, DiffersFromAll, id_name}
 use Rattle.fx_trees.specs.SourceTypes.{columns_of, put_column, put_columns}
-use Rattle.fx_tables.specs.Columns.{with_field}
-use Rattle.fx_tables.specs.Columns.{Row as Fields}
+use Rattle.fx_value.specs.Columns.{with_field}
+use Rattle.fx_value.specs.Columns.{Row as Fields}
 use Rattle.fx_value.specs.Fits.{fields_fit, fits_in, rows_fit}
 use Rattle.fx_value.proofs.Widenings.{own_name}
 use Rattle.row_queries.specs.Laws.{RowsFit}

@@ -12,8 +12,8 @@ use Rattle.fx_data.specs.Types.{numbers}
 use Rattle.fx_trees.specs.declared.schema.Column.{Column}
 use Rattle.fx_trees.specs.declared.schema.TableShape.{TableShape}
 use Rattle.fx_value.specs.Keys.{key_bytes}
-use Rattle.fx_tables.specs.Aggregates.{SumsUp, numbers_in}
-use Rattle.fx_tables.specs.Ordered.{directed}
+use Rattle.fx_value.specs.Aggregates.{SumsUp, numbers_in}
+use Rattle.fx_value.specs.Ordered.{directed}
 use Rattle.row_queries.specs.declared.queries.Query.{Query}
 use Rattle.row_queries.specs.declared.rows.Row.{Row}
 use Rattle.row_queries.specs.declared.rows.RowList.{RowList}

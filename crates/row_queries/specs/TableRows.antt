@@ -8,8 +8,8 @@ use Rattle.fx_trees.specs.declared.schema.TableShape.{TableShape}
 use Rattle.fx_trees.specs.Lawful.{id_name}
 use Rattle.fx_value.specs.Keys.{IsProper}
 use Rattle.fx_value.specs.Order.{IsScalar}
-use Rattle.fx_tables.specs.Columns.{with_field}
-use Rattle.fx_tables.specs.Columns.{Row as Fields}
+use Rattle.fx_value.specs.Columns.{with_field}
+use Rattle.fx_value.specs.Columns.{Row as Fields}
 use Rattle.fx_value.specs.Fits.{fits_in}
 use Rattle.row_queries.specs.declared.rows.Row.{Row}
 

@@ -17,7 +17,7 @@ use Rattle.fx_data.specs.declared.values.Value.{Value}
 use Rattle.fx_semantics.specs.Around.{record_of}
 use Rattle.fx_semantics.specs.Rows.{rows_in}
 use Rattle.fx_semantics.specs.Sound.{IsItemFit}
-use Rattle.fx_tables.specs.Columns.{Row}
+use Rattle.fx_value.specs.Columns.{Row}
 use Rattle.fx_trees.specs.declared.names.ControlName.{ControlName}
 use Rattle.fx_trees.specs.declared.names.Names.{Names}
 use Rattle.fx_typing.specs.Typing.{item_of}

@@ -21,7 +21,7 @@ use Rattle.fx_semantics.specs.Around.{record_of}
 use Rattle.fx_semantics.specs.Rows.{rows_in}
 use Rattle.fx_semantics.specs.Sound.{IsItemFit}
 use Rattle.fx_tables.proofs.FitRows.{RowFits}
-use Rattle.fx_tables.specs.Columns.{Row}
+use Rattle.fx_value.specs.Columns.{Row}
 use Rattle.fx_trees.specs.Lawful.{IsGallery, IsLawful, IsLawfulControl, IsLawfulGallery}
 use Rattle.fx_trees.specs.SourceTypes.{item_columns, item_type}
 use Rattle.fx_trees.specs.declared.names.ControlName.{ControlName}

@@ -17,7 +17,7 @@ use Rattle.fx_semantics.proofs.Wider.{stays}
 use Rattle.fx_semantics.specs.Around.{record_of}
 use Rattle.fx_semantics.specs.Sources.{Gives as GivesTold}
 use Rattle.fx_semantics.specs.Unique.{OneValue}
-use Rattle.fx_tables.specs.Columns.{Row}
+use Rattle.fx_value.specs.Columns.{Row}
 use Rattle.fx_trees.specs.SourceTypes.{sources}
 use Rattle.fx_trees.specs.declared.sources.Source.{Source}
 use Rattle.session_state.specs.Sessions.{SessionState}

@@ -9,7 +9,7 @@ use Rattle.app_semantics.specs.Properties.{IsPropertyForItem, is_true}
 use Rattle.fx_data.specs.Values.{Data, boolean}
 use Rattle.fx_semantics.specs.Around.{record_of}
 use Rattle.fx_semantics.specs.Rows.{rows_in}
-use Rattle.fx_tables.specs.Columns.{Row}
+use Rattle.fx_value.specs.Columns.{Row}
 use Rattle.fx_trees.specs.declared.names.ControlName.{ControlName}
 use Rattle.fx_trees.specs.declared.names.Names.{Names}
 use Rattle.request_checks.specs.Checks.{checks, session_of}

@@ -8,7 +8,7 @@ use Rattle.fx_data.specs.Values.{Data, blank, number, text, boolean, date}
 use Rattle.fx_data.specs.declared.controls.Control.{Control}
 use Rattle.fx_data.specs.declared.controls.Control.TheVariants as control
 use Rattle.fx_semantics.specs.Rows.{rows_in}
-use Rattle.fx_tables.specs.Columns.{Row}
+use Rattle.fx_value.specs.Columns.{Row}
 use Rattle.fx_trees.specs.Controls.{input_type, is_behaviour}
 use Rattle.fx_trees.specs.declared.names.ControlName.{ControlName}
 use Rattle.fx_trees.specs.declared.names.Names.{Names}

@@ -6,7 +6,7 @@ ghost use Rattle.app_semantics.specs.Present.{items_of, present};
 ghost use Rattle.app_semantics.specs.Sound.{IsSound};
 ghost use Rattle.fx_scalar.specs.ScalarFunctions.{IsToday};
 ghost use Rattle.fx_semantics.specs.Rows.{rows_in};
-ghost use Rattle.fx_tables.specs.Columns.{Row};
+ghost use Rattle.fx_value.specs.Columns.{Row};
 ghost use Rattle.fx_trees.specs.declared.names.ControlName.{ControlName as Control};
 ghost use Rattle.recalc.specs.Values.{CellsFit, value_of};
 ghost use Rattle.session_requests.specs.Posting.{IsShownFor, IsVisibleFor, gallery_around as gallery_around_of};

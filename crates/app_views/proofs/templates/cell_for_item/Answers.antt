@@ -5,7 +5,7 @@ use Rattle.app_semantics.specs.Present.{present}
 use Rattle.fx_data.specs.ValueView.{view}
 use Rattle.fx_semantics.specs.Around.{record_of}
 use Rattle.fx_semantics.specs.Sound.{IsItemFit}
-use Rattle.fx_tables.specs.Columns.{Row}
+use Rattle.fx_value.specs.Columns.{Row}
 use Rattle.fx_typing.specs.Typing.{item_of}
 use Rattle.recalc.specs.Values.{value_of}
 use Rattle.app_views.proofs.Galleries.{item_fits, template_cell, template_there}

@@ -1,5 +1,5 @@
 use Rattle.std.proofs.Common.{Some, Err, refl, subst}
-use Rattle.office.specs.app_loader.app_typing.Judged.{Tells}
+use Rattle.office.specs.app_loader.JudgedFormulas.{Tells}
 use Rattle.fx_cli.specs.Held.{Serves}
 use Rattle.fx_cli.specs.Report.{EndsOver, JudgedAs, Takes, no_show}
 use Rattle.fx_cli.specs.declared.words.Form.TheVariants.{Serve}

@@ -8,7 +8,7 @@ use Rattle.fx_typing.specs.WellTyped.{head_of}
 use Rattle.fx_typing.specs.declared.typed.Typed.{Typed}
 use Rattle.fx_typing.specs.TypedView.{typed, piece, built}
 use Rattle.fx_operators.proofs.Heads.{some_over}
-use Rattle.fx_operators.proofs.Stops.{stops}
+use Rattle.fx_typing.proofs.Stops.{stops}
 use Rattle.fx_operators.proofs.local.make.Goals as goal
 
 pub returns-in_err-parts : goal.returns-in_err-parts

@@ -7,7 +7,7 @@ use Rattle.fx_trees.specs.Term as term
 use Rattle.fx_typing.specs.Local.{made_by}
 use Rattle.fx_typing.specs.declared.typed.Typed.{Typed}
 use Rattle.fx_typing.specs.TypedView.{typed, piece, built}
-use Rattle.fx_operators.proofs.Stops.{stops}
+use Rattle.fx_typing.proofs.Stops.{stops}
 use Rattle.fx_operators.proofs.local.make_form.Goals as goal
 
 pub returns-in_err-parts : goal.returns-in_err-parts

@@ -4,7 +4,7 @@ use Rattle.fx_data.specs.TypeView.{shape}
 use Rattle.fx_typing.specs.declared.typed.Typed.{Typed}
 use Rattle.fx_typing.specs.TypedView.{typed}
 use Rattle.fx_operators.proofs.StandSteps.{next_stands, next_breaks, next}
-use Rattle.fx_operators.proofs.Stops.{stops}
+use Rattle.fx_typing.proofs.Stops.{stops}
 use Rattle.fx_operators.proofs.standing.stand_all.Goals as goal
 
 pub returns-in_err-next : goal.returns-in_err-next

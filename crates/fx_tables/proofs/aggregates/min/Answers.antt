@@ -1,7 +1,7 @@
 use Rattle.std.proofs.Common.{◌≡◌, ◌∙◌, ap, map, subst, sym, List, ℤ}
 use Rattle.fx_data.specs.ValueView.{view}
 use Rattle.fx_builtins.specs.Folds.{IsLeast, present}
-use Rattle.fx_tables.specs.Aggregates.{numbers_in}
+use Rattle.fx_value.specs.Aggregates.{numbers_in}
 use Rattle.fx_tables.specs.AggregateCalls.{IsNumberOrBlank}
 use Rattle.fx_tables.proofs.FirstErrors.{error_meets, none_meets}
 use Rattle.fx_tables.proofs.Numbers.{as_value}

@@ -1,7 +1,7 @@
 use Rattle.std.proofs.Common.{◌≡◌, List, map, subst, sym, true}
 use Rattle.fx_data.specs.Values.{row_list}
 use Rattle.fx_value.specs.Fits.{rows_fit}
-use Rattle.fx_tables.specs.Columns.{Row}
+use Rattle.fx_value.specs.Columns.{Row}
 use Rattle.fx_tables.specs.NewColumn.{column_seen}
 use Rattle.fx_tables.proofs.FitColumns.{added_fit}
 use Rattle.fx_tables.proofs.column_calls.add_columns.Goals as goal

@@ -3,7 +3,7 @@ use Rattle.fx_tables.proofs.ColumnTurns.{step_without}
 use Rattle.std.proofs.lemmas.List.{at_drop_all}
 use Rattle.fx_data.specs.Values.{row_list}
 use Rattle.fx_value.specs.Fits.{rows_fit}
-use Rattle.fx_tables.specs.Columns.{Row}
+use Rattle.fx_value.specs.Columns.{Row}
 use Rattle.fx_value.proofs.Unions.{rises_list}
 use Rattle.fx_data.specs.Types.{column_list}
 use Rattle.fx_tables.specs.ColumnCalls.{without_columns}

@@ -5,7 +5,7 @@ use Rattle.fx_data.specs.Rising.{AreRising}
 use Rattle.fx_data.specs.ValueView.{view, fields_view}
 use Rattle.fx_data.specs.declared.values.Value.{Value}
 use Rattle.fx_data.proofs.Risings.{rising_filter}
-use Rattle.fx_tables.specs.Columns.{only}
+use Rattle.fx_value.specs.Columns.{only}
 use Rattle.fx_tables.proofs.ColumnSteps.{seen_filter}
 use Rattle.fx_tables.proofs.columns.only.Goals as goal
 

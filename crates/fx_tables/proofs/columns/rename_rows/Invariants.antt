@@ -1,5 +1,5 @@
 use Rattle.std.proofs.Common.{◌≡◌, ◌++◌, map}
-use Rattle.fx_tables.specs.Columns.{LacksColumn, renamed}
+use Rattle.fx_value.specs.Columns.{LacksColumn, renamed}
 use Rattle.fx_tables.proofs.columns.rename_rows.Given as goal
 
 abbrev pub invariant-loop-row : goal.invariant-loop-row

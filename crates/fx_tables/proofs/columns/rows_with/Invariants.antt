@@ -1,6 +1,6 @@
 use Rattle.std.proofs.Common.{◌≡◌, ◌++◌, map, length}
 use Rattle.fx_data.specs.ValueView.{view}
-use Rattle.fx_tables.specs.Columns.{LacksColumn, with_column}
+use Rattle.fx_value.specs.Columns.{LacksColumn, with_column}
 use Rattle.fx_tables.proofs.columns.rows_with.Given as goal
 
 abbrev pub invariant-loop-row : goal.invariant-loop-row

@@ -1,4 +1,4 @@
-use Rattle.fx_tables.specs.Columns.{without}
+use Rattle.fx_value.specs.Columns.{without}
 use Rattle.fx_tables.proofs.ColumnSteps.{step_rows}
 use Rattle.fx_tables.proofs.columns.rows_without.Goals as goal
 

@@ -1,5 +1,5 @@
 use Rattle.std.proofs.Common.{◌≡◌, ◌++◌, map}
-use Rattle.fx_tables.specs.Columns.{without}
+use Rattle.fx_value.specs.Columns.{without}
 use Rattle.fx_tables.proofs.columns.rows_without.Given as goal
 
 abbrev pub invariant-loop-row : goal.invariant-loop-row

@@ -1,4 +1,4 @@
-use Rattle.fx_tables.specs.Columns.{only}
+use Rattle.fx_value.specs.Columns.{only}
 use Rattle.fx_tables.proofs.ColumnSteps.{step_rows}
 use Rattle.fx_tables.proofs.columns.show_columns.Goals as goal
 

@@ -2,7 +2,7 @@ use Rattle.std.proofs.Common.{◌≡◌, ◌∙◌, ap, map, subst, sym, List, t
 use Rattle.fx_data.specs.Values.{tab, row_list}
 use Rattle.fx_data.specs.ValueView.{view}
 use Rattle.fx_value.specs.Fits.{fits_in}
-use Rattle.fx_tables.specs.Columns.{Row}
+use Rattle.fx_value.specs.Columns.{Row}
 use Rattle.fx_tables.specs.RowCalls.{kept_rows}
 use Rattle.fx_tables.proofs.FirstErrors.{error_is, none_is}
 use Rattle.fx_tables.proofs.FitRows.{kept_fit}

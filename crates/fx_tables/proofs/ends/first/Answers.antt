@@ -2,7 +2,7 @@ use Rattle.std.proofs.Common.{◌≡◌, ◌∙◌, List, subst, sym, true}
 use Rattle.fx_data.specs.Types.{tables}
 use Rattle.fx_data.specs.Values.{tab, row_list}
 use Rattle.fx_value.specs.Fits.{fits_in}
-use Rattle.fx_tables.specs.Columns.{Row}
+use Rattle.fx_value.specs.Columns.{Row}
 use Rattle.fx_tables.proofs.FitRows.{first_fits}
 use Rattle.fx_tables.proofs.ends.first.Goals as goal
 

@@ -1,7 +1,7 @@
 use Rattle.std.proofs.Common.{◌≡◌, ◌-◌, List, length, subst, sym, true}
 use Rattle.fx_data.specs.Values.{tab, row_list}
 use Rattle.fx_value.specs.Fits.{fits_in}
-use Rattle.fx_tables.specs.Columns.{Row}
+use Rattle.fx_value.specs.Columns.{Row}
 use Rattle.fx_tables.proofs.FitRows.{last_rows_fit}
 use Rattle.fx_tables.proofs.ends.last_n.Goals as goal
 

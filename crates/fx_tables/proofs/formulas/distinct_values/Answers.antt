@@ -4,9 +4,9 @@ use Rattle.fx_data.specs.Values.{tab, row_list}
 use Rattle.fx_data.specs.ValueView.{view}
 use Rattle.fx_data.specs.declared.values.Value.{Value}
 use Rattle.fx_value.specs.Fits.{fits_in}
-use Rattle.fx_tables.specs.Columns.{Row}
+use Rattle.fx_value.specs.Columns.{Row}
 use Rattle.fx_tables.specs.Distinct.{distinct_of, value_row}
-use Rattle.fx_tables.specs.Ordered.{AreKeys}
+use Rattle.fx_value.specs.Ordered.{AreKeys}
 use Rattle.fx_typing.specs.Columns.{value_column}
 use Rattle.fx_tables.proofs.FirstErrors.{error_is, none_is}
 use Rattle.fx_tables.proofs.FitDistinct.{distinct_fit}

@@ -4,7 +4,7 @@ use Rattle.std.proofs.lemmas.Result.{IfOk-weaker}
 use Rattle.std.specs.List.Sorted.{IsSortedBy, IsStableBy}
 use Rattle.std.proofs.Common.{rules}
 use Rattle.fx_data.specs.ValueView.{view}
-use Rattle.fx_tables.specs.Ordered.{IsOrderedBy}
+use Rattle.fx_value.specs.Ordered.{IsOrderedBy}
 use Rattle.fx_tables.specs.declared.ordering.Keyed.{Keyed}
 use Rattle.fx_tables.proofs.OrderSteps.{before_is_order, found_order, is_before}
 use Rattle.fx_tables.proofs.ordering.order_by.Goals as goal

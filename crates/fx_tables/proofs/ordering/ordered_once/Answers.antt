@@ -1,4 +1,4 @@
-use Rattle.fx_tables.proofs.OrderSteps.{one_order}
+use Rattle.fx_value.proofs.RowOrders.{one_order}
 use Rattle.fx_tables.proofs.ordering.ordered_once.Goals as goal
 
 pub returns : goal.returns

@@ -1,6 +1,6 @@
 use Rattle.std.proofs.Common.{◌≤◌, map, take}
 use Rattle.fx_data.specs.ValueView.{view}
-use Rattle.fx_tables.specs.Aggregates.{IsWithin, SumsUp, numbers_in}
+use Rattle.fx_value.specs.Aggregates.{IsWithin, SumsUp, numbers_in}
 use Rattle.fx_tables.proofs.sums.totals.Given as goal
 
 abbrev pub invariant-loop-value : goal.invariant-loop-value

@@ -1,0 +1,102 @@
+-- What formulas are judged as, stage by stage.
+use Rattle.std.proofs.Common.{◌≡◌, ◌+◌, ℕ, List, [], ◌∷◌, Bool, true, false, nat_eq, All, length, map, Result, Ok, Err, IfErr, IfOk, refl, ap, sym, subst, ◌∙◌}
+use Rattle.depend_graph.specs.Order.{IsClosedPath, IsOrder}
+use Rattle.fx_infer.specs.Limit.{IsRoundsLimit}
+use Rattle.fx_trees.specs.declared.app_end.AppEnd.{AppEnd}
+use Rattle.fx_trees.specs.declared.app_end.AppEnd.TheVariants.{Refused, Memory}
+use Rattle.fx_trees.specs.declared.broken.Broken.{Broken}
+use Rattle.fx_trees.specs.declared.names.Names.{Names}
+use Rattle.fx_trees.specs.Lawful.{IsLawful}
+use Rattle.fx_typing.specs.Rounds.{Cell as Seen, IsFinal, StillChanges}
+use Rattle.app_cells.specs.declared.app.App.{App}
+use Rattle.app_cells.specs.declared.app.CellInfo.{CellInfo}
+use Rattle.app_cells.specs.declared.cell.Cell.{Cell}
+use Rattle.app_cells.specs.Leaning.{edges_of}
+use Rattle.app_loader.specs.Admitted.{AreRefused}
+use Rattle.app_loader.specs.Cells.{cell_of}
+use Rattle.app_loader.specs.Cycles.{IsCycle, cycle_of, name_at}
+use Rattle.app_loader.specs.Infos.{AreElaborated, unbuilt_breaks}
+use Rattle.app_loader.specs.JudgedFormulas.{AreFit, AreSettled, AreSome, IsCyclic, IsOrdered, JudgedCells, Tells, unsettled}
+use Rattle.app_loader.specs.JudgedFormulas as judge
+use Rattle.app_loader.specs.Types.{AreLawfullyTyped, HasLawfulTypes}
+use Rattle.app_loader.proofs.Below.{still_numbered}
+
+pub tells_weaker : (P Q : List Broken → Type 0) → ((bs : List Broken) → P bs → Q bs) → (e : AppEnd) → Tells P e → Tells Q e
+tells_weaker P Q f (Refused all) h = f all.items h
+tells_weaker P Q f Memory h = tt
+
+limit_is : (b : Broken) → IsRoundsLimit b → b ≡ unsettled
+limit_is b h = λ i. record { cell = h.0 i; rule = h.1 i; at = h.2 i; detail = h.3 i }
+
+-- ---- rounds
+pub final_by : (seen : List Seen) (cells : List Cell) (n m : Names) → seen ≡ map cell_of cells → IsFinal seen n m → IsFinal (map cell_of cells) n m
+final_by seen cells n m e f = subst (λ (cs : List Seen). IsFinal cs n m) e f
+
+pub still_fit : (cells : List Cell) (n m : Names) → AreFit n cells → IsFinal (map cell_of cells) n m → IsLawful m → AreFit m cells
+still_fit cells n m h f l = record { lawful = l; shallow = h.shallow; numbered = still_numbered (length cells) (map cell_of cells) n m f h.numbered }
+
+pub unsettled_by : (seen : List Seen) (cells : List Cell) (n : Names) (b : Broken) → seen ≡ map cell_of cells → StillChanges seen n → IsRoundsLimit b → (e : AppEnd) → Tells (λ bs. bs ≡ b ∷ []) e →
+    Tells (λ bs. (bs ≡ unsettled ∷ []) × StillChanges (map cell_of cells) n) e
+unsettled_by seen cells n b same still limit =
+    tells_weaker (λ bs. bs ≡ b ∷ []) (λ bs. (bs ≡ unsettled ∷ []) × StillChanges (map cell_of cells) n)
+    (λ bs is. (is ∙ ap (λ x. x ∷ []) (limit_is b limit), subst (λ (cs : List Seen). StillChanges cs n) same still))
+
+-- ---- order
+pub ordered : (m : Names) (limit count : ℕ) (is : List CellInfo) (edges : List (ℕ × ℕ)) (numbers order : List ℕ) → count ≡ length is → edges ≡ edges_of m is → IsOrder count edges numbers → order ≡ numbers →
+    IsOrdered m limit is (record { names = m; cells = is; order = order; limit = limit })
+ordered m limit count is edges numbers order c e o k = record {
+  names = refl;
+  cells = refl;
+  limit = refl;
+  order = subst (λ (ns : List ℕ). IsOrder (length is) (edges_of m is) ns) (sym k) (subst (λ (es : List (ℕ × ℕ)). IsOrder (length is) es numbers) e (subst (λ n. IsOrder n edges numbers) c o));
+}
+
+pub cyclic : (m : Names) (is : List CellInfo) (edges : List (ℕ × ℕ)) (path : List ℕ) (b : Broken) → edges ≡ edges_of m is → IsClosedPath edges path → b ≡ cycle_of (map (name_at is) path) → (e : AppEnd) →
+    Tells (λ bs. bs ≡ b ∷ []) e → Tells (IsCyclic m is) e
+cyclic m is edges path b same closed told =
+    tells_weaker (λ bs. bs ≡ b ∷ []) (IsCyclic m is) (λ bs k. (b, k, (path, subst (λ (es : List (ℕ × ℕ)). IsClosedPath es path) same closed, told)))
+
+-- ---- what formulas are judged as
+module _ (first : Names) (limit : ℕ) (cells : List Cell) where
+  abbrev Refuses : List Broken → Type 0
+  Refuses bs = JudgedCells first limit cells (Err bs)
+
+  pub unsettled_end : (e : AppEnd) → Tells (λ bs. (bs ≡ unsettled ∷ []) × StillChanges (map cell_of cells) first) e → Tells Refuses e
+  unsettled_end = tells_weaker (λ bs. (bs ≡ unsettled ∷ []) × StillChanges (map cell_of cells) first) Refuses (λ bs h. subst Refuses (sym h.0) (judge.unsettling first limit cells h.1))
+
+  pub refused_end : (m : Names) → IsFinal (map cell_of cells) first m → (e : AppEnd) → Tells (AreSome (AreRefused m cells)) e → Tells Refuses e
+  refused_end m f = tells_weaker (AreSome (AreRefused m cells)) Refuses (λ bs h. subst Refuses (sym h.2) (judge.refused first limit cells m h.0 h.1 f (subst (AreRefused m cells) h.2 h.3)))
+
+  pub unbuilt_end : (m : Names) (is : List CellInfo) (bs : List Broken) → IsFinal (map cell_of cells) first m → AreElaborated m cells is → bs ≡ unbuilt_breaks is → nat_eq (length bs) 0 ≡ false → Refuses bs
+  unbuilt_end m is [] f h e k = let past : true ≡ false = k in absurd cc
+  unbuilt_end m is (b ∷ bs) f h e k = judge.unbuilt first limit cells m is b bs (record { final = f; elaborated = h }) (sym e)
+
+  pub cyclic_end : (m : Names) (is : List CellInfo) → IsFinal (map cell_of cells) first m → AreElaborated m cells is → unbuilt_breaks is ≡ [] → (e : AppEnd) → Tells (IsCyclic m is) e → Tells Refuses e
+  cyclic_end m is f h b = tells_weaker (IsCyclic m is) Refuses (λ bs k. subst Refuses (sym k.1) (judge.cyclic first limit cells m is k.0 (record { final = f; elaborated = h }) b k.2))
+
+  pub cyclic_err : (m : Names) (is : List CellInfo) → IsFinal (map cell_of cells) first m → AreElaborated m cells is → unbuilt_breaks is ≡ [] → (r : Result App AppEnd) → IfErr r (Tells (IsCyclic m is)) → IfErr r (Tells Refuses)
+  cyclic_err m is f h b (Ok a) k = tt
+  cyclic_err m is f h b (Err e) k = cyclic_end m is f h b e k
+
+  pub app_ok : (m : Names) (is : List CellInfo) → IsFinal (map cell_of cells) first m → AreElaborated m cells is → unbuilt_breaks is ≡ [] → (r : Result App AppEnd) → IfOk r (IsOrdered m limit is) → IfOk r (λ a. JudgedCells first limit cells (Ok a))
+  app_ok m is f h b (Err e) o = tt
+  app_ok m is f h b (Ok a) o =
+      let both : ◌≡◌ {A = Names × List CellInfo} (m, is) (a.names, a.cells) = λ i. (sym o.names i, sym o.cells i) in
+      judge.app first limit cells a (record {
+        settled = record {
+          final = subst (λ k. IsFinal (map cell_of cells) first k) (sym o.names) f;
+          elaborated = subst (λ (z : Names × List CellInfo). AreElaborated z.0 cells z.1) both h;
+        };
+        built = ap unbuilt_breaks o.cells ∙ b;
+        order = subst (λ (z : Names × List CellInfo). IsOrder (length z.1) (edges_of z.0 z.1) a.order) both o.order;
+        limit = o.limit;
+      })
+
+-- what holds of the names and of the formulas of an app
+pub names_ok : (P : Names → Type 0) (m : Names) (limit : ℕ) (is : List CellInfo) → P m → (r : Result App AppEnd) → IfOk r (IsOrdered m limit is) → IfOk r (λ a. P a.names)
+names_ok P m limit is h (Ok a) o = subst P (sym o.names) h
+names_ok P m limit is h (Err e) o = tt
+
+pub cells_ok : (P : List CellInfo → Type 0) (m : Names) (limit : ℕ) (is : List CellInfo) → P is → (r : Result App AppEnd) → IfOk r (IsOrdered m limit is) → IfOk r (λ a. P a.cells)
+cells_ok P m limit is h (Ok a) o = subst P (sym o.cells) h
+cells_ok P m limit is h (Err e) o = tt

@@ -1,0 +1,177 @@
+-- An accepted app is sound.
+use Rattle.std.proofs.Common.{◌≡◌, ℕ, zero, suc, ◌+◌, if◌then◌else◌, List, [], ◌∷◌, Bool, true, false, map, Some, None, option_map, Result, Ok, Err, encode_utf8_all, refl, ap, sym, subst, ◌∙◌, slice_get, arith}
+use Rattle.fx_data.specs.TypeView.{shape}
+use Rattle.fx_data.specs.Types.{Shape, tables, no_columns}
+use Rattle.fx_trees.specs.Controls.{is_behaviour, is_items, property_type}
+use Rattle.fx_trees.specs.SourceTypes.{item_columns, property_of}
+use Rattle.fx_trees.specs.declared.broken.Broken.{Broken}
+use Rattle.fx_trees.specs.declared.names.ControlName.{ControlName}
+use Rattle.fx_trees.specs.declared.names.FormulaName.{FormulaName}
+use Rattle.fx_trees.specs.declared.names.Names.{Names}
+use Rattle.fx_trees.specs.declared.names.Property.{Property}
+use Rattle.fx_typing.specs.Laws.{AdmittedIsTyped, AdmittedIsWanted, IsWanted, PureIsQuiet}
+use Rattle.fx_typing.specs.Rounds as rounds
+use Rattle.fx_typing.specs.Rounds.{IsFinal, SameNames, type_or_blank}
+use Rattle.fx_typing.specs.Typing.{judge_whole}
+use Rattle.app_cells.specs.declared.app.App.{App}
+use Rattle.app_cells.specs.declared.app.CellInfo.{CellInfo}
+use Rattle.app_cells.specs.declared.cell.Cell.{Cell}
+use Rattle.app_cells.specs.declared.cell.Spot.TheVariants as spot
+use Rattle.app_cells.specs.declared.frame.Frame.{Frame}
+use Rattle.app_cells.specs.Spots.{IsPlaced, acts, acts_in, item_in, item_of, wanted, wanted_by, wanted_in}
+use Rattle.app_names.specs.AppNames.{properties_from}
+use Rattle.app_semantics.specs.Sound.{IsCellOf, IsSound, IsSoundCell}
+use Rattle.app_loader.specs.Cells.{cell_of, judged, place_of}
+use Rattle.app_loader.specs.Infos.{IsElaborated}
+use Rattle.app_loader.specs.JudgedFormulas.{IsAppOf, JudgedCells, app, cyclic, refused, unbuilt, unsettling}
+use Rattle.app_loader.specs.Types.{HasLawfulTypes, HaveLawfulTrees}
+use Rattle.app_loader.proofs.Below.{final_same}
+use Rattle.app_loader.specs.Accepted.{AcceptedIsSound, IsAccepted}
+use Rattle.app_loader.proofs.Contexts.{all_at, context_lawful_at}
+use Rattle.app_loader.proofs.Cells.{IsCellAt, control_before, formula_at, formula_before, items_at, items_found, items_own, is_gallery_items, map_at, map_get, property_at, property_ok, pure_item, zip_left, zip_right}
+use Rattle.app_loader.proofs.Pure.{IsPure, no_table_among, pure_at, tree_lawful}
+
+-- what formulas are that are judged as an app
+abbrev pub IfApp : Names → ℕ → List Cell → Result App (List Broken) → Type 0
+IfApp n most cells (Ok a) = IsAppOf n most cells a
+IfApp n most cells (Err bs) = Unit {0}
+
+pub app_parts : {n : Names} {most : ℕ} {cells : List Cell} {v : Result App (List Broken)} → JudgedCells n most cells v → IfApp n most cells v
+app_parts (app n most cells a h) = h
+app_parts (unsettling n most cells s) = tt
+app_parts (refused n most cells m b bs f r) = tt
+app_parts (unbuilt n most cells m is b bs s u) = tt
+app_parts (cyclic n most cells m is b s u k) = tt
+
+types_at : (is : List CellInfo) (k : ℕ) (i : CellInfo) → HaveLawfulTrees is → slice_get is k ≡ Some i → HasLawfulTypes i.core
+types_at [] k i h e = absurd cc
+types_at (j ∷ is) zero i h e = let same : j ≡ i = cc in subst (λ (z : CellInfo). HasLawfulTypes z.core) same h.0
+types_at (j ∷ is) (suc k) i h e = types_at is k i h.1 e
+
+module _ (typed : AdmittedIsTyped) (fits : AdmittedIsWanted) (quiet : PureIsQuiet) (f : Frame) (cells : List Cell) (most : ℕ) (a : App) (h : IsAccepted f cells most a) where
+  parts : IsAppOf h.first most cells a
+  parts = app_parts h.judged
+
+  same : SameNames h.first a.names
+  same = final_same (map cell_of cells) h.first a.names parts.settled.final
+
+  is_pure : (k : ℕ) (c : CellInfo) → slice_get a.cells k ≡ Some c → IsPure c
+  is_pure k c e = pure_at a.cells k c parts.built e
+
+  -- ---- each formula
+  own_tree : (c : Cell) (i : CellInfo) → IsElaborated a.names c i → judged a.names i.cell ≡ Ok (i.core, shape i.ty)
+  own_tree c i e = subst (λ (z : Cell). judged a.names z ≡ Ok (i.core, shape i.ty)) (sym e.cell) e.tree
+
+  pure_tree : (i : CellInfo) → i.cell.acts ≡ false → judged a.names i.cell ≡ Ok (i.core, shape i.ty) → judge_whole (place_of a.names i.cell) false (option_map shape i.cell.wanted) i.cell.expr ≡ Ok (i.core, shape i.ty)
+  pure_tree i q e = subst (λ b. judge_whole (place_of a.names i.cell) b (option_map shape i.cell.wanted) i.cell.expr ≡ Ok (i.core, shape i.ty)) q e
+
+  sound_cell : (k : ℕ) (c : CellInfo) → slice_get a.cells k ≡ Some c → IsSoundCell a.names c
+  sound_cell k c e =
+      let w = zip_left (IsElaborated a.names) cells a.cells k c parts.settled.elaborated e in
+      let p = is_pure k c e in
+      let t = pure_tree c p.quiet (own_tree w.0 c w.2) in
+      let q = quiet (place_of a.names c.cell) (option_map shape c.cell.wanted) c.cell.expr (c.core, shape c.ty) t in
+      record {
+        typed = typed (place_of a.names c.cell) false (option_map shape c.cell.wanted) c.cell.expr (c.core, shape c.ty) h.lawful t;
+        calm = λ no. record {
+          context = context_lawful_at a.names h.lawful h.types c.cell.item;
+          lawful = tree_lawful c.core (types_at a.cells k c h.trees e) q;
+          quiet = q;
+        };
+        reads = w.2.reads;
+        no_tables = λ j. no_table_among c.reads j p.no_table;
+      }
+
+  -- ---- the cells of names
+  settled : rounds.next_types (map cell_of cells) a.names ≡ rounds.types_in a.names
+  settled = parts.settled.final.3
+
+  placed_at : (k : ℕ) (c : Cell) → slice_get cells k ≡ Some c → IsPlaced f c
+  placed_at k c e = all_at (IsPlaced f) cells k c h.placed e
+
+  formula_ok : (i : ℕ) (g : FormulaName) → slice_get a.names.formulas i ≡ Some g → IsCellOf a.cells g.cell None (shape g.ty)
+  formula_ok i g e =
+      let b = formula_before h.first.formulas a.names.formulas i g same.formulas e in
+      let at = formula_at cells 0 i b.0 (subst (λ (fs : List FormulaName). slice_get fs i ≡ Some b.0) h.named.formulas b.1) in
+      let told : g.cell ≡ 0 + at.place = sym b.2.1 ∙ at.number in
+      let number : g.cell ≡ at.place = omega (arith, told) in
+      let p = placed_at at.place at.cell at.there in
+      let w = zip_right (IsElaborated a.names) cells a.cells at.place at.cell parts.settled.elaborated at.there in
+      let none : option_map shape at.cell.wanted ≡ None = p.wanted ∙ ap (wanted f) at.spot in
+      let tree : judge_whole (place_of a.names at.cell) at.cell.acts None at.cell.expr ≡ Ok (w.0.core, shape w.0.ty) =
+      subst (λ o. judge_whole (place_of a.names at.cell) at.cell.acts o at.cell.expr ≡ Ok (w.0.core, shape w.0.ty)) none w.2.tree in
+      let own : rounds.formula_type a.names (map cell_of cells) g ≡ shape g.ty =
+      map_at (rounds.formula_type a.names (map cell_of cells)) (λ (z : FormulaName). shape z.ty) a.names.formulas i g (ap (λ (t : rounds.Types). t.formulas) settled) e in
+      let found : slice_get (map cell_of cells) g.cell ≡ Some (cell_of at.cell) =
+      ap (slice_get (map cell_of cells)) number ∙ map_get cell_of cells at.place at.cell at.there in
+      record {
+        cell = w.0;
+        there = ap (slice_get a.cells) number ∙ w.1;
+        quiet = (is_pure at.place w.0 w.1).quiet;
+        item = ap (λ (z : Cell). z.item) w.2.cell ∙ p.item ∙ ap (item_of f) at.spot;
+        ty = ap type_or_blank (sym tree) ∙ ap (rounds.cell_type a.names) (sym found) ∙ own;
+      }
+
+  -- the kind and the gallery of a control are those of the frame
+  kind_at : (k : ℕ) (c : ControlName) → slice_get a.names.controls k ≡ Some c → (d : ControlName) × (slice_get f.controls k ≡ Some d) × (d.kind ≡ c.kind) × (d.gallery ≡ c.gallery)
+  kind_at k c e =
+      let b = control_before h.first.controls a.names.controls k c same.controls e in
+      (b.0, subst (λ (cs : List ControlName). slice_get cs k ≡ Some b.0) h.named.controls b.1, b.2.1, b.2.3)
+
+  property_fits : (i : ℕ) (p : Property) (c : ControlName) (t : Shape) → slice_get a.names.properties i ≡ Some p → slice_get a.names.controls p.control ≡ Some c → property_of p.name c ≡ Some t →
+      IsCellOf a.cells p.cell c.gallery t
+  property_fits i p c t e k o =
+      let from : a.names.properties ≡ properties_from 0 cells = sym same.properties ∙ h.named.properties in
+      let at = property_at cells 0 i p (subst (λ (ps : List Property). slice_get ps i ≡ Some p) from e) in
+      let told = at.number in
+      let number : p.cell ≡ at.place = omega (arith, told) in
+      let q = placed_at at.place at.cell at.there in
+      let w = zip_right (IsElaborated a.names) cells a.cells at.place at.cell parts.settled.elaborated at.there in
+      let d = kind_at p.control c k in
+      let pure_one = is_pure at.place w.0 w.1 in
+      let still : at.cell.acts ≡ false = sym (ap (λ (z : Cell). z.acts) w.2.cell) ∙ pure_one.quiet in
+      let calm : is_behaviour d.0.kind (encode_utf8_all p.name) ≡ false = sym (q.acts ∙ ap (acts f) at.spot ∙ ap (acts_in p.name) d.1) ∙ still in
+      let want : option_map shape at.cell.wanted ≡ wanted_by c.kind (encode_utf8_all p.name) =
+      q.wanted ∙ ap (wanted f) at.spot ∙ ap (wanted_in p.name) d.1 ∙ ap (λ z. wanted_by z (encode_utf8_all p.name)) d.2 in
+      let fit : IsWanted (wanted_by c.kind (encode_utf8_all p.name)) (shape w.0.ty) =
+      subst (λ x. IsWanted x (shape w.0.ty)) want (fits (place_of a.names at.cell) at.cell.acts (option_map shape at.cell.wanted) at.cell.expr (w.0.core, shape w.0.ty) w.2.tree) in
+      record {
+        cell = w.0;
+        there = ap (slice_get a.cells) number ∙ w.1;
+        quiet = pure_one.quiet;
+        item = ap (λ (z : Cell). z.item) w.2.cell ∙ q.item ∙ ap (item_of f) at.spot ∙ ap (item_in p.control p.name) d.1 ∙ pure_item p.control p.name d.0 calm ∙ d.3;
+        ty = property_ok c p.name t (shape w.0.ty) o fit (λ items. items_type i p c at w.0 e k from number (want ∙ any_table c p.name items) w.2.tree items);
+      }
+    where
+      any_table : (c : ControlName) (x : List ℕ) → is_items c.kind (encode_utf8_all x) ≡ true → wanted_by c.kind (encode_utf8_all x) ≡ Some (tables no_columns)
+      any_table c x items = by (is_items c.kind (encode_utf8_all x)) items
+        where
+          by : (b : Bool) → b ≡ true → (if b then Some (tables no_columns) else property_type c.kind (encode_utf8_all x)) ≡ Some (tables no_columns)
+          by true e = refl
+          by false e = absurd cc
+
+      items_type : (i : ℕ) (p : Property) (c : ControlName) (at : IsCellAt cells (spot.Property p.control p.name) 0 p.cell) (j : CellInfo) → slice_get a.names.properties i ≡ Some p → slice_get a.names.controls p.control ≡ Some c →
+          a.names.properties ≡ properties_from 0 cells → p.cell ≡ at.place → option_map shape at.cell.wanted ≡ Some (tables no_columns) → judged a.names at.cell ≡ Ok (j.core, shape j.ty) →
+          is_items c.kind (encode_utf8_all p.name) ≡ true → shape j.ty ≡ tables (item_columns (shape c.items))
+      items_type i p c at j e k from number want tree items =
+          let as_table : judge_whole (place_of a.names at.cell) at.cell.acts (Some (tables no_columns)) at.cell.expr ≡ Ok (j.core, shape j.ty) =
+          subst (λ o. judge_whole (place_of a.names at.cell) at.cell.acts o at.cell.expr ≡ Ok (j.core, shape j.ty)) want tree in
+          let here_too : p.control ≡ 0 + p.control = omega arith in
+          let own : rounds.items_type a.names (map cell_of cells) p.control ≡ shape c.items =
+          ap (rounds.items_type a.names (map cell_of cells)) here_too ∙ items_at a.names (map cell_of cells) 0 a.names.controls p.control c (ap (λ (t : rounds.Types). t.items) settled) k in
+          let found = items_found cells (map cell_of cells) a.names.properties i p at.place at.cell h.single from e (is_gallery_items c.kind p.name items) number at.there at.spot in
+          let here : rounds.items_type a.names (map cell_of cells) p.control ≡ rounds.cell_type a.names (Some (cell_of at.cell)) =
+          ap (rounds.cell_type a.names) (found ∙ map_get cell_of cells at.place at.cell at.there) in
+          items_own (place_of a.names at.cell) at.cell.acts at.cell.expr (j.core, shape j.ty) as_table ∙ ap (λ t. tables (item_columns t)) (sym here ∙ own)
+
+  pub sound : IsSound a
+  sound = record {
+    names = h.lawful;
+    cells = sound_cell;
+    formulas = formula_ok;
+    properties = property_fits;
+    order = parts.order;
+  }
+
+pub accepted_sound : AdmittedIsTyped → AdmittedIsWanted → PureIsQuiet → AcceptedIsSound
+accepted_sound typed fits quiet f cells most a h = sound typed fits quiet f cells most a h

@@ -1,0 +1,20 @@
+use Rattle.std.proofs.Common.{drop}
+use Rattle.fx_trees.specs.Term.{all, parts_of, term_size, terms_size}
+use Rattle.app_loader.specs.Types.{HaveLawfulTypes}
+use Rattle.app_loader.proofs.trees.+look.Given as goal
+
+abbrev pub decreases-look_at_tree : goal.decreases-look_at_tree
+decreases-look_at_tree l = term_size l.core.now
+
+abbrev pub decreases-look_at_trees : goal.decreases-look_at_trees
+decreases-look_at_trees l = terms_size (all l.parts.now)
+
+abbrev pub decreases-look_at_fields : goal.decreases-look_at_fields
+decreases-look_at_fields l = terms_size (parts_of l.fields.now)
+
+-- where the types that are left are lawful, all are
+abbrev pub invariant-look_at_trees-loop-part : goal.invariant-look_at_trees-loop-part
+invariant-look_at_trees-loop-part l = HaveLawfulTypes (all (drop l.part-index l.part-items)) → HaveLawfulTypes (all l.parts)
+
+abbrev pub invariant-look_at_fields-loop-part : goal.invariant-look_at_fields-loop-part
+invariant-look_at_fields-loop-part l = HaveLawfulTypes (parts_of (drop l.part-index l.part-items)) → HaveLawfulTypes (parts_of l.fields)

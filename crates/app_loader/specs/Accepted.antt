@@ -1,0 +1,45 @@
+-- What holds of an app that is accepted.
+use Rattle.std.specs.Prelude.{◌≡◌, ℕ, List, [], All, Ok, Some, codes, slice_get}
+use Rattle.fx_trees.specs.Lawful.{IsLawful}
+use Rattle.fx_trees.specs.declared.names.Names.{Names}
+use Rattle.app_cells.specs.declared.app.App.{App}
+use Rattle.app_cells.specs.declared.cell.Cell.{Cell}
+use Rattle.app_cells.specs.declared.cell.Spot.TheVariants as spot
+use Rattle.app_cells.specs.declared.frame.Frame.{Frame}
+use Rattle.app_cells.specs.Spots.{IsPlaced}
+use Rattle.app_names.specs.AppNames.{AreNames}
+use Rattle.app_semantics.specs.Sound.{IsSound}
+use Rattle.app_loader.specs.JudgedFormulas.{JudgedCells}
+use Rattle.app_loader.specs.Types.{AreLawfullyTyped, HaveLawfulTrees}
+use Rattle.session_state.specs.Changes.{HoldsTables}
+
+-- no gallery has two formulas of its items
+abbrev pub AreSingle : List Cell → Type 0
+AreSingle cells =
+    (i j : ℕ) (c d : Cell) (k : ℕ) → slice_get cells i ≡ Some c → slice_get cells j ≡ Some d
+    → c.spot ≡ spot.Property k (codes "Items") → d.spot ≡ spot.Property k (codes "Items") → i ≡ j
+
+-- An app that formulas are judged as: they stand where they say, no gallery has two formulas of its items, and these are their names. Names and types
+-- are lawful, as those in memory are.
+pub record IsAccepted (f : Frame) (cells : List Cell) (most : ℕ) (a : App) : Type 0 where
+  pub first : Names
+  pub named : AreNames f cells first
+  pub placed : All (IsPlaced f) cells
+  pub single : AreSingle cells
+  pub judged : JudgedCells first most cells (Ok a)
+  pub lawful : IsLawful a.names
+  pub types : AreLawfullyTyped a.names
+  pub trees : HaveLawfulTrees a.cells
+
+-- an accepted app is sound
+abbrev pub AcceptedIsSound : Type 0
+AcceptedIsSound = (f : Frame) (cells : List Cell) (most : ℕ) (a : App) → IsAccepted f cells most a → IsSound a
+
+-- it has no variable and no collection
+pub record IsSilent (n : Names) : Type 0 where
+  pub variables : n.variables ≡ []
+  pub collections : n.collections ≡ []
+  pub tables : HoldsTables n
+
+abbrev pub AcceptedIsSilent : Type 0
+AcceptedIsSilent = (f : Frame) (cells : List Cell) (most : ℕ) (a : App) → IsAccepted f cells most a → IsSilent a.names

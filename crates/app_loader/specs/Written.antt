@@ -1,0 +1,13 @@
+-- Formulas of an app as inference takes them.
+use Rattle.std.specs.Prelude.{◌≡◌, Bool, true, false}
+use Rattle.fx_infer.specs.declared.elaboration.PlaceKind.{PlaceKind}
+use Rattle.fx_infer.specs.declared.elaboration.PlaceKind.TheVariants.{Pure, Acting}
+use Rattle.fx_infer.specs.declared.elaboration.Written.{Written}
+use Rattle.fx_infer.specs.CellView.{cell}
+use Rattle.app_cells.specs.declared.cell.Cell.{Cell}
+use Rattle.app_loader.specs.Cells.{cell_of}
+
+-- the same formula at the same place
+pub record IsWritten (c : Cell) (w : Written) : Type 0 where
+  pub name : w.cell ≡ c.name
+  pub seen : cell w ≡ cell_of c

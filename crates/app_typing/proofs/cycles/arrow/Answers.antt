@@ -1,8 +1,0 @@
-use Rattle.app_typing.proofs.Arrows.{no_arrow, some_arrow}
-use Rattle.app_typing.proofs.cycles.arrow.Goals as goal
-
-pub returns-then-place-gt0 : goal.returns-then-place-gt0
-returns-then-place-gt0 c = some_arrow c.args.place c.if-place-gt0.true
-
-pub returns-else-place-gt0 : goal.returns-else-place-gt0
-returns-else-place-gt0 c = no_arrow c.args.place c.if-place-gt0.false

@@ -1,6 +1,0 @@
-use Rattle.std.proofs.Common.{◌≡◌, ◌++◌, drop, map}
-use Rattle.app_typing.specs.Cycles.{name_at}
-use Rattle.app_typing.proofs.cycles.names_at.Given as goal
-
-abbrev pub invariant-loop-number : goal.invariant-loop-number
-invariant-loop-number l = l.names.items ++ map (name_at l.infos) (drop l.number-index l.numbers) ≡ map (name_at l.infos) l.numbers

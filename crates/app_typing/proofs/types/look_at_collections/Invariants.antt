@@ -1,8 +1,0 @@
-use Rattle.std.proofs.Common.{All, take}
-use Rattle.fx_data.specs.TypeView.{shape}
-use Rattle.fx_semantics.specs.Sound.{IsLawfulType}
-use Rattle.fx_trees.specs.declared.names.Collection.{Collection}
-use Rattle.app_typing.proofs.types.look_at_collections.Given as goal
-
-abbrev pub invariant-loop-collection : goal.invariant-loop-collection
-invariant-loop-collection l = All (λ (x : Collection). IsLawfulType (shape x.ty)) (take l.collection-index l.collections)

@@ -1,0 +1,3 @@
+pub mod GivenView
+pub mod SameTypes
+pub mod TypesView

@@ -1,0 +1,23 @@
+//! Laws of edits.
+ghost use Rattle.office.specs.DeskEditLaws.{ActsOnce, IsOneOutcome, LeavesOthers};
+
+use app_loader::{one_edit, one_edit_refusal, one_edited};
+
+/// A law, and no work: an edit leaves what is kept of every other desk.
+pub fn leaves_others()
+    ensures { LeavesOthers }
+{}
+
+/// A law, and no work: the last accepted edit of a desk, when it comes again, gets the kept reply and acts no more.
+pub fn acts_once()
+    ensures { ActsOnce }
+{}
+
+/// A law, and no work: an edit has one outcome; a refused one is refused for the same breaks.
+pub fn one_outcome()
+    ensures { IsOneOutcome }
+{
+    one_edit();
+    one_edited();
+    one_edit_refusal();
+}

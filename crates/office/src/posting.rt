@@ -1,0 +1,84 @@
+//! A desk edits a formula.
+ghost use Rattle.std.specs.Prelude.{◌≡◌, IfOk, OnErr};
+ghost use Rattle.app_edits.specs.Frames.{frame_of};
+ghost use Rattle.app_loader.specs.Edits.{IsLoaded, StillFit};
+ghost use Rattle.app_loader.specs.app_semantics.Sound.{IsSound};
+ghost use Rattle.office.specs.DeskEdits.{IsSame, MakesEdit, PostsEdit};
+ghost use Rattle.request_checks.specs.Replies.{IsReply, KeepReplies, said};
+ghost use Rattle.session_state.specs.Changes.{HoldsTables};
+
+use crate::accepting::{accept, keep, refuse};
+use app_cells::App;
+use app_loader::edit;
+use fx_base::Memory;
+use fx_data::Words;
+use fx_trees::AppEnd;
+use request_checks::{Checked, Edit, Named, Reply, check_desk};
+use session_state::Desk;
+use std::alloc::Global;
+
+/// A desk edits a formula, under a number. The app becomes the edited one, and the reply is kept; or nothing changes and the
+/// reply is a refusal: no JSON (9), another shape (10), a desk too many (12), another number (13, 14), or the rules that the
+/// edited app breaks (24). The last request once more gets the kept reply. Nothing but the app's formulas and this desk's
+/// record can change, and each session that fits the app still does.
+pub fn post_edit(
+    alloc: Global,
+    app: &mut App,
+    desks: &mut Vec<Named<Desk>>,
+    name: &Words,
+    body: &[u8],
+) -> Result<Reply, Memory>
+    requires loaded { IsLoaded app.old }
+    requires sound { IsSound app.old }
+    requires tables { HoldsTables app.old.names }
+    requires kept { KeepReplies desks.old.items }
+    ensures done { IfOk result (λ r. PostsEdit app.old name.now body.now desks.old.items (said r) app.new desks.new.items) }
+    ensures whole { IfOk result IsReply }
+    ensures stopped { OnErr result (IsSame app.old desks.old.items app.new desks.new.items) }
+    ensures loaded { IsLoaded app.new }
+    ensures sound { IsSound app.new }
+    ensures tables { HoldsTables app.new.names }
+    ensures frame { frame_of app.new ≡ frame_of app.old }
+    ensures fit { StillFit app.old.names app.new.names }
+    ensures kept { KeepReplies desks.new.items }
+{
+    match check_desk::<Edit>(alloc, desks, name, body)? {
+        Checked::Says(reply) => Ok(reply),
+        Checked::Acts(asked) => make_edit(alloc, app, desks, name, body, &asked),
+    }
+}
+
+/// Makes an edit that passed the checks of numbered requests.
+fn make_edit(
+    alloc: Global,
+    app: &mut App,
+    desks: &mut Vec<Named<Desk>>,
+    name: &Words,
+    body: &[u8],
+    asked: &Edit,
+) -> Result<Reply, Memory>
+    requires loaded { IsLoaded app.old }
+    requires sound { IsSound app.old }
+    requires tables { HoldsTables app.old.names }
+    requires kept { KeepReplies desks.old.items }
+    ensures done { IfOk result (λ r. MakesEdit app.old name.now body.now asked.now desks.old.items (said r) app.new desks.new.items) }
+    ensures whole { IfOk result IsReply }
+    ensures stopped { OnErr result (IsSame app.old desks.old.items app.new desks.new.items) }
+    ensures loaded { IsLoaded app.new }
+    ensures sound { IsSound app.new }
+    ensures tables { HoldsTables app.new.names }
+    ensures frame { frame_of app.new ≡ frame_of app.old }
+    ensures fit { StillFit app.old.names app.new.names }
+    ensures kept { KeepReplies desks.new.items }
+{
+    let accepted = accept(alloc, name, asked.seq, body)?;
+    desks.reserve(1)?;
+    match edit(alloc, app, asked.cell.as_str(), asked.text.as_str()) {
+        Ok(edited) => {
+            *app = edited;
+            Ok(keep(alloc, desks, asked.seq, accepted))
+        }
+        Err(AppEnd::Refused(breaks)) => refuse(alloc, &breaks),
+        Err(AppEnd::Memory) => Err(Memory),
+    }
+}

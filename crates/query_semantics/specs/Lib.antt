@@ -1,6 +1,0 @@
-pub mod Settings
-pub mod Constants
-pub mod TestValues
-pub mod Wholes
-pub mod Limited
-pub mod Consumers
