@@ -2,6 +2,7 @@ pub mod AgreeLemmas
 pub mod AnswerLemmas
 pub mod EndLemmas
 pub mod FoundLemmas
+pub mod HeldLemmas
 pub mod HitLemmas
 pub mod MarkLemmas
 pub mod PageLemmas

@@ -6,6 +6,7 @@ ghost use Rattle.fx_base.specs.Silence.{Goes, IsLater, IsLost, Marks};
 ghost use Rattle.fx_base.specs.Telling.{Stays};
 ghost use Rattle.fx_trees.specs.Lawful.{IsLawfulSchema};
 ghost use Rattle.fx_trees.specs.declared.schema.Schema.{Schema as KeptSchema};
+ghost use Rattle.row_queries.specs.Answers.{IsCountAnswer, IsScanAnswer, IsTotalAnswer};
 ghost use Rattle.row_queries.specs.Queries.{CanTotal, IsQuery};
 ghost use Rattle.row_queries.specs.RowTests.{HasNoFaults};
 ghost use Rattle.row_queries.specs.TableRows.{AreCellsOf, IsRowOf};
@@ -216,10 +217,12 @@ pub trait Keeper {
         ensures loan { loan self.new ≡ loan self.old }
         ensures ends { backs self.old self.new };
 
-    /// The rows that a query gives, or the first error of its test in the query's order.
+    /// The rows that a query gives, or the first error of its test in the query's order: of some rows that the table can
+    /// hold, even where none are told.
     fn scan(&mut self, query: &Query) -> Result<RowList, KeeperEnd>
         requires query { IsQuery (shapes_of (shaped self.old)) query.now }
         ensures rows { IfOk result (λ answer. Goes (IsLost (marks self.old) (marks self.new)) (Scans query.now answer) (told self.old) (told self.new)) }
+        ensures answer { IfOk result (λ answer. IsScanAnswer (shapes_of (shaped self.old)) (rows_told (told self.new)) query.now answer) }
         ensures fit { IfOk result (λ answer. IsSomeAnd (slice_get (shapes_of (shaped self.old)) query.now.table) (λ t. All (IsRowOf t) answer.rows)) }
         ensures least { IfOk result (λ answer. VisitsAtLeast (length answer.rows) (visited self.old) (visited self.new)) }
         ensures most { VisitsTold (rows_told (told self.old)) query.now (visited self.old) (visited self.new) }
@@ -233,10 +236,12 @@ pub trait Keeper {
         ensures loan { loan self.new ≡ loan self.old }
         ensures ends { ends self.old self.new (end_of result) };
 
-    /// How many rows a query gives, whose test has no errors as constants.
+    /// How many rows a query gives, whose test has no errors as constants: of some rows that the table can hold, even where
+    /// none are told.
     fn count(&mut self, query: &Query) -> Result<u32, KeeperEnd>
         requires query { IsQuery (shapes_of (shaped self.old)) query.now }
         requires sound { HasNoFaults query.now.test }
+        ensures answer { IfOk result (λ n. IsCountAnswer (shapes_of (shaped self.old)) (rows_told (told self.new)) query.now n) }
         ensures number { IfOk result (λ n. Goes (IsLost (marks self.old) (marks self.new)) (Counts query.now n) (told self.old) (told self.new)) }
         ensures most { VisitsTold (rows_told (told self.old)) query.now (visited self.old) (visited self.new) }
         ensures err { OnErr result (Goes (IsLost (marks self.old) (marks self.new)) Stays (told self.old) (told self.new)) }
@@ -250,11 +255,12 @@ pub trait Keeper {
         ensures ends { ends self.old self.new (end_of result) };
 
     /// What the values of a column of numbers that aren't blank come to, in the rows that a query gives, whose test has no
-    /// errors as constants.
+    /// errors as constants: of some rows that the table can hold, even where none are told.
     fn total(&mut self, query: &Query, column: u16) -> Result<Totals, KeeperEnd>
         requires query { IsQuery (shapes_of (shaped self.old)) query.now }
         requires sound { HasNoFaults query.now.test }
         requires column { CanTotal (shapes_of (shaped self.old)) query.now column }
+        ensures answer { IfOk result (λ totals. IsTotalAnswer (shapes_of (shaped self.old)) (rows_told (told self.new)) query.now column totals) }
         ensures totals { IfOk result (λ totals. Goes (IsLost (marks self.old) (marks self.new)) (TotalsUp query.now column totals) (told self.old) (told self.new)) }
         ensures most { VisitsTold (rows_told (told self.old)) query.now (visited self.old) (visited self.new) }
         ensures err { OnErr result (Goes (IsLost (marks self.old) (marks self.new)) Stays (told self.old) (told self.new)) }

@@ -5,6 +5,7 @@ pub mod answers;
 mod constants;
 mod index;
 pub mod keeper;
+pub mod keys;
 pub mod memory;
 mod pages;
 mod picked;

@@ -255,6 +255,7 @@ impl Keeper for MemoryKeeper {
         if self.plan.next_fails() {
             return Err(KeeperEnd::Failed);
         }
+        self.store.are_held(query);
         Ok(self.answer(query)?)
     }
 
@@ -262,6 +263,7 @@ impl Keeper for MemoryKeeper {
         if self.plan.next_fails() {
             return Err(KeeperEnd::Failed);
         }
+        self.store.are_held(query);
         let asked = self.ask(query)?;
         let rows = give_rows(self.alloc, asked, query)?;
         Ok(rows.len() as u32)
@@ -271,6 +273,7 @@ impl Keeper for MemoryKeeper {
         if self.plan.next_fails() {
             return Err(KeeperEnd::Failed);
         }
+        self.store.are_held(query);
         let asked = self.ask(query)?;
         let rows = give_rows(self.alloc, asked, query)?;
         let values = values_in(self.alloc, rows.as_slice(), column)?;

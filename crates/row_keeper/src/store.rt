@@ -5,7 +5,7 @@ ghost use Rattle.fx_trees.specs.Lawful.{IsLawfulSchema};
 ghost use Rattle.fx_trees.specs.declared.schema.TableShape.{TableShape as Shape};
 ghost use Rattle.row_queries.specs.Queries.{AreAsked, IsQuery};
 ghost use Rattle.row_queries.specs.RowTests.{CanAsk};
-ghost use Rattle.row_queries.specs.TableRows.{AreCellsOf, IsRowOf, rows_at, values_of};
+ghost use Rattle.row_queries.specs.TableRows.{AreCellsOf, AreHeldRows, IsRowOf, rows_at, values_of};
 ghost use Rattle.row_queries.specs.declared.rows.Row.{Row as RowValue};
 ghost use Rattle.row_keeper.specs.Changes.{Inserts, IsInserted, IsReplaced, Removes, Replaces, Shapes};
 ghost use Rattle.row_keeper.specs.Kept.{empty_table};
@@ -191,6 +191,15 @@ impl Store {
         let table = &self.tables[query.table as usize];
         table.is_sound();
         Ok(table.first(query.ranges.as_slice(), most as usize)?)
+    }
+
+    /// A fact about the rows of a query's table, and no work.
+    pub fn are_held(&self, query: &Query)
+        requires { IsQuery (shapes_of self.now.schema) query.now }
+        ensures { IsSomeAnd (slice_get (shapes_of self.now.schema) query.now.table) (λ t. AreHeldRows t (rows_at (rows_of self.now.now) query.now.table)) }
+    {
+        let table = &self.tables[query.table as usize];
+        table.is_sound();
     }
 
     /// The rows that a query asks, in its order.

@@ -2,12 +2,10 @@
 ghost use Rattle.std.specs.Prelude.{◌≡◌, ◌⊎◌, filter, ℕ, ◌-◌, ◌+◌, ◌<◌, ◌≤◌, ◌^◌, ◌++◌, ◌∷◌, [], cond, length, map, take, true, false, IfOk, IfSome, OnErr, OnOk, MatchOption, Some, None, option_map, slice_get};
 ghost use Rattle.std.specs.BTreeMap.{IsOrdered};
 ghost use Rattle.std.specs.Ordering.{nat_cmp};
-ghost use Rattle.std.specs.List.{AllByRecursion, list_any};
-ghost use Rattle.fx_data.specs.ValueView.{view};
-ghost use Rattle.fx_value.specs.Keys.{IsProper};
+ghost use Rattle.std.specs.List.{list_any};
 ghost use Rattle.fx_value.specs.Order.{IsScalar};
 ghost use Rattle.row_queries.specs.TableRows.{AreCellsOf, value_at};
-ghost use Rattle.row_keeper.specs.Covered.{covered_of, covers, entries_of, key_at};
+ghost use Rattle.row_keeper.specs.Covered.{covered_of, covers, entries_of};
 ghost use Rattle.row_keeper.specs.Slots.{now_at, rows_now, rows_then};
 ghost use Rattle.row_queries.specs.Ranges.{AreRising, HoldEveryKey};
 ghost use Rattle.row_keeper.specs.Skips.{passed_now};
@@ -15,14 +13,13 @@ ghost use Rattle.row_keeper.specs.Sound.{IsSound, lies_among};
 ghost use Rattle.row_keeper.specs.Tables.{has_id, no_rows, with_cells, with_row, without_row};
 
 use crate::index::{Entry, Index};
+use crate::keys::{cells_are_proper, key_in};
 use crate::picked::{all_rows, rows_at, rows_of};
-use crate::scans::number_of;
 use crate::slots::{Made, Slots};
 use fx_base::Memory;
-use fx_data::Value;
 use fx_trees::ColumnList;
-use fx_value::{keys_order, value_is_proper};
-use row_queries::{Cells, Key, KeyRange, Row};
+use fx_value::keys_order;
+use row_queries::{Cells, KeyRange, Row};
 use std::alloc::Global;
 use std::marker::Model;
 
@@ -79,20 +76,6 @@ fn covered_columns(alloc: Global, columns: &ColumnList) -> Result<Vec<u16>, Memo
     Ok(covered)
 }
 
-/// The key of a row's value in a column.
-fn key_in(alloc: Global, id: u32, cells: &Cells, column: u16) -> Result<Key, Memory>
-    requires { (k : ℕ) → IsScalar (value_at cells.now k) }
-    ensures { IfOk result (λ k. k ≡ key_at id cells.now column) }
-{
-    match column.checked_sub(1) {
-        None => Key::of(alloc, &number_of(id)),
-        Some(place) => match cells.get(place as usize) {
-            Some(cell) => Key::of(alloc, cell),
-            None => Key::of(alloc, &Value::Blank),
-        },
-    }
-}
-
 /// The entries of a row.
 fn entries_for(alloc: Global, covered: &[u16], id: u32, cells: &Cells) -> Result<Vec<Entry>, Memory>
     requires { (k : ℕ) → IsScalar (value_at cells.now k) }
@@ -125,16 +108,6 @@ fn entries_at(
         return Ok(None);
     };
     Ok(Some(entries_for(alloc, covered, id, cells)?))
-}
-
-/// A fact about all cells, for the law of keys, and no work.
-fn cells_are_proper(cells: &Cells)
-    ensures { AllByRecursion IsProper cells.now }
-{
-    let items = cells.as_slice();
-    for cell in items {
-        value_is_proper(cell);
-    }
 }
 
 impl Table {

@@ -6,10 +6,12 @@ ghost use Rattle.row_keeper.specs.Causes.{end_of};
 ghost use Rattle.row_keeper.specs.Changes.{IsInserted, IsReplaced};
 ghost use Rattle.row_keeper.specs.Tables.{columns_at, shapes_of};
 ghost use Rattle.row_keeper.specs.declared.keeper.KeeperEnd.TheVariants.{Failed as CallFailed};
-ghost use Rattle.row_queries.specs.Queries.{IsQuery};
+ghost use Rattle.row_queries.specs.Answers.{IsCountAnswer, IsScanAnswer, IsTotalAnswer, OfRows};
+ghost use Rattle.row_queries.specs.Queries.{AreAsked, IsQuery};
 ghost use Rattle.row_queries.specs.RowTests.{HasNoFaults};
 ghost use Rattle.row_queries.specs.TableRows.{AreCellsOf, IsRowOf};
 ghost use Rattle.row_queries.specs.Visits.{VisitsAtLeast};
+ghost use Rattle.sql_keeper.specs.Given.{IsGivenOf};
 ghost use Rattle.sql_keeper.specs.View.{faults_after};
 
 use crate::changes::Changes;
@@ -236,6 +238,7 @@ impl SqlKeeper {
 
     /// The rows that a query asks, in its order. They are counted as visited.
     fn ask(&mut self, query: &Query) -> Result<Vec<Row>, KeeperEnd>
+        ensures asked { IfOk result (λ rows. OfRows (shapes_of self.old.schema) None query.now (λ t held. AreAsked query.now held rows.items)) }
         ensures fit { IfOk result (λ rows. IsSomeAnd (slice_get (shapes_of self.old.schema) query.now.table) (λ t. AllByRecursion (IsRowOf t) rows.items)) }
         ensures least { IfOk result (λ rows. VisitsAtLeast (length rows.items) self.old.visited self.new.visited) }
         ensures later { self.old.visited ≤ self.new.visited }
@@ -261,6 +264,7 @@ impl SqlKeeper {
     /// What a query answers.
     fn answer(&mut self, query: &Query) -> Result<RowList, KeeperEnd>
         requires { IsQuery (shapes_of self.old.schema) query.now }
+        ensures answer { IfOk result (λ a. IsScanAnswer (shapes_of self.old.schema) None query.now a) }
         ensures fit { IfOk result (λ a. IsSomeAnd (slice_get (shapes_of self.old.schema) query.now.table) (λ t. All (IsRowOf t) a.rows)) }
         ensures least { IfOk result (λ a. VisitsAtLeast (length a.rows) self.old.visited self.new.visited) }
         ensures later { self.old.visited ≤ self.new.visited }
@@ -274,6 +278,7 @@ impl SqlKeeper {
     fn give(&mut self, query: &Query) -> Result<Vec<Row>, KeeperEnd>
         requires query { IsQuery (shapes_of self.old.schema) query.now }
         requires sound { HasNoFaults query.now.test }
+        ensures given { IfOk result (λ rows. OfRows (shapes_of self.old.schema) None query.now (λ t held. IsGivenOf query.now held rows.items)) }
         ensures later { self.old.visited ≤ self.new.visited }
         ensures same { self.new ≡ record self.old { visited = self.new.visited } }
     {
@@ -285,6 +290,7 @@ impl SqlKeeper {
     fn tell_count(&mut self, query: &Query) -> Result<u32, KeeperEnd>
         requires query { IsQuery (shapes_of self.old.schema) query.now }
         requires sound { HasNoFaults query.now.test }
+        ensures answer { IfOk result (λ n. IsCountAnswer (shapes_of self.old.schema) None query.now n) }
         ensures later { self.old.visited ≤ self.new.visited }
         ensures same { self.new ≡ record self.old { visited = self.new.visited } }
     {
@@ -300,6 +306,7 @@ impl SqlKeeper {
     fn tell_totals(&mut self, query: &Query, column: u16) -> Result<Totals, KeeperEnd>
         requires query { IsQuery (shapes_of self.old.schema) query.now }
         requires sound { HasNoFaults query.now.test }
+        ensures answer { IfOk result (λ totals. IsTotalAnswer (shapes_of self.old.schema) None query.now column totals) }
         ensures later { self.old.visited ≤ self.new.visited }
         ensures same { self.new ≡ record self.old { visited = self.new.visited } }
     {

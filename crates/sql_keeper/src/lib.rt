@@ -1,6 +1,7 @@
 //! Rows in a SQLite database, in memory or in a file.
 #![tactic(auto)]
 
+mod arranging;
 mod changes;
 mod changing;
 mod database;

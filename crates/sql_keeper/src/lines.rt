@@ -5,7 +5,7 @@ ghost use Rattle.fx_data.specs.ValueView.{view};
 ghost use Rattle.fx_data.specs.Values.{Data};
 ghost use Rattle.fx_value.specs.Keys.{key_bytes};
 ghost use Rattle.fx_value.specs.Order.{IsScalar};
-ghost use Rattle.row_queries.specs.TableRows.{AreCellsOf, IsRowOf};
+ghost use Rattle.row_queries.specs.TableRows.{AreCellsOf, IsHeldRow};
 ghost use Rattle.sql_keeper.specs.Bodies.{line_bytes, piece};
 
 use crate::pieces::{push_piece, split_piece};
@@ -14,6 +14,7 @@ use fx_base::Memory;
 use fx_data::Value;
 use fx_trees::{Column, TableShape};
 use fx_value::key_of;
+use row_keeper::keys::cells_are_proper;
 use row_queries::{Cells, Row};
 use std::alloc::Global;
 
@@ -65,7 +66,7 @@ pub fn row_of(
     id: u32,
     body: &[u8],
 ) -> Result<Option<Row>, Memory>
-    ensures fit { IfOk result (λ o. IfSome o (λ row. IsRowOf table.now row)) }
+    ensures held { IfOk result (λ o. IfSome o (λ row. IsHeldRow table.now row)) }
     ensures id { IfOk result (λ o. IfSome o (λ row. row.id ≡ id)) }
     ensures line { IfOk result (λ o. IfSome o (λ row. line_bytes row.cells ≡ body.now)) }
 {
@@ -81,5 +82,6 @@ pub fn row_of(
     if line.as_slice() != body {
         return Ok(None);
     }
+    cells_are_proper(&cells);
     Ok(Some(Row { id, cells }))
 }

@@ -1,5 +1,6 @@
 // Ranges of keys, and which numbers and lines lie in them.
-ghost use Rattle.std.specs.Prelude.{◌≤◌, ◌^◌};
+ghost use Rattle.std.specs.Prelude.{◌≡◌, ◌≤◌, ◌^◌};
+ghost use Rattle.row_queries.specs.Ranges.{in_range, in_ranges, is_before_end};
 
 use crate::pieces::piece_at;
 use row_queries::KeyRange;
@@ -53,15 +54,28 @@ pub fn numbers_in(range: &KeyRange) -> Option<(u32, u32)> {
     }
 }
 
-/// Whether a key lies in a range.
-fn is_in_range(key: &[u8], range: &KeyRange) -> bool {
-    if key < range.from.as_bytes() {
-        return false;
-    }
+/// Whether a key comes before the end of a range, where there is one.
+fn ends_behind(range: &KeyRange, key: &[u8]) -> bool
+    ensures { result ≡ is_before_end range.now.upto key.now }
+{
     match &range.upto {
-        Some(upto) => key < upto.as_bytes(),
+        Some(upto) => key.cmp(upto.as_bytes()).is_lt(),
         None => true,
     }
+}
+
+/// Whether a key lies in a range.
+fn is_in_range(key: &[u8], range: &KeyRange) -> bool
+    ensures { result ≡ in_range key.now range.now }
+{
+    range.from.as_bytes().cmp(key).is_le() && ends_behind(range, key)
+}
+
+/// Whether a key lies in one of some ranges.
+pub fn is_in_ranges(ranges: &[KeyRange], key: &[u8]) -> bool
+    ensures { result ≡ in_ranges ranges.now key.now }
+{
+    ranges.iter().any(|range| is_in_range(key, range))
 }
 
 /// Whether the key that a line has in a column lies in one of these ranges. Columns are counted from 1.
@@ -70,7 +84,7 @@ pub fn lies_in(ranges: &[KeyRange], column: u16, body: &[u8]) -> bool {
         return false;
     };
     match piece_at(body, place) {
-        Some(key) => ranges.iter().any(|range| is_in_range(key, range)),
+        Some(key) => is_in_ranges(ranges, key),
         None => false,
     }
 }

@@ -1,8 +1,11 @@
 // The rows that queries ask, of a database and of what a transaction has made of it.
-ghost use Rattle.std.specs.Prelude.{IfOk};
+ghost use Rattle.std.specs.Prelude.{List, IfOk};
 ghost use Rattle.std.specs.List.{AllByRecursion};
-ghost use Rattle.row_queries.specs.TableRows.{IsRowOf};
+ghost use Rattle.row_queries.specs.Queries.{AreAsked};
+ghost use Rattle.row_queries.specs.TableRows.{AreHeldRows, IsHeldRow, IsRowOf};
+ghost use Rattle.row_queries.specs.declared.rows.Row.{Row as RowValue};
 
+use crate::arranging::arranged;
 use crate::changes::Changes;
 use crate::database::Database;
 use crate::lines::row_of;
@@ -11,7 +14,6 @@ use crate::statements::{bytes_in, number_in};
 use fx_base::Memory;
 use fx_trees::{Column, TableShape};
 use row_keeper::KeeperEnd;
-use row_keeper::scans::sort_rows;
 use row_queries::{KeyRange, Query, Row, TestNode};
 use sqlite::Row as Answer;
 use std::alloc::Global;
@@ -24,8 +26,8 @@ fn push_row(
     id: u32,
     body: &[u8],
 ) -> Result<(), KeeperEnd>
-    requires { AllByRecursion (IsRowOf table.now) rows.old.items }
-    ensures { AllByRecursion (IsRowOf table.now) rows.new.items }
+    requires { AllByRecursion (IsHeldRow table.now) rows.old.items }
+    ensures { AllByRecursion (IsHeldRow table.now) rows.new.items }
 {
     match row_of(alloc, table, id, body)? {
         Some(row) => {
@@ -45,8 +47,8 @@ fn push_stored(
     tab: u16,
     line: &Answer,
 ) -> Result<(), KeeperEnd>
-    requires { AllByRecursion (IsRowOf table.now) rows.old.items }
-    ensures { AllByRecursion (IsRowOf table.now) rows.new.items }
+    requires { AllByRecursion (IsHeldRow table.now) rows.old.items }
+    ensures { AllByRecursion (IsHeldRow table.now) rows.new.items }
 {
     let (Some(number), Some(body)) = (number_in(line, 0), bytes_in(line, 1)) else {
         return Err(KeeperEnd::Failed);
@@ -77,8 +79,8 @@ fn push_all(
     tab: u16,
     lines: &[Answer],
 ) -> Result<(), KeeperEnd>
-    requires { AllByRecursion (IsRowOf table.now) rows.old.items }
-    ensures { AllByRecursion (IsRowOf table.now) rows.new.items }
+    requires { AllByRecursion (IsHeldRow table.now) rows.old.items }
+    ensures { AllByRecursion (IsHeldRow table.now) rows.new.items }
 {
     for line in lines {
         push_stored(alloc, rows, changes, table, tab, line)?;
@@ -97,8 +99,8 @@ fn push_between(
     low: u32,
     high: u32,
 ) -> Result<(), KeeperEnd>
-    requires { AllByRecursion (IsRowOf table.now) rows.old.items }
-    ensures { AllByRecursion (IsRowOf table.now) rows.new.items }
+    requires { AllByRecursion (IsHeldRow table.now) rows.old.items }
+    ensures { AllByRecursion (IsHeldRow table.now) rows.new.items }
 {
     let lines = database.lines(tab, low, high)?;
     push_all(alloc, rows, changes, table, tab, &lines)?;
@@ -118,8 +120,8 @@ fn push_changed_between(
     low: u32,
     high: u32,
 ) -> Result<(), KeeperEnd>
-    requires { AllByRecursion (IsRowOf table.now) rows.old.items }
-    ensures { AllByRecursion (IsRowOf table.now) rows.new.items }
+    requires { AllByRecursion (IsHeldRow table.now) rows.old.items }
+    ensures { AllByRecursion (IsHeldRow table.now) rows.new.items }
 {
     for (row, change) in &changes.by_row {
         if row.0 == tab
@@ -146,8 +148,8 @@ fn push_first(
     last: u32,
     most: u32,
 ) -> Result<(), KeeperEnd>
-    requires { AllByRecursion (IsRowOf table.now) rows.old.items }
-    ensures { AllByRecursion (IsRowOf table.now) rows.new.items }
+    requires { AllByRecursion (IsHeldRow table.now) rows.old.items }
+    ensures { AllByRecursion (IsHeldRow table.now) rows.new.items }
 {
     let mut low = first;
     let mut width = most;
@@ -184,8 +186,8 @@ fn push_numbered(
     table: &TableShape,
     query: &Query,
 ) -> Result<(), KeeperEnd>
-    requires { AllByRecursion (IsRowOf table.now) rows.old.items }
-    ensures { AllByRecursion (IsRowOf table.now) rows.new.items }
+    requires { AllByRecursion (IsHeldRow table.now) rows.old.items }
+    ensures { AllByRecursion (IsHeldRow table.now) rows.new.items }
 {
     let tab = query.table;
     let most = page_size(query).unwrap_or(u32::MAX);
@@ -224,8 +226,8 @@ fn push_marked(
     tab: u16,
     mark: &Answer,
 ) -> Result<(), KeeperEnd>
-    requires { AllByRecursion (IsRowOf table.now) rows.old.items }
-    ensures { AllByRecursion (IsRowOf table.now) rows.new.items }
+    requires { AllByRecursion (IsHeldRow table.now) rows.old.items }
+    ensures { AllByRecursion (IsHeldRow table.now) rows.new.items }
 {
     let Some(number) = number_in(mark, 1) else {
         return Err(KeeperEnd::Failed);
@@ -251,8 +253,8 @@ fn push_indexed(
     query: &Query,
     range: &KeyRange,
 ) -> Result<(), KeeperEnd>
-    requires { AllByRecursion (IsRowOf table.now) rows.old.items }
-    ensures { AllByRecursion (IsRowOf table.now) rows.new.items }
+    requires { AllByRecursion (IsHeldRow table.now) rows.old.items }
+    ensures { AllByRecursion (IsHeldRow table.now) rows.new.items }
 {
     let marks = marks_in(database, query.table, query.column, range)?;
     for mark in &marks {
@@ -281,8 +283,8 @@ fn push_kept(
     table: &TableShape,
     query: &Query,
 ) -> Result<(), KeeperEnd>
-    requires { AllByRecursion (IsRowOf table.now) rows.old.items }
-    ensures { AllByRecursion (IsRowOf table.now) rows.new.items }
+    requires { AllByRecursion (IsHeldRow table.now) rows.old.items }
+    ensures { AllByRecursion (IsHeldRow table.now) rows.new.items }
 {
     if !has_marks(table.columns.as_slice(), query.column) {
         // The ranges of a column without marks hold every key.
@@ -304,8 +306,8 @@ fn push_changed(
     table: &TableShape,
     query: &Query,
 ) -> Result<(), KeeperEnd>
-    requires { AllByRecursion (IsRowOf table.now) rows.old.items }
-    ensures { AllByRecursion (IsRowOf table.now) rows.new.items }
+    requires { AllByRecursion (IsHeldRow table.now) rows.old.items }
+    ensures { AllByRecursion (IsHeldRow table.now) rows.new.items }
 {
     for (row, change) in &changes.by_row {
         if row.0 == query.table
@@ -327,8 +329,8 @@ fn push_keyed(
     table: &TableShape,
     query: &Query,
 ) -> Result<(), KeeperEnd>
-    requires { AllByRecursion (IsRowOf table.now) rows.old.items }
-    ensures { AllByRecursion (IsRowOf table.now) rows.new.items }
+    requires { AllByRecursion (IsHeldRow table.now) rows.old.items }
+    ensures { AllByRecursion (IsHeldRow table.now) rows.new.items }
 {
     push_kept(alloc, rows, database, changes, table, query)?;
     match changes {
@@ -346,7 +348,8 @@ pub fn ask(
     table: &TableShape,
     query: &Query,
 ) -> Result<Vec<Row>, KeeperEnd>
-    ensures { IfOk result (λ rows. AllByRecursion (IsRowOf table.now) rows.items) }
+    ensures asked { IfOk result (λ rows. (held : List RowValue) × AreHeldRows table.now held × AreAsked query.now held rows.items) }
+    ensures fit { IfOk result (λ rows. AllByRecursion (IsRowOf table.now) rows.items) }
 {
     let mut rows = Vec::new(alloc);
     if query.column == 0 {
@@ -354,8 +357,7 @@ pub fn ask(
     } else {
         push_keyed(alloc, &mut rows, database, changes, table, query)?;
     }
-    sort_rows(&mut rows, query.order)?;
-    Ok(rows)
+    arranged(alloc, rows, table, query)
 }
 
 /// The body of a row's line, if there is one now.

@@ -7,6 +7,7 @@ use Rattle.row_queries.specs.TableRows.{IsRowOf}
 use Rattle.row_queries.specs.declared.rows.RowList.{RowList}
 use Rattle.row_keeper.specs.Tables.{shapes_of}
 use Rattle.row_keeper.proofs.AnswerLemmas.{answer_fits, answer_short}
+use Rattle.sql_keeper.proofs.AskedLemmas.{scanned}
 use Rattle.sql_keeper.proofs.keeper.SqlKeeper.answer.Goals as goal
 
 pub returns-clause-fit : goal.returns-clause-fit
@@ -24,3 +25,6 @@ returns-clause-least c =
     let rows = ap (λ (a : RowList). length a.rows) c.in_ok-answer.ensures in
     let least = c.in_ok-asked.ensures.least in
     omega (arith, short, rows, least)
+
+pub returns-clause-answer : goal.returns-clause-answer
+returns-clause-answer c = scanned (shapes_of c.args.self.now.schema) c.args.query.now c.in_ok-asked.asked.items _ c.in_ok-asked.ensures.asked c.in_ok-answer.ensures
