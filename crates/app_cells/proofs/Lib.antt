@@ -1,0 +1,1 @@
+pub use Rattle.fx_plan.proofs as of_fx_plan

@@ -3,7 +3,11 @@
 use crate::cell::Cell;
 use fx_base::InOrder;
 use fx_data::types::Ty;
+use fx_plan::Site;
 use fx_trees::{Core, Names, Sources};
+
+/// Where a formula takes rows of tables.
+pub type SiteList = InOrder<Site>;
 
 /// A formula of an accepted app.
 #[derive(Drop)]
@@ -16,6 +20,11 @@ pub struct CellInfo {
     pub ty: Ty,
     /// What the tree names, each once, in the order of sources.
     pub reads: Sources,
+    /// The tree in which each query expression that isn't taken whole gives its first rows, as many as the app's row limit.
+    /// It is the one that is evaluated.
+    pub taken: Core,
+    /// Where the formula takes rows of tables, in the order in which its query expressions begin.
+    pub sites: SiteList,
 }
 
 /// An accepted app.

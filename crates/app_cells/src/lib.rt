@@ -6,7 +6,7 @@ pub mod cell;
 pub mod frame;
 pub mod spots;
 
-pub use app::{App, CellInfo};
+pub use app::{App, CellInfo, SiteList};
 pub use cell::{Cell, Spot};
 pub use frame::Frame;
 pub use spots::{address_at, cell_at};

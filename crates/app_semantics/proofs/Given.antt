@@ -1,17 +1,19 @@
 -- What sources give fits their types, and hangs on the cells alone to which they lead.
-use Rattle.std.proofs.Common.{◌≡◌, ℕ, zero, suc, ◌<◌, List, [], ◌∷◌, length, Bool, true, false, Option, Some, None, Result, Ok, Err, refl, sym, subst, ap, ◌∙◌, if◌then◌else◌}
+use Rattle.std.proofs.Common.{◌≡◌, ℕ, zero, suc, ◌<◌, List, [], ◌∷◌, Bool, true, false, Option, Some, None, Ok, Err, refl, sym, subst, ap, ◌∙◌, if◌then◌else◌}
 use Rattle.std.specs.List.{find, slice_get}
-use Rattle.std.specs.Prelude.{option_and_then, slice_index_or}
+use Rattle.std.specs.Prelude.{option_map, slice_index_or}
+use Rattle.std.proofs.lemmas.List.Elements.{recursion_from_All}
 use Rattle.app_cells.specs.Leaning.{cell_behind, default_cell, items_cell}
 use Rattle.app_cells.specs.declared.app.App.{App}
 use Rattle.app_cells.specs.declared.app.CellInfo.{CellInfo}
 use Rattle.app_semantics.proofs.CellTypes.{HasCell, default_has, items_have, source_cell, then_some}
 use Rattle.app_semantics.specs.Chosen.{chosen_of, chosen_row, has_id, row_at, row_or_blank}
-use Rattle.app_semantics.specs.Present.{Gives, Present, given_or, input_of, items_of, selected_of, unset, unset_at, value_or}
+use Rattle.app_semantics.specs.Present.{Gives, IsTable, Present, given_or, input_of, items_of, selected_of, unset, unset_at, value_or}
 use Rattle.app_semantics.specs.Sound.{IsSound}
 use Rattle.app_semantics.specs.Telling.{told_on}
 use Rattle.fx_data.specs.TypeView.{shape}
-use Rattle.fx_data.specs.Types.{ColumnList, Shape, blanks, booleans, dates, numbers, records, tables, texts}
+use Rattle.fx_data.specs.Types.{ColumnList, Shape, booleans, dates, numbers, records, tables}
+use Rattle.fx_data.specs.Types as types
 use Rattle.fx_data.specs.Values.{Data, blank, number, text, boolean, date, rec, tab, fault, no_rows}
 use Rattle.fx_data.specs.declared.controls.Control.TheVariants as control
 use Rattle.fx_data.specs.declared.controls.Control.{Control}
@@ -21,13 +23,19 @@ use Rattle.fx_semantics.specs.Rows.{rows_in}
 use Rattle.fx_tables.proofs.FitRows.{RowFits}
 use Rattle.fx_value.specs.Columns.{Row}
 use Rattle.fx_trees.specs.Controls.{input_type}
-use Rattle.fx_trees.specs.SourceTypes.{chosen_of as chosen_type, item_columns, item_type, sources}
+use Rattle.fx_trees.specs.SourceTypes.{chosen_of as chosen_type, columns_of, item_columns, item_type, sources}
 use Rattle.fx_trees.specs.declared.names.ControlName.{ControlName}
 use Rattle.fx_trees.specs.declared.names.Names.{Names}
 use Rattle.fx_trees.specs.declared.sources.Source.TheVariants as source
 use Rattle.fx_trees.specs.declared.sources.Source.{Source}
 use Rattle.fx_value.specs.Fits.{fits_in}
-use Rattle.app_semantics.specs.Holding.{HoldsFitting}
+use Rattle.app_semantics.specs.Holding.{HoldRows, HoldsFitting}
+use Rattle.fx_trees.specs.declared.schema.TableShape.{TableShape}
+use Rattle.fx_trees.specs.Lawful.{IsLawful, IsLawfulTable}
+use Rattle.app_cells.proofs.of_fx_plan.Placing.{lawful_at}
+use Rattle.row_queries.proofs.Fitting.{all_fit}
+use Rattle.row_queries.specs.declared.rows.Row.{Row as RowOfTable}
+use Rattle.row_queries.specs.TableRows.{rows_at, table_of}
 use Rattle.session_state.specs.Sessions.{SessionState, held}
 
 -- ---- chosen rows
@@ -144,16 +152,35 @@ today_fits : (moment : ℕ) (v : Data) → IsToday moment v → fits_in v dates 
 today_fits moment v (Ok d, h, e) = subst (λ x. fits_in x dates ≡ true) (sym e) refl
 today_fits moment v (Err k, h, e) = subst (λ x. fits_in x dates ≡ true) (sym e) refl
 
+-- a table of rows that fit it
+pub rows_fit : (n : Names) (ts : List (List RowOfTable)) (k : ℕ) (x : TableShape) → IsLawful n → HoldRows n.schema (Some ts) → slice_get n.schema.tables k ≡ Some x →
+    fits_in (table_of x (rows_at ts k)) (types.tables (columns_of x)) ≡ true
+rows_fit n ts k x lawful r q =
+    all_fit x (rows_at ts k) (lawful_at n.schema.tables k x (recursion_from_All IsLawfulTable n.schema.tables lawful.schema.2) q) (r k x q)
+
+table_fits : (p : Present) (k : ℕ) (t : Shape) (v : Data) → IsSound p.app → HoldRows p.app.names.schema p.tables → sources p.app.names (source.Table k) ≡ Some t →
+    IsTable (slice_get p.app.names.schema.tables k) p.tables k v → fits_in v t ≡ true
+table_fits p k t v s r e h = by (slice_get p.app.names.schema.tables k) p.tables refl r e h
+  where
+    by : (o : Option TableShape) (rs : Option (List (List RowOfTable))) → slice_get p.app.names.schema.tables k ≡ o → HoldRows p.app.names.schema rs →
+        option_map (λ (x : TableShape). types.tables (columns_of x)) o ≡ Some t → IsTable o rs k v → fits_in v t ≡ true
+    by None None q r e h = absurd h
+    by None (Some ts) q r e h = absurd h
+    by (Some x) None q r e h = absurd h
+    by (Some x) (Some ts) q r e h =
+        let type : types.tables (columns_of x) ≡ t = cc in
+        subst (λ (d : Data). fits_in d t ≡ true) (sym h) (subst (λ (u : Shape). fits_in (table_of x (rows_at ts k)) u ≡ true) type (rows_fit p.app.names ts k x s.names r q))
+
 -- WHAT A SOURCE GIVES FITS ITS TYPE, where the cells to which it leads do
-pub given_fits : (p : Present) (values : ℕ → Data) (x : Source) (t : Shape) (v : Data) → IsSound p.app → HoldsFitting p.app.names p.session → LedFit p.app values x → sources p.app.names x ≡ Some t → Gives p values x v → fits_in v t ≡ true
-given_fits p values (source.Cell k) t v s n f e h = subst (λ d. fits_in d t ≡ true) (sym h) (cell_fits p.app values (source.Cell k) k t f refl (source_cell p.app k t s e))
-given_fits p values (source.Global k) t v s n f e h = subst (λ d. fits_in d t ≡ true) (sym h) (n.values_fit (source.Global k) t tt e)
-given_fits p values (source.Context k) t v s n f e h = subst (λ d. fits_in d t ≡ true) (sym h) (n.values_fit (source.Context k) t tt e)
-given_fits p values (source.Gathered k) t v s n f e h = subst (λ d. fits_in d t ≡ true) (sym h) (n.values_fit (source.Gathered k) t tt e)
-given_fits p values (source.Input k) t v s n f e h = subst (λ d. fits_in d t ≡ true) (sym h) (input_fits p values k t s n f e)
-given_fits p values (source.Chosen k) t v s n f e h = subst (λ d. fits_in d t ≡ true) (sym h) (selected_fits p values k t s f e)
-given_fits p values (source.Table k) t v s n f e h = absurd h
-given_fits p values source.Today t v s n f e h = let q : dates ≡ t = cc in subst (λ u. fits_in v u ≡ true) q (today_fits p.moment v h)
+pub given_fits : (p : Present) (values : ℕ → Data) (x : Source) (t : Shape) (v : Data) → IsSound p.app → HoldsFitting p.app.names p.session → HoldRows p.app.names.schema p.tables → LedFit p.app values x → sources p.app.names x ≡ Some t → Gives p values x v → fits_in v t ≡ true
+given_fits p values (source.Cell k) t v s n r f e h = subst (λ d. fits_in d t ≡ true) (sym h) (cell_fits p.app values (source.Cell k) k t f refl (source_cell p.app k t s e))
+given_fits p values (source.Global k) t v s n r f e h = subst (λ d. fits_in d t ≡ true) (sym h) (n.values_fit (source.Global k) t tt e)
+given_fits p values (source.Context k) t v s n r f e h = subst (λ d. fits_in d t ≡ true) (sym h) (n.values_fit (source.Context k) t tt e)
+given_fits p values (source.Gathered k) t v s n r f e h = subst (λ d. fits_in d t ≡ true) (sym h) (n.values_fit (source.Gathered k) t tt e)
+given_fits p values (source.Input k) t v s n r f e h = subst (λ d. fits_in d t ≡ true) (sym h) (input_fits p values k t s n f e)
+given_fits p values (source.Chosen k) t v s n r f e h = subst (λ d. fits_in d t ≡ true) (sym h) (selected_fits p values k t s f e)
+given_fits p values (source.Table k) t v s n r f e h = table_fits p k t v s r e h
+given_fits p values source.Today t v s n r f e h = let q : dates ≡ t = cc in subst (λ u. fits_in v u ≡ true) q (today_fits p.moment v h)
 
 -- ---- other values of cells
 value_agrees : (values others : ℕ → Data) (d : Data) (o : Option ℕ) → ((k : ℕ) → o ≡ Some k → values k ≡ others k) → value_or values d o ≡ value_or others d o
@@ -161,13 +188,13 @@ value_agrees values others d (Some k) h = h k refl
 value_agrees values others d None h = refl
 
 -- what a source is worth hangs on the cell alone to which it leads
-pub told_agrees : (day : Data) (n : Names) (s : SessionState) (values others : ℕ → Data) (x : Source) → ((d : ℕ) → cell_behind n x ≡ Some d → values d ≡ others d) →
-    told_on day n s values x ≡ told_on day n s others x
-told_agrees day n s values others (source.Cell k) h = h k refl
-told_agrees day n s values others (source.Global k) h = refl
-told_agrees day n s values others (source.Context k) h = refl
-told_agrees day n s values others (source.Gathered k) h = refl
-told_agrees day n s values others (source.Input k) h = ap (given_or (held s (source.Input k))) (value_agrees values others (unset_at (slice_get n.controls k)) (default_cell n k) h)
-told_agrees day n s values others (source.Chosen k) h = ap (chosen_of (slice_index_or s.chosen k None)) (value_agrees values others (tab no_rows) (items_cell n k) h)
-told_agrees day n s values others (source.Table k) h = refl
-told_agrees day n s values others source.Today h = refl
+pub told_agrees : (day : Data) (n : Names) (s : SessionState) (rows : Option (List (List RowOfTable))) (values others : ℕ → Data) (x : Source) → ((d : ℕ) → cell_behind n x ≡ Some d → values d ≡ others d) →
+    told_on day n s rows values x ≡ told_on day n s rows others x
+told_agrees day n s rows values others (source.Cell k) h = h k refl
+told_agrees day n s rows values others (source.Global k) h = refl
+told_agrees day n s rows values others (source.Context k) h = refl
+told_agrees day n s rows values others (source.Gathered k) h = refl
+told_agrees day n s rows values others (source.Input k) h = ap (given_or (held s (source.Input k))) (value_agrees values others (unset_at (slice_get n.controls k)) (default_cell n k) h)
+told_agrees day n s rows values others (source.Chosen k) h = ap (chosen_of (slice_index_or s.chosen k None)) (value_agrees values others (tab no_rows) (items_cell n k) h)
+told_agrees day n s rows values others (source.Table k) h = refl
+told_agrees day n s rows values others source.Today h = refl

@@ -1,4 +1,5 @@
 pub mod Typings
+pub mod Taken
 pub mod Ordered
 pub mod CellTypes
 pub mod Given

@@ -1,5 +1,5 @@
 -- A typing speaks of the sources alone that the tree reads, and each of these has a type.
-use Rattle.std.proofs.Common.{◌≡◌, ℕ, ◌+◌, List, [], ◌∷◌, ◌++◌, length, Bool, true, false, Option, Some, None, refl, sym, subst, ap, inl, inr}
+use Rattle.std.proofs.Common.{◌≡◌, ℕ, ◌+◌, List, [], ◌∷◌, ◌++◌, length, Bool, true, false, Option, Some, refl, sym, subst, inl, inr}
 use Rattle.std.specs.Prelude.{◌||◌, ◌⊎◌}
 use Rattle.fx_data.specs.Types.{Shape, blanks, numbers, texts, booleans, dates, records, tables}
 use Rattle.fx_trees.specs.Reads.{IsAmong, read_by, sources_among, sources_in}
@@ -11,16 +11,16 @@ use Rattle.fx_semantics.proofs.Lawful.{constant_lawful}
 use Rattle.fx_typing.specs.WellTyped.{AreTyped, Context, IsRuled, IsTyped, Standing, bound, catching, context_for, inside, parts_count, plain, standing_at}
 
 -- ---- lists of sources
-among_left : (s : Source) (xs ys : List Source) → IsAmong s xs → IsAmong s (xs ++ ys)
+pub among_left : (s : Source) (xs ys : List Source) → IsAmong s xs → IsAmong s (xs ++ ys)
 among_left s [] ys h = absurd h
 among_left s (x ∷ xs) ys (inl e) = inl e
 among_left s (x ∷ xs) ys (inr h) = inr (among_left s xs ys h)
 
-among_right : (s : Source) (xs ys : List Source) → IsAmong s ys → IsAmong s (xs ++ ys)
+pub among_right : (s : Source) (xs ys : List Source) → IsAmong s ys → IsAmong s (xs ++ ys)
 among_right s [] ys h = h
 among_right s (x ∷ xs) ys h = inr (among_right s xs ys h)
 
-among_either : (s : Source) (xs ys : List Source) → IsAmong s (xs ++ ys) → IsAmong s xs ⊎ IsAmong s ys
+pub among_either : (s : Source) (xs ys : List Source) → IsAmong s (xs ++ ys) → IsAmong s xs ⊎ IsAmong s ys
 among_either s [] ys h = inr h
 among_either s (x ∷ xs) ys (inl e) = inl (inl e)
 among_either s (x ∷ xs) ys (inr h) = elim (among_either s xs ys h) [ inl a ↦ inl (inr a) | inr b ↦ inr b ]

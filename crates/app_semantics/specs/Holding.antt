@@ -1,10 +1,15 @@
--- What a session holds fits the types that the names of its app give.
-use Rattle.std.specs.Prelude.{◌≡◌, true, Some}
+-- What a session holds, and what tables do, fits the types that the names of their app give.
+use Rattle.std.specs.Prelude.{◌≡◌, ℕ, true, List, Option, Some, None, slice_get}
+use Rattle.std.specs.List.{All}
 use Rattle.fx_data.specs.Types.{Shape}
 use Rattle.fx_trees.specs.SourceTypes.{sources}
 use Rattle.fx_trees.specs.declared.names.Names.{Names}
+use Rattle.fx_trees.specs.declared.schema.Schema.{Schema}
+use Rattle.fx_trees.specs.declared.schema.TableShape.{TableShape}
 use Rattle.fx_trees.specs.declared.sources.Source.{Source}
 use Rattle.fx_value.specs.Fits.{fits_in}
+use Rattle.row_queries.specs.TableRows.{IsRowOf, rows_at}
+use Rattle.row_queries.specs.declared.rows.Row.{Row}
 use Rattle.session_state.specs.Changes.{FitsNames, IsOwn}
 use Rattle.session_state.specs.Sessions.{Holds, SessionState, held}
 
@@ -12,6 +17,11 @@ use Rattle.session_state.specs.Sessions.{Holds, SessionState, held}
 pub record HoldsFitting (n : Names) (s : SessionState) : Type 0 where
   pub sources_held : (x : Source) (t : Shape) → IsOwn x → sources n x ≡ Some t → Holds s x
   pub values_fit : (x : Source) (t : Shape) → IsOwn x → sources n x ≡ Some t → fits_in (held s x) t ≡ true
+
+-- where rows are told, those of each table fit it
+abbrev pub HoldRows : Schema → Option (List (List Row)) → Type 0
+HoldRows schema None = Unit {0}
+HoldRows schema (Some tables) = (k : ℕ) (t : TableShape) → slice_get schema.tables k ≡ Some t → All (IsRowOf t) (rows_at tables k)
 
 -- a session that fits an app's names holds what fits them
 abbrev pub FittingHolds : Type 0

@@ -1,22 +1,22 @@
 -- What fresh values are like.
 use Rattle.std.specs.Prelude.{◌≡◌, ℕ, true, Some, slice_get}
 use Rattle.app_cells.specs.declared.app.CellInfo.{CellInfo}
-use Rattle.app_semantics.specs.Fresh.{IsFresh}
+use Rattle.app_semantics.specs.Fresh.{AreKnown, IsFresh}
 use Rattle.app_semantics.specs.Present.{Present}
 use Rattle.app_semantics.specs.Sound.{IsSound}
 use Rattle.fx_data.specs.TypeView.{shape}
 use Rattle.fx_data.specs.Values.{Data}
 use Rattle.fx_value.specs.Fits.{fits_in}
-use Rattle.app_semantics.specs.Holding.{HoldsFitting}
+use Rattle.app_semantics.specs.Holding.{HoldRows, HoldsFitting}
 
 -- each fresh value fits the type of its cell
 abbrev pub FreshFits : Type 0
 FreshFits =
-    (p : Present) (values : ℕ → Data) → IsSound p.app → HoldsFitting p.app.names p.session → IsFresh p values →
+    (p : Present) (values : ℕ → Data) → IsSound p.app → HoldsFitting p.app.names p.session → HoldRows p.app.names.schema p.tables → IsFresh p values →
     (k : ℕ) (c : CellInfo) → slice_get p.app.cells k ≡ Some c → fits_in (values k) (shape c.ty) ≡ true
 
--- an app has one fresh assignment: its formulas don't lean on one another in a circle
+-- an app has one fresh assignment, where all that it reads is told: its formulas don't lean on one another in a circle
 abbrev pub OneFresh : Type 0
 OneFresh =
-    (p : Present) (values others : ℕ → Data) → IsSound p.app → HoldsFitting p.app.names p.session → IsFresh p values → IsFresh p others →
-    values ≡ others
+    (p : Present) (values others : ℕ → Data) → IsSound p.app → HoldsFitting p.app.names p.session → AreKnown p.app p.tables →
+    IsFresh p values → IsFresh p others → values ≡ others

@@ -6,3 +6,4 @@ pub mod Properties
 pub mod Fresh
 pub mod Sound
 pub mod Laws
+pub use Rattle.app_cells.specs as app_cells

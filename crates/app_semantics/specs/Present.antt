@@ -9,18 +9,22 @@ use Rattle.fx_data.specs.declared.controls.Control.{Control}
 use Rattle.fx_scalar.specs.ScalarFunctions.{IsToday}
 use Rattle.fx_trees.specs.declared.names.ControlName.{ControlName}
 use Rattle.fx_trees.specs.declared.names.Names.{Names}
+use Rattle.fx_trees.specs.declared.schema.TableShape.{TableShape}
 use Rattle.fx_trees.specs.declared.sources.Source.{Source}
 use Rattle.fx_trees.specs.declared.sources.Source.TheVariants as source
+use Rattle.row_queries.specs.TableRows.{rows_at, table_of}
+use Rattle.row_queries.specs.declared.rows.Row.{Row}
 use Rattle.session_state.specs.Sessions.{SessionState, held}
 
--- an app, a session of it, and a moment in seconds since 1970-01-01 UTC
+-- an app, a session of it, the rows of its tables where they are told, and a moment in seconds since 1970-01-01 UTC
 pub record Present : Type 0 where
   pub app : App
   pub session : SessionState
+  pub tables : Option (List (List Row))
   pub moment : ℕ
 
-abbrev pub present : App → SessionState → ℕ → Present
-present a s m = record { app = a; session = s; moment = m }
+abbrev pub present : App → SessionState → Option (List (List Row)) → ℕ → Present
+present a s tables m = record { app = a; session = s; tables = tables; moment = m }
 
 -- the value of a cell, and another one where there is no cell
 abbrev pub value_or : (ℕ → Data) → Data → Option ℕ → Data
@@ -54,7 +58,12 @@ items_of n values g = value_or values (tab no_rows) (items_cell n g)
 abbrev pub selected_of : Names → SessionState → (ℕ → Data) → ℕ → Data
 selected_of n s values g = chosen_of (slice_index_or s.chosen g None) (items_of n values g)
 
--- WHAT A SOURCE GIVES, where cells have these values. No formula names a table yet: a table gives nothing.
+-- the value of a table by its number, which has this shape, if there is one. Where no rows are told it gives nothing.
+abbrev pub IsTable : Option TableShape → Option (List (List Row)) → ℕ → Data → Type 0
+IsTable (Some t) (Some tables) k v = v ≡ table_of t (rows_at tables k)
+IsTable t tables k v = ⊥
+
+-- WHAT A SOURCE GIVES, where cells have these values
 abbrev pub Gives : Present → (ℕ → Data) → Source → Data → Type 0
 Gives p values (source.Cell k) v = v ≡ values k
 Gives p values (source.Global k) v = v ≡ held p.session (source.Global k)
@@ -62,5 +71,5 @@ Gives p values (source.Context k) v = v ≡ held p.session (source.Context k)
 Gives p values (source.Gathered k) v = v ≡ held p.session (source.Gathered k)
 Gives p values (source.Input k) v = v ≡ input_of p.app.names p.session values k
 Gives p values (source.Chosen k) v = v ≡ selected_of p.app.names p.session values k
-Gives p values (source.Table k) v = ⊥
+Gives p values (source.Table k) v = IsTable (slice_get p.app.names.schema.tables k) p.tables k v
 Gives p values source.Today v = IsToday p.moment v

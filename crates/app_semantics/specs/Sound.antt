@@ -1,5 +1,5 @@
 -- What holds of an accepted app.
-use Rattle.std.specs.Prelude.{◌≡◌, ◌↔◌, ℕ, List, [], length, Bool, false, Option, Some, None, slice_get}
+use Rattle.std.specs.Prelude.{◌≡◌, ◌↔◌, ℕ, List, [], length, false, Option, Some, None, slice_get}
 use Rattle.app_cells.specs.Leaning.{edges_of}
 use Rattle.app_cells.specs.declared.app.App.{App}
 use Rattle.app_cells.specs.declared.app.CellInfo.{CellInfo}
@@ -14,11 +14,12 @@ use Rattle.fx_trees.specs.declared.names.ControlName.{ControlName}
 use Rattle.fx_trees.specs.declared.names.FormulaName.{FormulaName}
 use Rattle.fx_trees.specs.declared.names.Names.{Names}
 use Rattle.fx_trees.specs.declared.names.Property.{Property}
+use Rattle.fx_trees.specs.declared.schema.TableShape.{TableShape}
 use Rattle.fx_trees.specs.declared.sources.Source.{Source}
-use Rattle.fx_trees.specs.declared.sources.Source.TheVariants as source
 use Rattle.fx_typing.specs.Acts.{acts}
 use Rattle.fx_typing.specs.Typing.{item_of}
 use Rattle.fx_typing.specs.WellTyped.{Context, IsTyped}
+use Rattle.app_cells.specs.fx_plan.Limited.{limited}
 
 -- where the tree of a formula stands: among the names of the app, and perhaps in a gallery
 abbrev pub context_at : Names → Option ℕ → Context
@@ -30,12 +31,11 @@ pub record IsCalm (n : Names) (c : CellInfo) : Type 0 where
   pub lawful : IsLawfulTree c.core
   pub quiet : acts c.core ≡ false
 
--- A formula has its type where it stands. It reads what stands in its tree, which is no table.
+-- A formula has its type where it stands. It reads what stands in its tree.
 pub record IsSoundCell (n : Names) (c : CellInfo) : Type 0 where
   pub typed : IsTyped (context_at n c.cell.item) c.core (shape c.ty)
   pub calm : c.cell.acts ≡ false → IsCalm n c
   pub reads : (s : Source) → IsAmong s c.reads ↔ IsAmong s (sources_in c.core)
-  pub no_tables : (k : ℕ) → ¬ IsAmong (source.Table k) c.reads
 
 -- the cell of this number has a formula that doesn't act, sees the item of this gallery, if any, and has this type
 pub record IsCellOf (cells : List CellInfo) (k : ℕ) (gallery : Option ℕ) (t : Shape) : Type 0 where
@@ -45,6 +45,10 @@ pub record IsCellOf (cells : List CellInfo) (k : ℕ) (gallery : Option ℕ) (t 
   pub item : cell.cell.item ≡ gallery
   pub ty : shape cell.ty ≡ t
 
+-- the tree that is evaluated is the formula's, in which query expressions that aren't taken whole give their first rows
+abbrev pub IsTaken : List TableShape → ℕ → CellInfo → Type 0
+IsTaken ts most c = c.taken ≡ limited ts most 0 false c.core
+
 -- AN ACCEPTED APP: its names are lawful and those of its cells, each formula has its type, and the order is one of leaning.
 pub record IsSound (a : App) : Type 0 where
   pub names : IsLawful a.names
@@ -53,4 +57,5 @@ pub record IsSound (a : App) : Type 0 where
   pub properties : (i : ℕ) (p : Property) (c : ControlName) (t : Shape) →
       slice_get a.names.properties i ≡ Some p → slice_get a.names.controls p.control ≡ Some c → property_of p.name c ≡ Some t →
       IsCellOf a.cells p.cell c.gallery t
+  pub taken : (k : ℕ) (c : CellInfo) → slice_get a.cells k ≡ Some c → IsTaken a.names.schema.tables a.limit c
   pub order : IsOrder (length a.cells) (edges_of a.names a.cells) a.order

@@ -3,4 +3,5 @@
 
 pub mod laws;
 
+pub use app_cells;
 pub use laws::{fitting_holds, fresh_fits, one_fresh};

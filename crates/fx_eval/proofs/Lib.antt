@@ -28,3 +28,4 @@ pub mod Averages
 pub mod Demanding
 pub mod Queried
 pub mod SketchSizes
+pub use Rattle.fx_plan.proofs as of_fx_plan

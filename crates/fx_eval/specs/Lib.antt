@@ -10,3 +10,4 @@ pub mod Parts
 pub mod Scopes
 pub mod Telling
 pub mod Queries
+pub use Rattle.fx_plan.specs as fx_plan

@@ -26,13 +26,13 @@ abbrev pub held : List Value → Option Value → Option Fault → Held
 held rows item caught = record { rows = map view rows; item = option_map view item; caught = caught }
 
 -- what an environment leaves as it is: the type of each source that may be read, the tables of the app, how
--- many rows a query may take that isn't delegated, the loan through which it uses an object that is lent, if it
--- does, and whether a transaction of that object is begun
+-- many rows a query may take that isn't delegated, the loans through which it uses objects that are lent, if it
+-- does, and whether a transaction of such an object is begun
 pub record Fixed : Type 0 where
   pub types : Source → Option Shape
   pub schema : Schema
   pub limit : ℕ
-  pub loan : Option ℕ
+  pub loans : List (Option ℕ)
   pub in_transaction : Bool
 
 -- the type that a value fits

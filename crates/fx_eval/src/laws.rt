@@ -2,7 +2,7 @@
 ghost use Rattle.fx_eval.specs.Laws.{ErrorIsWorth, MadeIsWorth, TypedCanMake};
 ghost use Rattle.fx_eval.specs.Demands.{AnswersAreValues, ConstantsAreReady, FoundAreReady};
 
-use fx_plan::{answers_are_values, sketches_can_plan};
+use fx_plan::laws::{answers_are_values, sketches_can_plan};
 use fx_semantics::values_fit;
 use row_queries::rows_fit;
 

@@ -19,6 +19,7 @@ pub use answers::{Answers, is_formula, rows_of};
 pub use calls::over;
 pub use environment::{Env, Stop};
 pub use evaluate::eval;
+pub use fx_plan;
 pub use laws::{made_is_worth, queries_are_values, typed_can_make};
 pub use lists::list;
 pub use scope::Scope;
