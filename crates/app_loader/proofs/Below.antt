@@ -1,9 +1,9 @@
 -- The numbers of cells on which formulas lean.
-use Rattle.std.proofs.Common.{inl, inr, ◌⊎◌, ◌≡◌, ℕ, ◌+◌, ◌<◌, ◌≤◌, zero, suc, ◌++◌, List, [], ◌∷◌, Bool, true, false, nat_eq, All, length, Option, Some, None, option_map, refl, ap, sym, subst, ◌∙◌, if◌then◌else◌, slice_get, arith}
+use Rattle.std.proofs.Common.{inl, inr, ◌⊎◌, ◌≡◌, ℕ, ◌+◌, ◌<◌, ◌≤◌, zero, suc, ◌++◌, List, [], ◌∷◌, Bool, true, false, nat_eq, All, length, Option, Some, None, option_map, refl, subst, if◌then◌else◌, slice_get, arith}
 use Rattle.std.proofs.lemmas.Bool.{eqb-true}
 use Rattle.std.proofs.lemmas.List.Elements.{All-nil, All-cons, All-head, All-tail, All-append}
 use Rattle.std.specs.Prelude.{option_and_then}
-use Rattle.std.specs.List.{AllZip, find}
+use Rattle.std.specs.List.{find}
 use Rattle.fx_data.specs.TypeView.{shape}
 use Rattle.fx_data.specs.Types.{Shape}
 use Rattle.depend_graph.specs.Order.{AreBelow}
@@ -24,7 +24,7 @@ use Rattle.fx_typing.specs.Typing.{context_of, outermost}
 use Rattle.fx_typing.specs.WellTyped.{AreTyped, Context, IsRuled, IsTyped, Standing, bound, catching, context_for, inside, parts_count, plain, standing_at}
 use Rattle.app_cells.specs.declared.app.CellInfo.{CellInfo}
 use Rattle.app_cells.specs.declared.cell.Cell.{Cell}
-use Rattle.app_cells.specs.Leaning.{cell_behind, cell_of_property, default_cell, default_name, edge_to, edges_by, edges_from, edges_of, is_property}
+use Rattle.app_cells.specs.Leaning.{cell_behind, cell_of_property, default_name, edge_to, edges_by, edges_from, edges_of, is_property}
 use Rattle.app_loader.proofs.BreakLists.{same_length}
 use Rattle.app_loader.specs.Cells.{AreNumbered, place_of}
 use Rattle.app_loader.specs.Infos.{AreElaborated, IsElaborated}
@@ -137,29 +137,29 @@ module _ (n : Names) (count : ℕ) (known : AreNumbered count n) where
   by_below k l (s ∷ ss) h =
       All-append IsEdgeBelow (edge_to k (cell_behind n s)) (edges_by n k ss) (edge_below k (cell_behind n s) l (λ d e. h s (inl refl) d e)) (by_below k l ss (λ r a d e. h r (inr a) d e))
 
-  from_below : (k : ℕ) (cs : List Cell) (is : List CellInfo) → AreElaborated n cs is → ((c : Cell) (i : CellInfo) → IsElaborated n c i → ReadsBelow i.reads) → k + length is ≤ count → AreBelow count (edges_from n k is)
-  from_below k [] [] h r l = All-nil IsEdgeBelow
-  from_below k [] (i ∷ is) h r l = absurd h
-  from_below k (c ∷ cs) [] h r l = absurd h
-  from_below k (c ∷ cs) (i ∷ is) h r l =
-      All-append IsEdgeBelow (edges_by n k i.reads) (edges_from n (suc k) is) (by_below k (omega arith) i.reads (r c i h.0)) (from_below (suc k) cs is h.1 r (omega arith))
+  from_below : (most k : ℕ) (cs : List Cell) (is : List CellInfo) → AreElaborated n most cs is → ((c : Cell) (i : CellInfo) → IsElaborated n most c i → ReadsBelow i.reads) → k + length is ≤ count → AreBelow count (edges_from n k is)
+  from_below most k [] [] h r l = All-nil IsEdgeBelow
+  from_below most k [] (i ∷ is) h r l = absurd h
+  from_below most k (c ∷ cs) [] h r l = absurd h
+  from_below most k (c ∷ cs) (i ∷ is) h r l =
+      All-append IsEdgeBelow (edges_by n k i.reads) (edges_from n (suc k) is) (by_below k (omega arith) i.reads (r c i h.0)) (from_below most (suc k) cs is h.1 r (omega arith))
 
   one_sources : (c : Cell) (b : Bool) (r : Source) → HasType (context_of (place_of n c) (outermost b)) r → (u : Shape) × (sources n r ≡ Some u)
   one_sources c true r h = h
   one_sources c false r h = h
 
-  reads_below : AdmittedIsTyped → IsLawful n → (c : Cell) (i : CellInfo) → IsElaborated n c i → ReadsBelow i.reads
-  reads_below law l c i h s a d e =
+  reads_below : AdmittedIsTyped → IsLawful n → (most : ℕ) (c : Cell) (i : CellInfo) → IsElaborated n most c i → ReadsBelow i.reads
+  reads_below law l most c i h s a d e =
       let w = law (place_of n c) c.acts (option_map shape c.wanted) c.expr (i.core, shape i.ty) l h.tree in
       let t = one_sources c c.acts s (reads_typed (context_of (place_of n c) (outermost c.acts)) i.core (shape i.ty) w s ((h.reads s).0 a)) in
       behind_below s t.0 t.1 d e
 
 -- THE edges of typed formulas are between formulas
-pub edges_below : AdmittedIsTyped → (n : Names) (cs : List Cell) (is : List CellInfo) → IsLawful n → AreNumbered (length cs) n → AreElaborated n cs is → AreBelow (length is) (edges_of n is)
-edges_below law n cs is l known h =
-    let e : length cs ≡ length is = same_length (IsElaborated n) cs is h in
+pub edges_below : AdmittedIsTyped → (n : Names) (most : ℕ) (cs : List Cell) (is : List CellInfo) → IsLawful n → AreNumbered (length cs) n → AreElaborated n most cs is → AreBelow (length is) (edges_of n is)
+edges_below law n most cs is l known h =
+    let e : length cs ≡ length is = same_length (IsElaborated n most) cs is h in
     let here : AreNumbered (length is) n = subst (λ k. AreNumbered k n) e known in
-    from_below n (length is) here 0 cs is h (reads_below n (length is) here law l) (omega arith)
+    from_below n (length is) here most 0 cs is h (reads_below n (length is) here law l most) (omega arith)
 
 -- ---- rounds keep numbers
 same_numbered : (count : ℕ) (fs gs : List FormulaName) → AllSame SameFormula fs gs → All (λ (f : FormulaName). f.cell < count) fs → All (λ (f : FormulaName). f.cell < count) gs

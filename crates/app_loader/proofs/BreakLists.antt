@@ -1,5 +1,5 @@
 -- Lists of breaks, thing by thing.
-use Rattle.std.proofs.Common.{inl, inr, ◌≡◌, ℕ, ◌+◌, ◌<◌, ◌≤◌, zero, suc, ◌++◌, List, [], ◌∷◌, Bool, true, false, nat_eq, length, get_or, take, Result, Ok, Err, MatchResult, append_assoc, refl, ap, sym, subst, ◌∙◌, arith}
+use Rattle.std.proofs.Common.{inl, inr, ◌≡◌, ℕ, ◌+◌, ◌<◌, ◌≤◌, zero, suc, ◌++◌, List, [], ◌∷◌, true, false, nat_eq, length, get_or, take, Result, Ok, Err, MatchResult, append_assoc, refl, ap, sym, subst, ◌∙◌, arith}
 use Rattle.std.proofs.lemmas.Bool.{eqb-true}
 use Rattle.std.proofs.lemmas.List.{take_more, append-nil}
 use Rattle.std.specs.List.{AllZip}
@@ -50,8 +50,8 @@ none_left : {A : Type 0} (xs : List A) → length xs ≡ 0 → xs ≡ []
 none_left [] e = refl
 none_left (x ∷ xs) e = absurd (omega (arith, e))
 
-pub all_elaborated : (m : Names) (cs : List Cell) (is : List CellInfo) (rest : List Cell) → length rest ≡ 0 → ((more : List CellInfo) → AreElaborated m rest more → AreElaborated m cs (is ++ more)) → AreElaborated m cs is
-all_elaborated m cs is rest e go = subst (AreElaborated m cs) (append-nil is) (go [] (subst (λ (r : List Cell). AreElaborated m r []) (sym (none_left rest e)) tt))
+pub all_elaborated : (m : Names) (most : ℕ) (cs : List Cell) (is : List CellInfo) (rest : List Cell) → length rest ≡ 0 → ((more : List CellInfo) → AreElaborated m most rest more → AreElaborated m most cs (is ++ more)) → AreElaborated m most cs is
+all_elaborated m most cs is rest e go = subst (AreElaborated m most cs) (append-nil is) (go [] (subst (λ (r : List Cell). AreElaborated m most r []) (sym (none_left rest e)) tt))
 
 -- one formula more with its typed tree
 pub still_typed : (m : Names) (old rest : List Cell) (trees left : List Typed) (c : Cell) (t : Typed) → old ≡ c ∷ rest → trees ≡ t ∷ left → AreTyped m old trees → AreTyped m rest left
@@ -59,11 +59,11 @@ still_typed m old rest trees left c t e k h =
     let both : AreTyped m (c ∷ rest) (t ∷ left) = subst (λ (us : List Typed). AreTyped m (c ∷ rest) us) k (subst (λ (cs : List Cell). AreTyped m cs trees) e h) in
     both.1
 
-pub info_more : (m : Names) (cells : List Cell) (all next : List CellInfo) (old rest : List Cell) (c : Cell) (i : CellInfo) → old ≡ c ∷ rest → IsElaborated m c i → next ≡ all ++ i ∷ [] →
-    ((more : List CellInfo) → AreElaborated m old more → AreElaborated m cells (all ++ more)) → (more : List CellInfo) → AreElaborated m rest more → AreElaborated m cells (next ++ more)
-info_more m cells all next old rest c i e one k go more h =
-    subst (AreElaborated m cells) (sym (ap (λ xs. xs ++ more) k ∙ append_assoc all (i ∷ []) more))
-    (go (i ∷ more) (subst (λ (cs : List Cell). AreElaborated m cs (i ∷ more)) (sym e) (one, h)))
+pub info_more : (m : Names) (most : ℕ) (cells : List Cell) (all next : List CellInfo) (old rest : List Cell) (c : Cell) (i : CellInfo) → old ≡ c ∷ rest → IsElaborated m most c i → next ≡ all ++ i ∷ [] →
+    ((more : List CellInfo) → AreElaborated m most old more → AreElaborated m most cells (all ++ more)) → (more : List CellInfo) → AreElaborated m most rest more → AreElaborated m most cells (next ++ more)
+info_more m most cells all next old rest c i e one k go more h =
+    subst (AreElaborated m most cells) (sym (ap (λ xs. xs ++ more) k ∙ append_assoc all (i ∷ []) more))
+    (go (i ∷ more) (subst (λ (cs : List Cell). AreElaborated m most cs (i ∷ more)) (sym e) (one, h)))
 
 -- what is known behind some formulas
 pub record AreJudgedSo (m : Names) (cs : List Cell) (ts : List Typed) (bs : List Broken) : Type 0 where

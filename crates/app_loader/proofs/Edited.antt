@@ -2,7 +2,6 @@
 use Rattle.std.proofs.Common.{◌≡◌, ℕ, List, [], ◌∷◌, All, map, Result, Ok, Err, IfErr, IfOk, ap, sym, subst, ◌∙◌}
 use Rattle.fx_infer.specs.Depths.{TreesAreNoDeeper}
 use Rattle.fx_trees.specs.declared.app_end.AppEnd.{AppEnd}
-use Rattle.fx_trees.specs.declared.app_end.AppEnd.TheVariants as end
 use Rattle.fx_trees.specs.declared.broken.Broken.{Broken}
 use Rattle.app_cells.specs.declared.app.App.{App}
 use Rattle.app_cells.specs.declared.cell.Cell.{Cell}

@@ -1,5 +1,5 @@
 -- What an edit leaves is fit to be judged.
-use Rattle.std.proofs.Common.{◌≡◌, ℕ, ◌≤◌, List, All, Option, Some, None, IfSome, Ok, ap, sym, subst, arith}
+use Rattle.std.proofs.Common.{◌≡◌, ℕ, ◌≤◌, List, Option, Some, None, IfSome, Ok, ap, sym, subst, arith}
 use Rattle.std.specs.Prelude.{encode_utf8_all}
 use Rattle.std.specs.Str.{chars}
 use Rattle.fx_infer.specs.Below.{tree_depth}

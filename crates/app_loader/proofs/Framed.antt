@@ -1,5 +1,5 @@
 -- What an app that formulas are judged as has beside them, and which its formulas are.
-use Rattle.std.proofs.Common.{◌≡◌, ℕ, List, [], ◌∷◌, All, length, map, Option, Some, None, Result, Ok, Err, refl, ap, sym, ◌∙◌, subst, arith}
+use Rattle.std.proofs.Common.{◌≡◌, ℕ, List, [], ◌∷◌, All, length, map, Result, Ok, Err, refl, ap, sym, ◌∙◌, subst, arith}
 use Rattle.std.proofs.lemmas.List.{length-map}
 use Rattle.fx_data.specs.declared.types.Ty.TheVariants as ty
 use Rattle.fx_trees.specs.declared.broken.Broken.{Broken}
@@ -14,7 +14,7 @@ use Rattle.app_cells.specs.Spots.{IsFrame, IsPlaced}
 use Rattle.app_edits.specs.Frames.{frame_of, without_items, written}
 use Rattle.app_names.proofs.LawfulNames.{unbroken}
 use Rattle.app_loader.specs.Cells.{AreShallow, cell_of}
-use Rattle.app_loader.specs.Infos.{AreElaborated, IsElaborated}
+use Rattle.app_loader.specs.Infos.{AreElaborated}
 use Rattle.app_loader.specs.JudgedFormulas.{IsAppOf}
 use Rattle.app_loader.proofs.Below.{final_same}
 use Rattle.app_loader.proofs.Soundness.{IfApp, app_parts}
@@ -63,14 +63,14 @@ framed f cells a blank h =
     let controls : map without_items a.names.controls ≡ f.controls = sym (all_without h.first.controls a.names.controls same.controls) ∙ ap (map without_items) named.controls ∙ blank in
     λ i. record { schema = schema i; limit = h.app.limit i; screens = screens i; controls = controls i }
 
-these_written : (n : Names) (cells : List Cell) (is : List CellInfo) → AreElaborated n cells is → map (λ (i : CellInfo). i.cell) is ≡ cells
-these_written n [] [] h = refl
-these_written n [] (i ∷ is) h = absurd h
-these_written n (c ∷ cells) [] h = absurd h
-these_written n (c ∷ cells) (i ∷ is) h = λ j. h.0.cell j ∷ these_written n cells is h.1 j
+these_written : (n : Names) (most : ℕ) (cells : List Cell) (is : List CellInfo) → AreElaborated n most cells is → map (λ (i : CellInfo). i.cell) is ≡ cells
+these_written n most [] [] h = refl
+these_written n most [] (i ∷ is) h = absurd h
+these_written n most (c ∷ cells) [] h = absurd h
+these_written n most (c ∷ cells) (i ∷ is) h = λ j. h.0.cell j ∷ these_written n most cells is h.1 j
 
 pub written_are : (f : Frame) (cells : List Cell) (a : App) → IsJudged f cells a → written a ≡ cells
-written_are f cells a h = these_written a.names cells a.cells h.app.settled.elaborated
+written_are f cells a h = these_written a.names f.limit cells a.cells h.app.settled.elaborated
 
 -- so it is loaded
 pub loaded : (f : Frame) (cells : List Cell) (a : App) → map without_items f.controls ≡ f.controls → IsFrame f → All (IsPlaced f) cells → AreShallow cells → IsJudged f cells a → IsLoaded a

@@ -3,12 +3,12 @@ pub mod Shallow
 pub mod Opens
 pub mod Loads
 pub mod Functions
-pub mod Judging
+pub mod JudgedAlike
 pub mod Rounds
 pub mod OneText
 pub mod OneReading
 pub mod Circles
-pub mod Infos
+pub mod OneInfos
 pub mod OneVerdict
 pub mod Told
 pub mod OneRefusal

@@ -11,7 +11,7 @@ use Rattle.app_cells.specs.declared.app.App.{App}
 use Rattle.app_cells.specs.declared.cell.Cell.{Cell}
 use Rattle.app_cells.specs.declared.frame.Frame.{Frame}
 use Rattle.app_cells.specs.Spots.{IsFrame}
-use Rattle.app_texts.specs.Files.{ReadIsSound, control_of, controls_from, frame_of}
+use Rattle.app_texts.specs.Files.{ReadIsSound, control_of, controls_from}
 use Rattle.app_texts.specs.Texts.{AreFormulasOf, IsReading}
 use Rattle.app_texts.proofs.Readings.{file_placed}
 use Rattle.app_texts.proofs.Spotted.{sound_frame}

@@ -88,6 +88,10 @@ pub screens_ok : (f : Frame) (cells : List Cell) (n : Names) → AreNames f cell
 screens_ok f cells n are = ok_weaker (λ a. JudgedCells n f.limit cells (Ok a)) (λ a. a.names.screens ≡ f.screens)
     (λ a h. let same = final_same (map cell_of cells) n a.names (app_parts h).settled.final in sym same.screens ∙ are.screens)
 
+pub schema_ok : (f : Frame) (cells : List Cell) (n : Names) → AreNames f cells n → (r : Result App AppEnd) → IfOk r (λ a. JudgedCells n f.limit cells (Ok a)) → IfOk r (λ a. a.names.schema ≡ f.schema)
+schema_ok f cells n are = ok_weaker (λ a. JudgedCells n f.limit cells (Ok a)) (λ a. a.names.schema ≡ f.schema)
+    (λ a h. let same = final_same (map cell_of cells) n a.names (app_parts h).settled.final in sym same.schema ∙ are.schema)
+
 -- ---- what a file holds
 pub unparsed_end : (a : AppFile) (e : AppEnd) → TellsBreaks (λ bs. IsReading a (Err bs)) e → Tells (λ bs. JudgedFile a (Err bs)) e
 unparsed_end a (end.Refused all) h = judge.unparsed a all.items h

@@ -1,5 +1,5 @@
 -- All columns of a type are looked at.
-use Rattle.std.proofs.Common.{◌≡◌, ℕ, zero, suc, ◌≤◌, List, [], ◌∷◌, length, drop, arith}
+use Rattle.std.proofs.Common.{ℕ, zero, suc, ◌≤◌, List, [], ◌∷◌, length, drop, arith}
 use Rattle.fx_data.specs.Types.{Shape, column_list}
 use Rattle.fx_data.specs.TypeView.{columns_view}
 use Rattle.fx_data.specs.Rising.{AreRising}

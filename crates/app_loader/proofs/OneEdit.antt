@@ -1,6 +1,6 @@
 -- No edit is both accepted and refused, an edited app is one, and of a refused edit the same breaks are told.
 use Rattle.std.specs.Prelude.{encode_utf8_all}
-use Rattle.std.proofs.Common.{inl, inr, ◌⊎◌, ◌≡◌, ℕ, ◌<◌, ◌≤◌, List, [], ◌∷◌, Bool, true, false, Option, Some, None, Result, Ok, Err, refl, ap, sym, subst, ◌∙◌, arith}
+use Rattle.std.proofs.Common.{inl, inr, ◌⊎◌, ◌≡◌, ℕ, ◌<◌, List, [], ◌∷◌, false, Option, Some, None, Result, Ok, Err, refl, ap, sym, subst, ◌∙◌, arith}
 use Rattle.fx_trees.specs.declared.broken.Broken.{Broken}
 use Rattle.app_cells.specs.declared.app.App.{App}
 use Rattle.app_cells.specs.declared.cell.Cell.{Cell}
@@ -8,7 +8,6 @@ use Rattle.app_cells.specs.declared.cell.Spot.{Spot}
 use Rattle.app_cells.specs.declared.cell.Spot.TheVariants as spot
 use Rattle.app_cells.specs.declared.frame.Frame.{Frame}
 use Rattle.app_cells.specs.Spots.{address}
-use Rattle.app_texts.specs.Texts.{IsReadAt, IsUnreadAt}
 use Rattle.app_edits.specs.Edits.{IsEdited, IsFormula, IsGiven, IsShort, bytes_of, is_named, most_bytes, no_place, with_cell}
 use Rattle.app_edits.proofs.GivenTexts.{GivenParts, given_parts}
 use Rattle.app_edits.specs.Frames.{frame_of}
@@ -17,7 +16,7 @@ use Rattle.app_loader.specs.Edits.{IsOneEdit, IsOneEdited, IsOneEditRefusal, Jud
 use Rattle.app_loader.specs.Judged.{JudgedFormulas}
 use Rattle.app_loader.specs.Verdicts.{AreSameBreaks, IsSameBreak}
 use Rattle.app_loader.proofs.OneReading.{not_both, read_cell_one}
-use Rattle.app_loader.proofs.OneRefusal.{SameRefusal, ends_same, formulas_same, from_equal}
+use Rattle.app_loader.proofs.OneRefusal.{ends_same, formulas_same, from_equal}
 use Rattle.app_loader.proofs.OneVerdict.{Agree, formulas_one}
 
 -- ---- what a text gives at a place

@@ -26,7 +26,7 @@ use Rattle.app_loader.specs.Judged.{AreNamed, Judged, JudgedApp, JudgedFile, Jud
 use Rattle.app_loader.specs.Verdicts.{IsOneApp, IsOneAppOfAFile, IsOneAppOfAText, IsOneVerdict, IsSameApp}
 use Rattle.app_loader.proofs.Circles.{edges_alike, no_circle}
 use Rattle.app_loader.proofs.Functions.{breaks_alike}
-use Rattle.app_loader.proofs.Infos.{infos_one, none_refused}
+use Rattle.app_loader.proofs.OneInfos.{infos_one, none_refused}
 use Rattle.app_loader.proofs.OneReading.{named_reading_one, reading_one}
 use Rattle.app_loader.proofs.Rounds.{AreAlike, final_names, functions_at, settles_alike}
 use Rattle.app_loader.proofs.Singles.{named_parts, reading_parts}
@@ -43,18 +43,18 @@ some_broken b bs cs e k = let both : b ∷ bs ≡ [] = sym e ∙ k in cc
 
 -- ---- formulas under names
 module _ (f : Frame) (cells : List Cell) (first : Names) (are : AreNames f cells first) (most : ℕ) (a : App) (h : IsAppOf first most cells a) where
-  same_names : (n m : Names) (is : List CellInfo) → AreNames f cells n → AreSettled n cells m is → (m ≡ functions_at a.names m.signatures) × AreAlike m.signatures a.names.signatures
+  same_names : (n m : Names) (is : List CellInfo) → AreNames f cells n → AreSettled n most cells m is → (m ≡ functions_at a.names m.signatures) × AreAlike m.signatures a.names.signatures
   same_names n m is its s = final_names f (map cell_of cells) cells first n a.names m are its h.settled.final s.final
 
-  same_infos : (n m : Names) (is : List CellInfo) → AreNames f cells n → AreSettled n cells m is → a.cells ≡ is
+  same_infos : (n m : Names) (is : List CellInfo) → AreNames f cells n → AreSettled n most cells m is → a.cells ≡ is
   same_infos n m is its s =
       let same = same_names n m is its s in
-      infos_one a.names m same.0 same.1 cells a.cells is h.settled.elaborated s.elaborated
+      infos_one a.names m same.0 same.1 most cells a.cells is h.settled.elaborated s.elaborated
 
-  not_unbuilt : (n m : Names) (is : List CellInfo) (b : Broken) (bs : List Broken) → AreNames f cells n → AreSettled n cells m is → unbuilt_breaks is ≡ b ∷ bs → ⊥
+  not_unbuilt : (n m : Names) (is : List CellInfo) (b : Broken) (bs : List Broken) → AreNames f cells n → AreSettled n most cells m is → unbuilt_breaks is ≡ b ∷ bs → ⊥
   not_unbuilt n m is b bs its s u = some_broken b bs (unbuilt_breaks is) u (ap unbuilt_breaks (sym (same_infos n m is its s)) ∙ h.built)
 
-  not_cyclic : (n m : Names) (is : List CellInfo) (b : Broken) → AreNames f cells n → AreSettled n cells m is → IsCycle m is b → ⊥
+  not_cyclic : (n m : Names) (is : List CellInfo) (b : Broken) → AreNames f cells n → AreSettled n most cells m is → IsCycle m is b → ⊥
   not_cyclic n m is b its s k =
       let same = same_names n m is its s in
       let edges : edges_of m is ≡ edges_of a.names a.cells =
@@ -64,7 +64,7 @@ module _ (f : Frame) (cells : List Cell) (first : Names) (are : AreNames f cells
   -- a verdict on them that is no other
   pub cells_agree : {n : Names} {limit : ℕ} {own : List Cell} {v : Result App (List Broken)} → JudgedCells n limit own v → own ≡ cells → limit ≡ most → AreNames f cells n → Agree a v
   cells_agree (app n limit own b k) e l its =
-      let settled : AreSettled n cells b.names b.cells = subst (λ (cs : List Cell). AreSettled n cs b.names b.cells) e k.settled in
+      let settled : AreSettled n most cells b.names b.cells = subst (λ q. AreSettled n q cells b.names b.cells) l (subst (λ (cs : List Cell). AreSettled n limit cs b.names b.cells) e k.settled) in
       let same = same_names n b.names b.cells its settled in
       record { cells = same_infos n b.names b.cells its settled; names = same.0; functions = same.1; limit = h.limit ∙ sym l ∙ sym k.limit }
   cells_agree (unsettling n limit own still) e l its =
@@ -72,9 +72,9 @@ module _ (f : Frame) (cells : List Cell) (first : Names) (are : AreNames f cells
   cells_agree (refused n limit own m b bs final r) e l its =
       let settled : IsFinal (map cell_of cells) n m = subst (λ (cs : List Cell). IsFinal (map cell_of cs) n m) e final in
       let same = final_names f (map cell_of cells) cells first n a.names m are its h.settled.final settled in
-      some_broken b bs (b ∷ bs) refl (none_refused a.names m same.0 same.1 cells a.cells (b ∷ bs) h.settled.elaborated (subst (λ (cs : List Cell). AreRefused m cs (b ∷ bs)) e r))
-  cells_agree (unbuilt n limit own m is b bs s u) e l its = not_unbuilt n m is b bs its (subst (λ (cs : List Cell). AreSettled n cs m is) e s) u
-  cells_agree (cyclic n limit own m is b s u k) e l its = not_cyclic n m is b its (subst (λ (cs : List Cell). AreSettled n cs m is) e s) k
+      some_broken b bs (b ∷ bs) refl (none_refused a.names m same.0 same.1 most cells a.cells (b ∷ bs) h.settled.elaborated (subst (λ (cs : List Cell). AreRefused m cs (b ∷ bs)) e r))
+  cells_agree (unbuilt n limit own m is b bs s u) e l its = not_unbuilt n m is b bs its (subst (λ q. AreSettled n q cells m is) l (subst (λ (cs : List Cell). AreSettled n limit cs m is) e s)) u
+  cells_agree (cyclic n limit own m is b s u k) e l its = not_cyclic n m is b its (subst (λ q. AreSettled n q cells m is) l (subst (λ (cs : List Cell). AreSettled n limit cs m is) e s)) k
 
 -- ---- formulas beside a frame
 record IsAccepted (f : Frame) (cells : List Cell) (a : App) : Type 0 where

@@ -1,17 +1,14 @@
 -- Formulas that don't act, by their typed trees.
-use Rattle.std.proofs.Common.{inl, inr, ◌≡◌, ℕ, zero, suc, List, [], ◌∷◌, Bool, true, false, Option, Some, None, option_map, codes, refl, subst, slice_get, if◌then◌else◌}
+use Rattle.std.proofs.Common.{◌≡◌, ℕ, zero, suc, List, [], ◌∷◌, Bool, true, false, Option, Some, None, option_map, codes, refl, subst, slice_get, if◌then◌else◌}
 use Rattle.std.specs.Prelude.{◌||◌}
-use Rattle.std.specs.List.{cons_option, list_any}
+use Rattle.std.specs.List.{cons_option}
 use Rattle.fx_semantics.specs.Sound.{AreLawfulTrees, IsLawfulTree, NamesLawful}
-use Rattle.fx_trees.specs.Reads.{IsAmong}
 use Rattle.fx_trees.specs.Term.{Term, Terms, of, nil, cons, Top, list, coerce, chain, act}
-use Rattle.fx_trees.specs.declared.sources.Source.{Source}
-use Rattle.fx_trees.specs.declared.sources.Source.TheVariants as source
 use Rattle.fx_trees.specs.declared.broken.Broken.{Broken}
 use Rattle.fx_trees.specs.declared.rule.Rule.TheVariants.{NotBuilt}
 use Rattle.fx_typing.specs.Acts.{acts, any_acts, is_acting}
 use Rattle.app_cells.specs.declared.app.CellInfo.{CellInfo}
-use Rattle.app_loader.specs.Infos.{is_table, unbuilt_breaks, unbuilt_form}
+use Rattle.app_loader.specs.Infos.{unbuilt_breaks, unbuilt_form}
 use Rattle.app_loader.specs.Types.{HasLawfulTypes, HaveLawfulTypes, NamesLawfulType}
 
 both_false : (a b : Bool) → (a || b) ≡ false → (a ≡ false) × (b ≡ false)
@@ -51,20 +48,13 @@ built_at [] k i b e = absurd cc
 built_at (j ∷ is) zero i b e = let same : j ≡ i = cc in subst (λ (z : CellInfo). unbuilt_form z ≡ None) same (none_first (told j) (unbuilt_form j) (unbuilt_breaks is) b).0
 built_at (j ∷ is) (suc k) i b e = built_at is k i (none_first (told j) (unbuilt_form j) (unbuilt_breaks is) b).1 e
 
--- what is built doesn't act, and names no table
+-- what is built doesn't act
 pub record IsPure (i : CellInfo) : Type 0 where
   pub quiet : i.cell.acts ≡ false
-  pub no_table : list_any is_table i.reads ≡ false
 
-pure_by : (i : CellInfo) (a t : Bool) (x y : List ℕ) → i.cell.acts ≡ a → list_any is_table i.reads ≡ t → (if a then Some x else (if t then Some y else None)) ≡ None → IsPure i
-pure_by i true t x y q r e = absurd cc
-pure_by i false true x y q r e = absurd cc
-pure_by i false false x y q r e = record { quiet = q; no_table = r }
+pure_by : (i : CellInfo) (a : Bool) (x : List ℕ) → i.cell.acts ≡ a → (if a then Some x else None) ≡ None → IsPure i
+pure_by i true x q e = absurd cc
+pure_by i false x q e = record { quiet = q }
 
 pub pure_at : (is : List CellInfo) (k : ℕ) (i : CellInfo) → unbuilt_breaks is ≡ [] → slice_get is k ≡ Some i → IsPure i
-pure_at is k i b e = pure_by i i.cell.acts (list_any is_table i.reads) (codes "behaviour") (codes "table") refl refl (built_at is k i b e)
-
-pub no_table_among : (ss : List Source) (k : ℕ) → list_any is_table ss ≡ false → IsAmong (source.Table k) ss → ⊥
-no_table_among [] k e a = a
-no_table_among (s ∷ ss) k e (inl same) = let both = both_false (is_table s) (list_any is_table ss) e in let here : is_table (source.Table k) ≡ false = subst (λ z. is_table z ≡ false) same both.0 in absurd cc
-no_table_among (s ∷ ss) k e (inr a) = no_table_among ss k (both_false (is_table s) (list_any is_table ss) e).1 a
+pure_at is k i b e = pure_by i i.cell.acts (codes "behaviour") refl (built_at is k i b e)

@@ -1,5 +1,5 @@
 -- An app that formulas are judged as has no variable and no collection, and sessions still fit where the frame stays.
-use Rattle.std.proofs.Common.{◌≡◌, ℕ, zero, suc, List, [], ◌∷◌, Bool, true, false, length, map, Option, Some, None, option_map, Ok, refl, ap, sym, subst, ◌∙◌, slice_get, ◌<◌}
+use Rattle.std.proofs.Common.{◌≡◌, ℕ, zero, suc, List, [], ◌∷◌, Bool, false, length, map, Option, Some, option_map, Ok, refl, ap, sym, subst, ◌∙◌, slice_get, ◌<◌}
 use Rattle.std.specs.Borrow.{Bor}
 use Rattle.std.specs.List.{filter}
 use Rattle.std.specs.Prelude.{option_and_then}
@@ -17,8 +17,7 @@ use Rattle.fx_trees.specs.declared.sources.Source.{Source}
 use Rattle.fx_trees.specs.declared.sources.Source.TheVariants as source
 use Rattle.fx_typing.specs.Rounds.{AllSame, SameCollection, SameNames, SameVariable}
 use Rattle.fx_typing.specs.Typing.{judge_whole}
-use Rattle.session_state.specs.Changes.{FitsNames, IsOwn}
-use Rattle.session_state.specs.Sessions.{Holds, SessionState, held}
+use Rattle.session_state.specs.Changes.{IsOwn}
 use Rattle.app_cells.specs.declared.app.App.{App}
 use Rattle.app_cells.specs.declared.cell.Cell.{Cell}
 use Rattle.app_cells.specs.declared.frame.Frame.{Frame}
@@ -57,7 +56,7 @@ module _ (f : Frame) (cells : List Cell) (a : App) (h : IsJudged f cells a) wher
 
   declares_nothing : (k : ℕ) (c : Cell) → slice_get cells k ≡ Some c → declared_in h.first.signatures.now c.screen c.expr ≡ []
   declares_nothing k c e =
-      let w = zip_right (IsElaborated a.names) cells a.cells k c h.app.settled.elaborated e in
+      let w = zip_right (IsElaborated a.names f.limit) cells a.cells k c h.app.settled.elaborated e in
       let quiet : c.acts ≡ false = sym (ap (λ (z : Cell). z.acts) w.2.cell) ∙ (pure_at a.cells k w.0 h.app.built w.1).quiet in
       let tree : judge_whole (place_of a.names c) false (option_map shape c.wanted) c.expr ≡ Ok (w.0.core, shape w.0.ty) =
       subst (λ b. judge_whole (place_of a.names c) b (option_map shape c.wanted) c.expr ≡ Ok (w.0.core, shape w.0.ty)) quiet w.2.tree in

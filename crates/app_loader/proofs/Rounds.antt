@@ -6,7 +6,7 @@ use Rattle.app_cells.specs.declared.cell.Cell.{Cell as Formula}
 use Rattle.app_cells.specs.declared.frame.Frame.{Frame}
 use Rattle.app_names.specs.AppNames.{AreNames, collections_among, variables_among}
 use Rattle.app_loader.proofs.Functions.{things_alike}
-use Rattle.app_loader.proofs.Judging.{round_alike}
+use Rattle.app_loader.proofs.JudgedAlike.{round_alike}
 use Rattle.app_loader.proofs.Below.{final_same}
 use Rattle.fx_trees.specs.declared.signatures.Signature.{Signature}
 use Rattle.fx_typing.specs.Rounds.{AfterRounds, Cell, IsFinal, SameNames, StillChanges, next_types, types_in}

@@ -38,7 +38,7 @@ module _ (f : Frame) (cells : List Cell) (most : ℕ) (a : App) (h : IsAccepted 
   declares_nothing : (k : ℕ) (c : Cell) → slice_get cells k ≡ Some c → declared_in h.first.signatures.now c.screen c.expr ≡ []
   declares_nothing k c e =
       let parts = app_parts h.judged in
-      let w = zip_right (IsElaborated a.names) cells a.cells k c parts.settled.elaborated e in
+      let w = zip_right (IsElaborated a.names most) cells a.cells k c parts.settled.elaborated e in
       let quiet : c.acts ≡ false = sym (ap (λ (z : Cell). z.acts) w.2.cell) ∙ (pure_at a.cells k w.0 parts.built w.1).quiet in
       let tree : judge_whole (place_of a.names c) false (option_map shape c.wanted) c.expr ≡ Ok (w.0.core, shape w.0.ty) =
       subst (λ b. judge_whole (place_of a.names c) b (option_map shape c.wanted) c.expr ≡ Ok (w.0.core, shape w.0.ty)) quiet w.2.tree in

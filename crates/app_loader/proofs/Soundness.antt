@@ -11,8 +11,9 @@ use Rattle.fx_trees.specs.declared.names.Names.{Names}
 use Rattle.fx_trees.specs.declared.names.Property.{Property}
 use Rattle.fx_typing.specs.Laws.{AdmittedIsTyped, AdmittedIsWanted, IsWanted, PureIsQuiet}
 use Rattle.fx_typing.specs.Rounds as rounds
-use Rattle.fx_typing.specs.Rounds.{IsFinal, SameNames, type_or_blank}
+use Rattle.fx_typing.specs.Rounds.{SameNames, type_or_blank}
 use Rattle.fx_typing.specs.Typing.{judge_whole}
+use Rattle.fx_plan.specs.Limited.{limited}
 use Rattle.app_cells.specs.declared.app.App.{App}
 use Rattle.app_cells.specs.declared.app.CellInfo.{CellInfo}
 use Rattle.app_cells.specs.declared.cell.Cell.{Cell}
@@ -29,7 +30,7 @@ use Rattle.app_loader.proofs.Below.{final_same}
 use Rattle.app_loader.specs.Accepted.{AcceptedIsSound, IsAccepted}
 use Rattle.app_loader.proofs.Contexts.{all_at, context_lawful_at}
 use Rattle.app_loader.proofs.Cells.{IsCellAt, control_before, formula_at, formula_before, items_at, items_found, items_own, is_gallery_items, map_at, map_get, property_at, property_ok, pure_item, zip_left, zip_right}
-use Rattle.app_loader.proofs.Pure.{IsPure, no_table_among, pure_at, tree_lawful}
+use Rattle.app_loader.proofs.Pure.{IsPure, pure_at, tree_lawful}
 
 -- what formulas are that are judged as an app
 abbrev pub IfApp : Names → ℕ → List Cell → Result App (List Broken) → Type 0
@@ -59,7 +60,7 @@ module _ (typed : AdmittedIsTyped) (fits : AdmittedIsWanted) (quiet : PureIsQuie
   is_pure k c e = pure_at a.cells k c parts.built e
 
   -- ---- each formula
-  own_tree : (c : Cell) (i : CellInfo) → IsElaborated a.names c i → judged a.names i.cell ≡ Ok (i.core, shape i.ty)
+  own_tree : (c : Cell) (i : CellInfo) → IsElaborated a.names most c i → judged a.names i.cell ≡ Ok (i.core, shape i.ty)
   own_tree c i e = subst (λ (z : Cell). judged a.names z ≡ Ok (i.core, shape i.ty)) (sym e.cell) e.tree
 
   pure_tree : (i : CellInfo) → i.cell.acts ≡ false → judged a.names i.cell ≡ Ok (i.core, shape i.ty) → judge_whole (place_of a.names i.cell) false (option_map shape i.cell.wanted) i.cell.expr ≡ Ok (i.core, shape i.ty)
@@ -67,7 +68,7 @@ module _ (typed : AdmittedIsTyped) (fits : AdmittedIsWanted) (quiet : PureIsQuie
 
   sound_cell : (k : ℕ) (c : CellInfo) → slice_get a.cells k ≡ Some c → IsSoundCell a.names c
   sound_cell k c e =
-      let w = zip_left (IsElaborated a.names) cells a.cells k c parts.settled.elaborated e in
+      let w = zip_left (IsElaborated a.names most) cells a.cells k c parts.settled.elaborated e in
       let p = is_pure k c e in
       let t = pure_tree c p.quiet (own_tree w.0 c w.2) in
       let q = quiet (place_of a.names c.cell) (option_map shape c.cell.wanted) c.cell.expr (c.core, shape c.ty) t in
@@ -79,7 +80,6 @@ module _ (typed : AdmittedIsTyped) (fits : AdmittedIsWanted) (quiet : PureIsQuie
           quiet = q;
         };
         reads = w.2.reads;
-        no_tables = λ j. no_table_among c.reads j p.no_table;
       }
 
   -- ---- the cells of names
@@ -96,7 +96,7 @@ module _ (typed : AdmittedIsTyped) (fits : AdmittedIsWanted) (quiet : PureIsQuie
       let told : g.cell ≡ 0 + at.place = sym b.2.1 ∙ at.number in
       let number : g.cell ≡ at.place = omega (arith, told) in
       let p = placed_at at.place at.cell at.there in
-      let w = zip_right (IsElaborated a.names) cells a.cells at.place at.cell parts.settled.elaborated at.there in
+      let w = zip_right (IsElaborated a.names most) cells a.cells at.place at.cell parts.settled.elaborated at.there in
       let none : option_map shape at.cell.wanted ≡ None = p.wanted ∙ ap (wanted f) at.spot in
       let tree : judge_whole (place_of a.names at.cell) at.cell.acts None at.cell.expr ≡ Ok (w.0.core, shape w.0.ty) =
       subst (λ o. judge_whole (place_of a.names at.cell) at.cell.acts o at.cell.expr ≡ Ok (w.0.core, shape w.0.ty)) none w.2.tree in
@@ -126,7 +126,7 @@ module _ (typed : AdmittedIsTyped) (fits : AdmittedIsWanted) (quiet : PureIsQuie
       let told = at.number in
       let number : p.cell ≡ at.place = omega (arith, told) in
       let q = placed_at at.place at.cell at.there in
-      let w = zip_right (IsElaborated a.names) cells a.cells at.place at.cell parts.settled.elaborated at.there in
+      let w = zip_right (IsElaborated a.names most) cells a.cells at.place at.cell parts.settled.elaborated at.there in
       let d = kind_at p.control c k in
       let pure_one = is_pure at.place w.0 w.1 in
       let still : at.cell.acts ≡ false = sym (ap (λ (z : Cell). z.acts) w.2.cell) ∙ pure_one.quiet in
@@ -170,6 +170,9 @@ module _ (typed : AdmittedIsTyped) (fits : AdmittedIsWanted) (quiet : PureIsQuie
     cells = sound_cell;
     formulas = formula_ok;
     properties = property_fits;
+    taken = λ k c e.
+        subst (λ n. c.taken ≡ limited a.names.schema.tables n 0 false c.core) (sym parts.limit)
+        (zip_left (IsElaborated a.names most) cells a.cells k c parts.settled.elaborated e).2.taken;
     order = parts.order;
   }
 

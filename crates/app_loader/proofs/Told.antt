@@ -1,7 +1,7 @@
 -- Of a broken formula one thing is said, wherever the table of functions stands.
 use Rattle.std.proofs.Common.{inl, inr, ◌≡◌, ◌++◌, ℕ, List, [], ◌∷◌, Bool, true, map, length, ◌==◌, suc, codes, Option, Result, Ok, Err, refl, ap, sym, subst, ◌∙◌, if◌then◌else◌}
 use Rattle.std.specs.Borrow.{Bor}
-use Rattle.app_loader.proofs.Judging.{admit_alike, as_called, deep_alike, node_alike, part_alike, parts_alike, setting_alike}
+use Rattle.app_loader.proofs.JudgedAlike.{admit_alike, as_called, deep_alike, node_alike, part_alike, parts_alike, setting_alike}
 use Rattle.fx_data.specs.Types.{Shape}
 use Rattle.fx_trees.specs.declared.signatures.Signature.{Signature}
 use Rattle.fx_infer.proofs.Breaks.{told_broken, told_parts}

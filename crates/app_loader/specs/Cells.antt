@@ -1,5 +1,5 @@
 -- The formulas of an app, as they are judged.
-use Rattle.std.specs.Prelude.{◌≡◌, ℕ, ◌<◌, ◌≤◌, List, All, Result, option_map}
+use Rattle.std.specs.Prelude.{ℕ, ◌<◌, ◌≤◌, List, All, Result, option_map}
 use Rattle.fx_data.specs.TypeView.{shape}
 use Rattle.fx_data.specs.Types.{Shape}
 use Rattle.fx_trees.specs.declared.names.FormulaName.{FormulaName}

@@ -1,5 +1,5 @@
 -- Edits of an app, judged: they make this app, or these are the breaks of the first stage that has any.
-use Rattle.std.specs.Prelude.{◌≡◌, ◌≤◌, ℕ, List, [], ◌∷◌, All, length, Result, Ok, Err}
+use Rattle.std.specs.Prelude.{◌≤◌, ℕ, List, [], ◌∷◌, All, length, Result, Ok, Err}
 use Rattle.session_state.specs.Changes.{FitsNames}
 use Rattle.session_state.specs.Sessions.{SessionState}
 use Rattle.fx_trees.specs.declared.broken.Broken.{Broken}

@@ -21,10 +21,10 @@ use Rattle.app_loader.specs.Infos.{AreElaborated, unbuilt_breaks}
 abbrev pub unsettled : Broken
 unsettled = record { cell = codes "App"; rule = rule.LimitPassed; at = 0; detail = codes "rounds 256" }
 
--- these are names with their final types, under which these formulas are admitted
-pub record AreSettled (first : Names) (cells : List Cell) (m : Names) (is : List CellInfo) : Type 0 where
+-- these are names with their final types, under which these formulas are admitted, in an app of this row limit
+pub record AreSettled (first : Names) (most : ℕ) (cells : List Cell) (m : Names) (is : List CellInfo) : Type 0 where
   pub final : IsFinal (map cell_of cells) first m
-  pub elaborated : AreElaborated m cells is
+  pub elaborated : AreElaborated m most cells is
 
 -- formulas with their typed trees in an app, in which each stands behind those that it leans on
 pub record IsOrdered (m : Names) (most : ℕ) (is : List CellInfo) (a : App) : Type 0 where
@@ -39,7 +39,7 @@ IsCyclic m is bs = (b : Broken) × (bs ≡ b ∷ []) × IsCycle m is b
 
 -- an app of formulas under names: all its forms are built, and each formula stands behind those that it leans on
 pub record IsAppOf (first : Names) (most : ℕ) (written : List Cell) (a : App) : Type 0 where
-  pub settled : AreSettled first written a.names a.cells
+  pub settled : AreSettled first most written a.names a.cells
   pub built : unbuilt_breaks a.cells ≡ []
   pub order : IsOrder (length a.cells) (edges_of a.names a.cells) a.order
   pub limit : a.limit ≡ most
@@ -50,9 +50,9 @@ pub data JudgedCells : Names → ℕ → List Cell → Result App (List Broken) 
   unsettling : (n : Names) (limit : ℕ) (cells : List Cell) → StillChanges (map cell_of cells) n → JudgedCells n limit cells (Err (unsettled ∷ []))
   refused : (n : Names) (limit : ℕ) (cells : List Cell) (m : Names) (b : Broken) (bs : List Broken) → IsFinal (map cell_of cells) n m
       → AreRefused m cells (b ∷ bs) → JudgedCells n limit cells (Err (b ∷ bs))
-  unbuilt : (n : Names) (limit : ℕ) (cells : List Cell) (m : Names) (is : List CellInfo) (b : Broken) (bs : List Broken) → AreSettled n cells m is
+  unbuilt : (n : Names) (limit : ℕ) (cells : List Cell) (m : Names) (is : List CellInfo) (b : Broken) (bs : List Broken) → AreSettled n limit cells m is
       → unbuilt_breaks is ≡ b ∷ bs → JudgedCells n limit cells (Err (b ∷ bs))
-  cyclic : (n : Names) (limit : ℕ) (cells : List Cell) (m : Names) (is : List CellInfo) (b : Broken) → AreSettled n cells m is
+  cyclic : (n : Names) (limit : ℕ) (cells : List Cell) (m : Names) (is : List CellInfo) (b : Broken) → AreSettled n limit cells m is
       → unbuilt_breaks is ≡ [] → IsCycle m is b → JudgedCells n limit cells (Err (b ∷ []))
   app : (n : Names) (limit : ℕ) (cells : List Cell) (a : App) → IsAppOf n limit cells a → JudgedCells n limit cells (Ok a)
 

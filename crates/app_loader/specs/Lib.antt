@@ -1,5 +1,3 @@
--- what is said of typing and of soundness stands in the contracts of loading, so it is passed on
-pub use Rattle.app_semantics.specs as app_semantics
 pub mod Judged
 pub mod Verdicts
 pub mod Edits
@@ -11,3 +9,6 @@ pub mod Infos
 pub mod Cycles
 pub mod JudgedFormulas
 pub mod Accepted
+-- what is said of edits and of soundness stands in the contracts of loading, so it is passed on
+pub use Rattle.app_edits.specs as app_edits
+pub use Rattle.app_semantics.specs as app_semantics

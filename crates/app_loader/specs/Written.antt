@@ -1,7 +1,5 @@
 -- Formulas of an app as inference takes them.
-use Rattle.std.specs.Prelude.{◌≡◌, Bool, true, false}
-use Rattle.fx_infer.specs.declared.elaboration.PlaceKind.{PlaceKind}
-use Rattle.fx_infer.specs.declared.elaboration.PlaceKind.TheVariants.{Pure, Acting}
+use Rattle.std.specs.Prelude.{◌≡◌}
 use Rattle.fx_infer.specs.declared.elaboration.Written.{Written}
 use Rattle.fx_infer.specs.CellView.{cell}
 use Rattle.app_cells.specs.declared.cell.Cell.{Cell}

@@ -9,12 +9,12 @@ ghost use Rattle.session_state.specs.Changes.{HoldsTables};
 
 use crate::judging::only;
 use crate::loading::load_formulas;
-use crate::no_deeper;
 use app_cells::App;
 use app_edits::edit_cells;
 use app_texts::read_is_sound;
 use fx_base::OrMemory;
 use fx_data::Words;
+use fx_infer::no_deeper;
 use fx_trees::AppEnd;
 use std::alloc::Global;
 

@@ -1,11 +1,15 @@
 //! Formulas with their typed trees, and what of them isn't built yet.
-ghost use Rattle.std.specs.Prelude.{◌≡◌, IfOk, Ok, length};
-ghost use Rattle.std.specs.List.{list_any};
+ghost use Rattle.std.specs.Prelude.{◌≡◌, ◌↔◌, IfOk, Ok, false, length};
 ghost use Rattle.app_loader.specs.Admitted.{AreTyped};
 ghost use Rattle.app_loader.specs.Infos as spec;
 ghost use Rattle.app_loader.specs.Infos.{AreElaborated, IsElaborated};
 ghost use Rattle.app_loader.specs.Cells.{judged};
 ghost use Rattle.app_loader.specs.Types.{HasLawfulTypes, HaveLawfulTrees};
+ghost use Rattle.fx_plan.specs.Limited.{limited};
+ghost use Rattle.fx_plan.specs.Sites.{sites_of};
+ghost use Rattle.fx_trees.specs.Lawful.{IsLawfulSchema};
+ghost use Rattle.fx_trees.specs.Reads.{AreRising, IsAmong, sources_in};
+ghost use Rattle.fx_trees.specs.declared.sources.Source.{Source};
 ghost use Rattle.fx_typing.specs.TypedView.{typed};
 
 use crate::trees::look_at_tree;
@@ -14,7 +18,9 @@ use fx_base::{InOrder, Memory};
 use fx_data::words::Words;
 use fx_infer::Typed;
 use fx_infer::texts::word;
-use fx_trees::{Broken, Names, Rule, Source};
+use fx_plan::{Site, sites};
+use fx_trees::{Broken, Core, Names, Rule, Schema, Source};
+use query_limits::limit_queries;
 use std::alloc::Global;
 
 /// These things in order.
@@ -28,45 +34,73 @@ pub fn in_order<T: Drop>(alloc: Global, things: Vec<T>) -> Result<InOrder<T>, Me
     Ok(all)
 }
 
-// A formula with its typed tree under names.
-fn info_of(alloc: Global, names: &Names, cell: Cell, tree: Typed) -> Result<CellInfo, Memory>
-    requires { judged names.now cell ≡ Ok (typed tree) }
-    ensures { IfOk result (IsElaborated names.now cell) }
+// All that a tree names, each once.
+fn reads_of(alloc: Global, core: &Core) -> Result<InOrder<Source>, Memory>
+    ensures once { IfOk result AreRising }
+    ensures exact { IfOk result (λ r. (s : Source) → IsAmong s r ↔ IsAmong s (sources_in core.now)) }
 {
-    let named = tree.core.reads(alloc)?;
-    let reads = in_order(alloc, named)?;
+    let named = core.reads(alloc)?;
+    in_order(alloc, named)
+}
+
+// Of a tree, the one that is evaluated in an app of this row limit, and where it takes rows of tables.
+fn taken_of(
+    alloc: Global,
+    schema: &Schema,
+    limit: u32,
+    core: &Core,
+) -> Result<(Core, InOrder<Site>), Memory>
+    requires { IsLawfulSchema schema.now }
+    ensures taken { IfOk result (λ p. p.0 ≡ limited schema.now.tables limit 0 false core.now) }
+    ensures sites { IfOk result (λ p. p.1 ≡ sites_of schema.now.tables core.now) }
+{
+    let taken = limit_queries(alloc, schema, limit, core)?;
+    let listed = sites(alloc, schema, core)?;
+    Ok((taken, in_order(alloc, listed)?))
+}
+
+// A formula with its typed tree under names.
+fn info_of(
+    alloc: Global,
+    names: &Names,
+    limit: u32,
+    cell: Cell,
+    tree: Typed,
+) -> Result<CellInfo, Memory>
+    requires lawful { IsLawfulSchema names.now.schema }
+    requires tree { judged names.now cell ≡ Ok (typed tree) }
+    ensures { IfOk result (IsElaborated names.now limit cell) }
+{
+    let reads = reads_of(alloc, &tree.core)?;
+    let (taken, sites) = taken_of(alloc, &names.schema, limit, &tree.core)?;
     Ok(CellInfo {
         cell,
         core: tree.core,
         ty: tree.ty,
         reads,
+        taken,
+        sites,
     })
 }
 
-/// Formulas with their typed trees under names.
+/// Formulas with their typed trees under names, in an app of this row limit.
 pub fn infos_of(
     alloc: Global,
     names: &Names,
+    limit: u32,
     cells: Vec<Cell>,
     trees: Vec<Typed>,
 ) -> Result<InOrder<CellInfo>, Memory>
+    requires lawful { IsLawfulSchema names.now.schema }
     requires typed { AreTyped names.now cells.items trees.items }
     requires each { length trees.items ≡ length cells.items }
-    ensures { IfOk result (AreElaborated names.now cells.items) }
+    ensures { IfOk result (AreElaborated names.now limit cells.items) }
 {
     let mut all = InOrder::new(alloc);
     for (cell, tree) in cells.into_iter().zip(trees) {
-        all.push(info_of(alloc, names, cell, tree)?)?;
+        all.push(info_of(alloc, names, limit, cell, tree)?)?;
     }
     Ok(all)
-}
-
-fn reads_table(reads: &[Source]) -> bool
-    ensures { result ≡ list_any spec.is_table reads.now }
-{
-    reads
-        .iter()
-        .any(|source| matches!(source, Source::Table(_)))
 }
 
 // The form of a formula that isn't built yet.
@@ -77,8 +111,6 @@ fn unbuilt_form(alloc: Global, info: &CellInfo) -> Result<Option<Words>, Memory>
     look_at_tree(&info.core);
     if info.cell.acts {
         Ok(Some(word(alloc, "behaviour")?))
-    } else if reads_table(info.reads.as_slice()) {
-        Ok(Some(word(alloc, "table")?))
     } else {
         Ok(None)
     }

@@ -99,7 +99,7 @@ fn built_app(
 {
     // The law is called for what it says of the trees: each source that they read has a type.
     admitted_is_typed();
-    let infos = infos_of(alloc, &names, cells, trees)?;
+    let infos = infos_of(alloc, &names, limit, cells, trees)?;
     let breaks = unbuilt_breaks(alloc, infos.as_slice())?;
     if !breaks.is_empty() {
         return Err(AppEnd::Refused(breaks));

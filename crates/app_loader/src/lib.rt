@@ -17,6 +17,7 @@ pub mod verdicts;
 pub mod writing;
 
 pub use app_cells::{App, CellInfo};
+pub use app_semantics;
 pub use editing::{edit, loaded_app, one_edit, one_edit_refusal, one_edited};
 pub use finding::find;
 pub use fx_trees::{AppEnd, Broken};

@@ -13,13 +13,13 @@ ghost use Rattle.session_state.specs.Changes.{HoldsTables};
 
 use crate::judging::{app_of, only};
 use crate::laws::{accepted_is_silent, accepted_is_sound};
-use crate::no_deeper;
 use app_cells::{App, Cell, Frame};
 use app_file::AppFile;
 use app_names::{broken, name_breaks, names_of};
 use app_texts::{read_is_sound, read_named, read_texts};
 use fx_base::{Memory, OrMemory};
 use fx_data::Words;
+use fx_infer::no_deeper;
 use fx_trees::{AppEnd, Broken, Rule};
 use std::alloc::Global;
 
@@ -68,6 +68,7 @@ fn load_file(alloc: Global, file: AppFile) -> Result<App, AppEnd>
 pub fn load_named(alloc: Global, bytes: &[u8]) -> Result<App, AppEnd>
     ensures app { IfOk result (λ a. Judged bytes.now (Ok a)) }
     ensures sound { IfOk result IsSound }
+    ensures bare { IfOk result (λ a. a.names.schema.tables ≡ []) }
     ensures tables { IfOk result (λ a. HoldsTables a.names) }
     ensures refused { IfErr result (Tells (λ bs. Judged bytes.now (Err bs))) }
 {
@@ -86,6 +87,7 @@ fn load_text(alloc: Global, source: &str) -> Result<App, AppEnd>
     requires { length source.now ≤ longest }
     ensures app { IfOk result (λ a. JudgedText source.now (Ok a)) }
     ensures sound { IfOk result IsSound }
+    ensures bare { IfOk result (λ a. a.names.schema.tables ≡ []) }
     ensures tables { IfOk result (λ a. HoldsTables a.names) }
     ensures refused { IfErr result (Tells (λ bs. JudgedText source.now (Err bs))) }
 {
@@ -103,6 +105,7 @@ pub(crate) fn load_formulas(alloc: Global, frame: Frame, cells: Vec<Cell>) -> Re
     ensures app { IfOk result (λ a. JudgedFormulas frame cells.items (Ok a)) }
     ensures sound { IfOk result IsSound }
     ensures screens { IfOk result (λ a. a.names.screens ≡ frame.screens) }
+    ensures schema { IfOk result (λ a. a.names.schema ≡ frame.schema) }
     ensures tables { IfOk result (λ a. HoldsTables a.names) }
     ensures refused { IfErr result (Tells (λ bs. JudgedFormulas frame cells.items (Err bs))) }
 {

@@ -1,5 +1,5 @@
 //! What is seen of types by looking at them: their columns rise, at every depth.
-ghost use Rattle.std.specs.Prelude.{◌≡◌, All};
+ghost use Rattle.std.specs.Prelude.{All};
 ghost use Rattle.app_loader.specs.Types.{AreLawfullyTyped};
 ghost use Rattle.fx_data.specs.TypeView.{shape};
 ghost use Rattle.fx_data.specs.Types.{column_list};

@@ -8,6 +8,6 @@ use Rattle.app_loader.proofs.infos.infos_of.Given as goal
 abbrev pub invariant-loop-cell : goal.invariant-loop-cell
 invariant-loop-cell l = record {
   typed : AreTyped l.names l.cell-iterator.a.rest.items l.cell-iterator.b.rest.items;
-  done : (more : List CellInfo) → AreElaborated l.names l.cell-iterator.a.rest.items more → AreElaborated l.names l.fn.cells.items (l.all ++ more);
+  done : (more : List CellInfo) → AreElaborated l.names l.limit l.cell-iterator.a.rest.items more → AreElaborated l.names l.limit l.fn.cells.items (l.all ++ more);
   each : length l.cell-iterator.b.rest.items ≡ length l.cell-iterator.a.rest.items;
 }

@@ -5,6 +5,9 @@ use Rattle.app_loader.proofs.BreakLists.{as_many, no_breaks}
 use Rattle.app_loader.proofs.Ended.{app_ok, cyclic_err, unbuilt_end}
 use Rattle.app_loader.proofs.judging.built_app.Goals as goal
 
+pub infos_of-requires-clause-lawful : goal.infos_of-requires-clause-lawful
+infos_of-requires-clause-lawful c = c.requires.fit.lawful.schema
+
 pub infos_of-requires-clause-each : goal.infos_of-requires-clause-each
 infos_of-requires-clause-each c = sym (as_many c.args.names c.args.cells.items c.args.trees.items c.requires.typed)
 
@@ -16,7 +19,7 @@ returns-then-not-is_empty-clause-refused c = λ first f.
 
 pub ordered_app-requires : goal.ordered_app-requires
 ordered_app-requires c =
-    edges_below c.admitted_is_typed.ensures.typed c.args.names c.args.cells.items c.in_ok-infos.infos c.requires.fit.lawful c.requires.fit.numbered c.in_ok-infos.ensures
+    edges_below c.admitted_is_typed.ensures.typed c.args.names c.args.limit c.args.cells.items c.in_ok-infos.infos c.requires.fit.lawful c.requires.fit.numbered c.in_ok-infos.ensures
 
 pub returns-clause-app : goal.returns-clause-app
 returns-clause-app c =

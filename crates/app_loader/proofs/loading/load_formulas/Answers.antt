@@ -1,6 +1,6 @@
 use Rattle.std.proofs.Common.{◌≡◌, ℕ, [], ap, nat_eq, sym, ◌∙◌}
 use Rattle.app_loader.specs.Judged.{AreNamed}
-use Rattle.app_loader.proofs.Loads.{formulas_err, formulas_ok, misnamed_by, named_by, none_by, screens_ok, sound_ok, tables_ok}
+use Rattle.app_loader.proofs.Loads.{formulas_err, formulas_ok, misnamed_by, named_by, none_by, schema_ok, screens_ok, sound_ok, tables_ok}
 use Rattle.app_names.specs.NameRules.{name_breaks}
 use Rattle.app_loader.proofs.loading.load_formulas.Goals as goal
 
@@ -27,6 +27,9 @@ returns-clause-sound c =
 
 pub returns-clause-screens : goal.returns-clause-screens
 returns-clause-screens c = screens_ok c.args.frame c.args.cells.items c.in_ok-names.names (rw c.deref-2.ensures.value at c.in_ok-names.ensures.names) c.app_of.result c.app_of.ensures.app
+
+pub returns-clause-schema : goal.returns-clause-schema
+returns-clause-schema c = schema_ok c.args.frame c.args.cells.items c.in_ok-names.names (rw c.deref-2.ensures.value at c.in_ok-names.ensures.names) c.app_of.result c.app_of.ensures.app
 
 pub returns-clause-tables : goal.returns-clause-tables
 returns-clause-tables c =
