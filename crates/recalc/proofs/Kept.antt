@@ -1,19 +1,19 @@
 -- Values that are kept one after another, in the order of leaning.
 use Rattle.std.proofs.Common.{◌≡◌, ◌≢◌, ℕ, zero, suc, ◌+◌, ◌<◌, ◌≤◌, List, [], ◌∷◌, ◌++◌, length, get_or, take, Bool, true, false, Option, Some, None, refl, sym, subst, ap, ◌∙◌, arith, inl, inr, map, set, if◌then◌else◌}
 use Rattle.std.proofs.lemmas.Bool.{cases_eq}
-use Rattle.std.proofs.lemmas.List.{get_or-replicate, get_or_default, take_more}
+use Rattle.std.proofs.lemmas.List.{get_or_default, take_more}
 use Rattle.std.proofs.lemmas.List.Sums.{count_by_more_no, count_by_more_yes}
 use Rattle.std.proofs.lemmas.Option.{slice_get_within}
 use Rattle.std.proofs.lemmas.List.Elements.{Contains-append_cases, Contains-append_left, Contains-append_right}
 use Rattle.std.specs.List.{Contains, count_by, slice_get}
-use Rattle.std.specs.Prelude.{replicate, slice_index_or}
-use Rattle.app_cells.specs.Leaning.{LeansOn, cell_behind, edges_of}
-use Rattle.app_cells.specs.declared.app.App.{App}
-use Rattle.app_cells.specs.declared.app.CellInfo.{CellInfo}
-use Rattle.app_semantics.proofs.Freshness.{got}
+use Rattle.std.specs.Prelude.{replicate}
+use Rattle.app_semantics.specs.app_cells.Leaning.{LeansOn, cell_behind, edges_of}
+use Rattle.app_semantics.specs.app_cells.declared.app.App.{App}
+use Rattle.app_semantics.specs.app_cells.declared.app.CellInfo.{CellInfo}
+use Rattle.app_semantics.proofs.Freshness.{got, read_behind}
 use Rattle.app_semantics.proofs.Given.{told_agrees}
 use Rattle.app_semantics.proofs.Ordered.{earlier, leaning_edge}
-use Rattle.app_semantics.specs.Fresh.{IsByItself, IsCellValue, IsFresh, IsValueOf, standing}
+use Rattle.app_semantics.specs.Fresh.{CanRead, IsByItself, IsCellValue, IsFresh, IsValueOf, IsWhere, is_told, standing}
 use Rattle.app_semantics.specs.Present.{Gives, Present, present}
 use Rattle.app_semantics.specs.Sound.{IsSound}
 use Rattle.fx_data.specs.TypeView.{shape}
@@ -23,7 +23,9 @@ use Rattle.fx_data.specs.declared.values.Value.{Value}
 use Rattle.fx_semantics.proofs.Wider.{stays}
 use Rattle.fx_scalar.specs.ScalarFunctions.{IsToday}
 use Rattle.fx_semantics.specs.Sound.{IsItemFit}
-use Rattle.fx_trees.specs.Reads.{IsAmong}
+use Rattle.fx_eval.specs.Telling.{IsHeard}
+use Rattle.fx_eval.specs.fx_plan.Limited.{limited}
+use Rattle.recalc.specs.Asking.{ToldRows}
 use Rattle.fx_trees.specs.declared.names.Names.{Names}
 use Rattle.fx_trees.specs.declared.sources.Source.TheVariants as source
 use Rattle.fx_trees.specs.declared.sources.Source.{Source}
@@ -33,11 +35,15 @@ use Rattle.recalc.specs.Reading.{cell_value}
 use Rattle.recalc.specs.Values.{CellsFit, stands_alone, stands_by}
 use Rattle.session_state.specs.Sessions.{SessionState}
 
--- the cells of these numbers have their values, and all others are blank so far
-pub record AreKept (a : App) (s : SessionState) (day : Data) (done : List ℕ) (values : ℕ → Data) : Type 0 where
+-- the cells of these numbers have their values, over what is heard of the rows of tables, and all others are blank so far
+pub record AreKept (a : App) (s : SessionState) (told : ToldRows) (day : Data) (done : List ℕ) (values : ℕ → Data) : Type 0 where
   pub fits : CellsFit a values
   pub undone : (k : ℕ) → ¬ Contains done k → values k ≡ blank
-  pub known : (moment : ℕ) (k : ℕ) (c : CellInfo) → IsToday moment day → Contains done k → slice_get a.cells k ≡ Some c → IsCellValue (present a s moment) values c (values k)
+  pub known : (moment : ℕ) (tables : ToldRows) (k : ℕ) (c : CellInfo) → IsToday moment day → IsHeard told tables → Contains done k → slice_get a.cells k ≡ Some c → IsCellValue (present a s tables moment) values c (values k)
+
+-- what is heard of rows later was heard of them before
+abbrev pub Hears : ToldRows → ToldRows → Type 0
+Hears told later = (tables : ToldRows) → IsHeard later tables → IsHeard told tables
 
 -- ---- blanks
 blank_at : (n k : ℕ) → cell_value (replicate n blank) k ≡ blank
@@ -45,31 +51,36 @@ blank_at zero k = refl
 blank_at (suc n) zero = refl
 blank_at (suc n) (suc k) = blank_at n k
 
-pub none_kept : (a : App) (s : SessionState) (day : Data) (n : ℕ) → AreKept a s day [] (cell_value (replicate n blank))
-none_kept a s day n = record {
+pub none_kept : (a : App) (s : SessionState) (told : ToldRows) (day : Data) (n : ℕ) → AreKept a s told day [] (cell_value (replicate n blank))
+none_kept a s told day n = record {
   fits = λ k c there. subst (λ d. fits_in d (shape c.ty) ≡ true) (sym (blank_at n k)) refl;
   undone = λ k h. blank_at n k;
-  known = λ moment k c today h there. absurd (omega (arith, h.1));
+  known = λ moment tables k c today heard h there. absurd (omega (arith, h.1));
 }
 
 -- ---- values of cells that aren't read
 gives_agrees : (p : Present) (values others : ℕ → Data) (x : Source) (v : Data) → ((d : ℕ) → cell_behind p.app.names x ≡ Some d → values d ≡ others d) → Gives p values x v → Gives p others x v
-gives_agrees p values others (source.Cell k) v h e = e ∙ told_agrees blank p.app.names p.session values others (source.Cell k) h
+gives_agrees p values others (source.Cell k) v h e = e ∙ told_agrees blank p.app.names p.session p.tables values others (source.Cell k) h
 gives_agrees p values others (source.Global k) v h e = e
 gives_agrees p values others (source.Context k) v h e = e
 gives_agrees p values others (source.Gathered k) v h e = e
-gives_agrees p values others (source.Input k) v h e = e ∙ told_agrees blank p.app.names p.session values others (source.Input k) h
-gives_agrees p values others (source.Chosen k) v h e = e ∙ told_agrees blank p.app.names p.session values others (source.Chosen k) h
+gives_agrees p values others (source.Input k) v h e = e ∙ told_agrees blank p.app.names p.session p.tables values others (source.Input k) h
+gives_agrees p values others (source.Chosen k) v h e = e ∙ told_agrees blank p.app.names p.session p.tables values others (source.Chosen k) h
 gives_agrees p values others (source.Table k) v h e = e
 gives_agrees p values others source.Today v h e = e
+
+where_map : {P P' : Type 0} (Q : Type 0) (b : Bool) → (P → P') → IsWhere b P Q → IsWhere b P' Q
+where_map Q true f h = f h
+where_map Q false f h = h
 
 moved : (p : Present) (values others : ℕ → Data) (c : CellInfo) (v : Data) → ((d : ℕ) → LeansOn p.app.names c d → values d ≡ others d) → IsCellValue p values c v → IsCellValue p others c v
 moved p values others c v h x = by c.cell.acts c.cell.item x
   where
     by : (b : Bool) (o : Option ℕ) → IsByItself b o (IsValueOf p values None c v) v → IsByItself b o (IsValueOf p others None c v) v
     by false None y =
-        stays (λ r d. IsAmong r c.reads × Gives p others r d) c.core (standing p values c.reads None) v
-        (λ r d g. (g.0, gives_agrees p values others r d (λ e q. h e (r, g.0, q)) g.1)) y
+        where_map _ (is_told p.tables c.reads)
+        (stays (λ r d. CanRead c.reads r × Gives p others r d) (limited p.app.names.schema.tables p.app.limit 0 false c.core) (standing p values c.reads None) v
+        (λ r d g. (g.0, gives_agrees p values others r d (λ e q. h e (r, read_behind p.app.names c.reads r e g.0 q, q)) g.1))) y
     by false (Some g) y = y
     by true o y = y
 
@@ -97,29 +108,30 @@ only : (x y : ℕ) → Contains (x ∷ []) y → y ≡ x
 only x y (zero, l, e) = sym e
 only x y (suc k, l, e) = absurd (omega (arith, l))
 
-pub one_more : (a : App) (s : SessionState) (day : Data) (i number : ℕ) (old new : ℕ → Data) → IsSound a → i < length a.order → number ≡ get_or a.order i number →
-    AreKept a s day (take i a.order) old → CellsFit a new → ((k : ℕ) → k ≢ number → new k ≡ old k) →
-    ((moment : ℕ) (c : CellInfo) → IsToday moment day → slice_get a.cells number ≡ Some c → IsCellValue (present a s moment) old c (new number)) →
-    AreKept a s day (take (i + 1) a.order) new
-one_more a s day i number old new sound h e kept fits others value =
+pub one_more : (a : App) (s : SessionState) (told later : ToldRows) (day : Data) (i number : ℕ) (old new : ℕ → Data) → IsSound a → Hears told later → i < length a.order → number ≡ get_or a.order i number →
+    AreKept a s told day (take i a.order) old → CellsFit a new → ((k : ℕ) → k ≢ number → new k ≡ old k) →
+    ((moment : ℕ) (tables : ToldRows) (c : CellInfo) → IsToday moment day → IsHeard later tables → slice_get a.cells number ≡ Some c → IsCellValue (present a s tables moment) old c (new number)) →
+    AreKept a s later day (take (i + 1) a.order) new
+one_more a s told later day i number old new sound hears h e kept fits others value =
     let more : take (i + 1) a.order ≡ take i a.order ++ number ∷ [] = take_more a.order i number h ∙ ap (λ x. take i a.order ++ x ∷ []) (sym e) in
-    subst (λ done. AreKept a s day done new) (sym more) (record {
+    subst (λ done. AreKept a s later day done new) (sym more) (record {
       fits = fits;
       undone = λ k apart.
           let other : k ≢ number = λ q. apart (Contains-append_right (take i a.order) (number ∷ []) k (subst (λ m. Contains (number ∷ []) m) (sym q) (at_head number))) in
           others k other ∙ kept.undone k (λ there. apart (Contains-append_left (take i a.order) (number ∷ []) k there));
-      known = λ moment k c today there at. elim (Contains-append_cases (take i a.order) (number ∷ []) k there) [
+      known = λ moment tables k c today heard there at. elim (Contains-append_cases (take i a.order) (number ∷ []) k there) [
         | inl before ↦
             let b = earlier a.order i k before in
             let other : k ≢ number = λ q. before_not a i b.0 number sound h e b.1 (b.3 ∙ q) in
-            subst (IsCellValue (present a s moment) new c) (sym (others k other))
-            (moved (present a s moment) old new c (old k) (λ d leans. sym (others d (leans_before a i b.0 number k c d sound h e (omega (arith, b.1)) b.3 at leans))) (kept.known moment k c today before at))
+            subst (IsCellValue (present a s tables moment) new c) (sym (others k other))
+            (moved (present a s tables moment) old new c (old k) (λ d leans. sym (others d (leans_before a i b.0 number k c d sound h e (omega (arith, b.1)) b.3 at leans)))
+            (kept.known moment tables k c today (hears tables heard) before at))
         | inr last ↦
             let same : k ≡ number = only number k last in
             let here : slice_get a.cells number ≡ Some c = subst (λ m. slice_get a.cells m ≡ Some c) same at in
             let place : get_or a.order i 0 ≡ number = get_or_default a.order i 0 number h ∙ sym e in
-            subst (λ m. IsCellValue (present a s moment) new c (new m)) (sym same)
-            (moved (present a s moment) old new c (new number) (λ d leans. sym (others d (leans_before a i i number number c d sound h e (omega arith) place here leans))) (value moment c today here))
+            subst (λ m. IsCellValue (present a s tables moment) new c (new m)) (sym same)
+            (moved (present a s tables moment) old new c (new number) (λ d leans. sym (others d (leans_before a i i number number c d sound h e (omega arith) place here leans))) (value moment tables c today heard here))
       ];
     })
 
@@ -182,14 +194,14 @@ placed xs ys i e l =
 pub number_within : (a : App) (xs : List ℕ) (i : ℕ) → IsSound a → xs ≡ a.order → i < length xs → get_or xs i 0 < length a.cells
 number_within a xs i s e l = let at = placed xs a.order i e l in (s.order.all (get_or xs i 0)).0 (i, at.0, sym at.1)
 
-pub number_blank : (a : App) (s : SessionState) (day : Data) (xs : List ℕ) (i : ℕ) (values : ℕ → Data) → IsSound a → xs ≡ a.order → i < length xs → AreKept a s day (take i a.order) values → values (get_or xs i 0) ≡ blank
-number_blank a s day xs i values sound e l kept = let at = placed xs a.order i e l in kept.undone (get_or xs i 0) (new_here a i (get_or xs i 0) sound at.0 at.1)
+pub number_blank : (a : App) (s : SessionState) (told : ToldRows) (day : Data) (xs : List ℕ) (i : ℕ) (values : ℕ → Data) → IsSound a → xs ≡ a.order → i < length xs → AreKept a s told day (take i a.order) values → values (get_or xs i 0) ≡ blank
+number_blank a s told day xs i values sound e l kept = let at = placed xs a.order i e l in kept.undone (get_or xs i 0) (new_here a i (get_or xs i 0) sound at.0 at.1)
 
-pub more_kept : (a : App) (s : SessionState) (day : Data) (xs : List ℕ) (i : ℕ) (old new : ℕ → Data) → IsSound a → xs ≡ a.order → i < length xs → AreKept a s day (take i a.order) old → CellsFit a new →
+pub more_kept : (a : App) (s : SessionState) (told later : ToldRows) (day : Data) (xs : List ℕ) (i : ℕ) (old new : ℕ → Data) → IsSound a → Hears told later → xs ≡ a.order → i < length xs → AreKept a s told day (take i a.order) old → CellsFit a new →
     ((k : ℕ) → k ≢ get_or xs i 0 → new k ≡ old k) →
-    ((moment : ℕ) (c : CellInfo) → IsToday moment day → slice_get a.cells (get_or xs i 0) ≡ Some c → IsCellValue (present a s moment) old c (new (get_or xs i 0))) →
-    AreKept a s day (take (i + 1) a.order) new
-more_kept a s day xs i old new sound e l kept fits others value = let at = placed xs a.order i e l in one_more a s day i (get_or xs i 0) old new sound at.0 at.1 kept fits others value
+    ((moment : ℕ) (tables : ToldRows) (c : CellInfo) → IsToday moment day → IsHeard later tables → slice_get a.cells (get_or xs i 0) ≡ Some c → IsCellValue (present a s tables moment) old c (new (get_or xs i 0))) →
+    AreKept a s later day (take (i + 1) a.order) new
+more_kept a s told later day xs i old new sound hears e l kept fits others value = let at = placed xs a.order i e l in one_more a s told later day i (get_or xs i 0) old new sound hears at.0 at.1 kept fits others value
 
 whole : (xs : List ℕ) (i : ℕ) → length xs ≤ i → take i xs ≡ xs
 whole [] zero l = refl
@@ -197,13 +209,13 @@ whole [] (suc i) l = refl
 whole (x ∷ xs) zero l = absurd (omega (arith, l))
 whole (x ∷ xs) (suc i) l = ap (λ ys. x ∷ ys) (whole xs i (omega (arith, l)))
 
-pub all_fresh : (a : App) (s : SessionState) (day : Data) (xs : List ℕ) (i : ℕ) (values : ℕ → Data) → IsSound a → xs ≡ a.order → length xs ≤ i → AreKept a s day (take i a.order) values →
-    (moment : ℕ) → IsToday moment day → IsFresh (present a s moment) values
-all_fresh a s day xs i values sound e l kept moment today =
+pub all_fresh : (a : App) (s : SessionState) (told : ToldRows) (day : Data) (xs : List ℕ) (i : ℕ) (values : ℕ → Data) → IsSound a → xs ≡ a.order → length xs ≤ i → AreKept a s told day (take i a.order) values →
+    (moment : ℕ) (tables : ToldRows) → IsToday moment day → IsHeard told tables → IsFresh (present a s tables moment) values
+all_fresh a s told day xs i values sound e l kept moment tables today heard =
     let long : length xs ≡ length a.order = ap length e in
     let done : take i a.order ≡ a.order = whole a.order i (omega (arith, l, long)) in
     record {
-      cells = λ k c there. kept.known moment k c today (subst (λ ys. Contains ys k) (sym done) ((sound.order.all k).1 (slice_get_within a.cells k c there))) there;
+      cells = λ k c there. kept.known moment tables k c today heard (subst (λ ys. Contains ys k) (sym done) ((sound.order.all k).1 (slice_get_within a.cells k c there))) there;
       beyond = λ k none. kept.undone k (λ there.
           let c = got a.cells k ((sound.order.all k).0 (subst (λ ys. Contains ys k) done there)) in
           let both : None ≡ Some c.0 = sym none ∙ c.1 in

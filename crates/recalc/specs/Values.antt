@@ -1,7 +1,7 @@
 -- The values of an app's cells, as they are lent.
 use Rattle.std.specs.Prelude.{◌≡◌, ℕ, List, Bool, true, false, Option, Some, None, option_map, slice_get, unwrap_or}
-use Rattle.app_cells.specs.declared.app.App.{App}
-use Rattle.app_cells.specs.declared.app.CellInfo.{CellInfo}
+use Rattle.app_semantics.specs.app_cells.declared.app.App.{App}
+use Rattle.app_semantics.specs.app_cells.declared.app.CellInfo.{CellInfo}
 use Rattle.fx_data.specs.TypeView.{shape}
 use Rattle.fx_data.specs.Values.{Data}
 use Rattle.fx_value.specs.Fits.{fits_in}

@@ -1,32 +1,96 @@
 // The value of one formula.
-ghost use Rattle.std.specs.Prelude.{◌≡◌, ◌+◌, ℕ, false, true, IfOk, Option, map, option_map};
-ghost use Rattle.app_cells.specs.declared.app.CellInfo.{CellInfo as Info};
-ghost use Rattle.app_semantics.specs.Fresh.{IsValueOf};
+ghost use Rattle.std.specs.Prelude.{◌≡◌, ◌+◌, ℕ, false, true, IfOk, IsErrOf, Some, map, option_map};
+ghost use Rattle.app_semantics.specs.Fresh.{IsValueOf, reads_table as reads_any};
 ghost use Rattle.app_semantics.specs.Holding.{HoldsFitting};
 ghost use Rattle.app_semantics.specs.Present.{present};
-ghost use Rattle.app_semantics.specs.Sound.{IsSound, IsSoundCell};
+ghost use Rattle.app_semantics.specs.Sound.{IsSound, IsSoundCell, IsTaken};
 ghost use Rattle.fx_data.specs.TypeView.{shape};
 ghost use Rattle.fx_data.specs.ValueView.{view};
 ghost use Rattle.fx_scalar.specs.ScalarFunctions.{IsToday};
 ghost use Rattle.fx_semantics.specs.Sound.{IsItemFit};
 ghost use Rattle.fx_typing.specs.Typing.{item_of};
 ghost use Rattle.fx_value.specs.Fits.{fits_in};
+ghost use Rattle.recalc.specs.Asking.{HasRead, IsHeardOf, ToldRows, keeping};
 ghost use Rattle.recalc.specs.Reading.{cell_value};
+ghost use Rattle.recalc.specs.Stops.{end_of as end_by};
 ghost use Rattle.recalc.specs.Values.{CellsFit};
+ghost use Rattle.row_keeper.specs.Causes.{HasCause};
+ghost use Rattle.row_keeper.specs.declared.keeper.KeeperEnd.TheVariants.{Failed};
 
+use crate::app_cells::{App, CellInfo};
 use crate::reading::Reading;
-use app_cells::{App, CellInfo};
+use crate::row_reading::RowReading;
 use fx_base::{InOrder, Memory};
 use fx_data::values::Value;
 use fx_eval::{Scope, Steps, Stop, eval};
-use fx_trees::Schema;
+use fx_trees::{Schema, Source};
+use row_keeper::{Keeper, KeeperEnd};
 use session_state::Session;
 use std::alloc::Global;
 use std::sync::ledger::Ledger;
 
-/// The value of a formula that doesn't act, over the values of cells, a session and a day, and over the item of a
-/// gallery where it sees one.
-pub(crate) fn formula_value<L: Ledger>(
+/// Whether a table is among these sources.
+fn reads_table(reads: &[Source]) -> bool
+    ensures { result ≡ reads_any reads.now }
+{
+    reads
+        .iter()
+        .any(|source| matches!(source, Source::Table(_)))
+}
+
+/// Why a keeper's rows gave no value.
+fn end_of(stop: Stop) -> KeeperEnd
+    ensures { result ≡ end_by stop }
+{
+    match stop {
+        Stop::Memory => KeeperEnd::Memory,
+        Stop::Keeper => KeeperEnd::Failed,
+    }
+}
+
+/// The value of a formula that doesn't act, over the values of cells, a session, a day and the rows of tables, and over the
+/// item of a gallery where it sees one. The keeper is asked where the formula reads a table, and else left alone. `Failed` only
+/// where it counted a fault.
+#[tactic(auto, using(crate::proofs::Asked::read_none, crate::proofs::Asked::read_on))]
+pub(crate) fn formula_value<K: Keeper, L: Ledger>(
+    alloc: Global,
+    app: &App,
+    session: &Session,
+    keeper: &mut K,
+    values: &[Value],
+    day: &Value,
+    info: &CellInfo,
+    item: Option<Value>,
+    steps: &mut Steps<L>,
+) -> Result<Value, KeeperEnd>
+    requires sound { IsSound app.now }
+    requires cell { IsSoundCell app.now.names info.now }
+    requires taken { IsTaken app.now.names.schema.tables app.now.limit info.now }
+    requires quiet { info.now.cell.acts ≡ false }
+    requires holds { HoldsFitting app.now.names session.now }
+    requires fits { CellsFit app.now (cell_value (map view values.now)) }
+    requires item { IsItemFit (option_map view item) (item_of app.now.names info.now.cell.item) }
+    requires day { (moment : ℕ) × IsToday moment (view day.now) }
+    requires shaped { reads_any info.now.reads ≡ true → K.shaped keeper.old ≡ Some app.now.names.schema }
+    ensures value { IfOk result (λ v. (moment : ℕ) (tables : ToldRows) → IsToday moment (view day.now) → IsHeardOf (K.told keeper.new) tables →
+        IsValueOf (present app.now session.now tables moment) (cell_value (map view values.now)) (option_map view item) info.now (view v)) }
+    ensures fits { IfOk result (λ v. fits_in (view v) (shape info.now.ty) ≡ true) }
+    ensures steps { IfOk result (λ v. steps.new ≡ steps.old + 1) }
+    ensures read { HasRead (keeping (K.told keeper.old) (K.shaped keeper.old) (K.in_transaction keeper.old) (K.marks keeper.old) (K.loan keeper.old))
+        (keeping (K.told keeper.new) (K.shaped keeper.new) (K.in_transaction keeper.new) (K.marks keeper.new) (K.loan keeper.new)) }
+    ensures cause { HasCause (K.marks keeper.old) (K.marks keeper.new) result }
+    ensures alone { reads_any info.now.reads ≡ false → keeper.new ≡ keeper.old }
+    ensures reached { IsErrOf result Failed → reads_any info.now.reads ≡ true }
+{
+    if reads_table(info.reads.as_slice()) {
+        value_over_rows(alloc, app, session, keeper, values, day, info, item, steps)
+    } else {
+        Ok(value_alone(alloc, app, session, values, day, info, item, steps)?)
+    }
+}
+
+/// The same of a formula that reads no table.
+fn value_alone<L: Ledger>(
     alloc: Global,
     app: &App,
     session: &Session,
@@ -38,13 +102,15 @@ pub(crate) fn formula_value<L: Ledger>(
 ) -> Result<Value, Memory>
     requires sound { IsSound app.now }
     requires cell { IsSoundCell app.now.names info.now }
+    requires taken { IsTaken app.now.names.schema.tables app.now.limit info.now }
     requires quiet { info.now.cell.acts ≡ false }
+    requires no_tables { reads_any info.now.reads ≡ false }
     requires holds { HoldsFitting app.now.names session.now }
     requires fits { CellsFit app.now (cell_value (map view values.now)) }
     requires item { IsItemFit (option_map view item) (item_of app.now.names info.now.cell.item) }
     requires day { (moment : ℕ) × IsToday moment (view day.now) }
-    ensures value { IfOk result (λ v. (moment : ℕ) → IsToday moment (view day.now) →
-        IsValueOf (present app.now session.now moment) (cell_value (map view values.now)) (option_map view item) info.now (view v)) }
+    ensures value { IfOk result (λ v. (moment : ℕ) (tables : ToldRows) → IsToday moment (view day.now) →
+        IsValueOf (present app.now session.now tables moment) (cell_value (map view values.now)) (option_map view item) info.now (view v)) }
     ensures fits { IfOk result (λ v. fits_in (view v) (shape info.now.ty) ≡ true) }
     ensures steps { IfOk result (λ v. steps.new ≡ steps.old + 1) }
 {
@@ -66,10 +132,61 @@ pub(crate) fn formula_value<L: Ledger>(
         item,
         caught: None,
     };
-    match eval(alloc, &mut env, &mut scope, &info.core, steps) {
+    match eval(alloc, &mut env, &mut scope, &info.taken, steps) {
         Ok(value) => Ok(value),
         Err(Stop::Memory) => Err(Memory),
         // Only over an environment that counts faults, and this one counts none.
         Err(Stop::Keeper) => unreachable!(),
+    }
+}
+
+/// The same of a formula that reads tables.
+fn value_over_rows<'a, K: Keeper, L: Ledger>(
+    alloc: Global,
+    app: &'a App,
+    session: &'a Session,
+    keeper: &'a mut K,
+    values: &'a [Value],
+    day: &'a Value,
+    info: &'a CellInfo,
+    item: Option<Value>,
+    steps: &mut Steps<L>,
+) -> Result<Value, KeeperEnd>
+    requires sound { IsSound app.now }
+    requires cell { IsSoundCell app.now.names info.now }
+    requires taken { IsTaken app.now.names.schema.tables app.now.limit info.now }
+    requires quiet { info.now.cell.acts ≡ false }
+    requires tables { reads_any info.now.reads ≡ true }
+    requires holds { HoldsFitting app.now.names session.now }
+    requires fits { CellsFit app.now (cell_value (map view values.now)) }
+    requires item { IsItemFit (option_map view item) (item_of app.now.names info.now.cell.item) }
+    requires day { (moment : ℕ) × IsToday moment (view day.now) }
+    requires shaped { K.shaped keeper.old ≡ Some app.now.names.schema }
+    ensures value { IfOk result (λ v. (moment : ℕ) (tables : ToldRows) → IsToday moment (view day.now) → IsHeardOf (K.told keeper.new) tables →
+        IsValueOf (present app.now session.now tables moment) (cell_value (map view values.now)) (option_map view item) info.now (view v)) }
+    ensures fits { IfOk result (λ v. fits_in (view v) (shape info.now.ty) ≡ true) }
+    ensures steps { IfOk result (λ v. steps.new ≡ steps.old + 1) }
+    ensures read { HasRead (keeping (K.told keeper.old) (K.shaped keeper.old) (K.in_transaction keeper.old) (K.marks keeper.old) (K.loan keeper.old))
+        (keeping (K.told keeper.new) (K.shaped keeper.new) (K.in_transaction keeper.new) (K.marks keeper.new) (K.loan keeper.new)) }
+    ensures cause { HasCause (K.marks keeper.old) (K.marks keeper.new) result }
+{
+    let mut env = RowReading {
+        alloc,
+        names: &app.names,
+        session,
+        values,
+        today: day,
+        reads: info.reads.as_slice(),
+        keeper,
+        limit: app.limit,
+    };
+    let mut scope = Scope {
+        rows: Vec::new(alloc),
+        item,
+        caught: None,
+    };
+    match eval(alloc, &mut env, &mut scope, &info.taken, steps) {
+        Ok(value) => Ok(value),
+        Err(stop) => Err(end_of(stop)),
     }
 }

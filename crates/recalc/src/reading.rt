@@ -1,14 +1,13 @@
-// The environment of a formula: what the sources that it reads are worth.
-ghost use Rattle.std.specs.Prelude.{◌≡◌, IfOk, IsSome, Some, length, map};
+// The environment of a formula that reads no table.
+ghost use Rattle.std.specs.Prelude.{◌≡◌, Some, length, map};
+ghost use Rattle.std.proofs.Math.Bool.{Bool-set};
 ghost use Rattle.app_semantics.specs.Holding.{HoldsFitting};
 ghost use Rattle.fx_data.specs.ValueView.{view};
 ghost use Rattle.fx_eval.specs.Telling.{unmarked};
-ghost use Rattle.std.proofs.Math.Bool.{Bool-set};
 ghost use Rattle.recalc.specs.Holds.{holds_prop};
-ghost use Rattle.recalc.specs.Reading.{fixed_on, told_by, told_values, types_on};
+ghost use Rattle.recalc.specs.Reading.{fixed_on, told_by, told_values};
 
-use crate::sources::{chosen_item, input, value_of};
-use fx_base::Memory;
+use crate::given::given_value;
 use fx_data::{Totals, Value};
 use fx_eval::Steps;
 use fx_eval::environment::{Env, Stop};
@@ -18,8 +17,8 @@ use session_state::Session;
 use std::alloc::Global;
 use std::sync::ledger::Ledger;
 
-/// What a formula reads: the values of cells by their numbers, a session whose values fit, and the day. There are no
-/// tables.
+/// What a formula reads, where there are no tables: the values of cells by their numbers, a session whose values fit, and the
+/// day.
 #[derive(Drop)]
 pub(crate) struct Reading<'a> {
     pub(crate) alloc: Global,
@@ -35,34 +34,6 @@ pub(crate) struct Reading<'a> {
     ghost holds: { HoldsFitting names.now session.now } by { Prim.hlevel (holds_prop, Bool-set) },
 }
 
-impl Reading<'_> {
-    ghost use Rattle.std.specs.Prelude.{◌≡◌, IfOk, IsSome, map};
-    ghost use Rattle.fx_data.specs.ValueView.{view};
-    ghost use Rattle.recalc.specs.Reading.{told_by, types_on};
-
-    // The value of a source that has a type here.
-    #[tactic(auto, using(crate::proofs::Tellings::is_held, crate::proofs::Tellings::input_held))]
-    fn value(&self, source: Source) -> Result<Value, Memory>
-        requires { IsSome (types_on self.now.names.now self.now.reads.now (told_by (view self.now.today.now) self.now.names.now self.now.session.now (map view self.now.values.now)) source) }
-        ensures { IfOk result (λ v. view v ≡ told_by (view self.now.today.now) self.now.names.now self.now.session.now (map view self.now.values.now) source) }
-    {
-        match source {
-            Source::Cell(cell) => value_of(self.alloc, self.values, cell),
-            Source::Global(_) => self.session.get(source),
-            Source::Context(_) => self.session.get(source),
-            Source::Gathered(_) => self.session.get(source),
-            Source::Input(control) => {
-                input(self.alloc, self.names, self.session, self.values, control)
-            }
-            Source::Chosen(gallery) => {
-                chosen_item(self.alloc, self.names, self.session, self.values, gallery)
-            }
-            Source::Table(_) => unreachable!(),
-            Source::Today => self.today.copy(self.alloc),
-        }
-    }
-}
-
 impl Env for Reading<'_> {
     ghost fixed = { λ r. fixed_on r.names.now r.reads.now (told_by (view r.today.now) r.names.now r.session.now (map view r.values.now)) r.schema.now r.limit };
 
@@ -74,9 +45,16 @@ impl Env for Reading<'_> {
 
     ghost visited = { λ r. 0 };
 
-    #[tactic(auto, using(crate::proofs::Tellings::given_typed))]
+    #[tactic(auto, using(crate::proofs::Tellings::given_typed, crate::proofs::Tellings::is_held, crate::proofs::Tellings::not_typed))]
     fn read<L: Ledger>(&mut self, source: Source, _steps: &mut Steps<L>) -> Result<Value, Stop> {
-        Ok(self.value(source)?)
+        Ok(given_value(
+            self.alloc,
+            self.names,
+            self.session,
+            self.values,
+            self.today,
+            source,
+        )?)
     }
 
     fn schema(&self) -> &Schema {

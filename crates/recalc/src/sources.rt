@@ -1,6 +1,6 @@
 //! What sources are worth, where the values of cells are known.
 ghost use Rattle.std.specs.Prelude.{◌≡◌, ℕ, ◌<◌, IfOk, Some, length, map, option_map, slice_get};
-ghost use Rattle.app_cells.specs.Leaning as leaning;
+ghost use Rattle.app_semantics.specs.app_cells.Leaning as leaning;
 ghost use Rattle.app_semantics.specs.Present as spec;
 ghost use Rattle.fx_data.specs.ValueView.{view};
 ghost use Rattle.fx_data.specs.Values.{Data};

@@ -1,7 +1,7 @@
 //! The values of an app's formulas.
-ghost use Rattle.std.specs.Prelude.{◌≡◌, ◌≢◌, ◌+◌, ◌<◌, ℕ, false, true, IfOk, OnOk, Option, Some, if◌then◌else◌, length, map, replicate, slice_get};
+ghost use Rattle.std.specs.Prelude.{◌≡◌, ◌≢◌, ◌+◌, ◌<◌, ℕ, false, true, IfOk, IsErrOf, OnOk, Option, Some, if◌then◌else◌, length, map, replicate, slice_get};
 ghost use Rattle.std.specs.List.{count_by};
-ghost use Rattle.app_cells.specs.declared.app.CellInfo.{CellInfo as Info};
+ghost use Rattle.app_semantics.specs.app_cells.declared.app.CellInfo.{CellInfo as Info};
 ghost use Rattle.app_semantics.specs.Fresh.{IsCellValue, IsFresh, IsValueOf};
 ghost use Rattle.app_semantics.specs.Holding.{HoldsFitting};
 ghost use Rattle.app_semantics.specs.Present.{present};
@@ -9,17 +9,21 @@ ghost use Rattle.app_semantics.specs.Sound.{IsSound};
 ghost use Rattle.fx_data.specs.ValueView.{view};
 ghost use Rattle.fx_scalar.specs.ScalarFunctions.{IsToday};
 ghost use Rattle.fx_data.specs.Values.{blank};
+ghost use Rattle.recalc.specs.Asking.{CanAsk, HasRead, IsHeardOf, ReadsNone, ToldRows, keeping};
 ghost use Rattle.recalc.specs.Reading.{cell_value};
+ghost use Rattle.row_keeper.specs.Causes.{HasCause};
+ghost use Rattle.row_keeper.specs.declared.keeper.KeeperEnd.TheVariants.{Failed};
 ghost use Rattle.recalc.specs.Values.{CellsFit, is_alone, stands_alone as is_by_itself, value_of};
 
+use crate::app_cells::{App, CellInfo};
 use crate::evaluating::formula_value;
 use crate::sources;
-use app_cells::{App, CellInfo};
 use fx_base::Memory;
 use fx_data::values::Value;
 use fx_eval::Steps;
 use fx_scalar::today;
 use fx_trees::Names;
+use row_keeper::{Keeper, KeeperEnd};
 use session_state::Session;
 use std::alloc::Global;
 use std::marker::Model;
@@ -59,7 +63,9 @@ impl Valued {
     ghost use Rattle.fx_trees.specs.declared.sources.Source.TheVariants as source;
     ghost use Rattle.fx_typing.specs.Typing.{item_of};
     ghost use Rattle.fx_value.specs.Fits.{fits_in};
+    ghost use Rattle.recalc.specs.Asking.{HasRead, IsHeardOf, ToldRows, keeping};
     ghost use Rattle.recalc.specs.Values.{CellsFit, value_of};
+    ghost use Rattle.row_keeper.specs.Causes.{HasCause};
     ghost use Rattle.session_state.specs.Sessions.{Holds};
 
     /// The value of each cell, by its number.
@@ -97,16 +103,18 @@ impl Valued {
         sources::items(alloc, names, self.values.as_slice(), gallery)
     }
 
-    /// The value of a formula of a template for an item of its gallery, in one step.
-    pub fn in_item<L: Ledger>(
+    /// The value of a formula of a template for an item of its gallery, in one step. `Failed` only where the keeper counted a
+    /// fault.
+    pub fn in_item<K: Keeper, L: Ledger>(
         &self,
         alloc: Global,
         app: &App,
         session: &Session,
+        keeper: &mut K,
         info: &CellInfo,
         item: Value,
         steps: &mut Steps<L>,
-    ) -> Result<Value, Memory>
+    ) -> Result<Value, KeeperEnd>
         requires sound { IsSound app.now }
         requires holds { HoldsFitting app.now.names session.now }
         requires fits { CellsFit app.now (value_of self.now) }
@@ -114,16 +122,21 @@ impl Valued {
         requires cell { (k : ℕ) × (slice_get app.now.cells k ≡ Some info.now) }
         requires quiet { info.now.cell.acts ≡ false }
         requires item { IsItemFit (Some (view item)) (item_of app.now.names info.now.cell.item) }
-        ensures value { IfOk result (λ v. (moment : ℕ) → IsToday moment self.now.day →
-            IsValueOf (present app.now session.now moment) (value_of self.now) (Some (view item)) info.now (view v)) }
+        requires shaped { K.shaped keeper.old ≡ Some app.now.names.schema }
+        ensures value { IfOk result (λ v. (moment : ℕ) (tables : ToldRows) → IsToday moment self.now.day → IsHeardOf (K.told keeper.new) tables →
+            IsValueOf (present app.now session.now tables moment) (value_of self.now) (Some (view item)) info.now (view v)) }
         ensures fits { IfOk result (λ v. fits_in (view v) (shape info.now.ty) ≡ true) }
         ensures steps { IfOk result (λ v. steps.new ≡ steps.old + 1) }
+        ensures read { HasRead (keeping (K.told keeper.old) (K.shaped keeper.old) (K.in_transaction keeper.old) (K.marks keeper.old) (K.loan keeper.old))
+            (keeping (K.told keeper.new) (K.shaped keeper.new) (K.in_transaction keeper.new) (K.marks keeper.new) (K.loan keeper.new)) }
+        ensures cause { HasCause (K.marks keeper.old) (K.marks keeper.new) result }
     {
         let values = self.values.as_slice();
         formula_value(
             alloc,
             app,
             session,
+            keeper,
             values,
             &self.day,
             info,
@@ -133,48 +146,75 @@ impl Valued {
     }
 }
 
-/// The fresh values of an app's formulas over a session, at a moment in seconds since 1970-01-01 UTC. Each formula that
-/// has a value by itself is evaluated once.
-pub fn evaluate<L: Ledger>(
+/// The fresh values of an app's formulas over a session and the rows of a keeper, at a moment in seconds since 1970-01-01
+/// UTC. Each formula that has a value by itself is evaluated once. Where none reads a table, the keeper is left alone.
+/// `Failed` only where it counted a fault.
+#[tactic(auto, using(crate::proofs::Asked::read_none, crate::proofs::Asked::read_on))]
+pub fn evaluate<K: Keeper, L: Ledger>(
     alloc: Global,
     app: &App,
     session: &Session,
+    keeper: &mut K,
     moment: u64,
     steps: &mut Steps<L>,
-) -> Result<Valued, Memory>
+) -> Result<Valued, KeeperEnd>
     requires sound { IsSound app.now }
     requires holds { HoldsFitting app.now.names session.now }
-    ensures fresh { IfOk result (λ v. IsFresh (present app.now session.now moment) (value_of v)) }
+    requires asks { CanAsk app.now (K.shaped keeper.old) }
+    ensures fresh { IfOk result (λ v. (tables : ToldRows) → IsHeardOf (K.told keeper.new) tables → IsFresh (present app.now session.now tables moment) (value_of v)) }
     ensures long { IfOk result (λ v. length v.cells ≡ length app.now.cells) }
     ensures fits { IfOk result (λ v. CellsFit app.now (value_of v)) }
     ensures day { IfOk result (λ v. IsToday moment v.day) }
     ensures steps { IfOk result (λ v. steps.new ≡ steps.old + count_by (is_alone app.now.cells) app.now.order) }
+    ensures read { HasRead (keeping (K.told keeper.old) (K.shaped keeper.old) (K.in_transaction keeper.old) (K.marks keeper.old) (K.loan keeper.old))
+        (keeping (K.told keeper.new) (K.shaped keeper.new) (K.in_transaction keeper.new) (K.marks keeper.new) (K.loan keeper.new)) }
+    ensures cause { HasCause (K.marks keeper.old) (K.marks keeper.new) result }
+    ensures alone { ReadsNone app.now → keeper.new ≡ keeper.old }
+    ensures reached { IsErrOf result Failed → ReadsNone app.now → ⊥ }
 {
     let day = today(alloc, moment)?;
-    let values = keep_values(alloc, app, session, &day, steps)?;
+    let values = keep_values(alloc, app, session, keeper, &day, steps)?;
     Ok(Valued { values, day })
 }
 
 // The values of all cells on a day, one after another.
-fn keep_values<L: Ledger>(
+#[tactic(auto, using(crate::proofs::Asked::read_none, crate::proofs::Asked::read_on))]
+fn keep_values<K: Keeper, L: Ledger>(
     alloc: Global,
     app: &App,
     session: &Session,
+    keeper: &mut K,
     day: &Value,
     steps: &mut Steps<L>,
-) -> Result<Vec<Value>, Memory>
+) -> Result<Vec<Value>, KeeperEnd>
     requires sound { IsSound app.now }
     requires holds { HoldsFitting app.now.names session.now }
     requires day { (moment : ℕ) × IsToday moment (view day.now) }
-    ensures fresh { IfOk result (λ v. (moment : ℕ) → IsToday moment (view day.now) → IsFresh (present app.now session.now moment) (cell_value (map view v.items))) }
+    requires asks { CanAsk app.now (K.shaped keeper.old) }
+    ensures fresh { IfOk result (λ v. (moment : ℕ) (tables : ToldRows) → IsToday moment (view day.now) → IsHeardOf (K.told keeper.new) tables →
+        IsFresh (present app.now session.now tables moment) (cell_value (map view v.items))) }
     ensures long { IfOk result (λ v. length v.items ≡ length app.now.cells) }
     ensures fits { IfOk result (λ v. CellsFit app.now (cell_value (map view v.items))) }
     ensures steps { IfOk result (λ v. steps.new ≡ steps.old + count_by (is_alone app.now.cells) app.now.order) }
+    ensures read { HasRead (keeping (K.told keeper.old) (K.shaped keeper.old) (K.in_transaction keeper.old) (K.marks keeper.old) (K.loan keeper.old))
+        (keeping (K.told keeper.new) (K.shaped keeper.new) (K.in_transaction keeper.new) (K.marks keeper.new) (K.loan keeper.new)) }
+    ensures cause { HasCause (K.marks keeper.old) (K.marks keeper.new) result }
+    ensures alone { ReadsNone app.now → keeper.new ≡ keeper.old }
+    ensures reached { IsErrOf result Failed → ReadsNone app.now → ⊥ }
 {
     let mut values = blanks(alloc, app.cells.len())?;
     let order = app.order.as_slice();
     for number in order {
-        keep_value(alloc, app, session, &mut values, day, *number, steps)?;
+        keep_value(
+            alloc,
+            app,
+            session,
+            keeper,
+            &mut values,
+            day,
+            *number,
+            steps,
+        )?;
     }
     Ok(values)
 }
@@ -198,15 +238,17 @@ fn stands_alone(info: &CellInfo) -> bool
 }
 
 // Keeps the value of a cell whose value is still blank, where the cells on which it leans have theirs.
-fn keep_value<L: Ledger>(
+#[tactic(auto, using(crate::proofs::Asked::read_none, crate::proofs::Asked::read_on))]
+fn keep_value<K: Keeper, L: Ledger>(
     alloc: Global,
     app: &App,
     session: &Session,
+    keeper: &mut K,
     values: &mut Vec<Value>,
     day: &Value,
     number: u32,
     steps: &mut Steps<L>,
-) -> Result<(), Memory>
+) -> Result<(), KeeperEnd>
     requires sound { IsSound app.now }
     requires holds { HoldsFitting app.now.names session.now }
     requires day { (moment : ℕ) × IsToday moment (view day.now) }
@@ -214,30 +256,40 @@ fn keep_value<L: Ledger>(
     requires long { length values.old.items ≡ length app.now.cells }
     requires fits { CellsFit app.now (cell_value (map view values.old.items)) }
     requires blank { cell_value (map view values.old.items) number ≡ blank }
+    requires asks { CanAsk app.now (K.shaped keeper.old) }
     ensures long { OnOk result (length values.new.items ≡ length app.now.cells) }
     ensures fits { OnOk result (CellsFit app.now (cell_value (map view values.new.items))) }
     ensures others { OnOk result ((k : ℕ) → k ≢ number → cell_value (map view values.new.items) k ≡ cell_value (map view values.old.items) k) }
-    ensures value { OnOk result ((moment : ℕ) (c : Info) → IsToday moment (view day.now) → slice_get app.now.cells number ≡ Some c →
-        IsCellValue (present app.now session.now moment) (cell_value (map view values.old.items)) c (cell_value (map view values.new.items) number)) }
+    ensures value { OnOk result ((moment : ℕ) (tables : ToldRows) (c : Info) → IsToday moment (view day.now) → IsHeardOf (K.told keeper.new) tables → slice_get app.now.cells number ≡ Some c →
+        IsCellValue (present app.now session.now tables moment) (cell_value (map view values.old.items)) c (cell_value (map view values.new.items) number)) }
     ensures steps { OnOk result (steps.new ≡ steps.old + (if is_alone app.now.cells number then 1 else 0)) }
+    ensures read { HasRead (keeping (K.told keeper.old) (K.shaped keeper.old) (K.in_transaction keeper.old) (K.marks keeper.old) (K.loan keeper.old))
+        (keeping (K.told keeper.new) (K.shaped keeper.new) (K.in_transaction keeper.new) (K.marks keeper.new) (K.loan keeper.new)) }
+    ensures cause { HasCause (K.marks keeper.old) (K.marks keeper.new) result }
+    ensures alone { ReadsNone app.now → keeper.new ≡ keeper.old }
+    ensures reached { IsErrOf result Failed → ReadsNone app.now → ⊥ }
 {
     match app.cells.get(number as usize) {
-        Some(info) => keep_formula(alloc, app, session, values, day, number, info, steps),
+        Some(info) => keep_formula(
+            alloc, app, session, keeper, values, day, number, info, steps,
+        ),
         None => unreachable!(),
     }
 }
 
 // The same, of the formula of this number.
-fn keep_formula<L: Ledger>(
+#[tactic(auto, using(crate::proofs::Asked::read_none, crate::proofs::Asked::read_on))]
+fn keep_formula<K: Keeper, L: Ledger>(
     alloc: Global,
     app: &App,
     session: &Session,
+    keeper: &mut K,
     values: &mut Vec<Value>,
     day: &Value,
     number: u32,
     info: &CellInfo,
     steps: &mut Steps<L>,
-) -> Result<(), Memory>
+) -> Result<(), KeeperEnd>
     requires sound { IsSound app.now }
     requires holds { HoldsFitting app.now.names session.now }
     requires day { (moment : ℕ) × IsToday moment (view day.now) }
@@ -246,18 +298,24 @@ fn keep_formula<L: Ledger>(
     requires long { length values.old.items ≡ length app.now.cells }
     requires fits { CellsFit app.now (cell_value (map view values.old.items)) }
     requires blank { cell_value (map view values.old.items) number ≡ blank }
+    requires asks { CanAsk app.now (K.shaped keeper.old) }
     ensures long { OnOk result (length values.new.items ≡ length app.now.cells) }
     ensures fits { OnOk result (CellsFit app.now (cell_value (map view values.new.items))) }
     ensures others { OnOk result ((k : ℕ) → k ≢ number → cell_value (map view values.new.items) k ≡ cell_value (map view values.old.items) k) }
-    ensures value { OnOk result ((moment : ℕ) → IsToday moment (view day.now) →
-        IsCellValue (present app.now session.now moment) (cell_value (map view values.old.items)) info.now (cell_value (map view values.new.items) number)) }
+    ensures value { OnOk result ((moment : ℕ) (tables : ToldRows) → IsToday moment (view day.now) → IsHeardOf (K.told keeper.new) tables →
+        IsCellValue (present app.now session.now tables moment) (cell_value (map view values.old.items)) info.now (cell_value (map view values.new.items) number)) }
     ensures steps { OnOk result (steps.new ≡ steps.old + (if is_by_itself info.now then 1 else 0)) }
+    ensures read { HasRead (keeping (K.told keeper.old) (K.shaped keeper.old) (K.in_transaction keeper.old) (K.marks keeper.old) (K.loan keeper.old))
+        (keeping (K.told keeper.new) (K.shaped keeper.new) (K.in_transaction keeper.new) (K.marks keeper.new) (K.loan keeper.new)) }
+    ensures cause { HasCause (K.marks keeper.old) (K.marks keeper.new) result }
+    ensures alone { ReadsNone app.now → keeper.new ≡ keeper.old }
+    ensures reached { IsErrOf result Failed → ReadsNone app.now → ⊥ }
 {
     if !stands_alone(info) {
         return Ok(());
     }
     let slice = values.as_slice();
-    let value = formula_value(alloc, app, session, slice, day, info, None, steps)?;
+    let value = formula_value(alloc, app, session, keeper, slice, day, info, None, steps)?;
     values[number as usize] = value;
     Ok(())
 }

@@ -1,6 +1,6 @@
 use Rattle.std.proofs.Common.{◌≡◌, drop}
 use Rattle.std.specs.List.{find}
-use Rattle.app_cells.specs.Leaning.{is_property}
+use Rattle.app_semantics.specs.app_cells.Leaning.{is_property}
 use Rattle.recalc.proofs.sources.cell_of_property.Given as goal
 
 -- it isn't among those that were seen

@@ -1,0 +1,80 @@
+-- What is known of a keeper after an evaluation over it, by what its environment told.
+use Rattle.std.proofs.Common.{◌≡◌, ℕ, Bool, List, Option, None, Some, refl, sym, ap, ◌∙◌, subst}
+use Rattle.std.specs.Prelude.{option_map}
+use Rattle.app_semantics.specs.Telling.{told_on}
+use Rattle.fx_base.specs.Silence.{Goes, IsLater, IsLost, Marks}
+use Rattle.fx_base.specs.Telling.{Stays}
+use Rattle.fx_data.specs.Values.{Data}
+use Rattle.fx_eval.specs.Scopes.{Fixed}
+use Rattle.fx_eval.specs.Telling.{Told, values_told}
+use Rattle.fx_trees.specs.declared.names.Names.{Names}
+use Rattle.fx_trees.specs.declared.schema.Schema.{Schema}
+use Rattle.fx_trees.specs.declared.sources.Source.{Source}
+use Rattle.recalc.specs.Asking.{HasRead, keeping}
+use Rattle.recalc.specs.Reading.{cell_value, fixed_over, loans_of, told_by, told_over}
+use Rattle.row_keeper.specs.Tables.{Tables, rows_of, rows_told}
+use Rattle.row_queries.specs.declared.rows.Row.{Row}
+use Rattle.session_state.specs.Sessions.{SessionState}
+
+-- what an environment of a keeper tells, by the keeper's tables
+abbrev Tells : Type 0
+Tells = Tables → Told Tables
+
+-- with all that the keeper tells
+abbrev IsWhole : Tells → Type 0
+IsWhole f = (t : Tables) → (f t).beside ≡ t
+
+pub whole : (day : Data) (n : Names) (s : SessionState) (values : List Data) → IsWhole (told_over day n s values)
+whole day n s values = λ t. refl
+
+-- so what the keeper tells goes as what its environment tells
+pub stays_told : (lost : Type 0) (f g : Tells) → IsWhole f → IsWhole g → (x y : Option Tables) → Goes lost Stays (option_map f x) (option_map g y) → Goes lost Stays x y
+stays_told lost f g p q None None h = refl
+stays_told lost f g p q None (Some b) h = absurd cc
+stays_told lost f g p q (Some a) None h = h
+stays_told lost f g p q (Some a) (Some b) h = sym (q b) ∙ ap (λ (t : Told Tables). t.beside) h ∙ p a
+
+-- and the values are those of before
+pub same_values : (lost : Type 0) (f g : Tells) → IsWhole f → IsWhole g → (x y : Option Tables) → Goes lost Stays (option_map f x) (option_map g y) →
+    values_told (option_map g y) ≡ values_told (option_map f y)
+same_values lost f g p q x None h = refl
+same_values lost f g p q None (Some b) h = absurd cc
+same_values lost f g p q (Some a) (Some b) h =
+    let same : b ≡ a = sym (q b) ∙ ap (λ (t : Told Tables). t.beside) h ∙ p a in
+    ap (λ (t : Told Tables). Some t.values) h ∙ ap (λ (t : Tables). Some (f t).values) (sym same)
+
+-- over the rows of tables
+pub values_over : (day : Data) (n : Names) (s : SessionState) (values : List Data) (y : Option Tables) →
+    values_told (option_map (told_over day n s values) y) ≡ option_map (λ (rows : List (List Row)). told_on day n s (Some rows) (cell_value values)) (rows_told y)
+values_over day n s values None = refl
+values_over day n s values (Some t) = refl
+
+-- the loans that are fixed
+same_name : (a b : ℕ) (x y : Option ℕ) → loans_of a x ≡ loans_of b y → a ≡ b
+same_name a b x y e = cc
+
+same_loan : (a b : ℕ) (x y : Option ℕ) → loans_of a x ≡ loans_of b y → x ≡ y
+same_loan a b x y e = cc
+
+-- an environment keeps the reference that it holds
+pub keeps_reference : (n m : Names) (reads rs : List Source) (told t : Source → Data) (limit l : ℕ) (name new : ℕ) (loan lent : Option ℕ) (mode other : Bool) →
+    fixed_over n reads told limit (loans_of name loan) mode ≡ fixed_over m rs t l (loans_of new lent) other → name ≡ new
+keeps_reference n m reads rs told t limit l name new loan lent mode other e = same_name name new loan lent (ap (λ (f : Fixed). f.loans) e)
+
+-- the keeper is as it was, but that it may have fallen silent
+pub has_read : (n m : Names) (reads rs : List Source) (day d : Data) (s u : SessionState) (values vs : List Data) (limit l : ℕ) (name new : ℕ) (x y : Option Tables) (shaped was : Option Schema) (mode other : Bool)
+    (before now : Marks) (loan lent : Option ℕ) → shaped ≡ Some n.schema → was ≡ Some m.schema →
+    fixed_over m rs (told_by d m u vs) l (loans_of new lent) other ≡ fixed_over n reads (told_by day n s values) limit (loans_of name loan) mode →
+    Goes (IsLost before now) Stays (option_map (told_over day n s values) x) (option_map (told_over d m u vs) y) → IsLater before now →
+    HasRead (keeping x shaped mode before loan) (keeping y was other now lent)
+has_read n m reads rs day d s u values vs limit l name new x y shaped was mode other before now loan lent h k fixed told later = record {
+  told = stays_told (IsLost before now) (told_over day n s values) (told_over d m u vs) (whole day n s values) (whole d m u vs) x y told;
+  shaped = k ∙ ap (λ (f : Fixed). Some f.schema) fixed ∙ sym h;
+  mode = ap (λ (f : Fixed). f.in_transaction) fixed;
+  later = later;
+  loan = same_loan new name lent loan (ap (λ (f : Fixed). f.loans) fixed);
+}
+
+-- what holds of a keeper at the end of a loan holds of it afterwards
+pub carried : {A : Type 0} (P : A → Type 0) (now last : A) → last ≡ now → P now → P last
+carried P now last e h = subst P (sym e) h

@@ -1,0 +1,98 @@
+use Rattle.std.proofs.Common.{◌≡◌, ◌∙◌, ℕ, List, Option, None, Some, ap, arith, map, rules, subst, sym}
+use Rattle.std.proofs.lemmas.Grind.{common_steps}
+use Rattle.std.specs.Prelude.{option_map}
+use Rattle.app_semantics.specs.app_cells.declared.app.CellInfo.{CellInfo}
+use Rattle.app_semantics.specs.Fresh.{IsValueOf}
+use Rattle.app_semantics.specs.Present.{present}
+use Rattle.app_semantics.specs.Telling.{told_on}
+use Rattle.fx_base.specs.Silence.{IsLost}
+use Rattle.fx_data.specs.TypeView.{shape}
+use Rattle.fx_data.specs.Types.{Shape}
+use Rattle.fx_data.specs.ValueView.{view}
+use Rattle.fx_data.specs.Values.{Data}
+use Rattle.fx_data.specs.declared.values.Value.{Value}
+use Rattle.fx_eval.specs.Scopes.{CanEvaluate, Held, IsReady, around, held}
+use Rattle.fx_eval.specs.Telling.{values_told}
+use Rattle.fx_scalar.specs.ScalarFunctions.{IsToday}
+use Rattle.fx_semantics.specs.Fresh.{IsValue}
+use Rattle.fx_trees.specs.Term.{Term}
+use Rattle.fx_trees.specs.declared.sources.Source.{Source}
+use Rattle.fx_trees.specs.declared.names.Names.{Names}
+use Rattle.recalc.specs.Asking.{HasRead, IsHeardOf, ToldRows, keeping}
+use Rattle.recalc.specs.Reading.{cell_value, told_over, types_over}
+use Rattle.row_keeper.specs.Tables.{Tables, rows_told}
+use Rattle.row_queries.specs.declared.rows.Row.{Row}
+use Rattle.session_state.specs.Sessions.{SessionState}
+use Rattle.recalc.proofs.Evaluated.{carried, has_read, same_values, values_over, whole}
+use Rattle.recalc.proofs.Tellings.{is_ready_over, is_value_over, outermost}
+use Rattle.recalc.proofs.evaluating.value_over_rows.Goals as goal
+
+pub eval-requires : goal.eval-requires
+eval-requires g c =
+    let values : ℕ → Data = cell_value (map view c.args.values.now) in
+    let day : Data = view c.args.day.now in
+    let info : CellInfo = c.args.info.now in
+    let told : Source → Data = told_on day c.args.app.now.names c.args.session.now None values in
+    let ready =
+    is_ready_over c.args.app.now c.args.session.now c.requires.day.0 values day info (option_map view c.args.item) c.requires.day.1 c.requires.sound c.requires.holds c.requires.cell c.requires.quiet c.requires.fits c.requires.item in
+    let empty : held c.new.result.items c.args.item None ≡ outermost (option_map view c.args.item) = ap (λ (vs : List Value). held vs c.args.item None) c.new.ensures.items in
+    subst (λ (rs : List Source). CanEvaluate (types_over c.args.app.now.names rs told) (held c.new.result.items c.args.item None) info.taken) (sym c.as_slice.ensures)
+    (subst (λ (h : Held). CanEvaluate (types_over c.args.app.now.names info.reads told) h info.taken) (sym empty)
+    (subst (λ (t : Term). CanEvaluate (types_over c.args.app.now.names info.reads told) (outermost (option_map view c.args.item)) t) (sym c.requires.taken) (shape info.ty, ready)))
+
+pub returns-in-Ok-clause-fits : goal.returns-in-Ok-clause-fits
+returns-in-Ok-clause-fits g c =
+    let values : ℕ → Data = cell_value (map view c.args.values.now) in
+    let day : Data = view c.args.day.now in
+    let info : CellInfo = c.args.info.now in
+    let told : Source → Data = told_on day c.args.app.now.names c.args.session.now None values in
+    let ready =
+    is_ready_over c.args.app.now c.args.session.now c.requires.day.0 values day info (option_map view c.args.item) c.requires.day.1 c.requires.sound c.requires.holds c.requires.cell c.requires.quiet c.requires.fits c.requires.item in
+    let empty : held c.new.result.items c.args.item None ≡ outermost (option_map view c.args.item) = ap (λ (vs : List Value). held vs c.args.item None) c.new.ensures.items in
+    c.in-Ok.ensures.fits (shape info.ty)
+    (subst (λ (rs : List Source). IsReady (types_over c.args.app.now.names rs told) (held c.new.result.items c.args.item None) info.taken (shape info.ty)) (sym c.as_slice.ensures)
+    (subst (λ (h : Held). IsReady (types_over c.args.app.now.names info.reads told) h info.taken (shape info.ty)) (sym empty)
+    (subst (λ (t : Term). IsReady (types_over c.args.app.now.names info.reads told) (outermost (option_map view c.args.item)) t (shape info.ty)) (sym c.requires.taken) ready)))
+
+pub returns-in-Ok-clause-value : goal.returns-in-Ok-clause-value
+returns-in-Ok-clause-value g c =
+    let n : Names = c.args.app.now.names in
+    let s : SessionState = c.args.session.now in
+    let cells : List Data = map view c.args.values.now in
+    let day : Data = view c.args.day.now in
+    let info : CellInfo = c.args.info.now in
+    let env = c.eval.new.env in
+    let told : Option Tables = g.K.Keeper.told env.keeper.now in
+    let was : Option Tables = g.K.Keeper.told c.args.keeper.now in
+    let lost = IsLost (g.K.Keeper.marks c.args.keeper.now) (g.K.Keeper.marks env.keeper.now) in
+    let f = told_over day n s cells in
+    let other = told_over (view env.today.now) env.names.now env.session.now (map view env.values.now) in
+    let v : Data = view c.in-Ok.value in
+    let types : Source → Option Shape = types_over n info.reads (told_on day n s None (cell_value cells)) in
+    let same = same_values lost f other (whole day n s cells) (whole (view env.today.now) env.names.now env.session.now (map view env.values.now)) was told c.eval.ensures.told ∙ values_over day n s cells told in
+    let empty : held c.new.result.items c.args.item None ≡ outermost (option_map view c.args.item) = ap (λ (vs : List Value). held vs c.args.item None) c.new.ensures.items in
+    carried (λ (k : g.row.K.Denot). (moment : ℕ) (tables : ToldRows) → IsToday moment day → IsHeardOf (g.K.Keeper.told k) tables → IsValueOf (present c.args.app.now s tables moment) (cell_value cells) (option_map view c.args.item) info v)
+    env.keeper.now _ (search rules)
+    (λ moment tables today heard.
+    is_value_over c.args.app.now s (rows_told told) tables moment (cell_value cells) day info (option_map view c.args.item) v today c.requires.tables heard (returns-in-Ok-clause-fits g c)
+    (subst (λ (t : Term). IsValue (around types (option_map (λ (rows : List (List Row)). told_on day n s (Some rows) (cell_value cells)) (rows_told told)) (outermost (option_map view c.args.item))) t v) c.requires.taken
+    (subst (λ (o : Option (Source → Data)). IsValue (around types o (outermost (option_map view c.args.item))) info.taken v) same
+    (subst (λ (rs : List Source). IsValue (around (types_over n rs (told_on day n s None (cell_value cells))) (values_told (option_map other told)) (outermost (option_map view c.args.item))) info.taken v) c.as_slice.ensures
+    (subst (λ (h : Held). IsValue (around (types_over n c.as_slice.result.now (told_on day n s None (cell_value cells))) (values_told (option_map other told)) h) info.taken v) empty
+    c.in-Ok.ensures.value)))))
+
+pub returns-in-Ok-clause-read : goal.returns-in-Ok-clause-read
+returns-in-Ok-clause-read g c =
+    let env = c.eval.new.env in
+    let keeps = λ (k : g.row.K.Denot). keeping (g.K.Keeper.told k) (g.K.Keeper.shaped k) (g.K.Keeper.in_transaction k) (g.K.Keeper.marks k) (g.K.Keeper.loan k) in
+    carried (λ (k : g.row.K.Denot). HasRead (keeps c.args.keeper.now) (keeps k)) env.keeper.now _ (first_of (search rules, cc, grind (arith, common_steps)))
+    (has_read c.args.app.now.names env.names.now c.as_slice.result.now env.reads.now (view c.args.day.now) (view env.today.now) c.args.session.now env.session.now (map view c.args.values.now) (map view env.values.now)
+    c.args.app.now.limit env.limit _ _ _ _ _ _ _ _ _ _ _ _ c.requires.shaped env.shaped c.eval.ensures.fixed c.eval.ensures.told c.eval.ensures.marks)
+
+pub returns-clause-read : goal.returns-clause-read
+returns-clause-read g c =
+    let env = c.eval.new.env in
+    let keeps = λ (k : g.row.K.Denot). keeping (g.K.Keeper.told k) (g.K.Keeper.shaped k) (g.K.Keeper.in_transaction k) (g.K.Keeper.marks k) (g.K.Keeper.loan k) in
+    carried (λ (k : g.row.K.Denot). HasRead (keeps c.args.keeper.now) (keeps k)) env.keeper.now _ (first_of (search rules, cc, grind (arith, common_steps)))
+    (has_read c.args.app.now.names env.names.now c.as_slice.result.now env.reads.now (view c.args.day.now) (view env.today.now) c.args.session.now env.session.now (map view c.args.values.now) (map view env.values.now)
+    c.args.app.now.limit env.limit _ _ _ _ _ _ _ _ _ _ _ _ c.requires.shaped env.shaped c.eval.ensures.fixed c.eval.ensures.told c.eval.ensures.marks)

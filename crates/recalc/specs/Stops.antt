@@ -1,0 +1,15 @@
+-- Why evaluations stop.
+use Rattle.fx_eval.specs.declared.environment.Stop.{Stop}
+use Rattle.fx_eval.specs.declared.environment.Stop.TheVariants as stop
+use Rattle.row_keeper.specs.declared.keeper.KeeperEnd.{KeeperEnd}
+use Rattle.row_keeper.specs.declared.keeper.KeeperEnd.TheVariants as end
+
+-- where the keeper gives no answer
+abbrev pub stop_of : KeeperEnd → Stop
+stop_of end.Memory = stop.Memory
+stop_of end.Failed = stop.Keeper
+
+-- and the way back
+abbrev pub end_of : Stop → KeeperEnd
+end_of stop.Memory = end.Memory
+end_of stop.Keeper = end.Failed

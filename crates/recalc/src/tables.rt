@@ -1,0 +1,60 @@
+// Tables of a keeper, as formulas ask for them.
+ghost use Rattle.std.specs.Prelude.{◌≡◌, ◌≤◌, IfOk, IsSome, OnErr, slice_get};
+ghost use Rattle.fx_base.specs.Silence.{Goes, IsLost};
+ghost use Rattle.fx_base.specs.Telling.{Stays};
+ghost use Rattle.fx_data.specs.ValueView.{view};
+ghost use Rattle.fx_trees.specs.Lawful.{IsLawfulSchema};
+ghost use Rattle.recalc.specs.Asking.{HasRead, keeping};
+ghost use Rattle.recalc.specs.Queries.{IsTableValue, whole_table as whole_query};
+ghost use Rattle.row_keeper.specs.Causes.{HasCause};
+ghost use Rattle.row_keeper.specs.Tables.{rows_told};
+
+use crate::fx_plan::ranges::everything;
+use fx_base::Memory;
+use fx_data::Value;
+use fx_trees::Schema;
+use row_keeper::{Keeper, KeeperEnd};
+use row_queries::{Query, Test, TestNode, asked_once};
+use row_values::scan;
+use std::alloc::Global;
+
+/// Asks for all rows of a table.
+fn whole_table(alloc: Global, table: u16) -> Result<Query, Memory>
+    ensures { IfOk result (λ q. q ≡ whole_query table) }
+{
+    let reach = everything(alloc)?;
+    Ok(Query {
+        table,
+        column: 0,
+        ranges: reach.ranges,
+        test: Test {
+            node: TestNode::All,
+        },
+        order: None,
+        take: None,
+    })
+}
+
+/// The value of a table: all of its rows.
+pub(crate) fn table_value<K: Keeper>(
+    alloc: Global,
+    keeper: &mut K,
+    schema: &Schema,
+    table: u16,
+) -> Result<Value, KeeperEnd>
+    requires lawful { IsLawfulSchema schema.now }
+    requires shaped { K.shaped keeper.old ≡ Some schema.now }
+    requires table { IsSome (slice_get schema.now.tables table) }
+    ensures value { IfOk result (λ v. IsTableValue schema.now.tables (rows_told (K.told keeper.new)) table (view v)) }
+    ensures told { Goes (IsLost (K.marks keeper.old) (K.marks keeper.new)) Stays (K.told keeper.old) (K.told keeper.new) }
+    ensures cause { HasCause (K.marks keeper.old) (K.marks keeper.new) result }
+    ensures shaped { K.shaped keeper.new ≡ K.shaped keeper.old }
+    ensures mode { K.in_transaction keeper.new ≡ K.in_transaction keeper.old }
+    ensures visited { K.visited keeper.old ≤ K.visited keeper.new }
+    ensures loan { K.loan keeper.new ≡ K.loan keeper.old }
+{
+    // Called for what it says: rows that stand by rising numbers are asked in that order.
+    asked_once();
+    let query = whole_table(alloc, table)?;
+    scan(alloc, keeper, schema, &query)
+}
