@@ -2,8 +2,8 @@
 use Rattle.std.proofs.Common.{◌≡◌, ℕ, Bool, true, false, Option, Some, None, refl, ap, ◌∙◌}
 use Rattle.std.specs.Prelude.{option_and_then}
 use Rattle.std.specs.List.{slice_get}
-use Rattle.app_semantics.specs.Holding.{HoldsFitting}
-use Rattle.app_semantics.specs.Present.{Present}
+use Rattle.recalc.specs.app_semantics.Holding.{HoldsFitting}
+use Rattle.recalc.specs.app_semantics.Present.{Present}
 use Rattle.app_views.specs.Galleries.{is_gallery}
 use Rattle.app_views.specs.Views.{IsShownFor, ShowsFirstItems, is_in}
 use Rattle.fx_data.specs.Types.{Shape}

@@ -4,12 +4,12 @@ use Rattle.std.proofs.lemmas.List.Quantifiers.{position-Some}
 use Rattle.std.proofs.lemmas.Option.{get_or_from_slice_get, slice_get_within}
 use Rattle.std.specs.List.{position, slice_get}
 use Rattle.std.specs.Prelude.{bytes_eq, codes, option_map}
-use Rattle.app_cells.specs.Leaning.{cell_of_property, items_cell}
-use Rattle.app_cells.specs.declared.app.App.{App}
-use Rattle.app_cells.specs.declared.app.CellInfo.{CellInfo}
-use Rattle.app_semantics.proofs.CellTypes.{both_true, equal, found, items_have, property_found, type_by}
-use Rattle.app_semantics.specs.Present.{items_of, value_or}
-use Rattle.app_semantics.specs.Sound.{IsCellOf, IsSound}
+use Rattle.recalc.specs.app_cells.Leaning.{cell_of_property, items_cell}
+use Rattle.recalc.specs.app_cells.declared.app.App.{App}
+use Rattle.recalc.specs.app_cells.declared.app.CellInfo.{CellInfo}
+use Rattle.recalc.proofs.of_app_semantics.CellTypes.{both_true, equal, found, items_have, property_found, type_by}
+use Rattle.recalc.specs.app_semantics.Present.{items_of, value_or}
+use Rattle.recalc.specs.app_semantics.Sound.{IsCellOf, IsSound}
 use Rattle.app_views.specs.Galleries.{is_gallery, is_gallery_named}
 use Rattle.app_views.specs.Ready.{IsGalleryOf, IsItemOf, IsTemplateProperty}
 use Rattle.app_views.specs.Views.{is_in}
@@ -18,10 +18,10 @@ use Rattle.fx_data.specs.Types.{ColumnList, Shape, booleans, tables, texts}
 use Rattle.fx_data.specs.Values.{Data, no_rows, tab}
 use Rattle.fx_data.specs.declared.controls.Control.TheVariants as control
 use Rattle.fx_data.specs.declared.controls.Control.{Control}
-use Rattle.fx_semantics.proofs.Tables.{RowsFit, rows_in_fit}
-use Rattle.fx_semantics.specs.Around.{record_of}
-use Rattle.fx_semantics.specs.Rows.{rows_in}
-use Rattle.fx_semantics.specs.Sound.{IsItemFit}
+use Rattle.recalc.proofs.of_fx_semantics.Tables.{RowsFit, rows_in_fit}
+use Rattle.recalc.specs.fx_semantics.Around.{record_of}
+use Rattle.recalc.specs.fx_semantics.Rows.{rows_in}
+use Rattle.recalc.specs.fx_semantics.Sound.{IsItemFit}
 use Rattle.fx_tables.proofs.FitRows.{RowFits}
 use Rattle.fx_value.specs.Columns.{Row}
 use Rattle.fx_trees.specs.Controls.{has_property}

@@ -4,11 +4,11 @@ use native.Mathlib.Numerals.{unary_clauses}
 use Rattle.std.proofs.Math.Seq.{drop-nil, take-nil}
 use Rattle.std.proofs.lemmas.List.{length-take, take_rest}
 use Rattle.std.specs.List.{slice_get}
-use Rattle.app_semantics.specs.Present.{Present}
+use Rattle.recalc.specs.app_semantics.Present.{Present}
 use Rattle.app_views.specs.Views.{AreGiven, AreItemsIn, AreItemsUnless, AreRowItems, fault_in}
 use Rattle.fx_data.specs.Values.{Data}
 use Rattle.fx_data.specs.declared.faults.Fault.{Fault}
-use Rattle.fx_semantics.specs.Rows.{rows_in}
+use Rattle.recalc.specs.fx_semantics.Rows.{rows_in}
 use Rattle.fx_value.specs.Columns.{Row}
 use Rattle.view_text.specs.declared.views.Items.{Items}
 

@@ -1,27 +1,27 @@
 -- A session has one view, and a gallery one list of items.
 use Rattle.std.proofs.Common.{◌≡◌, ℕ, suc, List, [], ◌∷◌, Bool, true, false, codes, max, take, drop, ◌-◌, Option, Some, None, refl, sym, subst, ap, ◌∙◌}
 use Rattle.std.specs.List.{slice_get}
-use Rattle.app_cells.specs.Leaning.{cell_of_property}
-use Rattle.app_cells.specs.declared.app.CellInfo.{CellInfo}
-use Rattle.app_semantics.proofs.Freshness.{fresh_fits, given_in, given_told, today_is}
-use Rattle.app_semantics.specs.Fresh.{IsFresh, IsValueOf, standing}
-use Rattle.app_semantics.specs.Holding.{HoldsFitting}
-use Rattle.app_semantics.specs.Laws.{OneFresh}
-use Rattle.app_semantics.specs.Present.{Present, items_of}
-use Rattle.app_semantics.specs.Properties.{IsForItem, IsPropertyForItem, is_true}
-use Rattle.app_semantics.specs.Sound.{IsSound, IsSoundCell}
-use Rattle.app_semantics.specs.Telling.{told_on}
+use Rattle.recalc.specs.app_cells.Leaning.{cell_of_property}
+use Rattle.recalc.specs.app_cells.declared.app.CellInfo.{CellInfo}
+use Rattle.recalc.proofs.of_app_semantics.Freshness.{fresh_fits, given_in, given_told, taken, today_is, where_told}
+use Rattle.recalc.specs.app_semantics.Fresh.{AreKnown, IsFresh, IsValueOf, is_told, standing}
+use Rattle.recalc.specs.app_semantics.Holding.{HoldsFitting}
+use Rattle.recalc.specs.app_semantics.Laws.{OneFresh}
+use Rattle.recalc.specs.app_semantics.Present.{Present, items_of}
+use Rattle.recalc.specs.app_semantics.Properties.{IsForItem, IsPropertyForItem, is_true}
+use Rattle.recalc.specs.app_semantics.Sound.{IsSound, IsSoundCell}
+use Rattle.recalc.specs.app_semantics.Telling.{told_on}
 use Rattle.app_views.specs.Laws.{OneItems, OneView}
 use Rattle.app_views.specs.Views.{AreGiven, AreItemsFrom, AreItemsUnless, AreRowItems, AreSeenItems, IsItemAt, IsItemControl, IsShown, IsShownControl, IsShownFor, IsView, ShowsFirstItems, fault_in, is_seen_at, is_shown, put}
 use Rattle.fx_data.specs.Values.{Data, text, boolean}
 use Rattle.fx_data.specs.declared.faults.Fault.{Fault}
 use Rattle.fx_data.specs.declared.controls.Control.TheVariants as control
 use Rattle.fx_data.specs.declared.controls.Control.{Control}
-use Rattle.fx_semantics.proofs.Wider.{stays}
-use Rattle.fx_semantics.specs.Around.{record_of}
-use Rattle.fx_semantics.specs.Rows.{rows_in}
-use Rattle.fx_semantics.specs.Sources.{Gives as GivesTold}
-use Rattle.fx_semantics.specs.Unique.{OneValue}
+use Rattle.recalc.proofs.of_fx_semantics.Wider.{stays}
+use Rattle.recalc.specs.fx_semantics.Around.{record_of}
+use Rattle.recalc.specs.fx_semantics.Rows.{rows_in}
+use Rattle.recalc.specs.fx_semantics.Sources.{Gives as GivesTold}
+use Rattle.recalc.specs.fx_semantics.Unique.{OneValue}
 use Rattle.fx_value.specs.Columns.{Row}
 use Rattle.fx_trees.specs.SourceTypes.{sources}
 use Rattle.fx_trees.specs.declared.names.ControlName.{ControlName}
@@ -39,19 +39,21 @@ record Ground (p : Present) (values : ℕ → Data) : Type 0 where
   one : OneValue
   sound : IsSound p.app
   holds : HoldsFitting p.app.names p.session
+  known : AreKnown p.app p.tables
   fits : CellsFit p.app values
 
 value_one : (p : Present) (values : ℕ → Data) (item : Data) (k : ℕ) (c : CellInfo) (v w : Data) → Ground p values → slice_get p.app.cells k ≡ Some c →
     IsValueOf p values (Some item) c v → IsValueOf p values (Some item) c w → v ≡ w
 value_one p values item k c v w g there x y =
     let day = today_is p.moment in
-    let T : Source → Data = told_on day.0 p.app.names p.session values in
+    let T : Source → Data = told_on day.0 p.app.names p.session p.tables values in
     let sound : IsSoundCell p.app.names c = g.sound.cells k c there in
-    g.one (sources p.app.names) T [] (Some item) None c.core v w
-    (stays (GivesTold (sources p.app.names) (Some T)) c.core (standing p values c.reads (Some item)) v
-    (λ r d q. (given_in p values c r d g.sound g.holds sound (λ s among e f behind at. g.fits e f at) q.0 q.1, given_told p values day.0 r d day.1 q.1)) x)
-    (stays (GivesTold (sources p.app.names) (Some T)) c.core (standing p values c.reads (Some item)) w
-    (λ r d q. (given_in p values c r d g.sound g.holds sound (λ s among e f behind at. g.fits e f at) q.0 q.1, given_told p values day.0 r d day.1 q.1)) y)
+    let told : is_told p.tables c.reads ≡ true = g.known.told k c there in
+    g.one (sources p.app.names) T [] (Some item) None (taken p c) v w
+    (stays (GivesTold (sources p.app.names) (Some T)) (taken p c) (standing p values c.reads (Some item)) v
+    (λ r d q. (given_in p values c r d g.sound g.holds g.known.fit sound (λ s among e f behind at. g.fits e f at) q.0 q.1, given_told p values day.0 r d day.1 q.1)) (where_told _ (is_told p.tables c.reads) told x))
+    (stays (GivesTold (sources p.app.names) (Some T)) (taken p c) (standing p values c.reads (Some item)) w
+    (λ r d q. (given_in p values c r d g.sound g.holds g.known.fit sound (λ s among e f behind at. g.fits e f at) q.0 q.1, given_told p values day.0 r d day.1 q.1)) (where_told _ (is_told p.tables c.reads) told y))
 
 same_info : (c d : CellInfo) (o : Option CellInfo) → o ≡ Some c → o ≡ Some d → d ≡ c
 same_info c d o e f = cc
@@ -164,14 +166,14 @@ view_one p values v w g h j =
     let shown : v.shown ≡ w.shown = given_one (IsShown p values) 0 p.app.names.controls v.shown w.shown (shown_one p values g) h.shown j.shown in
     λ i. record { screen = screen i; shown = shown i }
 
-ground : OneValue → (p : Present) (values : ℕ → Data) → IsSound p.app → HoldsFitting p.app.names p.session → IsFresh p values → Ground p values
-ground one p values s n fresh = record { one = one; sound = s; holds = n; fits = fresh_fits p values s n fresh }
+ground : OneValue → (p : Present) (values : ℕ → Data) → IsSound p.app → HoldsFitting p.app.names p.session → AreKnown p.app p.tables → IsFresh p values → Ground p values
+ground one p values s n known fresh = record { one = one; sound = s; holds = n; known = known; fits = fresh_fits p values s n known.fit fresh }
 
 -- ONE VIEW
 pub one_view : OneValue → OneFresh → OneView
-one_view one once p v w s n h j =
-    let same : j.values ≡ h.values = once p j.values h.values s n j.fresh h.fresh in
-    view_one p h.values v w (ground one p h.values s n h.fresh) h.shows (subst (λ (f : ℕ → Data). IsView p f w) same j.shows)
+one_view one once p v w s n known h j =
+    let same : j.values ≡ h.values = once p j.values h.values s n known j.fresh h.fresh in
+    view_one p h.values v w (ground one p h.values s n known h.fresh) h.shows (subst (λ (f : ℕ → Data). IsView p f w) same j.shows)
 
 seen_one : (p : Present) (values : ℕ → Data) (gallery from : ℕ) (o q : Option Items) → Ground p values → AreSeenItems p values gallery from o → AreSeenItems p values gallery from q → o ≡ q
 seen_one p values gallery from None None g h j = refl
@@ -181,6 +183,6 @@ seen_one p values gallery from (Some s) (Some t) g h j = ap (λ (x : Items). Som
 
 -- ONE LIST OF ITEMS
 pub one_items : OneValue → OneFresh → OneItems
-one_items one once p gallery from o q s n h j =
-    let same : j.values ≡ h.values = once p j.values h.values s n j.fresh h.fresh in
-    seen_one p h.values gallery from o q (ground one p h.values s n h.fresh) h.are (subst (λ (f : ℕ → Data). AreSeenItems p f gallery from q) same j.are)
+one_items one once p gallery from o q s n known h j =
+    let same : j.values ≡ h.values = once p j.values h.values s n known j.fresh h.fresh in
+    seen_one p h.values gallery from o q (ground one p h.values s n known h.fresh) h.are (subst (λ (f : ℕ → Data). AreSeenItems p f gallery from q) same j.are)

@@ -1,12 +1,12 @@
 -- What views are made of.
 use Rattle.std.specs.Prelude.{◌≡◌, ℕ, true, Option, Some, None, slice_get}
-use Rattle.app_cells.specs.declared.app.App.{App}
-use Rattle.app_semantics.specs.Holding.{HoldsFitting}
-use Rattle.app_semantics.specs.Sound.{IsCellOf, IsSound}
+use Rattle.recalc.specs.app_cells.declared.app.App.{App}
+use Rattle.recalc.specs.app_semantics.Holding.{HoldsFitting}
+use Rattle.recalc.specs.app_semantics.Sound.{IsCellOf, IsSound}
 use Rattle.fx_data.specs.Types.{Shape}
 use Rattle.fx_data.specs.declared.controls.Control.TheVariants as control
 use Rattle.fx_scalar.specs.ScalarFunctions.{IsToday}
-use Rattle.fx_semantics.specs.Around.{record_of}
+use Rattle.recalc.specs.fx_semantics.Around.{record_of}
 use Rattle.fx_value.specs.Columns.{Row}
 use Rattle.fx_trees.specs.SourceTypes.{item_type}
 use Rattle.fx_trees.specs.declared.names.ControlName.{ControlName}

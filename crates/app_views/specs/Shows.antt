@@ -1,14 +1,17 @@
 -- What is said to sessions that ask for their view, or for the items of a gallery.
-use Rattle.std.specs.Prelude.{◌≡◌, ℕ, List, Option, Some, None}
+use Rattle.std.specs.Prelude.{◌≡◌, ℕ, List, Option, Some, None, IsSome}
 use Rattle.std.specs.List.{AllByRecursion}
-use Rattle.app_cells.specs.declared.app.App.{App}
-use Rattle.app_semantics.specs.Present.{Present, present}
+use Rattle.recalc.specs.app_cells.declared.app.App.{App}
+use Rattle.recalc.specs.app_semantics.Present.{Present, present}
 use Rattle.app_views.specs.Galleries.{gallery_named}
 use Rattle.app_views.specs.Views.{AreFreshItems, IsFreshView}
 use Rattle.app_wire.specs.ReplyBytes.{refusal, reply}
+use Rattle.fx_base.specs.Silence.{Goes}
+use Rattle.fx_base.specs.Telling.{Stays}
 use Rattle.fx_trees.specs.declared.names.Names.{Names}
 use Rattle.request_checks.specs.Directory.{find}
 use Rattle.request_checks.specs.declared.directory.Named.{Named}
+use Rattle.row_keeper.specs.Tables.{Tables, rows_told}
 use Rattle.session_state.specs.Changes.{FitsNames}
 use Rattle.session_state.specs.Sessions.{SessionState}
 use Rattle.view_text.specs.ViewText.{items_text, view_text}
@@ -21,14 +24,19 @@ AreFit n sessions = AllByRecursion (λ (x : Named SessionState). FitsNames n x.i
 
 -- ---- views
 
--- a live session is shown its view at this moment; there is no other (11)
-abbrev pub ShowsViewTo : App → ℕ → Option SessionState → List ℕ → Type 0
-ShowsViewTo app moment None said = said ≡ refusal 11
-ShowsViewTo app moment (Some s) said = (v : View) × IsFreshView (present app s moment) v × (said ≡ reply 200 (view_text v))
+-- a live session is shown its view at this moment, over the rows of tables, which stay; there is no other (11)
+abbrev pub ShowsViewTo : Type 0 → App → ℕ → Option SessionState → Option Tables → List ℕ → Option Tables → Type 0
+ShowsViewTo lost app moment None tables said tables' = (said ≡ refusal 11) × (tables' ≡ tables)
+ShowsViewTo lost app moment (Some s) tables said tables' =
+    ((v : View) × IsFreshView (present app s (rows_told tables') moment) v × (said ≡ reply 200 (view_text v))) × Goes lost Stays tables tables'
 
 -- THE route of views
-abbrev pub ShowsView : ℕ → App → List ℕ → List (Named SessionState) → List ℕ → Type 0
-ShowsView moment app name sessions said = ShowsViewTo app moment (find name sessions) said
+abbrev pub ShowsView : Type 0 → ℕ → App → List ℕ → List (Named SessionState) → Option Tables → List ℕ → Option Tables → Type 0
+ShowsView lost moment app name sessions tables said tables' = ShowsViewTo lost app moment (find name sessions) tables said tables'
+
+-- the check that calls no keeper is passed: the session is live
+abbrev pub ReachesView : List ℕ → List (Named SessionState) → Type 0
+ReachesView name sessions = IsSome (find name sessions)
 
 -- ---- items
 
@@ -37,20 +45,24 @@ abbrev pub items_reply : Option Items → List ℕ
 items_reply (Some i) = reply 200 (items_text i)
 items_reply None = refusal 17
 
--- the items of the gallery of this number, if there is one (15)
-abbrev pub SaysItemsOf : Present → ℕ → Option ℕ → List ℕ → Type 0
-SaysItemsOf p from None said = said ≡ refusal 15
-SaysItemsOf p from (Some g) said = (o : Option Items) × AreFreshItems p g from o × (said ≡ items_reply o)
+-- the items of the gallery of this number over what a present tells, if there is one (15). The rows of tables stay.
+abbrev pub SaysItemsOf : Type 0 → Present → ℕ → Option ℕ → Option Tables → List ℕ → Option Tables → Type 0
+SaysItemsOf lost p from None tables said tables' = (said ≡ refusal 15) × (tables' ≡ tables)
+SaysItemsOf lost p from (Some g) tables said tables' = ((o : Option Items) × AreFreshItems p g from o × (said ≡ items_reply o)) × Goes lost Stays tables tables'
 
 -- the items of the gallery of this name, from a position on
-abbrev pub SaysItems : Present → List ℕ → ℕ → List ℕ → Type 0
-SaysItems p gallery from said = SaysItemsOf p from (gallery_named gallery p.app.names) said
+abbrev pub SaysItems : Type 0 → Present → List ℕ → ℕ → Option Tables → List ℕ → Option Tables → Type 0
+SaysItems lost p gallery from tables said tables' = SaysItemsOf lost p from (gallery_named gallery p.app.names) tables said tables'
 
 -- to a live session, as it is at this moment; there is no other (11)
-abbrev pub ShowsItemsTo : App → ℕ → List ℕ → ℕ → Option SessionState → List ℕ → Type 0
-ShowsItemsTo app moment gallery from None said = said ≡ refusal 11
-ShowsItemsTo app moment gallery from (Some s) said = SaysItems (present app s moment) gallery from said
+abbrev pub ShowsItemsTo : Type 0 → App → ℕ → List ℕ → ℕ → Option SessionState → Option Tables → List ℕ → Option Tables → Type 0
+ShowsItemsTo lost app moment gallery from None tables said tables' = (said ≡ refusal 11) × (tables' ≡ tables)
+ShowsItemsTo lost app moment gallery from (Some s) tables said tables' = SaysItems lost (present app s (rows_told tables') moment) gallery from tables said tables'
 
 -- THE route of items: no session (11), no gallery (15), a gallery that isn't shown (17), or its items from a position on
-abbrev pub ShowsItems : ℕ → App → List ℕ → List ℕ → ℕ → List (Named SessionState) → List ℕ → Type 0
-ShowsItems moment app name gallery from sessions said = ShowsItemsTo app moment gallery from (find name sessions) said
+abbrev pub ShowsItems : Type 0 → ℕ → App → List ℕ → List ℕ → ℕ → List (Named SessionState) → Option Tables → List ℕ → Option Tables → Type 0
+ShowsItems lost moment app name gallery from sessions tables said tables' = ShowsItemsTo lost app moment gallery from (find name sessions) tables said tables'
+
+-- the checks that call no keeper are passed: the session is live, and there is such a gallery
+abbrev pub ReachesItems : App → List ℕ → List ℕ → List (Named SessionState) → Type 0
+ReachesItems app name gallery sessions = IsSome (find name sessions) × IsSome (gallery_named gallery app.names)

@@ -1,15 +1,15 @@
 -- What a session shows.
 use Rattle.std.specs.Prelude.{◌≡◌, ℕ, suc, pos, ◌-◌, ◌&&◌, ◌==◌, List, [], ◌∷◌, Bool, true, false, codes, length, take, drop, max, Option, Some, None, is_none, option_map, slice_get, unwrap_or}
-use Rattle.app_semantics.specs.Chosen.{item_id}
-use Rattle.app_semantics.specs.Fresh.{IsFresh}
-use Rattle.app_semantics.specs.Present.{Present, input_of, items_of}
-use Rattle.app_semantics.specs.Properties.{IsPropertyForItem, is_true, is_visible, property_value}
+use Rattle.recalc.specs.app_semantics.Chosen.{item_id}
+use Rattle.recalc.specs.app_semantics.Fresh.{IsFresh}
+use Rattle.recalc.specs.app_semantics.Present.{Present, input_of, items_of}
+use Rattle.recalc.specs.app_semantics.Properties.{IsPropertyForItem, is_true, is_visible, property_value}
 use Rattle.fx_data.specs.Values.{Data, number, text, boolean, fault}
 use Rattle.fx_data.specs.declared.faults.Fault.{Fault}
 use Rattle.fx_data.specs.declared.controls.Control.TheVariants as control
 use Rattle.fx_data.specs.declared.controls.Control.{Control}
-use Rattle.fx_semantics.specs.Around.{record_of}
-use Rattle.fx_semantics.specs.Rows.{rows_in}
+use Rattle.recalc.specs.fx_semantics.Around.{record_of}
+use Rattle.recalc.specs.fx_semantics.Rows.{rows_in}
 use Rattle.fx_value.specs.Columns.{Row}
 use Rattle.fx_trees.specs.declared.names.ControlName.{ControlName}
 use Rattle.fx_trees.specs.declared.names.Names.{Names}

@@ -1,7 +1,7 @@
 // The properties that controls show.
 ghost use Rattle.std.specs.Prelude.{◌≡◌, ◌∷◌, [], IfOk, Some, codes, map, pos, slice_get};
-ghost use Rattle.app_semantics.specs.Holding.{HoldsFitting};
-ghost use Rattle.app_semantics.specs.Properties as properties;
+ghost use Rattle.recalc.specs.app_semantics.Holding.{HoldsFitting};
+ghost use Rattle.recalc.specs.app_semantics.Properties as properties;
 ghost use Rattle.app_views.specs.Views as views;
 ghost use Rattle.fx_data.specs.ValueView.{view};
 ghost use Rattle.fx_data.specs.declared.controls.Control.TheVariants as kinds;

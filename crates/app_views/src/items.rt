@@ -1,25 +1,28 @@
 //! The items of galleries.
 ghost use Rattle.std.specs.Prelude.{◌≡◌, ◌<◌, ◌+◌, ◌^◌, ℕ, [], IfOk, IfSome, Some, drop, length, slice_get, take};
-ghost use Rattle.app_semantics.specs.Holding.{HoldsFitting};
-ghost use Rattle.app_semantics.specs.Present.{present};
-ghost use Rattle.app_semantics.specs.Sound.{IsSound};
+ghost use Rattle.recalc.specs.app_semantics.Holding.{HoldsFitting};
+ghost use Rattle.recalc.specs.app_semantics.Present.{present};
+ghost use Rattle.recalc.specs.app_semantics.Sound.{IsSound};
 ghost use Rattle.app_views.specs.Galleries.{gallery_named as named_gallery, is_gallery as is_gallery_kind, is_gallery_named as is_named_gallery};
 ghost use Rattle.app_views.specs.Ready.{CanShow, IsGalleryOf, IsItemOf};
 ghost use Rattle.app_views.specs.Views.{AreFreshItems, AreGiven, AreItemsFrom, AreRowItems, IsItemAt, fault_in as fault_of, is_seen_at as is_seen_by_number};
 ghost use Rattle.fx_data.specs.ValueView.{view};
 ghost use Rattle.fx_scalar.specs.ScalarFunctions.{IsToday};
-ghost use Rattle.fx_semantics.specs.Rows.{rows_in as rows_of_value};
+ghost use Rattle.recalc.specs.fx_semantics.Rows.{rows_in as rows_of_value};
 ghost use Rattle.fx_value.specs.Columns.{Row};
+ghost use Rattle.recalc.specs.Asking.{HasRead, IsHeardOf, ToldRows, keeping};
 ghost use Rattle.recalc.specs.Values.{value_of};
+ghost use Rattle.row_keeper.specs.Causes.{HasCause};
 
+use crate::app_cells::App;
 use crate::displaying::is_seen;
 use crate::templates::item_controls;
-use app_cells::App;
 use fx_base::{InOrder, Memory};
 use fx_data::{Control, Fault, Fields, Value, Words};
 use fx_trees::Names;
 use fx_trees::names::ControlName;
 use recalc::{Steps, Valued, evaluate, id_name, item_id};
+use row_keeper::{Keeper, KeeperEnd};
 use session_state::Session;
 use std::alloc::Global;
 use std::sync::ledger::Ledger;
@@ -29,46 +32,58 @@ use view_text::{ItemList, ItemView, Items};
 const MOST_ITEMS: usize = 100;
 
 // The item at a position.
-fn item_view<L: Ledger>(
+#[tactic(auto, using(recalc::proofs::Asked::read_none, recalc::proofs::Asked::read_on))]
+fn item_view<K: Keeper, L: Ledger>(
     alloc: Global,
     app: &App,
     session: &Session,
+    keeper: &mut K,
     valued: &Valued,
     gallery: u32,
     at: u64,
     row: &Fields,
     steps: &mut Steps<L>,
-) -> Result<ItemView, Memory>
+) -> Result<ItemView, KeeperEnd>
     requires ready { CanShow app.now session.now valued.now }
     requires row { IsItemOf app.now.names gallery row.now }
-    ensures { IfOk result (λ i. (moment : ℕ) → IsToday moment valued.now.day → IsItemAt (present app.now session.now moment) (value_of valued.now) gallery at row.now (Some i)) }
+    requires shaped { K.shaped keeper.old ≡ Some app.now.names.schema }
+    ensures shows { IfOk result (λ i. (moment : ℕ) (tables : ToldRows) → IsToday moment valued.now.day → IsHeardOf (K.told keeper.new) tables → IsItemAt (present app.now session.now tables moment) (value_of valued.now) gallery at row.now (Some i)) }
+    ensures read { HasRead (keeping (K.told keeper.old) (K.shaped keeper.old) (K.in_transaction keeper.old) (K.marks keeper.old) (K.loan keeper.old))
+        (keeping (K.told keeper.new) (K.shaped keeper.new) (K.in_transaction keeper.new) (K.marks keeper.new) (K.loan keeper.new)) }
+    ensures cause { HasCause (K.marks keeper.old) (K.marks keeper.new) result }
 {
     let name = id_name(alloc)?;
     let id = item_id(row, &name);
-    let shown = item_controls(alloc, app, session, valued, gallery, row, steps)?;
+    let shown = item_controls(alloc, app, session, keeper, valued, gallery, row, steps)?;
     Ok(ItemView { at, id, shown })
 }
 
 // The items of these rows, of which the first has this position.
-fn item_views<L: Ledger>(
+#[tactic(auto, using(recalc::proofs::Asked::read_none, recalc::proofs::Asked::read_on))]
+fn item_views<K: Keeper, L: Ledger>(
     alloc: Global,
     app: &App,
     session: &Session,
+    keeper: &mut K,
     valued: &Valued,
     gallery: u32,
     first: u64,
     rows: &[Fields],
     steps: &mut Steps<L>,
-) -> Result<ItemList, Memory>
+) -> Result<ItemList, KeeperEnd>
     requires ready { CanShow app.now session.now valued.now }
     requires rows { (i : ℕ) (r : Row) → slice_get rows.now i ≡ Some r → IsItemOf app.now.names gallery r }
     requires few { first + length rows.now < 2 ^ 64 }
-    ensures { IfOk result (λ l. (moment : ℕ) → IsToday moment valued.now.day → AreGiven (IsItemAt (present app.now session.now moment) (value_of valued.now) gallery) first rows.now l) }
+    requires shaped { K.shaped keeper.old ≡ Some app.now.names.schema }
+    ensures shows { IfOk result (λ l. (moment : ℕ) (tables : ToldRows) → IsToday moment valued.now.day → IsHeardOf (K.told keeper.new) tables → AreGiven (IsItemAt (present app.now session.now tables moment) (value_of valued.now) gallery) first rows.now l) }
+    ensures read { HasRead (keeping (K.told keeper.old) (K.shaped keeper.old) (K.in_transaction keeper.old) (K.marks keeper.old) (K.loan keeper.old))
+        (keeping (K.told keeper.new) (K.shaped keeper.new) (K.in_transaction keeper.new) (K.marks keeper.new) (K.loan keeper.new)) }
+    ensures cause { HasCause (K.marks keeper.old) (K.marks keeper.new) result }
 {
     let mut list = InOrder::new(alloc);
     let mut at = first;
     for row in rows {
-        let item = item_view(alloc, app, session, valued, gallery, at, row, steps)?;
+        let item = item_view(alloc, app, session, keeper, valued, gallery, at, row, steps)?;
         list.push(item)?;
         at += 1;
     }
@@ -86,19 +101,25 @@ fn page(rows: &[Fields], behind: usize) -> &[Fields]
 }
 
 // The items of a table.
-fn table_items<L: Ledger>(
+#[tactic(auto, using(recalc::proofs::Asked::read_none, recalc::proofs::Asked::read_on))]
+fn table_items<K: Keeper, L: Ledger>(
     alloc: Global,
     app: &App,
     session: &Session,
+    keeper: &mut K,
     valued: &Valued,
     gallery: u32,
     from: u32,
     rows: &[Fields],
     steps: &mut Steps<L>,
-) -> Result<Items, Memory>
+) -> Result<Items, KeeperEnd>
     requires ready { CanShow app.now session.now valued.now }
     requires rows { (i : ℕ) (r : Row) → slice_get rows.now i ≡ Some r → IsItemOf app.now.names gallery r }
-    ensures { IfOk result (λ i. (moment : ℕ) → IsToday moment valued.now.day → AreRowItems (present app.now session.now moment) (value_of valued.now) gallery from rows.now i) }
+    requires shaped { K.shaped keeper.old ≡ Some app.now.names.schema }
+    ensures shows { IfOk result (λ i. (moment : ℕ) (tables : ToldRows) → IsToday moment valued.now.day → IsHeardOf (K.told keeper.new) tables → AreRowItems (present app.now session.now tables moment) (value_of valued.now) gallery from rows.now i) }
+    ensures read { HasRead (keeping (K.told keeper.old) (K.shaped keeper.old) (K.in_transaction keeper.old) (K.marks keeper.old) (K.loan keeper.old))
+        (keeping (K.told keeper.new) (K.shaped keeper.new) (K.in_transaction keeper.new) (K.marks keeper.new) (K.loan keeper.new)) }
+    ensures cause { HasCause (K.marks keeper.old) (K.marks keeper.new) result }
 {
     let first = from.max(1);
     let shown = page(rows, (first - 1) as usize);
@@ -106,6 +127,7 @@ fn table_items<L: Ledger>(
         alloc,
         app,
         session,
+        keeper,
         valued,
         gallery,
         u64::from(first),
@@ -121,18 +143,24 @@ fn table_items<L: Ledger>(
 
 /// The items of a gallery from a position on, of which 0 counts as 1: a hundred at most, and how many the gallery has; or
 /// the error that stands in their place.
-pub(crate) fn items_from<L: Ledger>(
+#[tactic(auto, using(recalc::proofs::Asked::read_none, recalc::proofs::Asked::read_on))]
+pub(crate) fn items_from<K: Keeper, L: Ledger>(
     alloc: Global,
     app: &App,
     session: &Session,
+    keeper: &mut K,
     valued: &Valued,
     gallery: u32,
     from: u32,
     steps: &mut Steps<L>,
-) -> Result<Items, Memory>
+) -> Result<Items, KeeperEnd>
     requires ready { CanShow app.now session.now valued.now }
     requires gallery { IsGalleryOf app.now.names gallery }
-    ensures { IfOk result (λ i. (moment : ℕ) → IsToday moment valued.now.day → AreItemsFrom (present app.now session.now moment) (value_of valued.now) gallery from i) }
+    requires shaped { K.shaped keeper.old ≡ Some app.now.names.schema }
+    ensures shows { IfOk result (λ i. (moment : ℕ) (tables : ToldRows) → IsToday moment valued.now.day → IsHeardOf (K.told keeper.new) tables → AreItemsFrom (present app.now session.now tables moment) (value_of valued.now) gallery from i) }
+    ensures read { HasRead (keeping (K.told keeper.old) (K.shaped keeper.old) (K.in_transaction keeper.old) (K.marks keeper.old) (K.loan keeper.old))
+        (keeping (K.told keeper.new) (K.shaped keeper.new) (K.in_transaction keeper.new) (K.marks keeper.new) (K.loan keeper.new)) }
+    ensures cause { HasCause (K.marks keeper.old) (K.marks keeper.new) result }
 {
     let items = valued.items(alloc, &app.names, gallery)?;
     let error = fault_in(alloc, &items)?;
@@ -140,7 +168,9 @@ pub(crate) fn items_from<L: Ledger>(
         Some(fault) => Ok(items_with(alloc, fault)),
         None => {
             let rows = rows_in(&items);
-            table_items(alloc, app, session, valued, gallery, from, rows, steps)
+            table_items(
+                alloc, app, session, keeper, valued, gallery, from, rows, steps,
+            )
         }
     }
 }
@@ -190,23 +220,29 @@ fn is_seen_at(names: &Names, session: &Session, valued: &Valued, number: u32) ->
 /// The items of a gallery over a session at a moment, in seconds since 1970-01-01 UTC: those from a position on, of which 0
 /// counts as 1, a hundred at most, and how many the gallery has; or the error that stands in their place. None where the
 /// gallery isn't on the current screen or isn't visible.
-pub fn items_of<L: Ledger>(
+#[tactic(auto, using(recalc::proofs::Asked::read_none, recalc::proofs::Asked::read_on))]
+pub fn items_of<K: Keeper, L: Ledger>(
     alloc: Global,
     app: &App,
     session: &Session,
+    keeper: &mut K,
     moment: u64,
     gallery: u32,
     from: u32,
     steps: &mut Steps<L>,
-) -> Result<Option<Items>, Memory>
+) -> Result<Option<Items>, KeeperEnd>
     requires sound { IsSound app.now }
     requires holds { HoldsFitting app.now.names session.now }
     requires gallery { IsGalleryOf app.now.names gallery }
-    ensures { IfOk result (λ o. AreFreshItems (present app.now session.now moment) gallery from o) }
+    requires shaped { K.shaped keeper.old ≡ Some app.now.names.schema }
+    ensures shows { IfOk result (λ o. (tables : ToldRows) → IsHeardOf (K.told keeper.new) tables → AreFreshItems (present app.now session.now tables moment) gallery from o) }
+    ensures read { HasRead (keeping (K.told keeper.old) (K.shaped keeper.old) (K.in_transaction keeper.old) (K.marks keeper.old) (K.loan keeper.old))
+        (keeping (K.told keeper.new) (K.shaped keeper.new) (K.in_transaction keeper.new) (K.marks keeper.new) (K.loan keeper.new)) }
+    ensures cause { HasCause (K.marks keeper.old) (K.marks keeper.new) result }
 {
-    let valued = evaluate(alloc, app, session, moment, steps)?;
+    let valued = evaluate(alloc, app, session, keeper, moment, steps)?;
     if is_seen_at(&app.names, session, &valued, gallery) {
-        let items = items_from(alloc, app, session, &valued, gallery, from, steps)?;
+        let items = items_from(alloc, app, session, keeper, &valued, gallery, from, steps)?;
         Ok(Some(items))
     } else {
         Ok(None)

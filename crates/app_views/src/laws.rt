@@ -1,8 +1,8 @@
 //! Laws of views.
 ghost use Rattle.app_views.specs.Laws.{OneItems, OneItemsReply, OneView, OneViewReply};
 
-use app_semantics::one_fresh;
-use fx_semantics::one_value;
+use crate::app_semantics::one_fresh;
+use crate::fx_semantics::one_value;
 
 /// A law, and no work: at a moment a session has one view.
 pub fn one_view()

@@ -10,5 +10,7 @@ mod view;
 
 pub use items::{gallery_named, items_of};
 pub use laws::{one_items, one_items_reply, one_view, one_view_reply};
+use recalc::app_semantics::app_cells;
+use recalc::{app_semantics, fx_semantics};
 pub use showing::{show_items, show_view};
 pub use view::view_of;

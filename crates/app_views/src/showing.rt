@@ -1,131 +1,180 @@
 //! What is shown to sessions.
-ghost use Rattle.std.specs.Prelude.{◌≡◌, IfOk, Some};
-ghost use Rattle.app_semantics.specs.Present.{present};
-ghost use Rattle.app_semantics.specs.Sound.{IsSound};
+ghost use Rattle.std.specs.Prelude.{◌≡◌, IfOk, IsErrOf, IsSome, Some};
+ghost use Rattle.recalc.specs.app_semantics.Present.{present};
+ghost use Rattle.recalc.specs.app_semantics.Sound.{IsSound};
+ghost use Rattle.fx_base.specs.Silence.{IsLost};
+ghost use Rattle.recalc.specs.Asking.{HasRead, keeping};
 ghost use Rattle.request_checks.specs.Replies.{IsReply, said};
+ghost use Rattle.row_keeper.specs.Causes.{HasCause};
+ghost use Rattle.row_keeper.specs.Tables.{rows_told};
+ghost use Rattle.row_keeper.specs.declared.keeper.KeeperEnd.TheVariants.{Failed};
 ghost use Rattle.session_state.specs.Changes.{FitsNames};
+ghost use Rattle.view_text.specs.ViewText.{view_text};
+ghost use Rattle.app_views.specs.Galleries.{gallery_named as named_gallery};
 ghost use Rattle.app_views.specs.Ready.{IsGalleryOf};
-ghost use Rattle.app_views.specs.Shows.{AreFit, SaysItems, SaysItemsOf, ShowsItems, ShowsView, ShowsViewTo, items_reply as reply_of_items};
+ghost use Rattle.app_wire.specs.ReplyBytes.{reply};
+ghost use Rattle.app_views.specs.Shows.{AreFit, ReachesItems, ReachesView, SaysItems, SaysItemsOf, ShowsItems, ShowsView, ShowsViewTo, items_reply as reply_of_items};
 
+use crate::app_cells::App;
+use crate::app_semantics::fitting_holds;
 use crate::items::{gallery_named, items_of};
 use crate::view::view_of;
-use app_cells::App;
-use app_semantics::fitting_holds;
 use fx_base::Memory;
 use fx_data::Words;
 use recalc::Steps;
 use request_checks::{Named, Reply, place_of};
+use row_keeper::{Keeper, KeeperEnd};
 use session_state::Session;
 use std::alloc::Global;
 use std::sync::ledger::Ledger;
-use view_text::{Items, items_json, view_json};
+use view_text::{Items, View, items_json, view_json};
 
-/// Shows a live session its view at a moment, in seconds since 1970-01-01 UTC. Of no such session it is refused (11).
-pub fn show_view<L: Ledger>(
+/// Shows a live session its view over the rows of a keeper at a moment, in seconds since 1970-01-01 UTC. Of no such session
+/// it is refused (11). `Failed` only where the keeper counted a fault.
+#[tactic(auto, using(recalc::proofs::Asked::read_none))]
+pub fn show_view<K: Keeper, L: Ledger>(
     alloc: Global,
     app: &App,
     sessions: &[Named<Session>],
+    keeper: &mut K,
     name: &Words,
     moment: u64,
     steps: &mut Steps<L>,
-) -> Result<Reply, Memory>
+) -> Result<Reply, KeeperEnd>
     requires sound { IsSound app.now }
     requires fit { AreFit app.now.names sessions.now }
-    ensures done { IfOk result (λ r. ShowsView moment app.now name.now sessions.now (said r)) }
+    requires shaped { K.shaped keeper.old ≡ Some app.now.names.schema }
+    ensures done { IfOk result (λ r. ShowsView (IsLost (K.marks keeper.old) (K.marks keeper.new)) moment app.now name.now sessions.now (K.told keeper.old) (said r) (K.told keeper.new)) }
     ensures whole { IfOk result IsReply }
+    ensures reached { IsErrOf result Failed → ReachesView name.now sessions.now }
+    ensures read { HasRead (keeping (K.told keeper.old) (K.shaped keeper.old) (K.in_transaction keeper.old) (K.marks keeper.old) (K.loan keeper.old))
+        (keeping (K.told keeper.new) (K.shaped keeper.new) (K.in_transaction keeper.new) (K.marks keeper.new) (K.loan keeper.new)) }
+    ensures cause { HasCause (K.marks keeper.old) (K.marks keeper.new) result }
 {
     match place_of(sessions, name) {
-        Some(place) => show_view_to(alloc, app, &sessions[place].it, moment, steps),
-        None => Reply::refuse_plain(alloc, 11),
+        Some(place) => show_view_to(alloc, app, &sessions[place].it, keeper, moment, steps),
+        None => Ok(Reply::refuse_plain(alloc, 11)?),
     }
 }
 
 // The same, to this session.
-fn show_view_to<L: Ledger>(
+fn show_view_to<K: Keeper, L: Ledger>(
     alloc: Global,
     app: &App,
     session: &Session,
+    keeper: &mut K,
     moment: u64,
     steps: &mut Steps<L>,
-) -> Result<Reply, Memory>
+) -> Result<Reply, KeeperEnd>
     requires sound { IsSound app.now }
     requires fits { FitsNames app.now.names session.now }
-    ensures done { IfOk result (λ r. ShowsViewTo app.now moment (Some session.now) (said r)) }
+    requires shaped { K.shaped keeper.old ≡ Some app.now.names.schema }
+    ensures done { IfOk result (λ r. ShowsViewTo (IsLost (K.marks keeper.old) (K.marks keeper.new)) app.now moment (Some session.now) (K.told keeper.old) (said r) (K.told keeper.new)) }
     ensures whole { IfOk result IsReply }
+    ensures read { HasRead (keeping (K.told keeper.old) (K.shaped keeper.old) (K.in_transaction keeper.old) (K.marks keeper.old) (K.loan keeper.old))
+        (keeping (K.told keeper.new) (K.shaped keeper.new) (K.in_transaction keeper.new) (K.marks keeper.new) (K.loan keeper.new)) }
+    ensures cause { HasCause (K.marks keeper.old) (K.marks keeper.new) result }
 {
     fitting_holds();
-    let view = view_of(alloc, app, session, moment, steps)?;
-    let body = view_json(alloc, &view)?;
+    let view = view_of(alloc, app, session, keeper, moment, steps)?;
+    Ok(view_reply(alloc, &view)?)
+}
+
+// The reply that shows a view.
+fn view_reply(alloc: Global, view: &View) -> Result<Reply, Memory>
+    ensures done { IfOk result (λ r. said r ≡ reply 200 (view_text view.now)) }
+    ensures whole { IfOk result IsReply }
+{
+    let body = view_json(alloc, view)?;
     Reply::accept(alloc, &body)
 }
 
-/// Shows a live session the items of a gallery from a position on, of which 0 counts as 1, at a moment in seconds since
-/// 1970-01-01 UTC: a hundred at most. It is refused of no such session (11), of no such gallery (15), and of one that isn't
-/// on the current screen or isn't visible (17).
-pub fn show_items<L: Ledger>(
+/// Shows a live session the items of a gallery from a position on, of which 0 counts as 1, over the rows of a keeper at a
+/// moment in seconds since 1970-01-01 UTC: a hundred at most. It is refused of no such session (11), of no such gallery (15),
+/// and of one that isn't on the current screen or isn't visible (17). `Failed` only where the keeper counted a fault.
+#[tactic(auto, using(recalc::proofs::Asked::read_none))]
+pub fn show_items<K: Keeper, L: Ledger>(
     alloc: Global,
     app: &App,
     sessions: &[Named<Session>],
+    keeper: &mut K,
     name: &Words,
     gallery: &Words,
     from: u32,
     moment: u64,
     steps: &mut Steps<L>,
-) -> Result<Reply, Memory>
+) -> Result<Reply, KeeperEnd>
     requires sound { IsSound app.now }
     requires fit { AreFit app.now.names sessions.now }
-    ensures done { IfOk result (λ r. ShowsItems moment app.now name.now gallery.now from sessions.now (said r)) }
+    requires shaped { K.shaped keeper.old ≡ Some app.now.names.schema }
+    ensures done { IfOk result (λ r. ShowsItems (IsLost (K.marks keeper.old) (K.marks keeper.new)) moment app.now name.now gallery.now from sessions.now (K.told keeper.old) (said r) (K.told keeper.new)) }
     ensures whole { IfOk result IsReply }
+    ensures reached { IsErrOf result Failed → ReachesItems app.now name.now gallery.now sessions.now }
+    ensures read { HasRead (keeping (K.told keeper.old) (K.shaped keeper.old) (K.in_transaction keeper.old) (K.marks keeper.old) (K.loan keeper.old))
+        (keeping (K.told keeper.new) (K.shaped keeper.new) (K.in_transaction keeper.new) (K.marks keeper.new) (K.loan keeper.new)) }
+    ensures cause { HasCause (K.marks keeper.old) (K.marks keeper.new) result }
 {
     match place_of(sessions, name) {
         Some(place) => {
             let session = &sessions[place].it;
-            show_items_to(alloc, app, session, gallery, from, moment, steps)
+            show_items_to(alloc, app, session, keeper, gallery, from, moment, steps)
         }
-        None => Reply::refuse_plain(alloc, 11),
+        None => Ok(Reply::refuse_plain(alloc, 11)?),
     }
 }
 
 // The same, to this session.
-fn show_items_to<L: Ledger>(
+#[tactic(auto, using(recalc::proofs::Asked::read_none))]
+fn show_items_to<K: Keeper, L: Ledger>(
     alloc: Global,
     app: &App,
     session: &Session,
+    keeper: &mut K,
     gallery: &Words,
     from: u32,
     moment: u64,
     steps: &mut Steps<L>,
-) -> Result<Reply, Memory>
+) -> Result<Reply, KeeperEnd>
     requires sound { IsSound app.now }
     requires fits { FitsNames app.now.names session.now }
-    ensures done { IfOk result (λ r. SaysItems (present app.now session.now moment) gallery.now from (said r)) }
+    requires shaped { K.shaped keeper.old ≡ Some app.now.names.schema }
+    ensures done { IfOk result (λ r. SaysItems (IsLost (K.marks keeper.old) (K.marks keeper.new)) (present app.now session.now (rows_told (K.told keeper.new)) moment) gallery.now from (K.told keeper.old) (said r) (K.told keeper.new)) }
     ensures whole { IfOk result IsReply }
+    ensures reached { IsErrOf result Failed → IsSome (named_gallery gallery.now app.now.names) }
+    ensures read { HasRead (keeping (K.told keeper.old) (K.shaped keeper.old) (K.in_transaction keeper.old) (K.marks keeper.old) (K.loan keeper.old))
+        (keeping (K.told keeper.new) (K.shaped keeper.new) (K.in_transaction keeper.new) (K.marks keeper.new) (K.loan keeper.new)) }
+    ensures cause { HasCause (K.marks keeper.old) (K.marks keeper.new) result }
 {
     match gallery_named(&app.names, gallery) {
-        Some(number) => show_items_of(alloc, app, session, number, from, moment, steps),
-        None => Reply::refuse_plain(alloc, 15),
+        Some(number) => show_items_of(alloc, app, session, keeper, number, from, moment, steps),
+        None => Ok(Reply::refuse_plain(alloc, 15)?),
     }
 }
 
 // The same, of the gallery of this number.
-fn show_items_of<L: Ledger>(
+fn show_items_of<K: Keeper, L: Ledger>(
     alloc: Global,
     app: &App,
     session: &Session,
+    keeper: &mut K,
     gallery: u32,
     from: u32,
     moment: u64,
     steps: &mut Steps<L>,
-) -> Result<Reply, Memory>
+) -> Result<Reply, KeeperEnd>
     requires sound { IsSound app.now }
     requires fits { FitsNames app.now.names session.now }
     requires gallery { IsGalleryOf app.now.names gallery }
-    ensures done { IfOk result (λ r. SaysItemsOf (present app.now session.now moment) from (Some gallery) (said r)) }
+    requires shaped { K.shaped keeper.old ≡ Some app.now.names.schema }
+    ensures done { IfOk result (λ r. SaysItemsOf (IsLost (K.marks keeper.old) (K.marks keeper.new)) (present app.now session.now (rows_told (K.told keeper.new)) moment) from (Some gallery) (K.told keeper.old) (said r) (K.told keeper.new)) }
     ensures whole { IfOk result IsReply }
+    ensures read { HasRead (keeping (K.told keeper.old) (K.shaped keeper.old) (K.in_transaction keeper.old) (K.marks keeper.old) (K.loan keeper.old))
+        (keeping (K.told keeper.new) (K.shaped keeper.new) (K.in_transaction keeper.new) (K.marks keeper.new) (K.loan keeper.new)) }
+    ensures cause { HasCause (K.marks keeper.old) (K.marks keeper.new) result }
 {
     fitting_holds();
-    let items = items_of(alloc, app, session, moment, gallery, from, steps)?;
-    items_reply(alloc, items)
+    let items = items_of(alloc, app, session, keeper, moment, gallery, from, steps)?;
+    Ok(items_reply(alloc, items)?)
 }
 
 // The reply that shows items, or that the gallery isn't shown.

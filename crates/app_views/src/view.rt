@@ -1,21 +1,24 @@
 //! What a session shows.
 ghost use Rattle.std.specs.Prelude.{◌≡◌, ◌<◌, ℕ, IfOk, Some, length, slice_get};
-ghost use Rattle.app_semantics.specs.Holding.{HoldsFitting};
-ghost use Rattle.app_semantics.specs.Present.{present};
-ghost use Rattle.app_semantics.specs.Sound.{IsSound};
+ghost use Rattle.recalc.specs.app_semantics.Holding.{HoldsFitting};
+ghost use Rattle.recalc.specs.app_semantics.Present.{present};
+ghost use Rattle.recalc.specs.app_semantics.Sound.{IsSound};
 ghost use Rattle.app_views.specs.Ready.{CanShow};
 ghost use Rattle.app_views.specs.Views.{AreGiven, IsFreshView, IsShown, IsShownControl, IsView, ShowsFirstItems, is_shown as is_shown_of};
 ghost use Rattle.fx_scalar.specs.ScalarFunctions.{IsToday};
+ghost use Rattle.recalc.specs.Asking.{HasRead, IsHeardOf, ToldRows, keeping};
 ghost use Rattle.recalc.specs.Values.{value_of};
+ghost use Rattle.row_keeper.specs.Causes.{HasCause};
 
+use crate::app_cells::App;
 use crate::displaying::{displayed, is_seen};
 use crate::items::{is_gallery, items_from};
 use crate::templates::add;
-use app_cells::App;
 use fx_base::{InOrder, Memory};
 use fx_trees::Names;
 use fx_trees::names::ControlName;
 use recalc::{Steps, Valued, evaluate};
+use row_keeper::{Keeper, KeeperEnd};
 use session_state::Session;
 use std::alloc::Global;
 use std::sync::ledger::Ledger;
@@ -23,35 +26,47 @@ use view_text::{Items, Shown, ShownList, View};
 
 /// What a session shows at a moment, in seconds since 1970-01-01 UTC: its screen, and the controls that are shown on it, in
 /// the order of the app.
-pub fn view_of<L: Ledger>(
+#[tactic(auto, using(recalc::proofs::Asked::read_none, recalc::proofs::Asked::read_on))]
+pub fn view_of<K: Keeper, L: Ledger>(
     alloc: Global,
     app: &App,
     session: &Session,
+    keeper: &mut K,
     moment: u64,
     steps: &mut Steps<L>,
-) -> Result<View, Memory>
+) -> Result<View, KeeperEnd>
     requires sound { IsSound app.now }
     requires holds { HoldsFitting app.now.names session.now }
     requires screen { session.now.screen < length app.now.names.screens }
-    ensures { IfOk result (λ v. IsFreshView (present app.now session.now moment) v) }
+    requires shaped { K.shaped keeper.old ≡ Some app.now.names.schema }
+    ensures shows { IfOk result (λ v. (tables : ToldRows) → IsHeardOf (K.told keeper.new) tables → IsFreshView (present app.now session.now tables moment) v) }
+    ensures read { HasRead (keeping (K.told keeper.old) (K.shaped keeper.old) (K.in_transaction keeper.old) (K.marks keeper.old) (K.loan keeper.old))
+        (keeping (K.told keeper.new) (K.shaped keeper.new) (K.in_transaction keeper.new) (K.marks keeper.new) (K.loan keeper.new)) }
+    ensures cause { HasCause (K.marks keeper.old) (K.marks keeper.new) result }
 {
-    let valued = evaluate(alloc, app, session, moment, steps)?;
-    view_by(alloc, app, session, &valued, steps)
+    let valued = evaluate(alloc, app, session, keeper, moment, steps)?;
+    view_by(alloc, app, session, keeper, &valued, steps)
 }
 
 // The same, by the values of cells.
-fn view_by<L: Ledger>(
+#[tactic(auto, using(recalc::proofs::Asked::read_none, recalc::proofs::Asked::read_on))]
+fn view_by<K: Keeper, L: Ledger>(
     alloc: Global,
     app: &App,
     session: &Session,
+    keeper: &mut K,
     valued: &Valued,
     steps: &mut Steps<L>,
-) -> Result<View, Memory>
+) -> Result<View, KeeperEnd>
     requires ready { CanShow app.now session.now valued.now }
     requires screen { session.now.screen < length app.now.names.screens }
-    ensures { IfOk result (λ v. (moment : ℕ) → IsToday moment valued.now.day → IsView (present app.now session.now moment) (value_of valued.now) v) }
+    requires shaped { K.shaped keeper.old ≡ Some app.now.names.schema }
+    ensures shows { IfOk result (λ v. (moment : ℕ) (tables : ToldRows) → IsToday moment valued.now.day → IsHeardOf (K.told keeper.new) tables → IsView (present app.now session.now tables moment) (value_of valued.now) v) }
+    ensures read { HasRead (keeping (K.told keeper.old) (K.shaped keeper.old) (K.in_transaction keeper.old) (K.marks keeper.old) (K.loan keeper.old))
+        (keeping (K.told keeper.new) (K.shaped keeper.new) (K.in_transaction keeper.new) (K.marks keeper.new) (K.loan keeper.new)) }
+    ensures cause { HasCause (K.marks keeper.old) (K.marks keeper.new) result }
 {
-    let shown = all_shown(alloc, app, session, valued, steps)?;
+    let shown = all_shown(alloc, app, session, keeper, valued, steps)?;
     let place = session.screen();
     match app.names.screens.get(place as usize) {
         Some(name) => {
@@ -63,21 +78,27 @@ fn view_by<L: Ledger>(
 }
 
 // What the controls of the screen show.
-fn all_shown<L: Ledger>(
+#[tactic(auto, using(recalc::proofs::Asked::read_none, recalc::proofs::Asked::read_on))]
+fn all_shown<K: Keeper, L: Ledger>(
     alloc: Global,
     app: &App,
     session: &Session,
+    keeper: &mut K,
     valued: &Valued,
     steps: &mut Steps<L>,
-) -> Result<ShownList, Memory>
+) -> Result<ShownList, KeeperEnd>
     requires ready { CanShow app.now session.now valued.now }
-    ensures { IfOk result (λ l. (moment : ℕ) → IsToday moment valued.now.day → AreGiven (IsShown (present app.now session.now moment) (value_of valued.now)) 0 app.now.names.controls l) }
+    requires shaped { K.shaped keeper.old ≡ Some app.now.names.schema }
+    ensures shows { IfOk result (λ l. (moment : ℕ) (tables : ToldRows) → IsToday moment valued.now.day → IsHeardOf (K.told keeper.new) tables → AreGiven (IsShown (present app.now session.now tables moment) (value_of valued.now)) 0 app.now.names.controls l) }
+    ensures read { HasRead (keeping (K.told keeper.old) (K.shaped keeper.old) (K.in_transaction keeper.old) (K.marks keeper.old) (K.loan keeper.old))
+        (keeping (K.told keeper.new) (K.shaped keeper.new) (K.in_transaction keeper.new) (K.marks keeper.new) (K.loan keeper.new)) }
+    ensures cause { HasCause (K.marks keeper.old) (K.marks keeper.new) result }
 {
     let mut shown = InOrder::new(alloc);
     let mut number: u32 = 0;
     let controls = app.names.controls.as_slice();
     for control in controls {
-        let given = shown_control(alloc, app, session, valued, number, control, steps)?;
+        let given = shown_control(alloc, app, session, keeper, valued, number, control, steps)?;
         add(&mut shown, given)?;
         number += 1;
     }
@@ -98,21 +119,27 @@ fn is_shown(
 }
 
 // What a control shows, if it is shown.
-fn shown_control<L: Ledger>(
+#[tactic(auto, using(recalc::proofs::Asked::read_none, recalc::proofs::Asked::read_on))]
+fn shown_control<K: Keeper, L: Ledger>(
     alloc: Global,
     app: &App,
     session: &Session,
+    keeper: &mut K,
     valued: &Valued,
     number: u32,
     control: &ControlName,
     steps: &mut Steps<L>,
-) -> Result<Option<Shown>, Memory>
+) -> Result<Option<Shown>, KeeperEnd>
     requires ready { CanShow app.now session.now valued.now }
     requires control { slice_get app.now.names.controls number ≡ Some control.now }
-    ensures { IfOk result (λ o. (moment : ℕ) → IsToday moment valued.now.day → IsShown (present app.now session.now moment) (value_of valued.now) number control.now o) }
+    requires shaped { K.shaped keeper.old ≡ Some app.now.names.schema }
+    ensures shows { IfOk result (λ o. (moment : ℕ) (tables : ToldRows) → IsToday moment valued.now.day → IsHeardOf (K.told keeper.new) tables → IsShown (present app.now session.now tables moment) (value_of valued.now) number control.now o) }
+    ensures read { HasRead (keeping (K.told keeper.old) (K.shaped keeper.old) (K.in_transaction keeper.old) (K.marks keeper.old) (K.loan keeper.old))
+        (keeping (K.told keeper.new) (K.shaped keeper.new) (K.in_transaction keeper.new) (K.marks keeper.new) (K.loan keeper.new)) }
+    ensures cause { HasCause (K.marks keeper.old) (K.marks keeper.new) result }
 {
     if is_shown(&app.names, session, valued, number, control) {
-        let shown = shown_with(alloc, app, session, valued, number, control, steps)?;
+        let shown = shown_with(alloc, app, session, keeper, valued, number, control, steps)?;
         Ok(Some(shown))
     } else {
         Ok(None)
@@ -120,20 +147,26 @@ fn shown_control<L: Ledger>(
 }
 
 // What a control that is shown shows.
-fn shown_with<L: Ledger>(
+#[tactic(auto, using(recalc::proofs::Asked::read_none, recalc::proofs::Asked::read_on))]
+fn shown_with<K: Keeper, L: Ledger>(
     alloc: Global,
     app: &App,
     session: &Session,
+    keeper: &mut K,
     valued: &Valued,
     number: u32,
     control: &ControlName,
     steps: &mut Steps<L>,
-) -> Result<Shown, Memory>
+) -> Result<Shown, KeeperEnd>
     requires ready { CanShow app.now session.now valued.now }
     requires control { slice_get app.now.names.controls number ≡ Some control.now }
-    ensures { IfOk result (λ s. (moment : ℕ) → IsToday moment valued.now.day → IsShownControl (present app.now session.now moment) (value_of valued.now) number control.now s) }
+    requires shaped { K.shaped keeper.old ≡ Some app.now.names.schema }
+    ensures shows { IfOk result (λ s. (moment : ℕ) (tables : ToldRows) → IsToday moment valued.now.day → IsHeardOf (K.told keeper.new) tables → IsShownControl (present app.now session.now tables moment) (value_of valued.now) number control.now s) }
+    ensures read { HasRead (keeping (K.told keeper.old) (K.shaped keeper.old) (K.in_transaction keeper.old) (K.marks keeper.old) (K.loan keeper.old))
+        (keeping (K.told keeper.new) (K.shaped keeper.new) (K.in_transaction keeper.new) (K.marks keeper.new) (K.loan keeper.new)) }
+    ensures cause { HasCause (K.marks keeper.old) (K.marks keeper.new) result }
 {
-    let items = shown_items(alloc, app, session, valued, number, control, steps)?;
+    let items = shown_items(alloc, app, session, keeper, valued, number, control, steps)?;
     let values = displayed(alloc, &app.names, session, valued, number, control)?;
     let name = control.name.copy(alloc)?;
     let kind = control.kind;
@@ -146,21 +179,27 @@ fn shown_with<L: Ledger>(
 }
 
 // The first items, of a gallery.
-fn shown_items<L: Ledger>(
+#[tactic(auto, using(recalc::proofs::Asked::read_none, recalc::proofs::Asked::read_on))]
+fn shown_items<K: Keeper, L: Ledger>(
     alloc: Global,
     app: &App,
     session: &Session,
+    keeper: &mut K,
     valued: &Valued,
     number: u32,
     control: &ControlName,
     steps: &mut Steps<L>,
-) -> Result<Option<Items>, Memory>
+) -> Result<Option<Items>, KeeperEnd>
     requires ready { CanShow app.now session.now valued.now }
     requires control { slice_get app.now.names.controls number ≡ Some control.now }
-    ensures { IfOk result (λ o. (moment : ℕ) → IsToday moment valued.now.day → ShowsFirstItems (present app.now session.now moment) (value_of valued.now) number control.now.kind o) }
+    requires shaped { K.shaped keeper.old ≡ Some app.now.names.schema }
+    ensures shows { IfOk result (λ o. (moment : ℕ) (tables : ToldRows) → IsToday moment valued.now.day → IsHeardOf (K.told keeper.new) tables → ShowsFirstItems (present app.now session.now tables moment) (value_of valued.now) number control.now.kind o) }
+    ensures read { HasRead (keeping (K.told keeper.old) (K.shaped keeper.old) (K.in_transaction keeper.old) (K.marks keeper.old) (K.loan keeper.old))
+        (keeping (K.told keeper.new) (K.shaped keeper.new) (K.in_transaction keeper.new) (K.marks keeper.new) (K.loan keeper.new)) }
+    ensures cause { HasCause (K.marks keeper.old) (K.marks keeper.new) result }
 {
     if is_gallery(control.kind) {
-        let items = items_from(alloc, app, session, valued, number, 1, steps)?;
+        let items = items_from(alloc, app, session, keeper, valued, number, 1, steps)?;
         Ok(Some(items))
     } else {
         Ok(None)

@@ -4,7 +4,7 @@ use Rattle.std.specs.Prelude.{IfSome, slice_get, slice_set, unwrap_or}
 use Rattle.std.specs.List.{AllByRecursion, position}
 use Rattle.fx_data.specs.Values.{Data, blank, number, text, boolean, date, rec, tab, fault, FieldList, no_fields, field, field_list, RowList, no_rows, row, row_list}
 use Rattle.fx_data.specs.declared.values.Value.TheVariants as value
-use Rattle.fx_semantics.specs.Rows.{fields_of, rows_of}
+use Rattle.recalc.specs.fx_semantics.Rows.{fields_of, rows_of}
 use Rattle.fx_value.specs.Fits.{fits_in}
 use Rattle.fx_trees.specs.declared.names.Names.{Names}
 use Rattle.fx_trees.specs.declared.sources.Source.{Source}

@@ -2,21 +2,21 @@
 use Rattle.std.proofs.Common.{◌≡◌, ℕ, ◌<◌, Bool, true, false, List, Option, Some, None, refl, ap, sym, ◌∙◌, subst, length, map}
 use Rattle.std.specs.Prelude.{IfSome, codes, option_and_then, slice_get}
 use Rattle.std.proofs.lemmas.Option.{slice_get_within}
-use Rattle.app_cells.specs.Leaning.{cell_of_property}
-use Rattle.app_cells.specs.Spots.{item_or}
-use Rattle.app_cells.specs.declared.app.App.{App}
-use Rattle.app_cells.specs.declared.app.CellInfo.{CellInfo}
-use Rattle.app_semantics.specs.Chosen.{row_at}
-use Rattle.app_semantics.specs.Fresh.{IsValueOf}
-use Rattle.app_semantics.specs.Present.{Present, items_of}
-use Rattle.app_semantics.specs.Properties.{IsForItem, is_true}
-use Rattle.app_semantics.specs.Sound.{IsSound}
+use Rattle.recalc.specs.app_cells.Leaning.{cell_of_property}
+use Rattle.recalc.specs.app_cells.Spots.{item_or}
+use Rattle.recalc.specs.app_cells.declared.app.App.{App}
+use Rattle.recalc.specs.app_cells.declared.app.CellInfo.{CellInfo}
+use Rattle.recalc.specs.app_semantics.Chosen.{row_at}
+use Rattle.recalc.specs.app_semantics.Fresh.{IsValueOf}
+use Rattle.recalc.specs.app_semantics.Present.{Present, items_of}
+use Rattle.recalc.specs.app_semantics.Properties.{IsForItem, is_true}
+use Rattle.recalc.specs.app_semantics.Sound.{IsSound}
 use Rattle.fx_data.specs.ValueView.{view}
 use Rattle.fx_data.specs.Values.{Data, boolean}
 use Rattle.fx_data.specs.declared.values.Value.{Value}
-use Rattle.fx_semantics.specs.Around.{record_of}
-use Rattle.fx_semantics.specs.Rows.{rows_in}
-use Rattle.fx_semantics.specs.Sound.{IsItemFit}
+use Rattle.recalc.specs.fx_semantics.Around.{record_of}
+use Rattle.recalc.specs.fx_semantics.Rows.{rows_in}
+use Rattle.recalc.specs.fx_semantics.Sound.{IsItemFit}
 use Rattle.fx_value.specs.Columns.{Row}
 use Rattle.fx_trees.specs.declared.names.ControlName.{ControlName}
 use Rattle.fx_trees.specs.declared.names.Names.{Names}

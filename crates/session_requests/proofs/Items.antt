@@ -3,23 +3,23 @@ use Rattle.std.proofs.Common.{◌≡◌, ℕ, zero, suc, ◌<◌, Bool, true, fa
 use Rattle.std.specs.Prelude.{IfSome, codes, option_map, slice_get}
 use Rattle.std.proofs.lemmas.List.Elements.{All-get_or}
 use Rattle.std.proofs.lemmas.Option.{get_or_from_slice_get, slice_get_within}
-use Rattle.app_cells.specs.Leaning.{cell_of_property}
-use Rattle.app_cells.specs.Spots.{item_or}
-use Rattle.app_cells.specs.declared.app.App.{App}
-use Rattle.app_semantics.proofs.CellTypes.{property_found, type_by}
-use Rattle.app_semantics.proofs.Given.{items_fit}
-use Rattle.app_semantics.specs.Chosen.{item_id, row_at}
-use Rattle.app_semantics.specs.Present.{items_of}
-use Rattle.app_semantics.specs.Sound.{IsCellOf, IsSound}
+use Rattle.recalc.specs.app_cells.Leaning.{cell_of_property}
+use Rattle.recalc.specs.app_cells.Spots.{item_or}
+use Rattle.recalc.specs.app_cells.declared.app.App.{App}
+use Rattle.recalc.proofs.of_app_semantics.CellTypes.{property_found, type_by}
+use Rattle.recalc.proofs.of_app_semantics.Given.{items_fit}
+use Rattle.recalc.specs.app_semantics.Chosen.{item_id, row_at}
+use Rattle.recalc.specs.app_semantics.Present.{items_of}
+use Rattle.recalc.specs.app_semantics.Sound.{IsCellOf, IsSound}
 use Rattle.fx_data.specs.TypeView.{shape}
 use Rattle.fx_data.specs.Types.{ColumnList, Shape, booleans}
 use Rattle.fx_data.specs.Values.{Data}
 use Rattle.fx_data.specs.declared.controls.Control.{Control}
 use Rattle.fx_data.specs.declared.controls.Control.TheVariants as control
-use Rattle.fx_semantics.proofs.Tables.{RowsFit, rows_in_fit}
-use Rattle.fx_semantics.specs.Around.{record_of}
-use Rattle.fx_semantics.specs.Rows.{rows_in}
-use Rattle.fx_semantics.specs.Sound.{IsItemFit}
+use Rattle.recalc.proofs.of_fx_semantics.Tables.{RowsFit, rows_in_fit}
+use Rattle.recalc.specs.fx_semantics.Around.{record_of}
+use Rattle.recalc.specs.fx_semantics.Rows.{rows_in}
+use Rattle.recalc.specs.fx_semantics.Sound.{IsItemFit}
 use Rattle.fx_tables.proofs.FitRows.{RowFits}
 use Rattle.fx_value.specs.Columns.{Row}
 use Rattle.fx_trees.specs.Lawful.{IsGallery, IsLawful, IsLawfulControl, IsLawfulGallery}

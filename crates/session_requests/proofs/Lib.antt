@@ -8,3 +8,4 @@ pub mod Passing
 pub mod Posted
 pub mod PostedEvents
 pub mod Sending
+pub use Rattle.recalc.proofs as of_recalc

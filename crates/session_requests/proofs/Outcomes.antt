@@ -1,25 +1,26 @@
 -- What a session sends has one outcome.
 use Rattle.std.proofs.Common.{◌≡◌, ℕ, Bool, true, List, [], Option, Some, None, Result, Ok, Err, ap, sym, ◌∙◌, subst}
 use Rattle.std.specs.Prelude.{codes, slice_get}
-use Rattle.app_cells.specs.Leaning.{cell_of_property}
-use Rattle.app_cells.specs.declared.app.App.{App}
-use Rattle.app_cells.specs.declared.app.CellInfo.{CellInfo}
-use Rattle.app_semantics.proofs.Freshness.{AllFit, given_in, given_told, today_is}
-use Rattle.app_semantics.specs.Fresh.{IsFresh, IsValueOf, standing}
-use Rattle.app_semantics.specs.Holding.{HoldsFitting}
-use Rattle.app_semantics.specs.Laws.{FreshFits, OneFresh}
-use Rattle.app_semantics.specs.Present.{Present, present}
-use Rattle.app_semantics.specs.Properties.{IsForItem, IsPropertyForItem, is_true}
-use Rattle.app_semantics.specs.Sound.{IsSound, IsSoundCell}
-use Rattle.app_semantics.specs.Telling.{told_on}
+use Rattle.recalc.specs.app_cells.Leaning.{cell_of_property}
+use Rattle.recalc.specs.app_cells.declared.app.App.{App}
+use Rattle.recalc.specs.app_cells.declared.app.CellInfo.{CellInfo}
+use Rattle.recalc.proofs.of_app_semantics.Freshness.{AllFit, given_in, given_told, taken, today_is, where_told}
+use Rattle.recalc.specs.app_semantics.Fresh.{AreKnown, IsFresh, IsValueOf, is_told, standing}
+use Rattle.recalc.specs.app_semantics.Holding.{HoldsFitting}
+use Rattle.recalc.specs.app_semantics.Laws.{FreshFits, OneFresh}
+use Rattle.recalc.specs.app_semantics.Present.{Present, present}
+use Rattle.recalc.specs.app_semantics.Properties.{IsForItem, IsPropertyForItem, is_true}
+use Rattle.recalc.specs.app_semantics.Sound.{IsSound, IsSoundCell}
+use Rattle.recalc.specs.app_semantics.Telling.{told_on}
 use Rattle.fx_data.specs.Values.{Data, boolean}
-use Rattle.fx_semantics.proofs.Wider.{stays}
-use Rattle.fx_semantics.specs.Around.{record_of}
-use Rattle.fx_semantics.specs.Sources.{Gives as GivesTold}
-use Rattle.fx_semantics.specs.Unique.{OneValue}
+use Rattle.recalc.proofs.of_fx_semantics.Wider.{stays}
+use Rattle.recalc.specs.fx_semantics.Around.{record_of}
+use Rattle.recalc.specs.fx_semantics.Sources.{Gives as GivesTold}
+use Rattle.recalc.specs.fx_semantics.Unique.{OneValue}
 use Rattle.fx_value.specs.Columns.{Row}
 use Rattle.fx_trees.specs.SourceTypes.{sources}
 use Rattle.fx_trees.specs.declared.sources.Source.{Source}
+use Rattle.fx_base.specs.Silence.{IsLost}
 use Rattle.session_state.specs.Sessions.{SessionState}
 use Rattle.view_text.specs.declared.refused.Refusal.{Refusal}
 use Rattle.request_checks.specs.Checks.{checks, if_live, session_of}
@@ -28,7 +29,9 @@ use Rattle.request_checks.specs.declared.directory.Named.{Named}
 use Rattle.session_requests.specs.Acting.{Ends, answered, with_input, with_target}
 use Rattle.session_requests.specs.Bodies.{event_in, input_in}
 use Rattle.session_requests.specs.Laws.{IsOneOutcome}
-use Rattle.session_requests.specs.Posting.{IsShownFor, IsVerdict, IsVisibleFor, JudgesEvent, JudgesInput, PostsEventChecked, PostsInputChecked, gallery_around}
+use Rattle.recalc.specs.Asking.{ToldRows}
+use Rattle.row_keeper.specs.Tables.{Tables, rows_told}
+use Rattle.session_requests.specs.Posting.{IsShownFor, IsVerdict, IsVisibleFor, JudgesEvent, JudgesInput, PostsEventChecked, PostsInputChecked, SendsEvent, SendsInput, gallery_around}
 use Rattle.session_requests.specs.Targets.{Given, event_target, input_target, or_refused}
 use Rattle.session_requests.specs.declared.event.Event.{Event}
 use Rattle.session_requests.specs.declared.input.Input.{Input}
@@ -43,6 +46,7 @@ Alike said said' a a' b b' = (said ≡ said') × (a ≡ b → a' ≡ b')
 record IsGood (p : Present) : Type 0 where
   sound : IsSound p.app
   holds : HoldsFitting p.app.names p.session
+  known : AreKnown p.app p.tables
 
 -- ---- a formula of a template has one value for an item
 
@@ -50,14 +54,15 @@ one_for_item : OneValue → FreshFits → (p : Present) (values : ℕ → Data) 
     → IsValueOf p values (Some item) c v → IsValueOf p values (Some item) c w → v ≡ w
 one_for_item one fit p values item k c v w good fresh there x y =
     let day = today_is p.moment in
-    let T : Source → Data = told_on day.0 p.app.names p.session values in
+    let T : Source → Data = told_on day.0 p.app.names p.session p.tables values in
     let cell : IsSoundCell p.app.names c = good.sound.cells k c there in
-    let led : AllFit p.app values c.reads = λ r among d e behind at. fit p values good.sound good.holds fresh d e at in
-    one (sources p.app.names) T [] (Some item) None c.core v w
-    (stays (GivesTold (sources p.app.names) (Some T)) c.core (standing p values c.reads (Some item)) v
-    (λ r d g. (given_in p values c r d good.sound good.holds cell led g.0 g.1, given_told p values day.0 r d day.1 g.1)) x)
-    (stays (GivesTold (sources p.app.names) (Some T)) c.core (standing p values c.reads (Some item)) w
-    (λ r d g. (given_in p values c r d good.sound good.holds cell led g.0 g.1, given_told p values day.0 r d day.1 g.1)) y)
+    let led : AllFit p.app values c.reads = λ r among d e behind at. fit p values good.sound good.holds good.known.fit fresh d e at in
+    let told : is_told p.tables c.reads ≡ true = good.known.told k c there in
+    one (sources p.app.names) T [] (Some item) None (taken p c) v w
+    (stays (GivesTold (sources p.app.names) (Some T)) (taken p c) (standing p values c.reads (Some item)) v
+    (λ r d g. (given_in p values c r d good.sound good.holds good.known.fit cell led g.0 g.1, given_told p values day.0 r d day.1 g.1)) (where_told _ (is_told p.tables c.reads) told x))
+    (stays (GivesTold (sources p.app.names) (Some T)) (taken p c) (standing p values c.reads (Some item)) w
+    (λ r d g. (given_in p values c r d good.sound good.holds good.known.fit cell led g.0 g.1, given_told p values day.0 r d day.1 g.1)) (where_told _ (is_told p.tables c.reads) told y))
 
 one_property : OneValue → FreshFits → (p : Present) (values : ℕ → Data) (item : Data) (k : ℕ) (name : List ℕ) (unwritten v w : Data) → IsGood p → IsFresh p values
     → IsPropertyForItem p values item k name unwritten v → IsPropertyForItem p values item k name unwritten w → v ≡ w
@@ -92,17 +97,17 @@ one_verdict one fit p values (Err r) v w good fresh x y = x ∙ sym y
 one_verdict one fit p values (Ok t) v w good fresh x y =
     x.2 ∙ ap (λ (b : Bool). or_refused b 17 (Ok t)) (one_shown one fit p values t.control (gallery_around p.app t.control) t.item x.0 y.0 good fresh x.1 y.1) ∙ sym y.2
 
-one_event : OneValue → FreshFits → OneFresh → (app : App) (moment : ℕ) (s : SessionState) (e : Event) (v w : Result Target Refusal) → IsGood (present app s moment) → JudgesEvent app moment s e v → JudgesEvent app moment s e w → v ≡ w
-one_event one fit once app moment s e v w good x y =
-    let p : Present = present app s moment in
-    let same : y.values ≡ x.values = once p y.values x.values good.sound good.holds y.fresh x.fresh in
+one_event : OneValue → FreshFits → OneFresh → (app : App) (rows : ToldRows) (moment : ℕ) (s : SessionState) (e : Event) (v w : Result Target Refusal) → IsGood (present app s rows moment) → JudgesEvent app rows moment s e v → JudgesEvent app rows moment s e w → v ≡ w
+one_event one fit once app rows moment s e v w good x y =
+    let p : Present = present app s rows moment in
+    let same : y.values ≡ x.values = once p y.values x.values good.sound good.holds good.known y.fresh x.fresh in
     one_verdict one fit p x.values (event_target app.names s x.values e) v w good x.fresh x.is
     (subst (λ (values : ℕ → Data). IsVerdict p values (event_target app.names s values e) w) same y.is)
 
-one_input : OneFresh → (app : App) (moment : ℕ) (s : SessionState) (i : Input) (v w : Result Given Refusal) → IsGood (present app s moment) → JudgesInput app moment s i v → JudgesInput app moment s i w → v ≡ w
-one_input once app moment s i v w good x y =
-    let p : Present = present app s moment in
-    let same : x.values ≡ y.values = once p x.values y.values good.sound good.holds x.fresh y.fresh in
+one_input : OneFresh → (app : App) (rows : ToldRows) (moment : ℕ) (s : SessionState) (i : Input) (v w : Result Given Refusal) → IsGood (present app s rows moment) → JudgesInput app rows moment s i v → JudgesInput app rows moment s i w → v ≡ w
+one_input once app rows moment s i v w good x y =
+    let p : Present = present app s rows moment in
+    let same : x.values ≡ y.values = once p x.values y.values good.sound good.holds good.known x.fresh y.fresh in
     x.is ∙ ap (λ (values : ℕ → Data). input_target app.names s values i) same ∙ sym y.is
 
 -- ---- one outcome
@@ -123,30 +128,34 @@ ends_of T change name body seq s s' v v' said said' a a' b b' e f x y =
 one_session : (name : List ℕ) (a b : List (Named SessionState)) (s s' : SessionState) → find name a ≡ find name b → find name a ≡ Some s → find name b ≡ Some s' → s' ≡ s
 one_session name a b s s' same e f = let both : Some s' ≡ Some s = sym f ∙ sym same ∙ e in cc
 
-inputs_alike : OneFresh → (app : App) (moment : ℕ) (name body : List ℕ) (r : Result Input (List ℕ)) (said said' : List ℕ) (a a' b b' : List (Named SessionState))
-    → IsSound app → ((s : SessionState) → find name a ≡ Some s → HoldsFitting app.names s) → find name a ≡ find name b
-    → PostsInputChecked app moment name body r a said a' → PostsInputChecked app moment name body r b said' b' → Alike said said' a a' b b'
-inputs_alike once app moment name body (Err words) said said' a a' b b' sound holds same x y = (x.0 ∙ sym y.0, λ e. x.1 ∙ e ∙ sym y.1)
-inputs_alike once app moment name body (Ok i) said said' a a' b b' sound holds same x y =
-    let one : y.session ≡ x.session = one_session name a b x.session y.session same x.found y.found in
-    let good : IsGood (present app x.session moment) = record { sound = sound; holds = holds x.session x.found } in
-    let verdict : y.verdict ≡ x.verdict = one_input once app moment x.session i y.verdict x.verdict good (subst (λ (s : SessionState). JudgesInput app moment s i y.verdict) one y.judged) x.judged in
-    ends_of Given with_input name body i.seq x.session y.session x.verdict y.verdict said said' a a' b b' one verdict x.ends y.ends
+inputs_alike : OneFresh → (lost lost' : Type 0) (app : App) (moment : ℕ) (name body : List ℕ) (r : Result Input (List ℕ)) (said said' : List ℕ) (k l m n : Option Tables) (a a' b b' : List (Named SessionState))
+    → IsSound app → ((s : SessionState) → find name a ≡ Some s → HoldsFitting app.names s) → find name a ≡ find name b → AreKnown app (rows_told l) → rows_told l ≡ rows_told n
+    → PostsInputChecked lost app moment name body r k a said l a' → PostsInputChecked lost' app moment name body r m b said' n b' → Alike said said' a a' b b'
+inputs_alike once lost lost' app moment name body (Err words) said said' k l m n a a' b b' sound holds same known rows x y = (x.0 ∙ sym y.0, λ e. x.1 ∙ e ∙ sym y.1)
+inputs_alike once lost lost' app moment name body (Ok i) said said' k l m n a a' b b' sound holds same known rows x y =
+    let second : SendsInput app (rows_told l) moment name body i b said' b' = subst (λ (q : ToldRows). SendsInput app q moment name body i b said' b') (sym rows) y.0 in
+    let one : second.session ≡ x.0.session = one_session name a b x.0.session second.session same x.0.found second.found in
+    let good : IsGood (present app x.0.session (rows_told l) moment) = record { sound = sound; holds = holds x.0.session x.0.found; known = known } in
+    let verdict : second.verdict ≡ x.0.verdict =
+    one_input once app (rows_told l) moment x.0.session i second.verdict x.0.verdict good (subst (λ (s : SessionState). JudgesInput app (rows_told l) moment s i second.verdict) one second.judged) x.0.judged in
+    ends_of Given with_input name body i.seq x.0.session second.session x.0.verdict second.verdict said said' a a' b b' one verdict x.0.ends second.ends
 
-events_alike : OneValue → FreshFits → OneFresh → (app : App) (moment : ℕ) (name body : List ℕ) (r : Result Event (List ℕ)) (said said' : List ℕ) (a a' b b' : List (Named SessionState))
-    → IsSound app → ((s : SessionState) → find name a ≡ Some s → HoldsFitting app.names s) → find name a ≡ find name b
-    → PostsEventChecked app moment name body r a said a' → PostsEventChecked app moment name body r b said' b' → Alike said said' a a' b b'
-events_alike value fit once app moment name body (Err words) said said' a a' b b' sound holds same x y = (x.0 ∙ sym y.0, λ e. x.1 ∙ e ∙ sym y.1)
-events_alike value fit once app moment name body (Ok e) said said' a a' b b' sound holds same x y =
-    let one : y.session ≡ x.session = one_session name a b x.session y.session same x.found y.found in
-    let good : IsGood (present app x.session moment) = record { sound = sound; holds = holds x.session x.found } in
-    let verdict : y.verdict ≡ x.verdict = one_event value fit once app moment x.session e y.verdict x.verdict good (subst (λ (s : SessionState). JudgesEvent app moment s e y.verdict) one y.judged) x.judged in
-    ends_of Target with_target name body e.seq x.session y.session x.verdict y.verdict said said' a a' b b' one verdict x.ends y.ends
+events_alike : OneValue → FreshFits → OneFresh → (lost lost' : Type 0) (app : App) (moment : ℕ) (name body : List ℕ) (r : Result Event (List ℕ)) (said said' : List ℕ) (k l m n : Option Tables) (a a' b b' : List (Named SessionState))
+    → IsSound app → ((s : SessionState) → find name a ≡ Some s → HoldsFitting app.names s) → find name a ≡ find name b → AreKnown app (rows_told l) → rows_told l ≡ rows_told n
+    → PostsEventChecked lost app moment name body r k a said l a' → PostsEventChecked lost' app moment name body r m b said' n b' → Alike said said' a a' b b'
+events_alike value fit once lost lost' app moment name body (Err words) said said' k l m n a a' b b' sound holds same known rows x y = (x.0 ∙ sym y.0, λ e. x.1 ∙ e ∙ sym y.1)
+events_alike value fit once lost lost' app moment name body (Ok e) said said' k l m n a a' b b' sound holds same known rows x y =
+    let second : SendsEvent app (rows_told l) moment name body e b said' b' = subst (λ (q : ToldRows). SendsEvent app q moment name body e b said' b') (sym rows) y.0 in
+    let one : second.session ≡ x.0.session = one_session name a b x.0.session second.session same x.0.found second.found in
+    let good : IsGood (present app x.0.session (rows_told l) moment) = record { sound = sound; holds = holds x.0.session x.0.found; known = known } in
+    let verdict : second.verdict ≡ x.0.verdict =
+    one_event value fit once app (rows_told l) moment x.0.session e second.verdict x.0.verdict good (subst (λ (s : SessionState). JudgesEvent app (rows_told l) moment s e second.verdict) one second.judged) x.0.judged in
+    ends_of Target with_target name body e.seq x.0.session second.session x.0.verdict second.verdict said said' a a' b b' one verdict x.0.ends second.ends
 
 pub one_outcome : OneValue → FreshFits → OneFresh → IsOneOutcome
-one_outcome value fit once app moment name body said said' a a' b b' sound holds same = (
-  λ x y. inputs_alike once app moment name body (checks input_in (λ (i : Input). i.seq) (session_of name a) body) said said' a a' b b' sound holds same x
-      (subst (λ (o : Option SessionState). PostsInputChecked app moment name body (checks input_in (λ (i : Input). i.seq) (if_live o) body) b said' b') (sym same) y),
-  λ x y. events_alike value fit once app moment name body (checks event_in (λ (e : Event). e.seq) (session_of name a) body) said said' a a' b b' sound holds same x
-      (subst (λ (o : Option SessionState). PostsEventChecked app moment name body (checks event_in (λ (e : Event). e.seq) (if_live o) body) b said' b') (sym same) y),
+one_outcome value fit once before now before' now' app moment name body said said' k l m n a a' b b' sound holds same known rows = (
+  λ x y. inputs_alike once (IsLost before now) (IsLost before' now') app moment name body (checks input_in (λ (i : Input). i.seq) (session_of name a) body) said said' k l m n a a' b b' sound holds same known rows x
+      (subst (λ (o : Option SessionState). PostsInputChecked (IsLost before' now') app moment name body (checks input_in (λ (i : Input). i.seq) (if_live o) body) m b said' n b') (sym same) y),
+  λ x y. events_alike value fit once (IsLost before now) (IsLost before' now') app moment name body (checks event_in (λ (e : Event). e.seq) (session_of name a) body) said said' k l m n a a' b b' sound holds same known rows x
+      (subst (λ (o : Option SessionState). PostsEventChecked (IsLost before' now') app moment name body (checks event_in (λ (e : Event). e.seq) (if_live o) body) m b said' n b') (sym same) y),
 )

@@ -2,10 +2,10 @@
 use Rattle.std.proofs.Common.{◌≡◌, ℕ, ◌<◌, List, Option, Some, None, Result, Ok, Err, refl, ap, sym, ◌∙◌, subst, length, map}
 use Rattle.std.specs.Prelude.{IfOk, OnErr, option_map, slice_get, unwrap_or}
 use Rattle.std.specs.List.{position}
-use Rattle.app_cells.specs.declared.app.App.{App}
-use Rattle.app_semantics.specs.Fresh.{IsFresh}
-use Rattle.app_semantics.specs.Present.{present}
-use Rattle.fx_base.specs.declared.Memory.{Memory}
+use Rattle.recalc.specs.app_cells.declared.app.App.{App}
+use Rattle.recalc.specs.app_semantics.Fresh.{IsFresh}
+use Rattle.recalc.specs.app_semantics.Present.{present}
+use Rattle.recalc.specs.Asking.{ToldRows}
 use Rattle.fx_data.specs.ValueView.{view}
 use Rattle.fx_data.specs.Values.{Data, blank}
 use Rattle.fx_data.specs.declared.values.Value.{Value}
@@ -30,9 +30,9 @@ use Rattle.session_requests.proofs.Fitting.{fits_at_place, input_stays, replies_
 use Rattle.session_requests.proofs.Judging.{given_fits}
 
 -- what is judged is judged over fresh values
-pub judged : (app : App) (moment : ℕ) (s : SessionState) (i : Input) (v : Result Given Refusal) (vs : List Value) (w : Values)
-    → IsFresh (present app s moment) (value_of w) → map view vs ≡ w.cells → v ≡ input_target app.names s (cell_values vs) i → JudgesInput app moment s i v
-judged app moment s i v vs w fresh same is =
+pub judged : (app : App) (rows : ToldRows) (moment : ℕ) (s : SessionState) (i : Input) (v : Result Given Refusal) (vs : List Value) (w : Values)
+    → IsFresh (present app s rows moment) (value_of w) → map view vs ≡ w.cells → v ≡ input_target app.names s (cell_values vs) i → JudgesInput app rows moment s i v
+judged app rows moment s i v vs w fresh same is =
     record { values = value_of w; fresh = fresh; is = is ∙ ap (λ (ds : List Data). input_target app.names s (cell_value ds) i) same }
 
 abbrev pub Fitting : Names → Given → Type 0
@@ -64,22 +64,22 @@ has_place n name sessions (Err r) all h = tt
 abbrev pub EndsSo : (T : Type 0) → (T → SessionState → SessionState) → List ℕ → List ℕ → ℕ → Result T Refusal → List (Named SessionState) → List (Named SessionState) → Reply → Type 0
 EndsSo T change name body seq v sessions sessions' y = (z : SessionState) → find name sessions ≡ Some z → Ends change name body seq z v sessions (said y) sessions'
 
-pub sends : (app : App) (moment : ℕ) (name body : List ℕ) (i : Input) (sessions sessions' : List (Named SessionState)) (s : SessionState) (v : Result Given Refusal) (r : Result Reply Memory)
-    → find name sessions ≡ Some s → JudgesInput app moment s i v → IfOk r (EndsSo Given with_input name body i.seq v sessions sessions') → IfOk r (λ y. SendsInput app moment name body i sessions (said y) sessions')
-sends app moment name body i sessions sessions' s v (Ok y) found is h = record { session = s; found = found; verdict = v; judged = is; ends = h s found }
-sends app moment name body i sessions sessions' s v (Err m) found is h = tt
+pub sends : {E : Type 0} (app : App) (rows : ToldRows) (moment : ℕ) (name body : List ℕ) (i : Input) (sessions sessions' : List (Named SessionState)) (s : SessionState) (v : Result Given Refusal) (r : Result Reply E)
+    → find name sessions ≡ Some s → JudgesInput app rows moment s i v → IfOk r (EndsSo Given with_input name body i.seq v sessions sessions') → IfOk r (λ y. SendsInput app rows moment name body i sessions (said y) sessions')
+sends app rows moment name body i sessions sessions' s v (Ok y) found is h = record { session = s; found = found; verdict = v; judged = is; ends = h s found }
+sends app rows moment name body i sessions sessions' s v (Err m) found is h = tt
 
 given_ok : (n : Names) (v : Result Given Refusal) (g : Given) → IfOk v (Fitting n) → v ≡ Ok g → Fitting n g
 given_ok n (Ok x) g h e = let same : x ≡ g = cc in subst (Fitting n) same h
 given_ok n (Err r) g h e = absurd cc
 
-pub still_fit : (n : Names) (name body : List ℕ) (seq : ℕ) (sessions sessions' : List (Named SessionState)) (s : SessionState) (v : Result Given Refusal) (r : Result Reply Memory)
+pub still_fit : {E : Type 0} (n : Names) (name body : List ℕ) (seq : ℕ) (sessions sessions' : List (Named SessionState)) (s : SessionState) (v : Result Given Refusal) (r : Result Reply E)
     → SessionsFit n sessions → find name sessions ≡ Some s → IfOk v (Fitting n) → IfOk r (EndsSo Given with_input name body seq v sessions sessions') → OnErr r (sessions' ≡ sessions) → SessionsFit n sessions'
 still_fit n name body seq sessions sessions' s v (Ok y) all found given h e =
     input_stays n name body seq s v sessions (said y) sessions' (found_fits n name sessions s all found) (λ g is. given_ok n v g given is) all (h s found)
 still_fit n name body seq sessions sessions' s v (Err m) all found given h e = subst (λ (l : List (Named SessionState)). SessionsFit n l) (sym e) all
 
-pub still_kept : (T : Type 0) (change : T → SessionState → SessionState) (name body : List ℕ) (seq : ℕ) (sessions sessions' : List (Named SessionState)) (s : SessionState) (v : Result T Refusal) (r : Result Reply Memory)
+pub still_kept : {E : Type 0} (T : Type 0) (change : T → SessionState → SessionState) (name body : List ℕ) (seq : ℕ) (sessions sessions' : List (Named SessionState)) (s : SessionState) (v : Result T Refusal) (r : Result Reply E)
     → SessionsKeepReplies sessions → find name sessions ≡ Some s → IfOk r (EndsSo T change name body seq v sessions sessions') → OnErr r (sessions' ≡ sessions) → SessionsKeepReplies sessions'
 still_kept T change name body seq sessions sessions' s v (Ok y) all found h e = replies_stay T change name body seq s v sessions (said y) sessions' all (h s found)
 still_kept T change name body seq sessions sessions' s v (Err m) all found h e = subst (λ (l : List (Named SessionState)). SessionsKeepReplies l) (sym e) all

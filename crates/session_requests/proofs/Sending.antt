@@ -1,6 +1,6 @@
 -- What is sent by a session, when it comes again and beside other sessions.
-use Rattle.std.proofs.Common.{◌≡◌, ◌≢◌, ℕ, List, Some, Result, Ok, Err, ap, ◌∙◌, subst}
-use Rattle.app_cells.specs.declared.app.App.{App}
+use Rattle.std.proofs.Common.{◌≡◌, ◌≢◌, ℕ, List, Option, Some, Result, Ok, Err, ap, ◌∙◌, subst}
+use Rattle.recalc.specs.app_cells.declared.app.App.{App}
 use Rattle.session_state.specs.Once.{Kept}
 use Rattle.session_state.specs.Sessions.{SessionState}
 use Rattle.view_text.specs.declared.refused.Refusal.{Refusal}
@@ -11,6 +11,8 @@ use Rattle.request_checks.proofs.Again.{comes_again}
 use Rattle.request_checks.proofs.Directories.{find_other}
 use Rattle.session_requests.specs.Acting.{Ends, answered, with_input, with_target}
 use Rattle.session_requests.specs.Bodies.{event_in, input_in}
+use Rattle.row_keeper.specs.Tables.{Tables}
+use Rattle.session_requests.specs.Laws.{Repeats}
 use Rattle.session_requests.specs.Posting.{PostsEvent, PostsEventChecked, PostsInput, PostsInputChecked}
 use Rattle.session_requests.specs.declared.event.Event.{Event}
 use Rattle.session_requests.specs.declared.input.Input.{Input}
@@ -21,34 +23,34 @@ ends_leave T change name other body seq s (Err r) sessions said sessions' differ
 ends_leave T change name other body seq s (Ok t) sessions said sessions' differ h =
     ap (λ (l : List (Named SessionState)). find other l) h.1 ∙ find_other SessionState name other (answered seq body (change t s)) sessions differ
 
-input_leaves : (app : App) (moment : ℕ) (name other body : List ℕ) (r : Result Input (List ℕ)) (sessions : List (Named SessionState)) (said : List ℕ) (sessions' : List (Named SessionState))
-    → name ≢ other → PostsInputChecked app moment name body r sessions said sessions' → find other sessions' ≡ find other sessions
-input_leaves app moment name other body (Err words) sessions said sessions' differ h = ap (λ (l : List (Named SessionState)). find other l) h.1
-input_leaves app moment name other body (Ok i) sessions said sessions' differ h = ends_leave _ with_input name other body i.seq h.session h.verdict sessions said sessions' differ h.ends
+input_leaves : (lost : Type 0) (app : App) (moment : ℕ) (name other body : List ℕ) (r : Result Input (List ℕ)) (told : Option Tables) (sessions : List (Named SessionState)) (said : List ℕ) (told' : Option Tables) (sessions' : List (Named SessionState))
+    → name ≢ other → PostsInputChecked lost app moment name body r told sessions said told' sessions' → find other sessions' ≡ find other sessions
+input_leaves lost app moment name other body (Err words) told sessions said told' sessions' differ h = ap (λ (l : List (Named SessionState)). find other l) h.1
+input_leaves lost app moment name other body (Ok i) told sessions said told' sessions' differ h = ends_leave _ with_input name other body i.seq h.0.session h.0.verdict sessions said sessions' differ h.0.ends
 
-event_leaves : (app : App) (moment : ℕ) (name other body : List ℕ) (r : Result Event (List ℕ)) (sessions : List (Named SessionState)) (said : List ℕ) (sessions' : List (Named SessionState))
-    → name ≢ other → PostsEventChecked app moment name body r sessions said sessions' → find other sessions' ≡ find other sessions
-event_leaves app moment name other body (Err words) sessions said sessions' differ h = ap (λ (l : List (Named SessionState)). find other l) h.1
-event_leaves app moment name other body (Ok e) sessions said sessions' differ h = ends_leave _ with_target name other body e.seq h.session h.verdict sessions said sessions' differ h.ends
+event_leaves : (lost : Type 0) (app : App) (moment : ℕ) (name other body : List ℕ) (r : Result Event (List ℕ)) (told : Option Tables) (sessions : List (Named SessionState)) (said : List ℕ) (told' : Option Tables) (sessions' : List (Named SessionState))
+    → name ≢ other → PostsEventChecked lost app moment name body r told sessions said told' sessions' → find other sessions' ≡ find other sessions
+event_leaves lost app moment name other body (Err words) told sessions said told' sessions' differ h = ap (λ (l : List (Named SessionState)). find other l) h.1
+event_leaves lost app moment name other body (Ok e) told sessions said told' sessions' differ h = ends_leave _ with_target name other body e.seq h.0.session h.0.verdict sessions said sessions' differ h.0.ends
 
-pub others_left : (app : App) (moment : ℕ) (name other body said : List ℕ) (sessions sessions' : List (Named SessionState)) → name ≢ other
-    → (PostsInput app moment name body sessions said sessions' → find other sessions' ≡ find other sessions)
-    × (PostsEvent app moment name body sessions said sessions' → find other sessions' ≡ find other sessions)
-others_left app moment name other body said sessions sessions' differ = (
-  input_leaves app moment name other body (checks input_in (λ (i : Input). i.seq) (session_of name sessions) body) sessions said sessions' differ,
-  event_leaves app moment name other body (checks event_in (λ (e : Event). e.seq) (session_of name sessions) body) sessions said sessions' differ,
+pub others_left : (lost : Type 0) (app : App) (moment : ℕ) (name other body said : List ℕ) (told told' : Option Tables) (sessions sessions' : List (Named SessionState)) → name ≢ other
+    → (PostsInput lost app moment name body told sessions said told' sessions' → find other sessions' ≡ find other sessions)
+    × (PostsEvent lost app moment name body told sessions said told' sessions' → find other sessions' ≡ find other sessions)
+others_left lost app moment name other body said told told' sessions sessions' differ = (
+  input_leaves lost app moment name other body (checks input_in (λ (i : Input). i.seq) (session_of name sessions) body) told sessions said told' sessions' differ,
+  event_leaves lost app moment name other body (checks event_in (λ (e : Event). e.seq) (session_of name sessions) body) told sessions said told' sessions' differ,
 )
 
 -- a live session is the caller that is kept of it
 live : (name : List ℕ) (s : SessionState) (sessions : List (Named SessionState)) → find name sessions ≡ Some s → session_of name sessions ≡ Ok s.kept
 live name s sessions e = ap if_live e
 
-pub once : (app : App) (moment : ℕ) (name said : List ℕ) (s : SessionState) (sessions sessions' : List (Named SessionState)) → find name sessions ≡ Some s
-    → (IsLastAsked Input input_in (λ (i : Input). i.seq) s.kept → PostsInput app moment name s.kept.body sessions said sessions' → (said ≡ s.kept.reply) × (sessions' ≡ sessions))
-    × (IsLastAsked Event event_in (λ (e : Event). e.seq) s.kept → PostsEvent app moment name s.kept.body sessions said sessions' → (said ≡ s.kept.reply) × (sessions' ≡ sessions))
-once app moment name said s sessions sessions' e = (
-  λ last h. subst (λ (r : Result Input (List ℕ)). PostsInputChecked app moment name s.kept.body r sessions said sessions')
+pub once : (lost : Type 0) (app : App) (moment : ℕ) (name said : List ℕ) (s : SessionState) (told told' : Option Tables) (sessions sessions' : List (Named SessionState)) → find name sessions ≡ Some s
+    → (IsLastAsked Input input_in (λ (i : Input). i.seq) s.kept → PostsInput lost app moment name s.kept.body told sessions said told' sessions' → Repeats s.kept said told told' sessions sessions')
+    × (IsLastAsked Event event_in (λ (e : Event). e.seq) s.kept → PostsEvent lost app moment name s.kept.body told sessions said told' sessions' → Repeats s.kept said told told' sessions sessions')
+once lost app moment name said s told told' sessions sessions' e = (
+  λ last h. subst (λ (r : Result Input (List ℕ)). PostsInputChecked lost app moment name s.kept.body r told sessions said told' sessions')
       (ap (λ (c : Result Kept ℕ). checks input_in (λ (i : Input). i.seq) c s.kept.body) (live name s sessions e) ∙ comes_again Input input_in (λ (i : Input). i.seq) s.kept last) h,
-  λ last h. subst (λ (r : Result Event (List ℕ)). PostsEventChecked app moment name s.kept.body r sessions said sessions')
+  λ last h. subst (λ (r : Result Event (List ℕ)). PostsEventChecked lost app moment name s.kept.body r told sessions said told' sessions')
       (ap (λ (c : Result Kept ℕ). checks event_in (λ (e : Event). e.seq) c s.kept.body) (live name s sessions e) ∙ comes_again Event event_in (λ (e : Event). e.seq) s.kept last) h,
 )

@@ -1,20 +1,24 @@
 -- A session sends events and inputs.
 use Rattle.std.specs.Prelude.{◌≡◌, ℕ, Bool, true, List, codes, Option, Some, None, Result, Ok, Err, slice_get, option_and_then}
 use Rattle.std.specs.List.{AllByRecursion}
-use Rattle.app_cells.specs.declared.app.App.{App}
-use Rattle.app_semantics.specs.Chosen.{row_at}
-use Rattle.app_semantics.specs.Fresh.{IsFresh}
-use Rattle.app_semantics.specs.Present.{Present, items_of, present}
-use Rattle.app_semantics.specs.Properties.{IsPropertyForItem, is_true}
+use Rattle.recalc.specs.app_cells.declared.app.App.{App}
+use Rattle.recalc.specs.app_semantics.Chosen.{row_at}
+use Rattle.recalc.specs.app_semantics.Fresh.{IsFresh}
+use Rattle.recalc.specs.app_semantics.Present.{Present, items_of, present}
+use Rattle.recalc.specs.app_semantics.Properties.{IsPropertyForItem, is_true}
 use Rattle.fx_data.specs.Values.{Data, boolean}
-use Rattle.fx_semantics.specs.Around.{record_of}
-use Rattle.fx_semantics.specs.Rows.{rows_in}
-use Rattle.fx_value.specs.Columns.{Row}
+use Rattle.recalc.specs.fx_semantics.Around.{record_of}
+use Rattle.recalc.specs.fx_semantics.Rows.{rows_in}
+use Rattle.fx_value.specs.Columns.{Row as Fields}
 use Rattle.fx_trees.specs.declared.names.ControlName.{ControlName}
 use Rattle.fx_trees.specs.declared.names.Names.{Names}
 use Rattle.request_checks.specs.Checks.{checks, session_of}
 use Rattle.request_checks.specs.Directory.{find}
 use Rattle.request_checks.specs.declared.directory.Named.{Named}
+use Rattle.fx_base.specs.Silence.{Goes}
+use Rattle.fx_base.specs.Telling.{Stays}
+use Rattle.row_keeper.specs.Tables.{Tables, rows_told}
+use Rattle.row_queries.specs.declared.rows.Row.{Row}
 use Rattle.session_state.specs.Changes.{FitsNames}
 use Rattle.session_state.specs.Sessions.{SessionState}
 use Rattle.view_text.specs.declared.refused.Refusal.{Refusal}
@@ -33,33 +37,38 @@ SessionsFit n sessions = AllByRecursion (λ (x : Named SessionState). FitsNames 
 -- ---- inputs
 
 -- what becomes of an input of a session whose formulas have fresh values
-pub record JudgesInput (app : App) (moment : ℕ) (s : SessionState) (i : Input) (v : Result Given Refusal) : Type 0 where
+pub record JudgesInput (app : App) (rows : Option (List (List Row))) (moment : ℕ) (s : SessionState) (i : Input) (v : Result Given Refusal) : Type 0 where
   pub values : ℕ → Data
-  pub fresh : IsFresh (present app s moment) values
+  pub fresh : IsFresh (present app s rows moment) values
   pub is : v ≡ input_target app.names s values i
 
 -- an input that passed the checks of numbered requests: its session is live
-pub record SendsInput (app : App) (moment : ℕ) (name body : List ℕ) (i : Input) (sessions : List (Named SessionState)) (said : List ℕ) (sessions' : List (Named SessionState)) : Type 0 where
+pub record SendsInput (app : App) (rows : Option (List (List Row))) (moment : ℕ) (name body : List ℕ) (i : Input) (sessions : List (Named SessionState)) (said : List ℕ) (sessions' : List (Named SessionState)) : Type 0 where
   pub session : SessionState
   pub found : find name sessions ≡ Some session
   pub verdict : Result Given Refusal
-  pub judged : JudgesInput app moment session i verdict
+  pub judged : JudgesInput app rows moment session i verdict
   pub ends : Ends with_input name body i.seq session verdict sessions said sessions'
 
-abbrev pub PostsInputChecked : App → ℕ → List ℕ → List ℕ → Result Input (List ℕ) → List (Named SessionState) → List ℕ → List (Named SessionState) → Type 0
-PostsInputChecked app moment name body (Err words) sessions said sessions' = (said ≡ words) × (sessions' ≡ sessions)
-PostsInputChecked app moment name body (Ok i) sessions said sessions' = SendsInput app moment name body i sessions said sessions'
+abbrev pub PostsInputChecked : Type 0 → App → ℕ → List ℕ → List ℕ → Result Input (List ℕ) → Option Tables → List (Named SessionState) → List ℕ → Option Tables → List (Named SessionState) → Type 0
+PostsInputChecked lost app moment name body (Err words) told sessions said told' sessions' = (said ≡ words) × (sessions' ≡ sessions) × (told' ≡ told)
+PostsInputChecked lost app moment name body (Ok i) told sessions said told' sessions' =
+    SendsInput app (rows_told told') moment name body i sessions said sessions' × Goes lost Stays told told'
 
--- THE route of inputs
-abbrev pub PostsInput : App → ℕ → List ℕ → List ℕ → List (Named SessionState) → List ℕ → List (Named SessionState) → Type 0
-PostsInput app moment name body sessions said sessions' =
-    PostsInputChecked app moment name body (checks input_in (λ (i : Input). i.seq) (session_of name sessions) body) sessions said sessions'
+-- THE route of inputs, which leaves the rows of tables
+abbrev pub PostsInput : Type 0 → App → ℕ → List ℕ → List ℕ → Option Tables → List (Named SessionState) → List ℕ → Option Tables → List (Named SessionState) → Type 0
+PostsInput lost app moment name body told sessions said told' sessions' =
+    PostsInputChecked lost app moment name body (checks input_in (λ (i : Input). i.seq) (session_of name sessions) body) told sessions said told' sessions'
+
+-- the checks that call no keeper are passed
+abbrev pub ReachesInput : List ℕ → List ℕ → List (Named SessionState) → Type 0
+ReachesInput name body sessions = (i : Input) × (checks input_in (λ (i : Input). i.seq) (session_of name sessions) body ≡ Ok i)
 
 -- ---- events
 
 -- the control is visible for the item at this position of the gallery
 pub record IsVisibleFor (p : Present) (values : ℕ → Data) (k gallery at : ℕ) (b : Bool) : Type 0 where
-  pub row : Row
+  pub row : Fields
   pub there : row_at at (rows_in (items_of p.app.names values gallery)) ≡ Some row
   pub value : Data
   pub is_value : IsPropertyForItem p values (record_of row) k (codes "Visible") (boolean true) value
@@ -81,24 +90,29 @@ IsVerdict p values (Err r) v = v ≡ Err r
 IsVerdict p values (Ok t) v = (b : Bool) × IsShownFor p values t.control (gallery_around p.app t.control) t.item b × (v ≡ or_refused b 17 (Ok t))
 
 -- what becomes of an event of a session whose formulas have fresh values
-pub record JudgesEvent (app : App) (moment : ℕ) (s : SessionState) (e : Event) (v : Result Target Refusal) : Type 0 where
+pub record JudgesEvent (app : App) (rows : Option (List (List Row))) (moment : ℕ) (s : SessionState) (e : Event) (v : Result Target Refusal) : Type 0 where
   pub values : ℕ → Data
-  pub fresh : IsFresh (present app s moment) values
-  pub is : IsVerdict (present app s moment) values (event_target app.names s values e) v
+  pub fresh : IsFresh (present app s rows moment) values
+  pub is : IsVerdict (present app s rows moment) values (event_target app.names s values e) v
 
 -- an event that passed the checks of numbered requests
-pub record SendsEvent (app : App) (moment : ℕ) (name body : List ℕ) (e : Event) (sessions : List (Named SessionState)) (said : List ℕ) (sessions' : List (Named SessionState)) : Type 0 where
+pub record SendsEvent (app : App) (rows : Option (List (List Row))) (moment : ℕ) (name body : List ℕ) (e : Event) (sessions : List (Named SessionState)) (said : List ℕ) (sessions' : List (Named SessionState)) : Type 0 where
   pub session : SessionState
   pub found : find name sessions ≡ Some session
   pub verdict : Result Target Refusal
-  pub judged : JudgesEvent app moment session e verdict
+  pub judged : JudgesEvent app rows moment session e verdict
   pub ends : Ends with_target name body e.seq session verdict sessions said sessions'
 
-abbrev pub PostsEventChecked : App → ℕ → List ℕ → List ℕ → Result Event (List ℕ) → List (Named SessionState) → List ℕ → List (Named SessionState) → Type 0
-PostsEventChecked app moment name body (Err words) sessions said sessions' = (said ≡ words) × (sessions' ≡ sessions)
-PostsEventChecked app moment name body (Ok e) sessions said sessions' = SendsEvent app moment name body e sessions said sessions'
+abbrev pub PostsEventChecked : Type 0 → App → ℕ → List ℕ → List ℕ → Result Event (List ℕ) → Option Tables → List (Named SessionState) → List ℕ → Option Tables → List (Named SessionState) → Type 0
+PostsEventChecked lost app moment name body (Err words) told sessions said told' sessions' = (said ≡ words) × (sessions' ≡ sessions) × (told' ≡ told)
+PostsEventChecked lost app moment name body (Ok e) told sessions said told' sessions' =
+    SendsEvent app (rows_told told') moment name body e sessions said sessions' × Goes lost Stays told told'
 
--- THE route of events
-abbrev pub PostsEvent : App → ℕ → List ℕ → List ℕ → List (Named SessionState) → List ℕ → List (Named SessionState) → Type 0
-PostsEvent app moment name body sessions said sessions' =
-    PostsEventChecked app moment name body (checks event_in (λ (e : Event). e.seq) (session_of name sessions) body) sessions said sessions'
+-- THE route of events, which leaves the rows of tables
+abbrev pub PostsEvent : Type 0 → App → ℕ → List ℕ → List ℕ → Option Tables → List (Named SessionState) → List ℕ → Option Tables → List (Named SessionState) → Type 0
+PostsEvent lost app moment name body told sessions said told' sessions' =
+    PostsEventChecked lost app moment name body (checks event_in (λ (e : Event). e.seq) (session_of name sessions) body) told sessions said told' sessions'
+
+-- the checks that call no keeper are passed
+abbrev pub ReachesEvent : List ℕ → List ℕ → List (Named SessionState) → Type 0
+ReachesEvent name body sessions = (e : Event) × (checks event_in (λ (e : Event). e.seq) (session_of name sessions) body ≡ Ok e)

@@ -1,7 +1,7 @@
 -- Controls that requests name, and whether they are shown.
 use Rattle.std.specs.Prelude.{ℕ, ◌==◌, ◌&&◌, Bool, bytes_eq, List, map, Option, unwrap_or}
 use Rattle.std.specs.List.{position, slice_index_or}
-use Rattle.app_semantics.specs.Properties.{is_visible}
+use Rattle.recalc.specs.app_semantics.Properties.{is_visible}
 use Rattle.fx_data.specs.ValueView.{view}
 use Rattle.fx_data.specs.Values.{Data, blank}
 use Rattle.fx_data.specs.declared.values.Value.{Value}

@@ -1,13 +1,13 @@
 -- What events and inputs act on, and which of them are refused.
 use Rattle.std.specs.Prelude.{◌≡◌, ℕ, ◌==◌, ◌&&◌, ℤ, pos, int_le, nat_le, Bool, true, false, is_some, bytes_eq, List, length, codes, encode_utf8_all, Option, Some, None, Result, Ok, Err, slice_get, IfSome, if◌then◌else◌}
-use Rattle.app_cells.specs.Spots.{item_or}
-use Rattle.app_semantics.specs.Chosen.{item_id, row_at}
-use Rattle.app_semantics.specs.Present.{items_of}
-use Rattle.app_semantics.specs.Properties.{property_value}
+use Rattle.recalc.specs.app_cells.Spots.{item_or}
+use Rattle.recalc.specs.app_semantics.Chosen.{item_id, row_at}
+use Rattle.recalc.specs.app_semantics.Present.{items_of}
+use Rattle.recalc.specs.app_semantics.Properties.{property_value}
 use Rattle.fx_data.specs.Values.{Data, blank, number, text, boolean, date}
 use Rattle.fx_data.specs.declared.controls.Control.{Control}
 use Rattle.fx_data.specs.declared.controls.Control.TheVariants as control
-use Rattle.fx_semantics.specs.Rows.{rows_in}
+use Rattle.recalc.specs.fx_semantics.Rows.{rows_in}
 use Rattle.fx_value.specs.Columns.{Row}
 use Rattle.fx_trees.specs.Controls.{input_type, is_behaviour}
 use Rattle.fx_trees.specs.declared.names.ControlName.{ControlName}

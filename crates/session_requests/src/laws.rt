@@ -1,8 +1,8 @@
 //! Laws of sessions' requests.
 ghost use Rattle.session_requests.specs.Laws.{ActsOnce, IsOneOutcome, LeavesOthers};
 
-use app_semantics::{fresh_fits, one_fresh};
-use fx_semantics::one_value;
+use crate::app_semantics::{fresh_fits, one_fresh};
+use crate::fx_semantics::one_value;
 
 /// A law, and no work: what is sent by a session leaves every other as it was.
 pub fn leaves_others()

@@ -14,4 +14,7 @@ mod visible;
 pub use event::{Event, Place};
 pub use input::{Given, Input};
 pub use posting::{post_event, post_input};
+pub use recalc;
+use recalc::app_semantics::app_cells;
+use recalc::{app_semantics, fx_semantics};
 pub use target::{Item, Target};

@@ -1,28 +1,34 @@
 //! A session sends events and inputs.
-ghost use Rattle.std.specs.Prelude.{◌≡◌, ◌<◌, IfErr, IfOk, IfSome, OnErr, Ok, IsSome, length, unwrap_or};
-ghost use Rattle.app_semantics.specs.Sound.{IsSound};
+ghost use Rattle.std.specs.Prelude.{◌≡◌, ◌<◌, IfErr, IfOk, IfSome, IsErrOf, OnErr, Ok, IsSome, Some, length, unwrap_or};
+ghost use Rattle.recalc.specs.app_semantics.Sound.{IsSound};
 ghost use Rattle.fx_data.specs.Values.{blank};
 ghost use Rattle.fx_trees.specs.declared.sources.Source.TheVariants as source;
+ghost use Rattle.fx_base.specs.Silence.{IsLost};
+ghost use Rattle.recalc.specs.Asking.{HasRead, keeping};
+ghost use Rattle.row_keeper.specs.Causes.{HasCause};
+ghost use Rattle.row_keeper.specs.Tables.{rows_told};
+ghost use Rattle.row_keeper.specs.declared.keeper.KeeperEnd.TheVariants.{Failed};
 ghost use Rattle.request_checks.specs.Checked.{SessionsKeepReplies};
 ghost use Rattle.request_checks.specs.Directory.{find};
 ghost use Rattle.request_checks.specs.Replies.{IsReply, said};
 ghost use Rattle.session_state.specs.Changes.{FitsNames, FitsSource};
 ghost use Rattle.view_text.specs.RefusalText.{Fits};
-ghost use Rattle.session_requests.specs.Posting.{JudgesEvent, JudgesInput, PostsEvent, PostsInput, SendsEvent, SendsInput, SessionsFit};
+ghost use Rattle.session_requests.specs.Posting.{JudgesEvent, JudgesInput, PostsEvent, PostsInput, ReachesEvent, ReachesInput, SendsEvent, SendsInput, SessionsFit};
 ghost use Rattle.session_requests.specs.Targets.{or_refused};
 
 use crate::acting::{end_event, end_input};
+use crate::app_cells::App;
+use crate::app_semantics::fitting_holds;
 use crate::checks::{event_target, input_target, plain};
 use crate::event::Event;
 use crate::input::{Given, Input};
 use crate::target::Target;
 use crate::visible::is_shown_for;
-use app_cells::App;
-use app_semantics::fitting_holds;
 use fx_base::Memory;
 use fx_data::Words;
 use recalc::{Steps, evaluate, id_name};
 use request_checks::{Checked, Named, Reply, check_session, place_of};
+use row_keeper::{Keeper, KeeperEnd};
 use session_state::Session;
 use std::alloc::Global;
 use std::sync::ledger::Ledger;
@@ -32,80 +38,102 @@ use view_text::Refusal;
 /// reply is a refusal: no JSON (9), another shape (10), no such session (11), another number (13, 14), no control (15), one
 /// that takes no input (16) or isn't shown (17), or a value that it doesn't take (20). The last request once more gets the
 /// kept reply. Null takes away what was given. Nothing but this session can change.
-pub fn post_input<L: Ledger>(
+#[tactic(auto, using(recalc::proofs::Asked::read_none, recalc::proofs::Asked::read_on))]
+pub fn post_input<K: Keeper, L: Ledger>(
     alloc: Global,
     app: &App,
     sessions: &mut Vec<Named<Session>>,
+    keeper: &mut K,
     name: &Words,
     body: &[u8],
     moment: u64,
     steps: &mut Steps<L>,
-) -> Result<Reply, Memory>
+) -> Result<Reply, KeeperEnd>
     requires sound { IsSound app.now }
     requires fit { SessionsFit app.now.names sessions.old.items }
     requires kept { SessionsKeepReplies sessions.old.items }
-    ensures done { IfOk result (λ r. PostsInput app.now moment name.now body.now sessions.old.items (said r) sessions.new.items) }
+    requires shaped { K.shaped keeper.old ≡ Some app.now.names.schema }
+    ensures done { IfOk result (λ r. PostsInput (IsLost (K.marks keeper.old) (K.marks keeper.new)) app.now moment name.now body.now (K.told keeper.old) sessions.old.items (said r) (K.told keeper.new) sessions.new.items) }
     ensures whole { IfOk result IsReply }
+    ensures reached { IsErrOf result Failed → ReachesInput name.now body.now sessions.old.items }
     ensures stopped { OnErr result (sessions.new.items ≡ sessions.old.items) }
     ensures fit { SessionsFit app.now.names sessions.new.items }
     ensures kept { SessionsKeepReplies sessions.new.items }
+    ensures read { HasRead (keeping (K.told keeper.old) (K.shaped keeper.old) (K.in_transaction keeper.old) (K.marks keeper.old) (K.loan keeper.old))
+        (keeping (K.told keeper.new) (K.shaped keeper.new) (K.in_transaction keeper.new) (K.marks keeper.new) (K.loan keeper.new)) }
+    ensures cause { HasCause (K.marks keeper.old) (K.marks keeper.new) result }
 {
     match check_session::<Input>(alloc, sessions, name, body)? {
         Checked::Says(reply) => Ok(reply),
         Checked::Acts(input) => {
-            send_input(alloc, app, sessions, name, body, input, moment, steps)
+            send_input(
+                alloc, app, sessions, keeper, name, body, input, moment, steps,
+            )
         }
     }
 }
 
 /// Sends an input that passed the checks of numbered requests.
-fn send_input<L: Ledger>(
+#[tactic(auto, using(recalc::proofs::Asked::read_none, recalc::proofs::Asked::read_on))]
+fn send_input<K: Keeper, L: Ledger>(
     alloc: Global,
     app: &App,
     sessions: &mut Vec<Named<Session>>,
+    keeper: &mut K,
     name: &Words,
     body: &[u8],
     input: Input,
     moment: u64,
     steps: &mut Steps<L>,
-) -> Result<Reply, Memory>
+) -> Result<Reply, KeeperEnd>
     requires sound { IsSound app.now }
     requires live { IsSome (find name.now sessions.old.items) }
     requires fit { SessionsFit app.now.names sessions.old.items }
     requires kept { SessionsKeepReplies sessions.old.items }
-    ensures done { IfOk result (λ r. SendsInput app.now moment name.now body.now input sessions.old.items (said r) sessions.new.items) }
+    requires shaped { K.shaped keeper.old ≡ Some app.now.names.schema }
+    ensures done { IfOk result (λ r. SendsInput app.now (rows_told (K.told keeper.new)) moment name.now body.now input sessions.old.items (said r) sessions.new.items) }
     ensures whole { IfOk result IsReply }
     ensures stopped { OnErr result (sessions.new.items ≡ sessions.old.items) }
     ensures fit { SessionsFit app.now.names sessions.new.items }
     ensures kept { SessionsKeepReplies sessions.new.items }
+    ensures read { HasRead (keeping (K.told keeper.old) (K.shaped keeper.old) (K.in_transaction keeper.old) (K.marks keeper.old) (K.loan keeper.old))
+        (keeping (K.told keeper.new) (K.shaped keeper.new) (K.in_transaction keeper.new) (K.marks keeper.new) (K.loan keeper.new)) }
+    ensures cause { HasCause (K.marks keeper.old) (K.marks keeper.new) result }
 {
     let seq = input.seq;
     match place_of(sessions, name) {
         Some(place) => {
-            let verdict = judge_input(alloc, app, &sessions[place].it, input, moment, steps)?;
-            end_input(alloc, sessions, place, name, body, seq, verdict)
+            let session = &sessions[place].it;
+            let verdict = judge_input(alloc, app, session, keeper, input, moment, steps)?;
+            Ok(end_input(alloc, sessions, place, name, body, seq, verdict)?)
         }
         None => unreachable!(),
     }
 }
 
 /// What becomes of an input of a session.
-fn judge_input<L: Ledger>(
+#[tactic(auto, using(recalc::proofs::Asked::read_none, recalc::proofs::Asked::read_on))]
+fn judge_input<K: Keeper, L: Ledger>(
     alloc: Global,
     app: &App,
     session: &Session,
+    keeper: &mut K,
     input: Input,
     moment: u64,
     steps: &mut Steps<L>,
-) -> Result<Result<(u32, Given), Refusal>, Memory>
+) -> Result<Result<(u32, Given), Refusal>, KeeperEnd>
     requires sound { IsSound app.now }
     requires fits { FitsNames app.now.names session.now }
-    ensures judged { IfOk result (λ v. JudgesInput app.now moment session.now input v) }
+    requires shaped { K.shaped keeper.old ≡ Some app.now.names.schema }
+    ensures judged { IfOk result (λ v. JudgesInput app.now (rows_told (K.told keeper.new)) moment session.now input v) }
     ensures given { IfOk result (λ v. IfOk v (λ g. FitsSource app.now.names (source.Input g.0) (unwrap_or g.1 blank))) }
     ensures detail { IfOk result (λ v. IfErr v (λ r. Fits r.code r.detail)) }
+    ensures read { HasRead (keeping (K.told keeper.old) (K.shaped keeper.old) (K.in_transaction keeper.old) (K.marks keeper.old) (K.loan keeper.old))
+        (keeping (K.told keeper.new) (K.shaped keeper.new) (K.in_transaction keeper.new) (K.marks keeper.new) (K.loan keeper.new)) }
+    ensures cause { HasCause (K.marks keeper.old) (K.marks keeper.new) result }
 {
     fitting_holds();
-    let valued = evaluate(alloc, app, session, moment, steps)?;
+    let valued = evaluate(alloc, app, session, keeper, moment, steps)?;
     let values = valued.as_slice();
     Ok(input_target(&app.names, session.screen(), values, input))
 }
@@ -115,83 +143,105 @@ fn judge_input<L: Ledger>(
 /// another number (13, 14), no control (15), no such event of it (16), a control that isn't shown (17), no such item (18), one
 /// that has moved (19), or a control in a gallery that isn't visible for the item (17). The last request once more gets the
 /// kept reply. Nothing but this session can change.
-pub fn post_event<L: Ledger>(
+#[tactic(auto, using(recalc::proofs::Asked::read_none, recalc::proofs::Asked::read_on))]
+pub fn post_event<K: Keeper, L: Ledger>(
     alloc: Global,
     app: &App,
     sessions: &mut Vec<Named<Session>>,
+    keeper: &mut K,
     name: &Words,
     body: &[u8],
     moment: u64,
     steps: &mut Steps<L>,
-) -> Result<Reply, Memory>
+) -> Result<Reply, KeeperEnd>
     requires sound { IsSound app.now }
     requires fit { SessionsFit app.now.names sessions.old.items }
     requires kept { SessionsKeepReplies sessions.old.items }
-    ensures done { IfOk result (λ r. PostsEvent app.now moment name.now body.now sessions.old.items (said r) sessions.new.items) }
+    requires shaped { K.shaped keeper.old ≡ Some app.now.names.schema }
+    ensures done { IfOk result (λ r. PostsEvent (IsLost (K.marks keeper.old) (K.marks keeper.new)) app.now moment name.now body.now (K.told keeper.old) sessions.old.items (said r) (K.told keeper.new) sessions.new.items) }
     ensures whole { IfOk result IsReply }
+    ensures reached { IsErrOf result Failed → ReachesEvent name.now body.now sessions.old.items }
     ensures stopped { OnErr result (sessions.new.items ≡ sessions.old.items) }
     ensures fit { SessionsFit app.now.names sessions.new.items }
     ensures kept { SessionsKeepReplies sessions.new.items }
+    ensures read { HasRead (keeping (K.told keeper.old) (K.shaped keeper.old) (K.in_transaction keeper.old) (K.marks keeper.old) (K.loan keeper.old))
+        (keeping (K.told keeper.new) (K.shaped keeper.new) (K.in_transaction keeper.new) (K.marks keeper.new) (K.loan keeper.new)) }
+    ensures cause { HasCause (K.marks keeper.old) (K.marks keeper.new) result }
 {
     match check_session::<Event>(alloc, sessions, name, body)? {
         Checked::Says(reply) => Ok(reply),
         Checked::Acts(event) => {
-            send_event(alloc, app, sessions, name, body, &event, moment, steps)
+            send_event(
+                alloc, app, sessions, keeper, name, body, &event, moment, steps,
+            )
         }
     }
 }
 
 /// Sends an event that passed the checks of numbered requests.
-fn send_event<L: Ledger>(
+#[tactic(auto, using(recalc::proofs::Asked::read_none, recalc::proofs::Asked::read_on))]
+fn send_event<K: Keeper, L: Ledger>(
     alloc: Global,
     app: &App,
     sessions: &mut Vec<Named<Session>>,
+    keeper: &mut K,
     name: &Words,
     body: &[u8],
     event: &Event,
     moment: u64,
     steps: &mut Steps<L>,
-) -> Result<Reply, Memory>
+) -> Result<Reply, KeeperEnd>
     requires sound { IsSound app.now }
     requires live { IsSome (find name.now sessions.old.items) }
     requires fit { SessionsFit app.now.names sessions.old.items }
     requires kept { SessionsKeepReplies sessions.old.items }
-    ensures done { IfOk result (λ r. SendsEvent app.now moment name.now body.now event.now sessions.old.items (said r) sessions.new.items) }
+    requires shaped { K.shaped keeper.old ≡ Some app.now.names.schema }
+    ensures done { IfOk result (λ r. SendsEvent app.now (rows_told (K.told keeper.new)) moment name.now body.now event.now sessions.old.items (said r) sessions.new.items) }
     ensures whole { IfOk result IsReply }
     ensures stopped { OnErr result (sessions.new.items ≡ sessions.old.items) }
     ensures fit { SessionsFit app.now.names sessions.new.items }
     ensures kept { SessionsKeepReplies sessions.new.items }
+    ensures read { HasRead (keeping (K.told keeper.old) (K.shaped keeper.old) (K.in_transaction keeper.old) (K.marks keeper.old) (K.loan keeper.old))
+        (keeping (K.told keeper.new) (K.shaped keeper.new) (K.in_transaction keeper.new) (K.marks keeper.new) (K.loan keeper.new)) }
+    ensures cause { HasCause (K.marks keeper.old) (K.marks keeper.new) result }
 {
     match place_of(sessions, name) {
         Some(place) => {
-            let verdict = judge_event(alloc, app, &sessions[place].it, event, moment, steps)?;
-            end_event(alloc, sessions, place, name, body, event.seq, verdict)
+            let session = &sessions[place].it;
+            let verdict = judge_event(alloc, app, session, keeper, event, moment, steps)?;
+            Ok(end_event(alloc, sessions, place, name, body, event.seq, verdict)?)
         }
         None => unreachable!(),
     }
 }
 
 /// What becomes of an event of a session.
-fn judge_event<L: Ledger>(
+#[tactic(auto, using(recalc::proofs::Asked::read_none, recalc::proofs::Asked::read_on))]
+fn judge_event<K: Keeper, L: Ledger>(
     alloc: Global,
     app: &App,
     session: &Session,
+    keeper: &mut K,
     event: &Event,
     moment: u64,
     steps: &mut Steps<L>,
-) -> Result<Result<Target, Refusal>, Memory>
+) -> Result<Result<Target, Refusal>, KeeperEnd>
     requires sound { IsSound app.now }
     requires fits { FitsNames app.now.names session.now }
-    ensures judged { IfOk result (λ v. JudgesEvent app.now moment session.now event.now v) }
+    requires shaped { K.shaped keeper.old ≡ Some app.now.names.schema }
+    ensures judged { IfOk result (λ v. JudgesEvent app.now (rows_told (K.told keeper.new)) moment session.now event.now v) }
     ensures within { IfOk result (λ v. IfOk v (λ t. IfSome t.item (λ i. i.gallery < length app.now.names.controls))) }
     ensures detail { IfOk result (λ v. IfErr v (λ r. Fits r.code r.detail)) }
+    ensures read { HasRead (keeping (K.told keeper.old) (K.shaped keeper.old) (K.in_transaction keeper.old) (K.marks keeper.old) (K.loan keeper.old))
+        (keeping (K.told keeper.new) (K.shaped keeper.new) (K.in_transaction keeper.new) (K.marks keeper.new) (K.loan keeper.new)) }
+    ensures cause { HasCause (K.marks keeper.old) (K.marks keeper.new) result }
 {
     fitting_holds();
-    let valued = evaluate(alloc, app, session, moment, steps)?;
+    let valued = evaluate(alloc, app, session, keeper, moment, steps)?;
     let id = id_name(alloc)?;
     match event_target(&app.names, session.screen(), valued.as_slice(), event, &id) {
         Ok(target) => {
-            let shown = is_shown_for(alloc, app, session, &valued, target, steps)?;
+            let shown = is_shown_for(alloc, app, session, keeper, &valued, target, steps)?;
             Ok(unless_hidden(shown, target))
         }
         Err(refusal) => Ok(Err(refusal)),

@@ -1,48 +1,65 @@
 //! Whether controls in galleries are visible for an item.
 ghost use Rattle.std.specs.Prelude.{◌≡◌, ℕ, IfOk, Some, slice_get};
-ghost use Rattle.app_semantics.specs.Chosen.{row_at};
-ghost use Rattle.app_semantics.specs.Holding.{HoldsFitting};
-ghost use Rattle.app_semantics.specs.Present.{items_of, present};
-ghost use Rattle.app_semantics.specs.Sound.{IsSound};
+ghost use Rattle.recalc.specs.app_semantics.Chosen.{row_at};
+ghost use Rattle.recalc.specs.app_semantics.Holding.{HoldsFitting};
+ghost use Rattle.recalc.specs.app_semantics.Present.{items_of, present};
+ghost use Rattle.recalc.specs.app_semantics.Sound.{IsSound};
 ghost use Rattle.fx_scalar.specs.ScalarFunctions.{IsToday};
-ghost use Rattle.fx_semantics.specs.Rows.{rows_in};
+ghost use Rattle.recalc.specs.fx_semantics.Rows.{rows_in};
 ghost use Rattle.fx_value.specs.Columns.{Row};
 ghost use Rattle.fx_trees.specs.declared.names.ControlName.{ControlName as Control};
+ghost use Rattle.recalc.specs.Asking.{HasRead, IsHeardOf, ToldRows, keeping};
 ghost use Rattle.recalc.specs.Values.{CellsFit, value_of};
+ghost use Rattle.row_keeper.specs.Causes.{HasCause};
 ghost use Rattle.session_requests.specs.Posting.{IsShownFor, IsVisibleFor, gallery_around as gallery_around_of};
 ghost use Rattle.session_requests.specs.Targets.{IsTarget};
 
+use crate::app_cells::App;
 use crate::shown::{is_true, item_row};
 use crate::target::{Item, Target};
-use app_cells::App;
-use fx_base::Memory;
 use fx_data::Value;
 use recalc::{Steps, Valued, cell_of_property};
+use row_keeper::{Keeper, KeeperEnd};
 use session_state::Session;
 use std::alloc::Global;
 use std::sync::ledger::Ledger;
 
 /// Whether the control of a target is visible for its item, in at most one step. Of a control that stands in no gallery nothing
 /// is left to ask.
-pub(crate) fn is_shown_for<L: Ledger>(
+#[tactic(auto, using(recalc::proofs::Asked::read_none))]
+pub(crate) fn is_shown_for<K: Keeper, L: Ledger>(
     alloc: Global,
     app: &App,
     session: &Session,
+    keeper: &mut K,
     valued: &Valued,
     target: Target,
     steps: &mut Steps<L>,
-) -> Result<bool, Memory>
+) -> Result<bool, KeeperEnd>
     requires sound { IsSound app.now }
     requires holds { HoldsFitting app.now.names session.now }
     requires fits { CellsFit app.now (value_of valued.now) }
     requires day { (moment : ℕ) × IsToday moment valued.now.day }
     requires target { IsTarget app.now.names (value_of valued.now) target }
-    ensures { IfOk result (λ b. (moment : ℕ) → IsToday moment valued.now.day →
-        IsShownFor (present app.now session.now moment) (value_of valued.now) target.control (gallery_around_of app.now target.control) target.item b) }
+    requires shaped { K.shaped keeper.old ≡ Some app.now.names.schema }
+    ensures shows { IfOk result (λ b. (moment : ℕ) (tables : ToldRows) → IsToday moment valued.now.day → IsHeardOf (K.told keeper.new) tables →
+        IsShownFor (present app.now session.now tables moment) (value_of valued.now) target.control (gallery_around_of app.now target.control) target.item b) }
+    ensures read { HasRead (keeping (K.told keeper.old) (K.shaped keeper.old) (K.in_transaction keeper.old) (K.marks keeper.old) (K.loan keeper.old))
+        (keeping (K.told keeper.new) (K.shaped keeper.new) (K.in_transaction keeper.new) (K.marks keeper.new) (K.loan keeper.new)) }
+    ensures cause { HasCause (K.marks keeper.old) (K.marks keeper.new) result }
 {
     match (gallery_around(app, target.control), target.item) {
         (Some(_), Some(item)) => {
-            is_visible_for(alloc, app, session, valued, target.control, item, steps)
+            is_visible_for(
+                alloc,
+                app,
+                session,
+                keeper,
+                valued,
+                target.control,
+                item,
+                steps,
+            )
         }
         _ => Ok(true),
     }
@@ -56,23 +73,29 @@ fn gallery_around(app: &App, control: u32) -> Option<u32>
 }
 
 /// Whether a control in a gallery is visible for an item of it.
-fn is_visible_for<L: Ledger>(
+#[tactic(auto, using(recalc::proofs::Asked::read_none))]
+fn is_visible_for<K: Keeper, L: Ledger>(
     alloc: Global,
     app: &App,
     session: &Session,
+    keeper: &mut K,
     valued: &Valued,
     control: u32,
     item: Item,
     steps: &mut Steps<L>,
-) -> Result<bool, Memory>
+) -> Result<bool, KeeperEnd>
     requires sound { IsSound app.now }
     requires holds { HoldsFitting app.now.names session.now }
     requires fits { CellsFit app.now (value_of valued.now) }
     requires day { (moment : ℕ) × IsToday moment valued.now.day }
     requires stands { (c : Control) × (slice_get app.now.names.controls control ≡ Some c) × (c.gallery ≡ Some item.gallery) }
     requires there { (row : Row) × (row_at item.at (rows_in (items_of app.now.names (value_of valued.now) item.gallery)) ≡ Some row) }
-    ensures { IfOk result (λ b. (moment : ℕ) → IsToday moment valued.now.day →
-        IsVisibleFor (present app.now session.now moment) (value_of valued.now) control item.gallery item.at b) }
+    requires shaped { K.shaped keeper.old ≡ Some app.now.names.schema }
+    ensures shows { IfOk result (λ b. (moment : ℕ) (tables : ToldRows) → IsToday moment valued.now.day → IsHeardOf (K.told keeper.new) tables →
+        IsVisibleFor (present app.now session.now tables moment) (value_of valued.now) control item.gallery item.at b) }
+    ensures read { HasRead (keeping (K.told keeper.old) (K.shaped keeper.old) (K.in_transaction keeper.old) (K.marks keeper.old) (K.loan keeper.old))
+        (keeping (K.told keeper.new) (K.shaped keeper.new) (K.in_transaction keeper.new) (K.marks keeper.new) (K.loan keeper.new)) }
+    ensures cause { HasCause (K.marks keeper.old) (K.marks keeper.new) result }
 {
     let names = &app.names;
     let Some(cell) = cell_of_property(names, control, "Visible") else {
@@ -85,6 +108,6 @@ fn is_visible_for<L: Ledger>(
         unreachable!()
     };
     let record = Value::Rec(row.copy(alloc)?);
-    let value = valued.in_item(alloc, app, session, info, record, steps)?;
+    let value = valued.in_item(alloc, app, session, keeper, info, record, steps)?;
     Ok(is_true(Some(&value)))
 }

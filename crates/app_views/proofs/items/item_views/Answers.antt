@@ -1,6 +1,8 @@
 use Rattle.std.proofs.Common.{Some, arith, refl}
-use Rattle.app_semantics.specs.Present.{present}
+use Rattle.recalc.specs.app_semantics.Present.{present}
 use Rattle.app_views.specs.Views.{IsItemAt}
+use Rattle.recalc.proofs.Asked.{heard_before, read_none, read_on}
+use Rattle.recalc.specs.Asking.{Keeping, keeping}
 use Rattle.recalc.specs.Values.{value_of}
 use Rattle.app_views.proofs.Giving.{all_given, at_place, none_given, one_given}
 use Rattle.app_views.proofs.items.item_views.Goals as goal
@@ -8,7 +10,8 @@ use Rattle.app_views.proofs.items.item_views.Goals as goal
 pub loop-row-init : goal.loop-row-init
 loop-row-init g c = record {
   at = omega arith;
-  given = λ moment today. none_given (IsItemAt (present c.args.app.now c.args.session.now moment) (value_of c.args.valued.now) c.args.gallery) c.args.first 0 c.args.rows.now c.new-list.result refl c.new-list.ensures;
+  given = λ moment tables today heard. none_given (IsItemAt (present c.args.app.now c.args.session.now tables moment) (value_of c.args.valued.now) c.args.gallery) c.args.first 0 c.args.rows.now c.new-list.result refl c.new-list.ensures;
+  read = read_none (keeping (g.K.Keeper.told c.args.keeper.now) (g.K.Keeper.shaped c.args.keeper.now) (g.K.Keeper.in_transaction c.args.keeper.now) (g.K.Keeper.marks c.args.keeper.now) (g.K.Keeper.loan c.args.keeper.now));
 }
 
 pub item_view-requires-clause-row : goal.item_view-requires-clause-row
@@ -17,13 +20,18 @@ item_view-requires-clause-row g c =
     (at_place c.args.rows.now c.args.rows.now c.loop-row.row-index c.loop-row.row-index c.row-item.result refl refl c.loop-row-test.true c.row-item.is)
 
 pub loop-row-preserved : goal.loop-row-preserved
-loop-row-preserved g c = record {
-  at = omega (arith, c.loop-row.invariant.at);
-  given = λ moment today.
-      one_given (IsItemAt (present c.args.app.now c.args.session.now moment) (value_of c.args.valued.now) c.args.gallery) c.args.first c.loop-row.at c.loop-row.row-index c.args.rows.now c.args.rows.now c.row-item.result (Some c.in_ok-item.item) _ _
-      c.loop-row.invariant.at refl c.loop-row-test.true c.row-item.is (c.in_ok-item.ensures moment today) c.in_ok-push.ensures.ok (c.loop-row.invariant.given moment today);
-}
+loop-row-preserved g c =
+    let first : Keeping = keeping (g.K.Keeper.told c.args.keeper.now) (g.K.Keeper.shaped c.args.keeper.now) (g.K.Keeper.in_transaction c.args.keeper.now) (g.K.Keeper.marks c.args.keeper.now) (g.K.Keeper.loan c.args.keeper.now) in
+    let before : Keeping = keeping (g.K.Keeper.told c.loop-row.keeper) (g.K.Keeper.shaped c.loop-row.keeper) (g.K.Keeper.in_transaction c.loop-row.keeper) (g.K.Keeper.marks c.loop-row.keeper) (g.K.Keeper.loan c.loop-row.keeper) in
+    let after : Keeping = keeping (g.K.Keeper.told c.item_view.new.keeper) (g.K.Keeper.shaped c.item_view.new.keeper) (g.K.Keeper.in_transaction c.item_view.new.keeper) (g.K.Keeper.marks c.item_view.new.keeper) (g.K.Keeper.loan c.item_view.new.keeper) in
+    record {
+      at = omega (arith, c.loop-row.invariant.at);
+      given = λ moment tables today heard.
+          one_given (IsItemAt (present c.args.app.now c.args.session.now tables moment) (value_of c.args.valued.now) c.args.gallery) c.args.first c.loop-row.at c.loop-row.row-index c.args.rows.now c.args.rows.now c.row-item.result (Some c.in_ok-item.item) c.loop-row.list c.push.new.self
+          c.loop-row.invariant.at refl c.loop-row-test.true c.row-item.is (c.in_ok-item.ensures.shows moment tables today heard) c.in_ok-push.ensures.ok (c.loop-row.invariant.given moment tables today (heard_before before after c.in_ok-item.ensures.read tables heard));
+      read = read_on first before after c.loop-row.invariant.read c.in_ok-item.ensures.read;
+    }
 
-pub returns : goal.returns
-returns g c = λ moment today.
-    all_given (IsItemAt (present c.args.app.now c.args.session.now moment) (value_of c.args.valued.now) c.args.gallery) c.args.first c.loop-row.row-index c.args.rows.now c.args.rows.now c.loop-row.list refl c.loop-row-test.false (c.loop-row.invariant.given moment today)
+pub returns-clause-shows : goal.returns-clause-shows
+returns-clause-shows g c = λ moment tables today heard.
+    all_given (IsItemAt (present c.args.app.now c.args.session.now tables moment) (value_of c.args.valued.now) c.args.gallery) c.args.first c.loop-row.row-index c.args.rows.now c.args.rows.now c.loop-row.list refl c.loop-row-test.false (c.loop-row.invariant.given moment tables today heard)

@@ -1,13 +1,16 @@
 use Rattle.std.proofs.Common.{◌≡◌, ◌+◌, ℕ}
-use Rattle.app_semantics.specs.Present.{present}
+use Rattle.recalc.specs.app_semantics.Present.{present}
 use Rattle.app_views.specs.Views.{IsItemAt}
 use Rattle.app_views.proofs.Giving.{GivenUpTo}
 use Rattle.fx_scalar.specs.ScalarFunctions.{IsToday}
+use Rattle.recalc.specs.Asking.{HasRead, IsHeardOf, ToldRows, keeping}
 use Rattle.recalc.specs.Values.{value_of}
 use Rattle.app_views.proofs.items.item_views.Given as goal
 
 abbrev pub invariant-loop-row : goal.invariant-loop-row
 invariant-loop-row g l = record {
   at : l.at ≡ l.first + l.row-index;
-  given : (moment : ℕ) → IsToday moment l.valued.day → GivenUpTo (IsItemAt (present l.app l.session moment) (value_of l.valued) l.gallery) l.first l.rows l.row-index l.list;
+  given : (moment : ℕ) (tables : ToldRows) → IsToday moment l.valued.day → IsHeardOf (g.K.Keeper.told l.keeper) tables → GivenUpTo (IsItemAt (present l.app l.session tables moment) (value_of l.valued) l.gallery) l.first l.rows l.row-index l.list;
+  read : HasRead (keeping (g.K.Keeper.told l.fn.keeper) (g.K.Keeper.shaped l.fn.keeper) (g.K.Keeper.in_transaction l.fn.keeper) (g.K.Keeper.marks l.fn.keeper) (g.K.Keeper.loan l.fn.keeper))
+      (keeping (g.K.Keeper.told l.keeper) (g.K.Keeper.shaped l.keeper) (g.K.Keeper.in_transaction l.keeper) (g.K.Keeper.marks l.keeper) (g.K.Keeper.loan l.keeper));
 }

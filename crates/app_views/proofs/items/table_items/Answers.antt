@@ -1,5 +1,5 @@
 use Rattle.std.proofs.Common.{◌-◌, arith, refl}
-use Rattle.app_semantics.specs.Present.{present}
+use Rattle.recalc.specs.app_semantics.Present.{present}
 use Rattle.app_views.specs.Views.{IsItemAt}
 use Rattle.recalc.specs.Values.{value_of}
 use Rattle.app_views.proofs.Pages.{page_row, page_short, paged}
@@ -14,9 +14,9 @@ pub item_views-requires-clause-few : goal.item_views-requires-clause-few
 item_views-requires-clause-few g c =
     omega (arith, page_short (c.max-first.result - 1) c.page-shown.result.now c.args.rows.now c.page-shown.ensures, c.max-first.type_inv)
 
-pub returns : goal.returns
-returns g c = λ moment today. (
+pub returns-clause-shows : goal.returns-clause-shows
+returns-clause-shows g c = λ moment tables today heard. (
   refl,
   refl,
-  paged (IsItemAt (present c.args.app.now c.args.session.now moment) (value_of c.args.valued.now) c.args.gallery) c.args.from c.max-first.result c.from.result c.page-shown.result.now c.args.rows.now c.in_ok-list.list c.max-first.ensures c.from.ensures c.page-shown.ensures (c.in_ok-list.ensures moment today),
+  paged (IsItemAt (present c.args.app.now c.args.session.now tables moment) (value_of c.args.valued.now) c.args.gallery) c.args.from c.max-first.result c.from.result c.page-shown.result.now c.args.rows.now c.in_ok-list.list c.max-first.ensures c.from.ensures c.page-shown.ensures (c.in_ok-list.ensures.shows moment tables today heard),
 )

@@ -1,8 +1,10 @@
-use Rattle.std.proofs.Common.{Option, subst, ℕ}
+use Rattle.std.proofs.Common.{Option, refl, subst, ℕ}
 use Rattle.std.proofs.lemmas.Result.{IfOk-weaker}
-use Rattle.app_semantics.specs.Present.{present}
+use Rattle.recalc.specs.app_semantics.Present.{present}
 use Rattle.app_views.specs.Shows.{SaysItemsOf}
+use Rattle.fx_base.specs.Silence.{IsLost}
 use Rattle.request_checks.specs.Replies.{said}
+use Rattle.row_keeper.specs.Tables.{rows_told}
 use Rattle.app_views.proofs.showing.show_items_to.Goals as goal
 
 pub gallery_named-requires : goal.gallery_named-requires
@@ -10,8 +12,16 @@ gallery_named-requires g c = c.requires.sound.names.controls.0
 
 pub returns-in-Some-clause-done : goal.returns-in-Some-clause-done
 returns-in-Some-clause-done g c =
-    IfOk-weaker c.show_items_of.result _ _ (λ r h. subst (λ (o : Option ℕ). SaysItemsOf (present c.args.app.now c.args.session.now c.args.moment) c.args.from o (said r)) c.in-Some.ensures.place h) c.show_items_of.ensures.done
+    let was = g.K.Keeper.told c.args.keeper.now in
+    let told = g.K.Keeper.told c.show_items_of.new.keeper in
+    let lost = IsLost (g.K.Keeper.marks c.args.keeper.now) (g.K.Keeper.marks c.show_items_of.new.keeper) in
+    IfOk-weaker c.show_items_of.result _ _ (λ r h.
+    subst (λ (o : Option ℕ). SaysItemsOf lost (present c.args.app.now c.args.session.now (rows_told told) c.args.moment) c.args.from o was (said r) told) c.in-Some.ensures.place h)
+    c.show_items_of.ensures.done
 
-pub returns-in-None-clause-done : goal.returns-in-None-clause-done
-returns-in-None-clause-done g c =
-    IfOk-weaker c.refuse_plain.result _ _ (λ r h. subst (λ (o : Option ℕ). SaysItemsOf (present c.args.app.now c.args.session.now c.args.moment) c.args.from o (said r)) c.in-None.ensures.place h) c.refuse_plain.ensures.said
+pub returns-in_ok-refuse_plain-in-None-clause-done : goal.returns-in_ok-refuse_plain-in-None-clause-done
+returns-in_ok-refuse_plain-in-None-clause-done g c =
+    let told = g.K.Keeper.told c.args.keeper.now in
+    let lost = IsLost (g.K.Keeper.marks c.args.keeper.now) (g.K.Keeper.marks c.args.keeper.now) in
+    subst (λ (o : Option ℕ). SaysItemsOf lost (present c.args.app.now c.args.session.now (rows_told told) c.args.moment) c.args.from o told (said c.in_ok-refuse_plain-in-None.field-0) told)
+    c.in-None.ensures.place (c.in_ok-refuse_plain-in-None.ensures.said, refl)

@@ -1,10 +1,10 @@
 use Rattle.std.proofs.Common.{Some, arith, subst, sym}
 use Rattle.std.proofs.lemmas.Result.{IfOk-weaker}
-use Rattle.app_semantics.specs.Fresh.{IsValueOf}
-use Rattle.app_semantics.specs.Present.{present}
+use Rattle.recalc.specs.app_semantics.Fresh.{IsValueOf}
+use Rattle.recalc.specs.app_semantics.Present.{present}
 use Rattle.fx_data.specs.ValueView.{view}
-use Rattle.fx_semantics.specs.Around.{record_of}
-use Rattle.fx_semantics.specs.Sound.{IsItemFit}
+use Rattle.recalc.specs.fx_semantics.Around.{record_of}
+use Rattle.recalc.specs.fx_semantics.Sound.{IsItemFit}
 use Rattle.fx_value.specs.Columns.{Row}
 use Rattle.fx_typing.specs.Typing.{item_of}
 use Rattle.recalc.specs.Values.{value_of}
@@ -22,12 +22,12 @@ in_item-requires-clause-item g c =
     subst (λ (r : Row). IsItemFit (Some (record_of r)) (item_of c.args.app.now.names c.in-Some.info.now.cell.item)) (sym c.in_ok-fields-in-Some.ensures)
     (item_fits c.args.app.now.names c.args.gallery c.args.row.now c.in-Some.info.now.cell.item (template_cell c.args.app.now c.args.gallery c.args.cell c.in-Some.info.now c.requires.cell c.in-Some.ensures).1 c.requires.row)
 
-pub returns : goal.returns
-returns g c =
-    IfOk-weaker c.in_item.result _ _ (λ v h moment today. (
+pub returns-clause-shows : goal.returns-clause-shows
+returns-clause-shows g c =
+    IfOk-weaker c.in_item.result _ _ (λ v h moment tables today heard. (
       c.in-Some.info.now,
       c.in-Some.ensures,
-      subst (λ (r : Row). IsValueOf (present c.args.app.now c.args.session.now moment) (value_of c.args.valued.now) (Some (record_of r)) c.in-Some.info.now (view v)) c.in_ok-fields-in-Some.ensures (h moment today),
+      subst (λ (r : Row). IsValueOf (present c.args.app.now c.args.session.now tables moment) (value_of c.args.valued.now) (Some (record_of r)) c.in-Some.info.now (view v)) c.in_ok-fields-in-Some.ensures (h moment tables today heard),
     )) c.in_item.ensures.value
 
 pub unreachable-requires : goal.unreachable-requires

@@ -1,6 +1,6 @@
 use Rattle.std.proofs.Common.{sym, ◌∙◌}
-use Rattle.app_semantics.specs.Present.{present}
-use Rattle.fx_semantics.specs.Around.{record_of}
+use Rattle.recalc.specs.app_semantics.Present.{present}
+use Rattle.recalc.specs.fx_semantics.Around.{record_of}
 use Rattle.recalc.specs.Values.{value_of}
 use Rattle.app_views.proofs.Displays.{not_in}
 use Rattle.app_views.proofs.templates.item_control.Goals as goal
@@ -8,6 +8,6 @@ use Rattle.app_views.proofs.templates.item_control.Goals as goal
 pub template_control-requires-clause-within : goal.template_control-requires-clause-within
 template_control-requires-clause-within g c = sym c.is_in.ensures ∙ c.if-is_in.true
 
-pub returns-else-is_in : goal.returns-else-is_in
-returns-else-is_in g c = λ moment today.
-    not_in (present c.args.app.now c.args.session.now moment) (value_of c.args.valued.now) c.args.gallery (record_of c.args.row.now) c.args.number c.args.control.now (sym c.is_in.ensures ∙ c.if-is_in.false)
+pub returns-else-is_in-clause-shows : goal.returns-else-is_in-clause-shows
+returns-else-is_in-clause-shows g c = λ moment tables today heard.
+    not_in (present c.args.app.now c.args.session.now tables moment) (value_of c.args.valued.now) c.args.gallery (record_of c.args.row.now) c.args.number c.args.control.now (sym c.is_in.ensures ∙ c.if-is_in.false)

@@ -1,7 +1,9 @@
 use Rattle.std.proofs.Common.{◌≡◌, ◌+◌, ap, arith, length, refl}
-use Rattle.app_semantics.specs.Present.{present}
+use Rattle.recalc.specs.app_semantics.Present.{present}
 use Rattle.app_views.specs.Views.{IsShownFor}
-use Rattle.fx_semantics.specs.Around.{record_of}
+use Rattle.recalc.specs.fx_semantics.Around.{record_of}
+use Rattle.recalc.proofs.Asked.{heard_before, read_none, read_on}
+use Rattle.recalc.specs.Asking.{Keeping, keeping}
 use Rattle.recalc.specs.Values.{value_of}
 use Rattle.app_views.proofs.Giving.{all_given, at_place, none_given, one_given}
 use Rattle.app_views.proofs.templates.item_controls.Goals as goal
@@ -9,7 +11,8 @@ use Rattle.app_views.proofs.templates.item_controls.Goals as goal
 pub loop-control-init : goal.loop-control-init
 loop-control-init g c = record {
   number = refl;
-  given = λ moment today. none_given (IsShownFor (present c.args.app.now c.args.session.now moment) (value_of c.args.valued.now) c.args.gallery (record_of c.args.row.now)) 0 0 c.args.app.now.names.controls c.new-shown.result refl c.new-shown.ensures;
+  given = λ moment tables today heard. none_given (IsShownFor (present c.args.app.now c.args.session.now tables moment) (value_of c.args.valued.now) c.args.gallery (record_of c.args.row.now)) 0 0 c.args.app.now.names.controls c.new-shown.result refl c.new-shown.ensures;
+  read = read_none (keeping (g.K.Keeper.told c.args.keeper.now) (g.K.Keeper.shaped c.args.keeper.now) (g.K.Keeper.in_transaction c.args.keeper.now) (g.K.Keeper.marks c.args.keeper.now) (g.K.Keeper.loan c.args.keeper.now));
 }
 
 pub item_control-requires-clause-control : goal.item_control-requires-clause-control
@@ -24,14 +27,18 @@ overflow_add-number g c =
 
 pub loop-control-preserved : goal.loop-control-preserved
 loop-control-preserved g c =
+    let first : Keeping = keeping (g.K.Keeper.told c.args.keeper.now) (g.K.Keeper.shaped c.args.keeper.now) (g.K.Keeper.in_transaction c.args.keeper.now) (g.K.Keeper.marks c.args.keeper.now) (g.K.Keeper.loan c.args.keeper.now) in
+    let before : Keeping = keeping (g.K.Keeper.told c.loop-control.keeper) (g.K.Keeper.shaped c.loop-control.keeper) (g.K.Keeper.in_transaction c.loop-control.keeper) (g.K.Keeper.marks c.loop-control.keeper) (g.K.Keeper.loan c.loop-control.keeper) in
+    let after : Keeping = keeping (g.K.Keeper.told c.item_control.new.keeper) (g.K.Keeper.shaped c.item_control.new.keeper) (g.K.Keeper.in_transaction c.item_control.new.keeper) (g.K.Keeper.marks c.item_control.new.keeper) (g.K.Keeper.loan c.item_control.new.keeper) in
     let place : c.loop-control.number ≡ 0 + c.loop-control.control-index = omega (arith, c.loop-control.invariant.number) in
     record {
       number = omega (arith, c.loop-control.invariant.number);
-      given = λ moment today.
-          one_given (IsShownFor (present c.args.app.now c.args.session.now moment) (value_of c.args.valued.now) c.args.gallery (record_of c.args.row.now)) 0 c.loop-control.number c.loop-control.control-index c.as_slice-controls.result.now c.args.app.now.names.controls c.control-item.result c.in_ok-given.given _ _
-          place c.as_slice-controls.ensures c.loop-control-test.true c.control-item.is (c.in_ok-given.ensures moment today) c.in_ok-add.ensures (c.loop-control.invariant.given moment today);
+      given = λ moment tables today heard.
+          one_given (IsShownFor (present c.args.app.now c.args.session.now tables moment) (value_of c.args.valued.now) c.args.gallery (record_of c.args.row.now)) 0 c.loop-control.number c.loop-control.control-index c.as_slice-controls.result.now c.args.app.now.names.controls c.control-item.result c.in_ok-given.given c.loop-control.shown c.add.new.list
+          place c.as_slice-controls.ensures c.loop-control-test.true c.control-item.is (c.in_ok-given.ensures.shows moment tables today heard) c.in_ok-add.ensures (c.loop-control.invariant.given moment tables today (heard_before before after c.in_ok-given.ensures.read tables heard));
+      read = read_on first before after c.loop-control.invariant.read c.in_ok-given.ensures.read;
     }
 
-pub returns : goal.returns
-returns g c = λ moment today.
-    all_given (IsShownFor (present c.args.app.now c.args.session.now moment) (value_of c.args.valued.now) c.args.gallery (record_of c.args.row.now)) 0 c.loop-control.control-index c.as_slice-controls.result.now c.args.app.now.names.controls c.loop-control.shown c.as_slice-controls.ensures c.loop-control-test.false (c.loop-control.invariant.given moment today)
+pub returns-clause-shows : goal.returns-clause-shows
+returns-clause-shows g c = λ moment tables today heard.
+    all_given (IsShownFor (present c.args.app.now c.args.session.now tables moment) (value_of c.args.valued.now) c.args.gallery (record_of c.args.row.now)) 0 c.loop-control.control-index c.as_slice-controls.result.now c.args.app.now.names.controls c.loop-control.shown c.as_slice-controls.ensures c.loop-control-test.false (c.loop-control.invariant.given moment tables today heard)

@@ -1,22 +1,26 @@
 use Rattle.std.proofs.Common.{sym, ◌∙◌}
 use Rattle.fx_data.specs.ValueView.{view}
+use Rattle.recalc.proofs.Asked.{heard_before}
+use Rattle.recalc.specs.Asking.{Keeping, keeping}
 use Rattle.app_views.proofs.templates.template_control.Goals as goal
 
-pub returns-in_ok-shown : goal.returns-in_ok-shown
-returns-in_ok-shown g c = λ moment today.
-    let seen = c.in_ok-visible.ensures moment today in (
+pub returns-in_ok-shown-clause-shows : goal.returns-in_ok-shown-clause-shows
+returns-in_ok-shown-clause-shows g c = λ moment tables today heard.
+    let before : Keeping = keeping (g.K.Keeper.told c.visible_for.new.keeper) (g.K.Keeper.shaped c.visible_for.new.keeper) (g.K.Keeper.in_transaction c.visible_for.new.keeper) (g.K.Keeper.marks c.visible_for.new.keeper) (g.K.Keeper.loan c.visible_for.new.keeper) in
+    let after : Keeping = keeping (g.K.Keeper.told c.text_for.new.keeper) (g.K.Keeper.shaped c.text_for.new.keeper) (g.K.Keeper.in_transaction c.text_for.new.keeper) (g.K.Keeper.marks c.text_for.new.keeper) (g.K.Keeper.loan c.text_for.new.keeper) in
+    let seen = c.in_ok-visible.ensures.shows moment tables today (heard_before before after c.in_ok-text.ensures.read tables heard) in (
       c.requires.within,
       (seen.0, seen.1, sym seen.2 ∙ c.if-visible.true),
       record {
         name = c.in_ok-shown.ensures.name;
         kind = c.in_ok-shown.ensures.kind;
         words = view c.in_ok-text.text;
-        are_words = c.in_ok-text.ensures moment today;
+        are_words = c.in_ok-text.ensures.shows moment tables today heard;
         shows = c.in_ok-shown.ensures.values;
       },
     )
 
-pub returns-else-visible : goal.returns-else-visible
-returns-else-visible g c = λ moment today.
-    let seen = c.in_ok-visible.ensures moment today in
+pub returns-else-visible-clause-shows : goal.returns-else-visible-clause-shows
+returns-else-visible-clause-shows g c = λ moment tables today heard.
+    let seen = c.in_ok-visible.ensures.shows moment tables today heard in
     λ within. (seen.0, seen.1, sym seen.2 ∙ c.if-visible.false)

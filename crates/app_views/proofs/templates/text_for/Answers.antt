@@ -1,10 +1,10 @@
 use Rattle.std.proofs.Common.{codes, subst}
 use Rattle.std.proofs.lemmas.Result.{IfOk-weaker}
-use Rattle.app_semantics.specs.Present.{present}
-use Rattle.app_semantics.specs.Properties.{IsPropertyForItem}
+use Rattle.recalc.specs.app_semantics.Present.{present}
+use Rattle.recalc.specs.app_semantics.Properties.{IsPropertyForItem}
 use Rattle.fx_data.specs.ValueView.{view}
 use Rattle.fx_data.specs.Values.{Data}
-use Rattle.fx_semantics.specs.Around.{record_of}
+use Rattle.recalc.specs.fx_semantics.Around.{record_of}
 use Rattle.recalc.specs.Values.{value_of}
 use Rattle.app_views.proofs.Galleries.{text_for as found}
 use Rattle.app_views.proofs.templates.text_for.Goals as goal
@@ -12,8 +12,8 @@ use Rattle.app_views.proofs.templates.text_for.Goals as goal
 pub item_property-requires-clause-property : goal.item_property-requires-clause-property
 item_property-requires-clause-property g c = found c.args.app.now c.args.gallery c.args.number c.args.control.now c.requires.ready.sound c.requires.control c.requires.within
 
-pub returns : goal.returns
-returns g c =
-    IfOk-weaker c.item_property.result _ _ (λ v h moment today.
-    subst (λ (d : Data). IsPropertyForItem (present c.args.app.now c.args.session.now moment) (value_of c.args.valued.now) (record_of c.args.row.now) c.args.number (codes "Text") d (view v)) c.in_ok-unwritten.ensures (h moment today))
-    c.item_property.ensures
+pub returns-clause-shows : goal.returns-clause-shows
+returns-clause-shows g c =
+    IfOk-weaker c.item_property.result _ _ (λ v h moment tables today heard.
+    subst (λ (d : Data). IsPropertyForItem (present c.args.app.now c.args.session.now tables moment) (value_of c.args.valued.now) (record_of c.args.row.now) c.args.number (codes "Text") d (view v)) c.in_ok-unwritten.ensures (h moment tables today heard))
+    c.item_property.ensures.shows

@@ -1,5 +1,5 @@
 use Rattle.std.proofs.Common.{Some, subst, sym, ◌∙◌}
-use Rattle.app_semantics.specs.Present.{present}
+use Rattle.recalc.specs.app_semantics.Present.{present}
 use Rattle.app_views.specs.Views.{ShowsFirstItems}
 use Rattle.fx_data.specs.declared.controls.Control.{Control}
 use Rattle.recalc.specs.Values.{value_of}
@@ -11,11 +11,11 @@ pub items_from-requires-clause-gallery : goal.items_from-requires-clause-gallery
 items_from-requires-clause-gallery g c =
     (c.args.control.now, record { there = c.requires.control; kind = gallery_kind c.args.control.now.kind (sym c.is_gallery.ensures ∙ c.if-is_gallery.true) })
 
-pub returns-in_ok-items : goal.returns-in_ok-items
-returns-in_ok-items g c = λ moment today.
-    subst (λ (k : Control). ShowsFirstItems (present c.args.app.now c.args.session.now moment) (value_of c.args.valued.now) c.args.number k (Some c.in_ok-items.items))
-    (sym (gallery_kind c.args.control.now.kind (sym c.is_gallery.ensures ∙ c.if-is_gallery.true))) (c.in_ok-items.ensures moment today)
+pub returns-in_ok-items-clause-shows : goal.returns-in_ok-items-clause-shows
+returns-in_ok-items-clause-shows g c = λ moment tables today heard.
+    subst (λ (k : Control). ShowsFirstItems (present c.args.app.now c.args.session.now tables moment) (value_of c.args.valued.now) c.args.number k (Some c.in_ok-items.items))
+    (sym (gallery_kind c.args.control.now.kind (sym c.is_gallery.ensures ∙ c.if-is_gallery.true))) (c.in_ok-items.ensures.shows moment tables today heard)
 
-pub returns-else-is_gallery : goal.returns-else-is_gallery
-returns-else-is_gallery g c = λ moment today.
-    no_items (present c.args.app.now c.args.session.now moment) (value_of c.args.valued.now) c.args.number c.args.control.now.kind (sym c.is_gallery.ensures ∙ c.if-is_gallery.false)
+pub returns-else-is_gallery-clause-shows : goal.returns-else-is_gallery-clause-shows
+returns-else-is_gallery-clause-shows g c = λ moment tables today heard.
+    no_items (present c.args.app.now c.args.session.now tables moment) (value_of c.args.valued.now) c.args.number c.args.control.now.kind (sym c.is_gallery.ensures ∙ c.if-is_gallery.false)

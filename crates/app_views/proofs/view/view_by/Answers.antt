@@ -5,10 +5,10 @@ use Rattle.app_views.proofs.view.view_by.Goals as goal
 pub unreachable-requires : goal.unreachable-requires
 unreachable-requires g c = omega (arith, c.requires.screen, c.screen-place.ensures, c.in-None.ensures)
 
-pub returns : goal.returns
-returns g c = λ moment today. record {
+pub returns-clause-shows : goal.returns-clause-shows
+returns-clause-shows g c = λ moment tables today heard. record {
   screen =
       subst (λ (n : ℕ). slice_get c.args.app.now.names.screens n ≡ Some c.in-Some.name.now) c.screen-place.ensures c.in-Some.ensures
       ∙ ap (λ (w : List ℕ). Some w) (sym c.in_ok-screen-in-Some.ensures);
-  shown = c.in_ok-shown.ensures moment today;
+  shown = c.in_ok-shown.ensures.shows moment tables today heard;
 }

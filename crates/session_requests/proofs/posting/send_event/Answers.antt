@@ -1,5 +1,7 @@
-use Rattle.std.proofs.Common.{sym, subst, List}
+use Rattle.std.proofs.Common.{sym, subst, List, Ok}
 use Rattle.request_checks.specs.declared.directory.Named.{Named}
+use Rattle.row_keeper.specs.Tables.{rows_told}
+use Rattle.row_keeper.specs.declared.keeper.KeeperEnd.{KeeperEnd}
 use Rattle.session_state.specs.Sessions.{SessionState}
 use Rattle.session_requests.specs.Acting.{IsAt, with_target}
 use Rattle.session_requests.specs.declared.target.Target.{Target}
@@ -16,19 +18,19 @@ pub returns-clause-done : goal.returns-clause-done
 returns-clause-done g c =
     let is : IsAt c.in-Some.place c.args.name.now c.args.sessions.now.items = subst (λ (l : List (Named SessionState)). IsAt c.in-Some.place c.args.name.now l) c.deref.ensures.value (record { first = sym c.in-Some.ensures.place; within = c.in-Some.ensures.within }) in
     let found = find_at c.in-Some.place c.args.name.now c.args.sessions.now.items c.index.result.now is c.index.ensures in
-    sends c.args.app.now c.args.moment c.args.name.now c.args.body.now c.args.event.now c.args.sessions.now.items c.end_event.new.sessions.items c.index.result.now.it c.in_ok-verdict-in-Some.verdict c.end_event.result found
-    c.in_ok-verdict-in-Some.ensures.judged c.end_event.ensures.done
+    sends {E = KeeperEnd} c.args.app.now (rows_told (g.K.Keeper.told c.judge_event.new.keeper)) c.args.moment c.args.name.now c.args.body.now c.args.event.now c.args.sessions.now.items c.end_event.new.sessions.items c.index.result.now.it c.in_ok-verdict-in-Some.verdict (Ok c.in_ok-end_event-in-Some.field-0) found
+    c.in_ok-verdict-in-Some.ensures.judged c.in_ok-end_event-in-Some.ensures.done
 
 pub returns-clause-fit : goal.returns-clause-fit
 returns-clause-fit g c =
     let is : IsAt c.in-Some.place c.args.name.now c.args.sessions.now.items = subst (λ (l : List (Named SessionState)). IsAt c.in-Some.place c.args.name.now l) c.deref.ensures.value (record { first = sym c.in-Some.ensures.place; within = c.in-Some.ensures.within }) in
     let found = find_at c.in-Some.place c.args.name.now c.args.sessions.now.items c.index.result.now is c.index.ensures in
-    still_fit c.args.app.now.names c.args.name.now c.args.body.now c.args.event.now.seq c.args.sessions.now.items c.end_event.new.sessions.items c.index.result.now.it c.in_ok-verdict-in-Some.verdict c.end_event.result c.requires.fit found
-    c.in_ok-verdict-in-Some.ensures.within c.end_event.ensures.done c.end_event.ensures.stopped
+    still_fit {E = KeeperEnd} c.args.app.now.names c.args.name.now c.args.body.now c.args.event.now.seq c.args.sessions.now.items c.end_event.new.sessions.items c.index.result.now.it c.in_ok-verdict-in-Some.verdict (Ok c.in_ok-end_event-in-Some.field-0) c.requires.fit found
+    c.in_ok-verdict-in-Some.ensures.within c.in_ok-end_event-in-Some.ensures.done tt
 
 pub returns-clause-kept : goal.returns-clause-kept
 returns-clause-kept g c =
     let is : IsAt c.in-Some.place c.args.name.now c.args.sessions.now.items = subst (λ (l : List (Named SessionState)). IsAt c.in-Some.place c.args.name.now l) c.deref.ensures.value (record { first = sym c.in-Some.ensures.place; within = c.in-Some.ensures.within }) in
     let found = find_at c.in-Some.place c.args.name.now c.args.sessions.now.items c.index.result.now is c.index.ensures in
-    still_kept Target with_target c.args.name.now c.args.body.now c.args.event.now.seq c.args.sessions.now.items c.end_event.new.sessions.items c.index.result.now.it c.in_ok-verdict-in-Some.verdict c.end_event.result c.requires.kept found
-    c.end_event.ensures.done c.end_event.ensures.stopped
+    still_kept {E = KeeperEnd} Target with_target c.args.name.now c.args.body.now c.args.event.now.seq c.args.sessions.now.items c.end_event.new.sessions.items c.index.result.now.it c.in_ok-verdict-in-Some.verdict (Ok c.in_ok-end_event-in-Some.field-0) c.requires.kept found
+    c.in_ok-end_event-in-Some.ensures.done tt

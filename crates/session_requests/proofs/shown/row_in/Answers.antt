@@ -1,9 +1,9 @@
 use Rattle.std.proofs.Common.{◌∙◌, ap, sym}
-use Rattle.app_semantics.specs.Chosen.{row_at}
+use Rattle.recalc.specs.app_semantics.Chosen.{row_at}
 use Rattle.fx_data.specs.ValueView.{view}
 use Rattle.fx_data.specs.declared.values.Value.{Value}
 use Rattle.recalc.proofs.of_fx_eval.Turns.{rows_back}
-use Rattle.fx_semantics.specs.Rows.{rows_in}
+use Rattle.recalc.specs.fx_semantics.Rows.{rows_in}
 use Rattle.session_requests.proofs.shown.row_in.Goals as goal
 
 pub returns-in-Tab : goal.returns-in-Tab

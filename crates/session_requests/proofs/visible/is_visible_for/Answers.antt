@@ -1,12 +1,12 @@
 use Rattle.std.proofs.Common.{◌<◌, ◌≤◌, ◌∙◌, arith, length, sym}
-use Rattle.app_semantics.specs.Present.{present}
+use Rattle.recalc.specs.app_semantics.Present.{present}
 use Rattle.recalc.specs.Values.{value_of}
 use Rattle.session_requests.proofs.ForItems.{row_read, template_cell, template_fits, template_within, unwritten}
 use Rattle.session_requests.proofs.visible.is_visible_for.Goals as goal
 
-pub returns-in_default : goal.returns-in_default
-returns-in_default g c = λ moment today.
-    unwritten (present c.args.app.now c.args.session.now moment) (value_of c.args.valued.now) c.args.control c.args.item.gallery c.args.item.at c.requires.there.0
+pub returns-in_default-clause-shows : goal.returns-in_default-clause-shows
+returns-in_default-clause-shows g c = λ moment tables today heard.
+    unwritten (present c.args.app.now c.args.session.now tables moment) (value_of c.args.valued.now) c.args.control c.args.item.gallery c.args.item.at c.requires.there.0
     c.requires.there.1 (sym c.cell_of_property.ensures ∙ c.in_default.is)
 
 pub unreachable-requires : goal.unreachable-requires
