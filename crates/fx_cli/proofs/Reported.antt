@@ -15,10 +15,10 @@ use Rattle.fx_cli.specs.Held.{Standing}
 use Rattle.fx_cli.specs.declared.replay.ReplayEnd.{ReplayEnd}
 use Rattle.fx_cli.specs.declared.replay.ReplayEnd.TheVariants as replay
 use Rattle.fx_cli.specs.declared.report.Report.{Report}
-use Rattle.fx_cli.specs.declared.report.Report.TheVariants.{Shown, Broken, Usage, OutOfMemory, Unread, KeeperFault, OtherSchema, Replayed}
+use Rattle.fx_cli.specs.declared.report.Report.TheVariants.{Shown, Checked, Broken, Usage, OutOfMemory, Unread, KeeperFault, OtherSchema, Replayed}
 use Rattle.fx_cli.specs.declared.words.Form.{Form}
-use Rattle.fx_cli.specs.declared.words.Form.TheVariants.{View, Serve}
-use Rattle.fx_cli.specs.Report.{EndsOver, EndsService, EndsWith, HasFile, IsRefusal, JudgedAs, Reports, Takes, Wanted, no_service, no_show, status_of}
+use Rattle.fx_cli.specs.declared.words.Form.TheVariants.{View, Check, Serve}
+use Rattle.fx_cli.specs.Report.{EndsOver, EndsService, EndsWith, HasFile, IsChecking, IsRefusal, JudgedAs, Reports, Takes, Wanted, no_service, no_show, status_of}
 use Rattle.fx_cli.specs.Telling.{Contents}
 
 abbrev form_in : Form → Wanted → Form
@@ -35,6 +35,12 @@ same_form wanted f g name other h k = ap (form_in f) (sym h ∙ k)
 
 pub not_both : (wanted : Wanted) (name other : List ℕ) → wanted ≡ Some (View, name) → wanted ≡ Some (Serve, other) → ⊥
 not_both wanted name other h k = let same : View ≡ Serve = same_form wanted View Serve name other h k in cc
+
+pub not_view : (wanted : Wanted) (name other : List ℕ) → wanted ≡ Some (Check, name) → wanted ≡ Some (View, other) → ⊥
+not_view wanted name other h k = let same : Check ≡ View = same_form wanted Check View name other h k in cc
+
+pub not_served : (wanted : Wanted) (name other : List ℕ) → wanted ≡ Some (Check, name) → wanted ≡ Some (Serve, other) → ⊥
+not_served wanted name other h k = let same : Check ≡ Serve = same_form wanted Check Serve name other h k in cc
 
 -- bytes that were read of a told file are its first bytes
 same_bytes : {F : Type 0} (told : F → Option Contents) (asked : F → List (List ℕ)) (old new : F) (wanted : Wanted) (form : Form) (bytes read : List ℕ)
@@ -58,6 +64,7 @@ moved told asked old new wanted form other bytes read v has takes is =
 -- none is both accepted and refused
 differ : IsOneVerdict → IsOneApp → (form : Form) (bytes : List ℕ) (a : App) (bs : List Break) → JudgedAs form bytes (Ok a) → JudgedAs form bytes (Err bs) → ⊥
 differ texts apps View bytes a bs p q = texts bytes a bs p q
+differ texts apps Check bytes a bs p q = apps bytes a bs p q
 differ texts apps Serve bytes a bs p q = apps bytes a bs p q
 
 -- formulas end with 0
@@ -66,6 +73,7 @@ pub built_at : IsOneVerdict → IsOneApp → {F : Type 0} (told : F → Option C
     → Reports told asked faults old new shows ends wanted r → HasFile told old wanted View bytes → Judged bytes (Ok a)
     → EndsWith 0 (status_of r) (Rose (faults old) (faults new)) sink_rose
 built_at texts apps told asked faults old new shows ends wanted (Shown text) s bytes a h has is = inl refl
+built_at texts apps told asked faults old new shows ends wanted (Checked text) s bytes a h has is = absurd (not_view wanted h.takes.name has.name h.takes.asks.is_wanted has.is_wanted)
 built_at texts apps told asked faults old new shows ends wanted (Broken text) s bytes a h has is =
     absurd (differ texts apps View bytes a h.breaks is (moved told asked old new wanted View h.form bytes h.bytes (Err h.breaks) has h.takes h.judged))
 built_at texts apps told asked faults old new shows ends wanted Usage s bytes a h has is = let some = has.is_wanted in cc
@@ -82,6 +90,8 @@ pub refused_at : IsOneVerdict → IsOneApp → {F : Type 0} (told : F → Option
     → EndsWith 1 (status_of r) (Rose (faults old) (faults new)) sink_rose
 refused_at texts apps told asked faults old new shows ends wanted (Shown text) s form bytes bs h has is =
     absurd (differ texts apps form bytes h.app bs (moved told asked old new wanted form View bytes h.bytes (Ok h.app) has h.takes h.judged) is)
+refused_at texts apps told asked faults old new shows ends wanted (Checked text) s form bytes bs h has is =
+    absurd (differ texts apps form bytes h.app bs (moved told asked old new wanted form Check bytes h.bytes (Ok h.app) has h.takes h.judged) is)
 refused_at texts apps told asked faults old new shows ends wanted (Broken text) s form bytes bs h has is = inl refl
 refused_at texts apps told asked faults old new shows ends wanted Usage s form bytes bs h has is = let some = has.is_wanted in cc
 refused_at texts apps told asked faults old new shows ends wanted OutOfMemory s form bytes bs h has is = inr (inl refl)
@@ -104,6 +114,7 @@ pub replayed_at : IsOneVerdict → IsOneApp → {F : Type 0} (told : F → Optio
     → Reports told asked faults old new shows ends wanted r → HasFile told old wanted Serve bytes → JudgedApp bytes (Ok a)
     → EndsService (status_of r) (Rose (faults old) (faults new)) sink_rose
 replayed_at texts apps told asked faults old new shows ends wanted (Shown text) s bytes a h has is = absurd (not_both wanted h.takes.name has.name h.takes.asks.is_wanted has.is_wanted)
+replayed_at texts apps told asked faults old new shows ends wanted (Checked text) s bytes a h has is = absurd (not_served wanted h.takes.name has.name h.takes.asks.is_wanted has.is_wanted)
 replayed_at texts apps told asked faults old new shows ends wanted (Broken text) s bytes a h has is =
     absurd (differ texts apps Serve bytes a h.breaks is (moved told asked old new wanted Serve h.form bytes h.bytes (Err h.breaks) has h.takes h.judged))
 replayed_at texts apps told asked faults old new shows ends wanted Usage s bytes a h has is = let some = has.is_wanted in cc
@@ -112,6 +123,22 @@ replayed_at texts apps told asked faults old new shows ends wanted (Unread text)
 replayed_at texts apps told asked faults old new shows ends wanted KeeperFault s bytes a h has is = inl refl
 replayed_at texts apps told asked faults old new shows ends wanted OtherSchema s bytes a h has is = inr (inr (inl refl))
 replayed_at texts apps told asked faults old new shows ends wanted (Replayed end) s bytes a h has is = ends_at end (Rose (faults old) (faults new)) s
+
+-- an app ends with 0, where it is checked
+pub checked_at : IsOneVerdict → IsOneApp → {F : Type 0} (told : F → Option Contents) (asked : F → List (List ℕ)) (faults : F → ℕ) (old new : F) (shows : App → String Global → Type 0) (ends : App → Report → Type 0) (wanted : Wanted) (r : Report)
+    (sink_rose : Type 0) (bytes : List ℕ) (a : App)
+    → Reports told asked faults old new shows ends wanted r → HasFile told old wanted Check bytes → JudgedApp bytes (Ok a)
+    → EndsWith 0 (status_of r) (Rose (faults old) (faults new)) sink_rose
+checked_at texts apps told asked faults old new shows ends wanted (Shown text) s bytes a h has is = absurd (not_view wanted has.name h.takes.name has.is_wanted h.takes.asks.is_wanted)
+checked_at texts apps told asked faults old new shows ends wanted (Checked text) s bytes a h has is = inl refl
+checked_at texts apps told asked faults old new shows ends wanted (Broken text) s bytes a h has is =
+    absurd (differ texts apps Check bytes a h.breaks is (moved told asked old new wanted Check h.form bytes h.bytes (Err h.breaks) has h.takes h.judged))
+checked_at texts apps told asked faults old new shows ends wanted Usage s bytes a h has is = let some = has.is_wanted in cc
+checked_at texts apps told asked faults old new shows ends wanted OutOfMemory s bytes a h has is = inr (inl refl)
+checked_at texts apps told asked faults old new shows ends wanted (Unread text) s bytes a h has is = inr (inr (inl h.rose))
+checked_at texts apps told asked faults old new shows ends wanted KeeperFault s bytes a h has is = absurd (not_served wanted has.name h.takes.name has.is_wanted h.takes.asks.is_wanted)
+checked_at texts apps told asked faults old new shows ends wanted OtherSchema s bytes a h has is = absurd (not_served wanted has.name h.takes.name has.is_wanted h.takes.asks.is_wanted)
+checked_at texts apps told asked faults old new shows ends wanted (Replayed end) s bytes a h has is = absurd (not_served wanted has.name h.takes.name has.is_wanted h.takes.asks.is_wanted)
 
 -- a file was read, and is refused
 pub reports_refused : {F : Type 0} (told : F → Option Contents) (asked : F → List (List ℕ)) (faults : F → ℕ) (old new : F) (shows : App → String Global → Type 0) (ends : App → Report → Type 0) (form : Form) (name bytes : List ℕ) (e : AppEnd) (r : Report)
@@ -127,6 +154,7 @@ pub reports_over : {F K : Type 0} (store : List ℕ) (told : F → Option Conten
     → Takes told asked old new (Some (Serve, name)) Serve bytes → JudgedApp bytes (Ok a) → EndsOver store tables attached marks attaches k l serves a r
     → Reports told asked faults old new no_show (EndsOver store tables attached marks attaches k l serves) (Some (Serve, name)) r
 reports_over store told asked faults old new tables attached marks attaches k l serves name bytes a (Shown text) takes judged h = absurd h
+reports_over store told asked faults old new tables attached marks attaches k l serves name bytes a (Checked text) takes judged h = absurd h
 reports_over store told asked faults old new tables attached marks attaches k l serves name bytes a (Broken text) takes judged h = absurd h
 reports_over store told asked faults old new tables attached marks attaches k l serves name bytes a Usage takes judged h = absurd h
 reports_over store told asked faults old new tables attached marks attaches k l serves name bytes a OutOfMemory takes judged h = refl
@@ -135,10 +163,18 @@ reports_over store told asked faults old new tables attached marks attaches k l 
 reports_over store told asked faults old new tables attached marks attaches k l serves name bytes a OtherSchema takes judged h = record { bytes = bytes; app = a; takes = takes; judged = judged; ended = h }
 reports_over store told asked faults old new tables attached marks attaches k l serves name bytes a (Replayed end) takes judged h = record { bytes = bytes; app = a; takes = takes; judged = judged; ended = h }
 
+-- a file was read, and is an app, and what is told of it came to a report
+pub reports_checked : {F : Type 0} (told : F → Option Contents) (asked : F → List (List ℕ)) (faults : F → ℕ) (old new : F) (name bytes : List ℕ) (a : App) (r : Report)
+    → Takes told asked old new (Some (Check, name)) Check bytes → JudgedApp bytes (Ok a) → IsChecking a r → Reports told asked faults old new no_show no_service (Some (Check, name)) r
+reports_checked told asked faults old new name bytes a (Checked text) takes judged h = record { bytes = bytes; app = a; takes = takes; judged = judged; lines = h }
+reports_checked told asked faults old new name bytes a OutOfMemory takes judged h = refl
+reports_checked told asked faults old new name bytes a r takes judged h = absurd h
+
 -- a view serves nothing
 viewed_by : {F : Type 0} (told : F → Option Contents) (asked : F → List (List ℕ)) (faults : F → ℕ) (old new : F) (shows : App → String Global → Type 0) (ends : App → Report → Type 0) (w : Wanted) (r : Report)
     → Reports told asked faults old new shows no_service w r → Reports told asked faults old new shows ends w r
 viewed_by told asked faults old new shows ends w (Shown text) h = h
+viewed_by told asked faults old new shows ends w (Checked text) h = h
 viewed_by told asked faults old new shows ends w (Broken text) h = h
 viewed_by told asked faults old new shows ends w Usage h = h
 viewed_by told asked faults old new shows ends w OutOfMemory h = h
@@ -155,6 +191,7 @@ viewed told asked faults old new shows ends v w r e h = subst (λ (x : Wanted). 
 replayed_by : {F : Type 0} (told : F → Option Contents) (asked : F → List (List ℕ)) (faults : F → ℕ) (old new : F) (shows : App → String Global → Type 0) (ends : App → Report → Type 0) (w : Wanted) (r : Report)
     → Reports told asked faults old new no_show ends w r → Reports told asked faults old new shows ends w r
 replayed_by told asked faults old new shows ends w (Shown text) h = absurd h.shown
+replayed_by told asked faults old new shows ends w (Checked text) h = h
 replayed_by told asked faults old new shows ends w (Broken text) h = h
 replayed_by told asked faults old new shows ends w Usage h = h
 replayed_by told asked faults old new shows ends w OutOfMemory h = h
@@ -166,3 +203,12 @@ replayed_by told asked faults old new shows ends w (Replayed end) h = h
 pub replayed_so : {F : Type 0} (told : F → Option Contents) (asked : F → List (List ℕ)) (faults : F → ℕ) (old new : F) (shows : App → String Global → Type 0) (ends : App → Report → Type 0) (v w : Wanted) (r : Report)
     → v ≡ w → Reports told asked faults old new no_show ends v r → Reports told asked faults old new shows ends w r
 replayed_so told asked faults old new shows ends v w r e h = subst (λ (x : Wanted). Reports told asked faults old new shows ends x r) e (replayed_by told asked faults old new shows ends v r h)
+
+-- a check neither shows nor serves
+checked_by : {F : Type 0} (told : F → Option Contents) (asked : F → List (List ℕ)) (faults : F → ℕ) (old new : F) (shows : App → String Global → Type 0) (ends : App → Report → Type 0) (w : Wanted) (r : Report)
+    → Reports told asked faults old new no_show no_service w r → Reports told asked faults old new shows ends w r
+checked_by told asked faults old new shows ends w r h = replayed_by told asked faults old new shows ends w r (viewed_by told asked faults old new no_show ends w r h)
+
+pub checked_so : {F : Type 0} (told : F → Option Contents) (asked : F → List (List ℕ)) (faults : F → ℕ) (old new : F) (shows : App → String Global → Type 0) (ends : App → Report → Type 0) (v w : Wanted) (r : Report)
+    → v ≡ w → Reports told asked faults old new no_show no_service v r → Reports told asked faults old new shows ends w r
+checked_so told asked faults old new shows ends v w r e h = subst (λ (x : Wanted). Reports told asked faults old new shows ends x r) e (checked_by told asked faults old new shows ends v r h)

@@ -6,11 +6,11 @@ use Rattle.fx_base.specs.Telling.{Tells}
 use Rattle.fx_cli.specs.declared.replay.ReplayEnd.{ReplayEnd}
 use Rattle.fx_cli.specs.declared.replay.ReplayEnd.TheVariants as replay
 use Rattle.fx_cli.specs.declared.report.Report.{Report}
-use Rattle.fx_cli.specs.declared.report.Report.TheVariants.{Shown, Broken, Usage, OutOfMemory, Unread, KeeperFault, OtherSchema, Replayed}
-use Rattle.fx_cli.specs.declared.words.Form.TheVariants.{View, Serve}
+use Rattle.fx_cli.specs.declared.report.Report.TheVariants.{Shown, Checked, Broken, Usage, OutOfMemory, Unread, KeeperFault, OtherSchema, Replayed}
+use Rattle.fx_cli.specs.declared.words.Form.TheVariants.{View, Check, Serve}
 use Rattle.fx_cli.specs.Report.{EndsService, EndsWith, IsIdle, IsService, IsSaid, IsTimeless, Leaves, LeavesKeeper, Reports, Wanted, status_of, text_of, text_of_end}
 use Rattle.fx_cli.specs.Telling.{Contents, Grows}
-use Rattle.fx_cli.proofs.Reported.{not_both}
+use Rattle.fx_cli.proofs.Reported.{not_both, not_served, not_view}
 
 -- statuses differ
 other : (m n : ℕ) → nat_eq m n ≡ false → m ≡ n → ⊥
@@ -19,6 +19,7 @@ other m n h e = let same : nat_eq m n ≡ true = eq-eqb m n e in cc
 -- a replay that ends with 0 is done
 pub is_done : {F : Type 0} (told : F → Option Contents) (asked : F → List (List ℕ)) (faults : F → ℕ) (old new : F) (shows : App → String Global → Type 0) (ends : App → Report → Type 0) (wanted : Wanted) (r : Report) → Reports told asked faults old new shows ends wanted r → status_of r ≡ 0 → (name : List ℕ) → wanted ≡ Some (Serve, name) → r ≡ Replayed replay.Done
 is_done told asked faults old new shows ends wanted (Shown text) h e name is = absurd (not_both wanted h.takes.name name h.takes.asks.is_wanted is)
+is_done told asked faults old new shows ends wanted (Checked text) h e name is = absurd (not_served wanted h.takes.name name h.takes.asks.is_wanted is)
 is_done told asked faults old new shows ends wanted (Broken text) h e name is = absurd (other 1 0 refl e)
 is_done told asked faults old new shows ends wanted Usage h e name is = absurd (other 2 0 refl e)
 is_done told asked faults old new shows ends wanted OutOfMemory h e name is = absurd (other 3 0 refl e)
@@ -32,6 +33,7 @@ is_done told asked faults old new shows ends wanted (Replayed replay.Full) h e n
 -- one that ends with 5 or 8 couldn't open its keeper
 pub is_keeper_fault : (r : Report) → status_of r ≡ 5 → r ≡ KeeperFault
 is_keeper_fault (Shown text) e = absurd (other 0 5 refl e)
+is_keeper_fault (Checked text) e = absurd (other 0 5 refl e)
 is_keeper_fault (Broken text) e = absurd (other 1 5 refl e)
 is_keeper_fault Usage e = absurd (other 2 5 refl e)
 is_keeper_fault OutOfMemory e = absurd (other 3 5 refl e)
@@ -44,6 +46,7 @@ is_keeper_fault (Replayed replay.Full) e = absurd (other 9 5 refl e)
 
 pub is_other_schema : (r : Report) → status_of r ≡ 8 → r ≡ OtherSchema
 is_other_schema (Shown text) e = absurd (other 0 8 refl e)
+is_other_schema (Checked text) e = absurd (other 0 8 refl e)
 is_other_schema (Broken text) e = absurd (other 1 8 refl e)
 is_other_schema Usage e = absurd (other 2 8 refl e)
 is_other_schema OutOfMemory e = absurd (other 3 8 refl e)
@@ -57,6 +60,7 @@ is_other_schema (Replayed replay.Full) e = absurd (other 9 8 refl e)
 -- with 6 it ends by a fault of the doors
 pub is_fault : (r : Report) → status_of r ≡ 6 → r ≡ Replayed replay.Fault
 is_fault (Shown text) e = absurd (other 0 6 refl e)
+is_fault (Checked text) e = absurd (other 0 6 refl e)
 is_fault (Broken text) e = absurd (other 1 6 refl e)
 is_fault Usage e = absurd (other 2 6 refl e)
 is_fault OutOfMemory e = absurd (other 3 6 refl e)
@@ -103,9 +107,10 @@ or_fault_replayed status r files_rose sink_rose o o' (inr h) ends = inr (inr (in
 pub viewed_leaves : (w : Wanted) (name : List ℕ) (files doors clock once keeper stopped : Type 0) (r : Report) → w ≡ Some (View, name) → (r ≡ Usage → ⊥) → doors → (IsTimeless r → clock) → once → keeper
     → Leaves w files doors clock once keeper stopped r
 viewed_leaves w name files doors clock once keeper stopped (Shown text) is known same timeless read kept = (same, kept)
+viewed_leaves w name files doors clock once keeper stopped (Checked text) is known same timeless read kept = (same, timeless tt, kept)
 viewed_leaves w name files doors clock once keeper stopped (Broken text) is known same timeless read kept = (same, timeless tt, kept)
 viewed_leaves w name files doors clock once keeper stopped Usage is known same timeless read kept = absurd (known refl)
-viewed_leaves w name files doors clock once keeper stopped OutOfMemory is known same timeless read kept = (same, λ h. absurd (not_both w name h.0 is h.1), λ _. (read, kept))
+viewed_leaves w name files doors clock once keeper stopped OutOfMemory is known same timeless read kept = (same, λ h. absurd (not_both w name h.0 is h.1), λ _. (read, kept), λ h. absurd (not_view w h.0 name h.1 is))
 viewed_leaves w name files doors clock once keeper stopped (Unread text) is known same timeless read kept = (same, timeless tt, kept)
 viewed_leaves w name files doors clock once keeper stopped KeeperFault is known same timeless read kept = (same, timeless tt)
 viewed_leaves w name files doors clock once keeper stopped OtherSchema is known same timeless read kept = (same, timeless tt)
@@ -115,10 +120,25 @@ viewed_leaves w name files doors clock once keeper stopped (Replayed end) is kno
 pub replayed_leaves : (w : Wanted) (name : List ℕ) (files doors clock once keeper stopped : Type 0) (r : Report) → w ≡ Some (Serve, name) → (r ≡ Usage → ⊥) → (IsIdle r → doors × clock) → LeavesKeeper keeper stopped r
     → Leaves w files doors clock once keeper stopped r
 replayed_leaves w name files doors clock once keeper stopped (Shown text) is known idle kept = ((idle tt).0, kept)
+replayed_leaves w name files doors clock once keeper stopped (Checked text) is known idle kept = ((idle tt).0, (idle tt).1, kept)
 replayed_leaves w name files doors clock once keeper stopped (Broken text) is known idle kept = ((idle tt).0, (idle tt).1, kept)
 replayed_leaves w name files doors clock once keeper stopped Usage is known idle kept = absurd (known refl)
-replayed_leaves w name files doors clock once keeper stopped OutOfMemory is known idle kept = ((idle tt).0, λ _. ((idle tt).1, kept), λ h. absurd (not_both w h.0 name h.1 is))
+replayed_leaves w name files doors clock once keeper stopped OutOfMemory is known idle kept = ((idle tt).0, λ _. ((idle tt).1, kept), λ h. absurd (not_both w h.0 name h.1 is), λ h. absurd (not_served w h.0 name h.1 is))
 replayed_leaves w name files doors clock once keeper stopped (Unread text) is known idle kept = ((idle tt).0, (idle tt).1, kept)
 replayed_leaves w name files doors clock once keeper stopped KeeperFault is known idle kept = idle tt
 replayed_leaves w name files doors clock once keeper stopped OtherSchema is known idle kept = idle tt
 replayed_leaves w name files doors clock once keeper stopped (Replayed end) is known idle kept = tt
+
+-- and a check, which leaves all but the files
+pub checked_leaves : (w : Wanted) (name : List ℕ) (files doors clock once keeper stopped : Type 0) (r : Report) → w ≡ Some (Check, name) → (r ≡ Usage → ⊥) → doors → clock → keeper
+    → Leaves w files doors clock once keeper stopped r
+checked_leaves w name files doors clock once keeper stopped (Shown text) is known same still kept = (same, kept)
+checked_leaves w name files doors clock once keeper stopped (Checked text) is known same still kept = (same, still, kept)
+checked_leaves w name files doors clock once keeper stopped (Broken text) is known same still kept = (same, still, kept)
+checked_leaves w name files doors clock once keeper stopped Usage is known same still kept = absurd (known refl)
+checked_leaves w name files doors clock once keeper stopped OutOfMemory is known same still kept =
+    (same, λ h. absurd (not_served w name h.0 is h.1), λ h. absurd (not_view w name h.0 is h.1), λ _. (still, kept))
+checked_leaves w name files doors clock once keeper stopped (Unread text) is known same still kept = (same, still, kept)
+checked_leaves w name files doors clock once keeper stopped KeeperFault is known same still kept = (same, still)
+checked_leaves w name files doors clock once keeper stopped OtherSchema is known same still kept = (same, still)
+checked_leaves w name files doors clock once keeper stopped (Replayed end) is known same still kept = tt

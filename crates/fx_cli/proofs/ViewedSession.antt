@@ -9,7 +9,7 @@ use Rattle.fx_value.specs.Fits.{fits_in}
 use Rattle.session_state.specs.Changes.{FitsNames, HoldsTables, IsOwn}
 use Rattle.session_state.specs.Sessions.{Holds, held, opened}
 use Rattle.session_state.proofs.Fitting.{fits_opened}
-use Rattle.app_semantics.specs.Holding.{HoldsFitting}
+use Rattle.office.specs.app_semantics.Holding.{HoldsFitting}
 
 -- the same names with one screen: it is no source
 abbrev with_screen : Names → Names

@@ -1,7 +1,7 @@
 -- Values as `view` prints them.
-use Rattle.std.specs.Prelude.{◌≡◌, ℕ, List, ◌∷◌, [], ◌++◌, Option, codes, encode_utf8_all, flat_map}
+use Rattle.std.specs.Prelude.{◌≡◌, ℕ, List, ◌∷◌, [], ◌++◌, Option, None, codes, encode_utf8_all, flat_map}
 use Rattle.app_cells.specs.declared.app.App.{App}
-use Rattle.app_semantics.specs.Present.{present}
+use Rattle.office.specs.app_semantics.Present.{present}
 use Rattle.app_wire.specs.Moments.{Ticks}
 use Rattle.fx_data.specs.Values.{Data}
 use Rattle.session_state.specs.Sessions.{opened}
@@ -12,10 +12,11 @@ use Rattle.office.specs.NamedReply.{IsNamedList}
 abbrev pub line_of : List ℕ × Data → List ℕ
 line_of shown = encode_utf8_all shown.0 ++ (codes " = " ++ (plain_text shown.1 ++ codes "\n"))
 
--- the text of an app at a moment: a line for each named formula, in order, with its value in a session that was just opened
+-- the text of an app at a moment: a line for each named formula, in order, with its value in a session that was just
+-- opened, where no rows are told
 abbrev pub IsShown : ℕ → App → List ℕ → Type 0
 IsShown moment app text =
-    (values : List (List ℕ × Data)) × IsNamedList (present app (opened app.names) moment) values × (text ≡ flat_map line_of values)
+    (values : List (List ℕ × Data)) × IsNamedList (present app (opened app.names) None moment) values × (text ≡ flat_map line_of values)
 
 -- that text at the one moment that a clock gave
 abbrev pub IsShownNow : Option (List ℕ) → Option (List ℕ) → App → List ℕ → Type 0

@@ -5,6 +5,7 @@ use Rattle.fx_base.specs.Faults.{Rose}
 use Rattle.fx_base.specs.Silence.{Marks}
 use Rattle.fx_base.specs.Telling.{Tells}
 use Rattle.app_cells.specs.declared.app.App.{App}
+use Rattle.app_plans.specs.Plans.{checked_text}
 use Rattle.office.specs.app_loader.Judged.{Judged, JudgedApp, longest}
 use Rattle.app_wire.specs.Moments.{Tick}
 use Rattle.fx_trees.specs.BrokenText.{ended_line}
@@ -20,9 +21,9 @@ use Rattle.fx_cli.specs.Opening.{Counted, IsAsked, IsServed, IsStopped}
 use Rattle.fx_cli.specs.declared.replay.ReplayEnd.{ReplayEnd}
 use Rattle.fx_cli.specs.declared.replay.ReplayEnd.TheVariants as replay
 use Rattle.fx_cli.specs.declared.report.Report.{Report}
-use Rattle.fx_cli.specs.declared.report.Report.TheVariants.{Shown, Broken, Usage, OutOfMemory, Unread, KeeperFault, OtherSchema, Replayed}
+use Rattle.fx_cli.specs.declared.report.Report.TheVariants.{Shown, Checked, Broken, Usage, OutOfMemory, Unread, KeeperFault, OtherSchema, Replayed}
 use Rattle.fx_cli.specs.declared.words.Form.{Form}
-use Rattle.fx_cli.specs.declared.words.Form.TheVariants.{View, Serve}
+use Rattle.fx_cli.specs.declared.words.Form.TheVariants.{View, Check, Serve}
 use Rattle.fx_cli.specs.Telling.{AreFirst, Contents, Grows, GrowsInPart}
 
 unfoldable pub usage_text : List ℕ
@@ -49,6 +50,7 @@ unread_text name = codes "pfx: cannot read " ++ (name ++ codes "\n")
 -- one byte more than the longest file of each form
 abbrev pub most_read : Form → ℕ
 most_read View = longest + 1
+most_read Check = most_bytes + 1
 most_read Serve = most_bytes + 1
 
 -- a form of words, and a file that goes with it
@@ -81,6 +83,7 @@ pub record HasFile {F : Type 0} (told : F → Option Contents) (files : F) (want
 -- the bytes of a file, judged as its form is: a text of named formulas, or an app file
 abbrev pub JudgedAs : Form → List ℕ → Result App (List Break) → Type 0
 JudgedAs View = Judged
+JudgedAs Check = JudgedApp
 JudgedAs Serve = JudgedApp
 
 -- The file is named formulas that break no rule, and was shown so.
@@ -90,6 +93,14 @@ pub record IsView {F : Type 0} (told : F → Option Contents) (asked : F → Lis
   pub takes : Takes told asked old new wanted View bytes
   pub judged : Judged bytes (Ok app)
   pub shown : shows app
+
+-- The file is an app, of which this is told: how many formulas and tables it has, and where formulas take rows.
+pub record IsCheck {F : Type 0} (told : F → Option Contents) (asked : F → List (List ℕ)) (old new : F) (wanted : Wanted) (text : List ℕ) : Type 0 where
+  pub bytes : List ℕ
+  pub app : App
+  pub takes : Takes told asked old new wanted Check bytes
+  pub judged : JudgedApp bytes (Ok app)
+  pub lines : text ≡ checked_text app
 
 -- The file is an app, and serving it came to this.
 pub record IsService {F : Type 0} (told : F → Option Contents) (asked : F → List (List ℕ)) (old new : F) (wanted : Wanted) (ends : App → Type 0) : Type 0 where
@@ -131,6 +142,7 @@ EndsOver name told attached marks attaches old new serves app r = ⊥
 abbrev pub Reports : {F : Type 0} (told : F → Option Contents) (asked : F → List (List ℕ)) (faults : F → ℕ) (old new : F)
     (shows : App → String Global → Type 0) (ends : App → Report → Type 0) → Wanted → Report → Type 0
 Reports told asked faults old new shows ends wanted (Shown text) = IsView told asked old new wanted (λ app. shows app text)
+Reports told asked faults old new shows ends wanted (Checked text) = IsCheck told asked old new wanted (string_bytes text)
 Reports told asked faults old new shows ends wanted (Broken text) = IsBroken told asked old new wanted (string_bytes text)
 Reports told asked faults old new shows ends wanted Usage = wanted ≡ None
 Reports told asked faults old new shows ends wanted OutOfMemory = IsSome wanted
@@ -150,6 +162,7 @@ no_service app report = ⊥
 abbrev pub IsIdle : Report → Type 0
 IsIdle (Replayed end) = ⊥
 IsIdle (Shown text) = Unit {0}
+IsIdle (Checked text) = Unit {0}
 IsIdle (Broken text) = Unit {0}
 IsIdle Usage = Unit {0}
 IsIdle OutOfMemory = Unit {0}
@@ -159,6 +172,7 @@ IsIdle OtherSchema = Unit {0}
 
 -- nothing was evaluated
 abbrev pub IsTimeless : Report → Type 0
+IsTimeless (Checked text) = Unit {0}
 IsTimeless (Broken text) = Unit {0}
 IsTimeless Usage = Unit {0}
 IsTimeless (Unread text) = Unit {0}
@@ -176,6 +190,7 @@ IsReadOnceAtMost told old new = (new ≡ old) ⊎ ((moment : ℕ) × Tick moment
 -- have stopped that opens it.
 abbrev pub LeavesKeeper : Type 0 → Type 0 → Report → Type 0
 LeavesKeeper keeper stopped (Shown text) = keeper
+LeavesKeeper keeper stopped (Checked text) = keeper
 LeavesKeeper keeper stopped (Broken text) = keeper
 LeavesKeeper keeper stopped Usage = keeper
 LeavesKeeper keeper stopped OutOfMemory = keeper ⊎ stopped
@@ -188,10 +203,11 @@ LeavesKeeper keeper stopped (Replayed end) = Unit {0}
 -- keeper. For want of memory where an app is served a call may have stopped that opens the keeper.
 abbrev pub Leaves : Wanted → Type 0 → Type 0 → Type 0 → Type 0 → Type 0 → Type 0 → Report → Type 0
 Leaves wanted files doors clock once keeper stopped (Shown text) = doors × keeper
+Leaves wanted files doors clock once keeper stopped (Checked text) = doors × clock × keeper
 Leaves wanted files doors clock once keeper stopped (Broken text) = doors × clock × keeper
 Leaves wanted files doors clock once keeper stopped Usage = files × doors × clock × keeper
 Leaves wanted files doors clock once keeper stopped OutOfMemory =
-    doors × (Wants Serve wanted → clock × (keeper ⊎ stopped)) × (Wants View wanted → once × keeper)
+    doors × (Wants Serve wanted → clock × (keeper ⊎ stopped)) × (Wants View wanted → once × keeper) × (Wants Check wanted → clock × keeper)
 Leaves wanted files doors clock once keeper stopped (Unread text) = doors × clock × keeper
 Leaves wanted files doors clock once keeper stopped KeeperFault = doors × clock
 Leaves wanted files doors clock once keeper stopped OtherSchema = doors × clock
@@ -202,6 +218,7 @@ abbrev pub IsUnread : List ℕ → Report → Type 0
 IsUnread name (Unread text) = string_bytes text ≡ unread_text name
 IsUnread name OutOfMemory = Unit {0}
 IsUnread name (Shown text) = ⊥
+IsUnread name (Checked text) = ⊥
 IsUnread name (Broken text) = ⊥
 IsUnread name Usage = ⊥
 IsUnread name KeeperFault = ⊥
@@ -213,6 +230,12 @@ abbrev pub IsShowing : (List ℕ → Type 0) → Report → Type 0
 IsShowing P (Shown text) = P (string_bytes text)
 IsShowing P OutOfMemory = Unit {0}
 IsShowing P r = ⊥
+
+-- it tells of an app where its formulas take rows, or memory ran out
+abbrev pub IsChecking : App → Report → Type 0
+IsChecking app (Checked text) = string_bytes text ≡ checked_text app
+IsChecking app OutOfMemory = Unit {0}
+IsChecking app r = ⊥
 
 -- it tells of the breaks that an end has, or memory ran out
 abbrev pub IsRefusal : AppEnd → Report → Type 0
@@ -229,6 +252,7 @@ status_of_end replay.Full = 9
 -- the status that goes with a report
 abbrev pub status_of : Report → ℕ
 status_of (Shown text) = 0
+status_of (Checked text) = 0
 status_of (Broken text) = 1
 status_of Usage = 2
 status_of OutOfMemory = 3
@@ -246,6 +270,7 @@ text_of_end replay.Full = limit_text
 -- what a report says
 abbrev pub text_of : Report → List ℕ
 text_of (Shown text) = string_bytes text
+text_of (Checked text) = string_bytes text
 text_of (Broken text) = string_bytes text
 text_of Usage = usage_text
 text_of OutOfMemory = memory_text

@@ -4,7 +4,7 @@ use Rattle.std.specs.Str.{all_ascii_digits}
 use Rattle.std.specs.Str.Parse.{digits_value}
 use Rattle.std.specs.declared.alloc.Global.{Global}
 use Rattle.fx_cli.specs.declared.words.Form.{Form}
-use Rattle.fx_cli.specs.declared.words.Form.TheVariants.{View, Serve}
+use Rattle.fx_cli.specs.declared.words.Form.TheVariants.{View, Check, Serve}
 
 -- How an app is served: with the rows of the store of a name, on a port, if one is listened on, and at most so many
 -- conversations.
@@ -35,13 +35,14 @@ is_word text word = bytes_eq (string_bytes word) text
 abbrev pub app_if : Bool → List ℕ → Option (Form × List ℕ)
 app_if b app = if b then Some (Serve, app) else None
 
--- The form of the words, and the file that they name: FILE of `view FILE`, or APP of `replay APP` and of
+-- The form of the words, and the file that they name: FILE of `view FILE`, or APP of `check APP`, of `replay APP` and of
 -- `serve APP DB PORT [COUNT]`.
 abbrev pub wanted : List (String Global) → Option (Form × List ℕ)
 wanted [] = None
 wanted (command ∷ []) = None
 wanted (command ∷ file ∷ []) =
-    if is_word (codes "view") command then Some (View, string_bytes file) else app_if (is_word (codes "replay") command) (string_bytes file)
+    if is_word (codes "view") command then Some (View, string_bytes file)
+    else (if is_word (codes "check") command then Some (Check, string_bytes file) else app_if (is_word (codes "replay") command) (string_bytes file))
 wanted (command ∷ app ∷ store ∷ []) = None
 wanted (command ∷ app ∷ store ∷ port ∷ []) =
     app_if (is_word (codes "serve") command && is_some (port_of (string_bytes port))) (string_bytes app)

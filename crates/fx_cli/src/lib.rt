@@ -14,7 +14,7 @@ ghost use Rattle.fx_cli.specs.Report.{EndsOver, EndsService, EndsWith, HasFile, 
 ghost use Rattle.fx_cli.specs.Telling.{Grows};
 ghost use Rattle.fx_cli.specs.Words.{service, wanted};
 ghost use Rattle.fx_cli.specs.declared.words.Form.{Form};
-ghost use Rattle.fx_cli.specs.declared.words.Form.TheVariants.{Serve, View};
+ghost use Rattle.fx_cli.specs.declared.words.Form.TheVariants.{Check, Serve, View};
 ghost use Rattle.fx_trees.specs.declared.broken.Broken.{Broken};
 ghost use Rattle.fx_trees.specs.declared.schema.Schema.{Schema};
 ghost use Rattle.office.specs.State.{schema_of};
@@ -52,7 +52,7 @@ pub use system::{RealFiles, StdSink};
 pub struct Status(pub u8);
 
 /// All that the program does. `words` are those after its name. What it says is made whole before any of it is written,
-/// and nothing else is written to `out`. The keeper is opened for an app that is served, and `view` leaves it alone.
+/// and nothing else is written to `out`. The keeper is opened for an app that is served, and `view` and `check` leave it alone.
 pub fn run<D: Doors, K: Keeper, F: Files, O: Sink, C: Clock, L: Ledger>(
     alloc: Global,
     words: &[String],
@@ -94,6 +94,9 @@ pub fn run<D: Doors, K: Keeper, F: Files, O: Sink, C: Clock, L: Ledger>(
         → Judged bytes (Ok app) → EndsWith 0 result.0 (Rose (F.faults files.old) (F.faults files.new)) (Rose (O.faults out.old) (O.faults out.new)) }
     ensures refused { (form : Form) (bytes : List ℕ) (bs : List Broken) → HasFile F.told files.old (wanted words.now) form bytes
         → JudgedAs form bytes (Err bs) → EndsWith 1 result.0 (Rose (F.faults files.old) (F.faults files.new)) (Rose (O.faults out.old) (O.faults out.new)) }
+    // One that is an app is checked: what is told of it is written.
+    ensures checked { (bytes : List ℕ) (app : App) → HasFile F.told files.old (wanted words.now) Check bytes
+        → JudgedApp bytes (Ok app) → EndsWith 0 result.0 (Rose (F.faults files.old) (F.faults files.new)) (Rose (O.faults out.old) (O.faults out.new)) }
     // One that is an app is served up to an end, but for the same, a keeper that fails and one that keeps another schema.
     ensures served { (bytes : List ℕ) (app : App) → HasFile F.told files.old (wanted words.now) Serve bytes
         → JudgedApp bytes (Ok app) → EndsService result.0 (Rose (F.faults files.old) (F.faults files.new)) (Rose (O.faults out.old) (O.faults out.new)) }

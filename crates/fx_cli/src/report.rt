@@ -1,9 +1,9 @@
 //! What a run says before it ends.
-ghost use Rattle.std.specs.Prelude.{◌≡◌, ◌≤◌, Some, false, string_bytes};
+ghost use Rattle.std.specs.Prelude.{◌≡◌, ◌≤◌, [], Some, false, string_bytes};
 ghost use Rattle.fx_base.specs.Faults.{Rose};
 ghost use Rattle.fx_base.specs.Silence.{IsLater};
 ghost use Rattle.office.specs.app_loader.Edits.{IsLoaded};
-ghost use Rattle.app_semantics.specs.Sound.{IsSound};
+ghost use Rattle.office.specs.app_semantics.Sound.{IsSound};
 ghost use Rattle.office.specs.Ready.{CanOpen};
 ghost use Rattle.office.specs.State.{State, schema_of, started};
 ghost use Rattle.row_requests.specs.Sound.{AreSound};
@@ -11,9 +11,9 @@ ghost use Rattle.session_state.specs.Changes.{HoldsTables};
 ghost use Rattle.fx_cli.specs.Held.{Serves};
 ghost use Rattle.fx_cli.specs.Opening.{IsStopped, Unsaid};
 ghost use Rattle.fx_cli.specs.Plain.{IsShown, IsShownNow};
-ghost use Rattle.fx_cli.specs.Report.{EndsOver, IsIdle, IsReadOnceAtMost, IsRefusal, IsShowing, IsTimeless, IsUnread, Leaves, LeavesKeeper, Reports, fault_text, keeper_text, limit_text, memory_text, no_service, no_show, schema_text, status_of, status_of_end, text_of, text_of_end, unread_text, usage_text};
+ghost use Rattle.fx_cli.specs.Report.{EndsOver, IsChecking, IsIdle, IsReadOnceAtMost, IsRefusal, IsShowing, IsTimeless, IsUnread, Leaves, LeavesKeeper, Reports, fault_text, keeper_text, limit_text, memory_text, no_service, no_show, schema_text, status_of, status_of_end, text_of, text_of_end, unread_text, usage_text};
 ghost use Rattle.fx_cli.specs.Words.{service, wanted};
-ghost use Rattle.fx_cli.specs.declared.words.Form.TheVariants.{Serve, View};
+ghost use Rattle.fx_cli.specs.declared.words.Form.TheVariants.{Check, Serve, View};
 
 use crate::files::{FileEnd, Files};
 use crate::opening::open_keeper;
@@ -21,6 +21,7 @@ use crate::replay::{ReplayEnd, hold_all};
 use crate::view::view_text;
 use crate::words::{Form, Service, form_of, service_of};
 use app_cells::App;
+use app_plans::checked_lines;
 use app_wire::clock::Clock;
 use app_wire::doors::Doors;
 use app_wire::routes::Routes;
@@ -36,6 +37,8 @@ use std::sync::ledger::Ledger;
 pub enum Report {
     /// The lines of a file's formulas.
     Shown(String),
+    /// The lines of an app: what it has, and where its formulas take rows.
+    Checked(String),
     /// The file breaks a rule: a line for each break.
     Broken(String),
     /// The words are no form.
@@ -59,6 +62,7 @@ impl Report {
     {
         match self {
             Report::Shown(_) => 0,
+            Report::Checked(_) => 0,
             Report::Broken(_) => 1,
             Report::Usage => 2,
             Report::OutOfMemory => 3,
@@ -75,6 +79,7 @@ impl Report {
     {
         match self {
             Report::Shown(text) => text.as_bytes(),
+            Report::Checked(text) => text.as_bytes(),
             Report::Broken(text) => text.as_bytes(),
             Report::Usage => usage(),
             Report::OutOfMemory => out_of_memory(),
@@ -181,6 +186,7 @@ pub fn carry_out<D: Doors, K: Keeper, F: Files, C: Clock, L: Ledger>(
 {
     match form_of(words) {
         Some((Form::View, name)) => view_file(alloc, name, files, clock, steps),
+        Some((Form::Check, name)) => check_file(alloc, name, files),
         Some((Form::Serve, name)) => serve_file(
             alloc,
             name,
@@ -221,10 +227,38 @@ fn view_file<F: Files, C: Clock, L: Ledger>(
     }
 }
 
+/// Checks an app's file. Nothing is evaluated, and no keeper is called.
+fn check_file<F: Files>(alloc: Global, name: &str, files: &mut F) -> Report
+    ensures reports { Reports F.told F.asked F.faults files.old files.new no_show no_service (Some (Check, name.now)) result }
+    ensures later { F.faults files.old ≤ F.faults files.new }
+    ensures told { F.told files.new ≡ F.told files.old }
+{
+    let file = match files.read(name, MOST_APP_READ) {
+        Ok(file) => file,
+        Err(FileEnd::Memory) => return Report::OutOfMemory,
+        Err(FileEnd::Failed) => return unread_file(alloc, name),
+    };
+    match load(alloc, &file) {
+        Ok(app) => check(alloc, &app),
+        Err(end) => refuse(alloc, end),
+    }
+}
+
+/// What is told of an app that is accepted.
+fn check(alloc: Global, app: &App) -> Report
+    ensures { IsChecking app.now result }
+{
+    match checked_lines(alloc, app) {
+        Ok(text) => Report::Checked(text),
+        Err(Memory) => Report::OutOfMemory,
+    }
+}
+
 /// The values of an app's formulas at a moment.
 fn show<L: Ledger>(alloc: Global, app: &App, moment: u64, steps: &mut Steps<L>) -> Report
     requires sound { IsSound app.now }
     requires tables { HoldsTables app.now.names }
+    requires bare { app.now.names.schema.tables ≡ [] }
     ensures { IsShowing (IsShown moment app.now) result }
 {
     match view_text(alloc, app, moment, steps) {

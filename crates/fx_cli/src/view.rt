@@ -1,19 +1,22 @@
 //! What `view` prints: each named formula of an app with its value.
-ghost use Rattle.std.specs.Prelude.{◌≡◌, ◌++◌, IfOk, OnOk, flat_map, map, string_bytes};
-ghost use Rattle.app_semantics.specs.Sound.{IsSound};
+ghost use Rattle.std.specs.Prelude.{◌≡◌, ◌++◌, [], IfOk, OnOk, flat_map, map, string_bytes};
+ghost use Rattle.office.specs.app_semantics.Sound.{IsSound};
 ghost use Rattle.session_state.specs.Changes.{HoldsTables};
 ghost use Rattle.office.specs.NamedReply.{shown};
 ghost use Rattle.fx_cli.specs.Plain.{IsShown, line_of};
 
 use app_cells::App;
 use fx_base::Memory;
+use fx_base::plan::FaultPlan;
 use office::{Steps, named_list};
+use row_keeper::{KeeperEnd, MemoryKeeper};
 use session_state::Session;
 use std::alloc::Global;
 use std::sync::ledger::Ledger;
 use view_text::{Named, plain};
 
-/// A line for each named formula, in order: its name and its value at a moment, in seconds since 1970-01-01 UTC.
+/// A line for each named formula, in order: its name and its value at a moment, in seconds since 1970-01-01 UTC. The app has
+/// no tables, so no keeper is called: the one that formulas are evaluated over is made here, and keeps nothing.
 #[tactic(auto, using(crate::proofs::ViewedSession::opened_holds))]
 pub fn view_text<L: Ledger>(
     alloc: Global,
@@ -23,11 +26,16 @@ pub fn view_text<L: Ledger>(
 ) -> Result<String, Memory>
     requires sound { IsSound app.now }
     requires tables { HoldsTables app.now.names }
+    requires bare { app.now.names.schema.tables ≡ [] }
     ensures { IfOk result (λ text. IsShown moment app.now (string_bytes text)) }
 {
     let session = Session::new(alloc, &app.names)?;
-    let values = named_list(alloc, app, &session, moment, steps)?;
-    values_text(alloc, &values)
+    let mut keeper = MemoryKeeper::new(alloc, FaultPlan::new(Vec::new(alloc)));
+    match named_list(alloc, app, &session, &mut keeper, moment, steps) {
+        Ok(values) => values_text(alloc, &values),
+        Err(KeeperEnd::Memory) => Err(Memory),
+        Err(KeeperEnd::Failed) => unreachable!(),
+    }
 }
 
 /// The lines of values.

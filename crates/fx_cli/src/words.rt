@@ -16,6 +16,8 @@ const LAST_PORT: u64 = 65_535;
 pub enum Form {
     /// `view FILE`
     View,
+    /// `check APP`
+    Check,
     /// `replay APP`, or `serve APP DB PORT [COUNT]`
     Serve,
 }
@@ -52,6 +54,9 @@ fn pair_form<'w>(command: &String, file: &'w String) -> Option<(Form, &'w str)>
 {
     if is_word(command, "view") {
         return Some((Form::View, file.as_str()));
+    }
+    if is_word(command, "check") {
+        return Some((Form::Check, file.as_str()));
     }
     app_if(is_word(command, "replay"), file)
 }

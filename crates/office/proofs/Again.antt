@@ -1,6 +1,6 @@
 -- Posted requests that come again.
 use Rattle.serde_json.specs.Data as json
-use Rattle.std.proofs.Common.{◌≡◌, ◌≢◌, ◌⊎◌, inl, inr, ℕ, Bool, true, false, List, Option, Some, None, Result, Ok, Err, refl, ap, sym, ◌∙◌, subst}
+use Rattle.std.proofs.Common.{◌≡◌, ◌≢◌, ◌⊎◌, inl, inr, ℕ, List, Option, Some, Result, Ok, Err, refl, ap, sym, ◌∙◌, subst}
 use Rattle.fx_base.specs.Silence.{IsLost, Marks}
 use Rattle.fx_trees.specs.declared.schema.TableShape.{TableShape}
 use Rattle.row_keeper.specs.Tables.{Tables}
@@ -13,9 +13,9 @@ use Rattle.app_wire.specs.declared.route.Route.{Route}
 use Rattle.app_wire.specs.declared.route.Route.TheVariants.{Begin, End, View, Named as Shown, Items, Event, Input, Rows, Edit, Page, Plan, Graph}
 use Rattle.session_state.specs.Once.{Kept}
 use Rattle.row_requests.specs.Bodies.{posted_in}
-use Rattle.request_checks.specs.Checks.{IsLastAsked, checks, desk_of, session_of}
+use Rattle.request_checks.specs.Checks.{IsLastAsked, checks, desk_of, if_live, session_of}
 use Rattle.session_state.specs.Sessions.{SessionState}
-use Rattle.session_requests.specs.Acting.{Ends, accepted_reply as session_reply, answered, with_input, with_target}
+use Rattle.session_requests.specs.Acting.{Ends, answered, with_input, with_target}
 use Rattle.session_requests.specs.Bodies.{event_in, input_in}
 use Rattle.session_requests.specs.Laws as laws
 use Rattle.session_requests.specs.Posting.{PostsEvent, PostsEventChecked, PostsInput, PostsInputChecked}
@@ -37,7 +37,7 @@ use Rattle.office.specs.State.{State, schema_of}
 use Rattle.office.specs.Step.{Answered, Does, Left, Reaches}
 use Rattle.office.proofs.Repeats.{acts_once as edits_again}
 use Rattle.row_requests.proofs.Again.{checks_again}
-use Rattle.request_checks.proofs.Again.{Asks, passed}
+use Rattle.request_checks.proofs.Again.{Asks, comes_again, passed}
 use Rattle.request_checks.proofs.Directories.{find_put}
 use Rattle.office.proofs.Isolation.{does_of, plays_leave_desk, plays_leave_session, route_is}
 use Rattle.office.proofs.StepLemmas.{left_all}
@@ -102,23 +102,23 @@ ends_kept T U asked number change name body said it s (Ok u) sessions sessions' 
   reply_is = sym h.0;
 }
 
-event_kept : (app : App) (moment : ℕ) (name body said : List ℕ) (xs ys : List (Named SessionState)) → PostsEvent app moment name body xs said ys
+event_kept : (lost : Type 0) (app : App) (moment : ℕ) (name body said : List ℕ) (told told' : Option Tables) (xs ys : List (Named SessionState)) → PostsEvent lost app moment name body told xs said told' ys
     → kept_of_session (find name ys) ≢ kept_of_session (find name xs) → IsKeptOf Sent event_in event_number ys name body said
-event_kept app moment name body said xs ys h differ = by (checks event_in event_number (session_of name xs) body) refl h
+event_kept lost app moment name body said told told' xs ys h differ = by (checks event_in event_number (session_of name xs) body) refl h
   where
-    by : (r : Result Sent (List ℕ)) → checks event_in event_number (session_of name xs) body ≡ r → PostsEventChecked app moment name body r xs said ys → IsKeptOf Sent event_in event_number ys name body said
+    by : (r : Result Sent (List ℕ)) → checks event_in event_number (session_of name xs) body ≡ r → PostsEventChecked lost app moment name body r told xs said told' ys → IsKeptOf Sent event_in event_number ys name body said
     by (Err words) e k = absurd (differ (same_kept name ys xs k.1))
     by (Ok it) e k =
-        ends_kept Sent _ event_in event_number with_target name body said it k.session k.verdict xs ys (passed Sent event_in event_number (session_of name xs) body it e) k.ends differ
+        ends_kept Sent _ event_in event_number with_target name body said it k.0.session k.0.verdict xs ys (passed Sent event_in event_number (session_of name xs) body it e) k.0.ends differ
 
-input_kept : (app : App) (moment : ℕ) (name body said : List ℕ) (xs ys : List (Named SessionState)) → PostsInput app moment name body xs said ys
+input_kept : (lost : Type 0) (app : App) (moment : ℕ) (name body said : List ℕ) (told told' : Option Tables) (xs ys : List (Named SessionState)) → PostsInput lost app moment name body told xs said told' ys
     → kept_of_session (find name ys) ≢ kept_of_session (find name xs) → IsKeptOf Given input_in input_number ys name body said
-input_kept app moment name body said xs ys h differ = by (checks input_in input_number (session_of name xs) body) refl h
+input_kept lost app moment name body said told told' xs ys h differ = by (checks input_in input_number (session_of name xs) body) refl h
   where
-    by : (r : Result Given (List ℕ)) → checks input_in input_number (session_of name xs) body ≡ r → PostsInputChecked app moment name body r xs said ys → IsKeptOf Given input_in input_number ys name body said
+    by : (r : Result Given (List ℕ)) → checks input_in input_number (session_of name xs) body ≡ r → PostsInputChecked lost app moment name body r told xs said told' ys → IsKeptOf Given input_in input_number ys name body said
     by (Err words) e k = absurd (differ (same_kept name ys xs k.1))
     by (Ok it) e k =
-        ends_kept Given _ input_in input_number with_input name body said it k.session _ xs ys (passed Given input_in input_number (session_of name xs) body it e) k.ends differ
+        ends_kept Given _ input_in input_number with_input name body said it k.0.session _ xs ys (passed Given input_in input_number (session_of name xs) body it e) k.0.ends differ
 
 -- ---- edits
 
@@ -176,11 +176,11 @@ does_keep lost moment (Rows n) body s new said caller is posted does differ =
 does_keep lost moment (Event n) body s new said caller is posted does differ =
     let named : session n ≡ caller = cc in
     subst (λ c. IsLastOf c (Event n) new body said) named
-    (event n body said new (event_kept s.app moment n body said s.sessions new.sessions does.0 (subst (λ c. kept_of c new ≢ kept_of c s) (sym named) differ)))
+    (event n body said new (event_kept lost s.app moment n body said s.tables new.tables s.sessions new.sessions does.0 (subst (λ c. kept_of c new ≢ kept_of c s) (sym named) differ)))
 does_keep lost moment (Input n) body s new said caller is posted does differ =
     let named : session n ≡ caller = cc in
     subst (λ c. IsLastOf c (Input n) new body said) named
-    (input n body said new (input_kept s.app moment n body said s.sessions new.sessions does.0 (subst (λ c. kept_of c new ≢ kept_of c s) (sym named) differ)))
+    (input n body said new (input_kept lost s.app moment n body said s.tables new.tables s.sessions new.sessions does.0 (subst (λ c. kept_of c new ≢ kept_of c s) (sym named) differ)))
 does_keep lost moment (Edit n) body s new said caller is posted does differ =
     let named : desk n ≡ caller = cc in
     subst (λ c. IsLastOf c (Edit n) new body said) named
@@ -207,25 +207,35 @@ answered_keeps one s t k l moment request said caller of posted (inr (inr h)) di
 
 -- ---- that comes again
 
-says_again : laws.ActsOnce → (lost : Type 0) (moment : ℕ) (route : Route) (caller : Caller) (s new : State) (body said reply : List ℕ) → IsLastOf caller route s body reply
-    → Does lost moment route body s said new → (said ≡ reply) × (new ≡ s)
+says_again : laws.ActsOnce → (before now : Marks) (moment : ℕ) (route : Route) (caller : Caller) (s new : State) (body said reply : List ℕ) → IsLastOf caller route s body reply
+    → Does (IsLost before now) moment route body s said new → (said ≡ reply) × (new ≡ s)
 unfolding Does
-says_again once lost moment _ _ s new body said reply (rows name _ _ _ is) does =
-    let h = subst (λ r. PostsChecked lost (schema_of s.app).tables name is.kept.body r s.tables s.desks said new.tables new.desks) (checks_again s.desks name is.kept is.last)
-    (subst (λ b. PostsRows lost (schema_of s.app).tables name b s.tables s.desks said new.tables new.desks) (sym is.body_is) does.0) in
+says_again once before now moment _ _ s new body said reply (rows name _ _ _ is) does =
+    let h = subst (λ r. PostsChecked (IsLost before now) (schema_of s.app).tables name is.kept.body r s.tables s.desks said new.tables new.desks) (checks_again s.desks name is.kept is.last)
+    (subst (λ b. PostsRows (IsLost before now) (schema_of s.app).tables name b s.tables s.desks said new.tables new.desks) (sym is.body_is) does.0) in
     (h.0 ∙ is.reply_is, does.1 ∙ ap (λ (t : Option Tables). record s { tables = t; desks = new.desks }) h.1 ∙ ap (λ (d : List (Named Kept)). record s { desks = d }) h.2)
-says_again once lost moment _ _ s new body said reply (edit name _ _ _ is) does =
+says_again once before now moment _ _ s new body said reply (edit name _ _ _ is) does =
     let h = edits_again s.app new.app name said is.kept s.desks new.desks is.found is.last
     (subst (λ b. PostsEdit s.app name b s.desks said new.app new.desks) (sym is.body_is) does.0) in
     (h.0 ∙ is.reply_is, does.1 ∙ ap (λ (a : App). record s { app = a; desks = new.desks }) h.1.app ∙ ap (λ (d : List (Named Kept)). record s { desks = d }) h.1.desks)
-says_again once lost moment _ _ s new body said reply (event name _ _ _ is) does =
-    let h = (once s.app moment name said is.state s.sessions new.sessions is.found).1 is.last
-    (subst (λ b. PostsEvent s.app moment name b s.sessions said new.sessions) (sym is.body_is) does.0) in
-    (h.0 ∙ is.reply_is, does.1 ∙ ap (λ (x : List (Named SessionState)). record s { sessions = x }) h.1)
-says_again once lost moment _ _ s new body said reply (input name _ _ _ is) does =
-    let h = (once s.app moment name said is.state s.sessions new.sessions is.found).0 is.last
-    (subst (λ b. PostsInput s.app moment name b s.sessions said new.sessions) (sym is.body_is) does.0) in
-    (h.0 ∙ is.reply_is, does.1 ∙ ap (λ (x : List (Named SessionState)). record s { sessions = x }) h.1)
+says_again once before now moment _ _ s new body said reply (event name _ _ _ is) does =
+    let h = (once before now s.app moment name said is.state s.tables new.tables s.sessions new.sessions is.found).1 is.last
+    (subst (λ b. PostsEvent (IsLost before now) s.app moment name b s.tables s.sessions said new.tables new.sessions) (sym is.body_is) does.0) in
+    (h.0 ∙ is.reply_is, does.1 ∙ ap (λ (t : Option Tables). record s { tables = t; sessions = new.sessions }) h.2 ∙ ap (λ (x : List (Named SessionState)). record s { sessions = x }) h.1)
+says_again once before now moment _ _ s new body said reply (input name _ _ _ is) does =
+    let h = (once before now s.app moment name said is.state s.tables new.tables s.sessions new.sessions is.found).0 is.last
+    (subst (λ b. PostsInput (IsLost before now) s.app moment name b s.tables s.sessions said new.tables new.sessions) (sym is.body_is) does.0) in
+    (h.0 ∙ is.reply_is, does.1 ∙ ap (λ (t : Option Tables). record s { tables = t; sessions = new.sessions }) h.2 ∙ ap (λ (x : List (Named SessionState)). record s { sessions = x }) h.1)
+
+-- the last request of a session doesn't pass the checks again
+not_asked : (T : Type 0) (asked : json.Data → Option T) (number : T → ℕ) (sessions : List (Named SessionState)) (name body reply : List ℕ) → IsKeptOf T asked number sessions name body reply
+    → (it : T) → checks asked number (session_of name sessions) body ≡ Ok it → ⊥
+not_asked T asked number sessions name body reply is it passes =
+    let live : session_of name sessions ≡ Ok is.state.kept = ap if_live is.found in
+    let again : checks asked number (session_of name sessions) is.state.kept.body ≡ Err is.state.kept.reply =
+    ap (λ c. checks asked number c is.state.kept.body) live ∙ comes_again T asked number is.state.kept is.last in
+    let e : Err is.state.kept.reply ≡ Ok it = sym again ∙ (ap (λ b. checks asked number (session_of name sessions) b) is.body_is ∙ passes) in
+    absurd (cc)
 
 never_reached : (route : Route) (caller : Caller) (s : State) (body reply : List ℕ) → IsLastOf caller route s body reply → Reaches route body s → ⊥
 unfolding Reaches
@@ -233,14 +243,14 @@ never_reached _ _ s body reply (rows name _ _ _ is) reaches =
     let passes = subst (λ b. desk_checks s.desks name b ≡ Ok reaches.0) (sym is.body_is) reaches.1 in
     let e : Err is.kept.reply ≡ Ok reaches.0 = sym (checks_again s.desks name is.kept is.last) ∙ passes in absurd (cc)
 never_reached _ _ s body reply (edit name _ _ _ is) reaches = reaches
-never_reached _ _ s body reply (event name _ _ _ is) reaches = reaches
-never_reached _ _ s body reply (input name _ _ _ is) reaches = reaches
+never_reached _ _ s body reply (event name _ _ _ is) reaches = not_asked Sent event_in event_number s.sessions name body reply is reaches.0 reaches.1
+never_reached _ _ s body reply (input name _ _ _ is) reaches = not_asked Given input_in input_number s.sessions name body reply is reaches.0 reaches.1
 
 answered_again : laws.ActsOnce → IsOneRoute → (u v : State) (m n : Marks) (moment : ℕ) (request : Asked) (said reply : List ℕ) (caller : Caller) (of : IsOf caller request)
     → IsLastOf caller of.route u request.body reply → Answered u m moment request said n v
     → ((said ≡ reply) ⊎ (said ≡ refusal 26)) × Left (IsLost m n) u v
 answered_again once one u v m n moment request said reply caller of is (inl step) =
-    let h = says_again once (IsLost m n) moment of.route caller u v request.body said reply is (does_of one (IsLost m n) caller u v moment request said of step) in
+    let h = says_again once m n moment of.route caller u v request.body said reply is (does_of one (IsLost m n) caller u v moment request said of step) in
     (inl h.0, left_all (IsLost m n) u v h.1)
 answered_again once one u v m n moment request said reply caller of is (inr (inl h)) = (inr h.0, h.1)
 answered_again once one u v m n moment request said reply caller of is (inr (inr h)) =

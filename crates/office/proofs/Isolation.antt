@@ -2,10 +2,11 @@
 use Rattle.std.proofs.Common.{◌≡◌, ◌≢◌, ℕ, inl, inr, Bool, true, false, cond, nat_le, List, [], ◌∷◌, length, Option, None, Some, Result, Ok, Err, refl, ap, sym, ◌∙◌, subst}
 use Rattle.fx_base.specs.Silence.{IsLost, Marks}
 use Rattle.app_cells.specs.declared.app.App.{App}
-use Rattle.app_semantics.specs.Holding.{FittingHolds, HoldsFitting}
-use Rattle.app_semantics.specs.Laws.{OneFresh}
-use Rattle.app_semantics.specs.Present.{present}
-use Rattle.app_semantics.specs.Sound.{IsSound}
+use Rattle.app_loader.specs.app_semantics.Fresh.{AreKnown}
+use Rattle.app_loader.specs.app_semantics.Holding.{FittingHolds, HoldsFitting}
+use Rattle.app_loader.specs.app_semantics.Laws.{OneFresh}
+use Rattle.app_loader.specs.app_semantics.Present.{present}
+use Rattle.app_loader.specs.app_semantics.Sound.{IsSound}
 use Rattle.app_views.specs.Laws.{OneItemsReply, OneViewReply}
 use Rattle.app_views.specs.Shows.{ShowsItemsTo, ShowsViewTo}
 use Rattle.app_wire.specs.Framing.{Asked}
@@ -17,6 +18,8 @@ use Rattle.app_wire.specs.declared.route.Route.TheVariants.{Begin, End, View, Na
 use Rattle.app_wire.specs.declared.route.RouteEnd.{RouteEnd}
 use Rattle.app_wire.specs.declared.route.RouteEnd.TheVariants.{NoRoute, WrongMethod, Memory}
 use Rattle.fx_trees.specs.declared.names.Names.{Names}
+use Rattle.row_keeper.specs.Tables.{Tables, rows_told}
+use Rattle.row_queries.specs.declared.rows.Row.{Row}
 use Rattle.session_state.specs.Changes.{FitsNames}
 use Rattle.session_state.specs.Sessions.{SessionState, opened}
 use Rattle.view_text.specs.ReplyText.{ok_text}
@@ -27,8 +30,9 @@ use Rattle.office.specs.Answers.{Exchange, Plays}
 use Rattle.office.specs.Isolation.{AreOfOthers, Caller, IsOf, caller_of, desk, session}
 use Rattle.session_requests.specs.Posting.{PostsEvent, PostsInput}
 use Rattle.session_requests.specs.Laws.{IsOneOutcome, LeavesOthers}
-use Rattle.office.specs.Ready.{AreFit, IsSettled}
-use Rattle.office.specs.Sessions.{ShowsNamed, ShowsNamedTo, begins, most_sessions}
+use Rattle.office.specs.NamedReply.{IsNamedBody}
+use Rattle.office.specs.Ready.{IsSettled}
+use Rattle.office.specs.Sessions.{ShowsNamedTo, begins, most_sessions}
 use Rattle.office.specs.State.{State, schema_of}
 use Rattle.office.specs.Step.{Answered, Does, DoesAt, Step}
 use Rattle.office.proofs.Repeats.{leaves_others as edits_leave}
@@ -54,26 +58,26 @@ desks_of : (s new : State) → new ≡ s → new.desks ≡ s.desks
 desks_of s new e = ap (λ (x : State). x.desks) e
 
 -- a route leaves the sessions but the one that it is of
-pub does_session : LeavesOthers → (lost : Type 0) (moment : ℕ) (route : Route) (body : List ℕ) (s new : State) (said name : List ℕ)
-    → Does lost moment route body s said new → caller_of route ≢ Some (session name) → find name new.sessions ≡ find name s.sessions
+pub does_session : LeavesOthers → (before now : Marks) (moment : ℕ) (route : Route) (body : List ℕ) (s new : State) (said name : List ℕ)
+    → Does (IsLost before now) moment route body s said new → caller_of route ≢ Some (session name) → find name new.sessions ≡ find name s.sessions
 unfolding Does
-does_session others lost moment (Begin n) body s new said name does other =
+does_session others before now moment (Begin n) body s new said name does other =
     ap (λ (p : List (Named SessionState) × List ℕ). find name p.0) does.0
     ∙ begins_others s.app.names n name s.sessions (λ e. other (ap (λ (m : List ℕ). Some (session m)) e))
-does_session others lost moment (End n) body s new said name does other =
+does_session others before now moment (End n) body s new said name does other =
     ap (λ (x : State). find name x.sessions) does.1 ∙ find_without SessionState n name s.sessions (λ e. other (ap (λ (m : List ℕ). Some (session m)) e))
-does_session others lost moment (View n) body s new said name does other = ap (find name) (sessions_of s new does.1)
-does_session others lost moment (Shown n) body s new said name does other = ap (find name) (sessions_of s new does.1)
-does_session others lost moment (Items n gallery from) body s new said name does other = ap (find name) (sessions_of s new does.1)
-does_session others lost moment (Event n) body s new said name does other =
-    (others s.app moment n name body said s.sessions new.sessions (λ e. other (ap (λ (m : List ℕ). Some (session m)) e))).1 does.0
-does_session others lost moment (Input n) body s new said name does other =
-    (others s.app moment n name body said s.sessions new.sessions (λ e. other (ap (λ (m : List ℕ). Some (session m)) e))).0 does.0
-does_session others lost moment (Rows n) body s new said name does other = ap (λ (x : State). find name x.sessions) does.1
-does_session others lost moment (Edit n) body s new said name does other = ap (λ (x : State). find name x.sessions) does.1
-does_session others lost moment (Page table after) body s new said name does other = ap (λ (x : State). find name x.sessions) does.1
-does_session others lost moment Plan body s new said name does other = ap (find name) (sessions_of s new does.1)
-does_session others lost moment Graph body s new said name does other = ap (find name) (sessions_of s new does.1)
+does_session others before now moment (View n) body s new said name does other = ap (λ (x : State). find name x.sessions) does.1
+does_session others before now moment (Shown n) body s new said name does other = ap (λ (x : State). find name x.sessions) does.1
+does_session others before now moment (Items n gallery from) body s new said name does other = ap (λ (x : State). find name x.sessions) does.1
+does_session others before now moment (Event n) body s new said name does other =
+    (others before now s.app moment n name body said s.tables new.tables s.sessions new.sessions (λ e. other (ap (λ (m : List ℕ). Some (session m)) e))).1 does.0
+does_session others before now moment (Input n) body s new said name does other =
+    (others before now s.app moment n name body said s.tables new.tables s.sessions new.sessions (λ e. other (ap (λ (m : List ℕ). Some (session m)) e))).0 does.0
+does_session others before now moment (Rows n) body s new said name does other = ap (λ (x : State). find name x.sessions) does.1
+does_session others before now moment (Edit n) body s new said name does other = ap (λ (x : State). find name x.sessions) does.1
+does_session others before now moment (Page table after) body s new said name does other = ap (λ (x : State). find name x.sessions) does.1
+does_session others before now moment Plan body s new said name does other = ap (find name) (sessions_of s new does.1)
+does_session others before now moment Graph body s new said name does other = ap (find name) (sessions_of s new does.1)
 
 -- and the desks but the one that it is of
 pub does_desk : (lost : Type 0) (moment : ℕ) (route : Route) (body : List ℕ) (s new : State) (said name : List ℕ)
@@ -81,9 +85,9 @@ pub does_desk : (lost : Type 0) (moment : ℕ) (route : Route) (body : List ℕ)
 unfolding Does
 does_desk lost moment (Begin n) body s new said name does other = ap (λ (x : State). find name x.desks) does.1
 does_desk lost moment (End n) body s new said name does other = ap (λ (x : State). find name x.desks) does.1
-does_desk lost moment (View n) body s new said name does other = ap (find name) (desks_of s new does.1)
-does_desk lost moment (Shown n) body s new said name does other = ap (find name) (desks_of s new does.1)
-does_desk lost moment (Items n gallery from) body s new said name does other = ap (find name) (desks_of s new does.1)
+does_desk lost moment (View n) body s new said name does other = ap (λ (x : State). find name x.desks) does.1
+does_desk lost moment (Shown n) body s new said name does other = ap (λ (x : State). find name x.desks) does.1
+does_desk lost moment (Items n gallery from) body s new said name does other = ap (λ (x : State). find name x.desks) does.1
 does_desk lost moment (Event n) body s new said name does other = ap (λ (x : State). find name x.desks) does.1
 does_desk lost moment (Input n) body s new said name does other = ap (λ (x : State). find name x.desks) does.1
 does_desk lost moment (Rows n) body s new said name does other =
@@ -101,7 +105,7 @@ unfolding DoesAt
 leaves_session law old new before now moment request said name (inl step) other = by step.route step.routed step.does
   where
     by : (r : Result Route RouteEnd) → Routing request.method request.path r → DoesAt (IsLost before now) moment r request.body old said new → find name new.sessions ≡ find name old.sessions
-    by (Ok route) routed does = does_session law (IsLost before now) moment route request.body old new said name does (λ e. other (record { route = route; routed = routed; caller_is = e }))
+    by (Ok route) routed does = does_session law before now moment route request.body old new said name does (λ e. other (record { route = route; routed = routed; caller_is = e }))
     by (Err NoRoute) routed does = ap (find name) (sessions_of old new does.1)
     by (Err WrongMethod) routed does = ap (find name) (sessions_of old new does.1)
     by (Err Memory) routed does = absurd does
@@ -162,12 +166,13 @@ does_of one lost caller old new moment request said of step =
 -- ---- replies to sessions
 
 -- what is shown of one app to one session, at one moment
-pub shows_alike : OneFresh → FittingHolds → (moment : ℕ) (a : App) (o : Option SessionState) (said said' : List ℕ)
-    → IsSound a → ((s : SessionState) → o ≡ Some s → FitsNames a.names s)
-    → ShowsNamedTo a moment o said → ShowsNamedTo a moment o said' → said ≡ said'
-shows_alike once holds moment a None said said' sound fit h k = h ∙ sym k
-shows_alike once holds moment a (Some s) said said' sound fit h k =
-    h.2 ∙ ap (reply 200) (one_body once (present a s moment) h.0 k.0 sound (holds a.names s (fit s refl)) h.1 k.1) ∙ sym k.2
+pub shows_alike : OneFresh → FittingHolds → (lost lost' : Type 0) (moment : ℕ) (a : App) (o : Option SessionState) (k l m n : Option Tables) (said said' : List ℕ)
+    → IsSound a → ((s : SessionState) → o ≡ Some s → FitsNames a.names s) → AreKnown a (rows_told l) → rows_told l ≡ rows_told n
+    → ShowsNamedTo lost a moment o k said l → ShowsNamedTo lost' a moment o m said' n → said ≡ said'
+shows_alike once holds lost lost' moment a None k l m n said said' sound fit known same x y = x.0 ∙ sym y.0
+shows_alike once holds lost lost' moment a (Some s) k l m n said said' sound fit known same x y =
+    let second : IsNamedBody (present a s (rows_told l) moment) y.0.0 = subst (λ (r : Option (List (List Row))). IsNamedBody (present a s r moment) y.0.0) (sym same) y.0.1 in
+    x.0.2 ∙ ap (reply 200) (one_body once (present a s (rows_told l) moment) x.0.0 y.0.0 sound (holds a.names s (fit s refl)) known x.0.1 second) ∙ sym y.0.2
 
 -- a session that is found fits, and so it holds what fits
 pub holds_found : FittingHolds → (a : State) (name : List ℕ) → IsSettled a → (s : SessionState) → find name a.sessions ≡ Some s → HoldsFitting a.app.names s
@@ -185,42 +190,42 @@ pub record ReplyLaws : Type 0 where
 said_with : (Says : App → Option SessionState → Type 0) (app app' : App) (o o' : Option SessionState) → app ≡ app' → o ≡ o' → Says app' o' → Says app o
 said_with Says app app' o o' e f h = subst (λ (x : Option SessionState). Says app x) (sym f) (subst (λ (x : App). Says x o') (sym e) h)
 
-does_alike : ReplyLaws → (lost lost' : Type 0) (moment : ℕ) (route : Route) (body : List ℕ) (a b new new' : State) (said said' name : List ℕ)
-    → caller_of route ≡ Some (session name) → method_of route ≢ Put → IsSettled a → a.app ≡ b.app → find name a.sessions ≡ find name b.sessions
-    → Does lost moment route body a said new → Does lost' moment route body b said' new' → said ≡ said'
+does_alike : ReplyLaws → (p p' q q' : Marks) (moment : ℕ) (route : Route) (body : List ℕ) (a b new new' : State) (said said' name : List ℕ)
+    → caller_of route ≡ Some (session name) → method_of route ≢ Put → IsSettled a → a.app ≡ b.app → find name a.sessions ≡ find name b.sessions → AreKnown a.app (rows_told new.tables) → rows_told new.tables ≡ rows_told new'.tables
+    → Does (IsLost p p') moment route body a said new → Does (IsLost q q') moment route body b said' new' → said ≡ said'
 unfolding Does
-does_alike laws lost lost' moment (Begin n) body a b new new' said said' name is other settled app same h k = absurd (other refl)
-does_alike laws lost lost' moment (End n) body a b new new' said said' name is other settled app same h k = h.0 ∙ sym k.0
-does_alike laws lost lost' moment (View n) body a b new new' said said' name is other settled app same h k =
+does_alike laws p p' q q' moment (Begin n) body a b new new' said said' name is other settled app same known rows h k = absurd (other refl)
+does_alike laws p p' q q' moment (End n) body a b new new' said said' name is other settled app same known rows h k = h.0 ∙ sym k.0
+does_alike laws p p' q q' moment (View n) body a b new new' said said' name is other settled app same known rows h k =
     let named : name ≡ n = cc in
-    laws.view a.app moment (find n a.sessions) said said' settled.app (holds_found laws.holds a n settled) h.0
-    (said_with (λ x o. ShowsViewTo x moment o said') a.app b.app (find n a.sessions) (find n b.sessions) app (subst (λ m. find m a.sessions ≡ find m b.sessions) named same) k.0)
-does_alike laws lost lost' moment (Shown n) body a b new new' said said' name is other settled app same h k =
+    laws.view p p' q q' a.app moment (find n a.sessions) a.tables new.tables b.tables new'.tables said said' settled.app (holds_found laws.holds a n settled) known rows h.0
+    (said_with (λ x o. ShowsViewTo (IsLost q q') x moment o b.tables said' new'.tables) a.app b.app (find n a.sessions) (find n b.sessions) app (subst (λ m. find m a.sessions ≡ find m b.sessions) named same) k.0)
+does_alike laws p p' q q' moment (Shown n) body a b new new' said said' name is other settled app same known rows h k =
     let named : name ≡ n = cc in
-    shows_alike laws.fresh laws.holds moment a.app (find n a.sessions) said said' settled.app
-    (λ s e. found_fits a.app.names a.sessions n s settled.fit e) h.0
-    (said_with (λ x o. ShowsNamedTo x moment o said') a.app b.app (find n a.sessions) (find n b.sessions) app (subst (λ m. find m a.sessions ≡ find m b.sessions) named same) k.0)
-does_alike laws lost lost' moment (Items n gallery from) body a b new new' said said' name is other settled app same h k =
+    shows_alike laws.fresh laws.holds (IsLost p p') (IsLost q q') moment a.app (find n a.sessions) a.tables new.tables b.tables new'.tables said said' settled.app
+    (λ s e. found_fits a.app.names a.sessions n s settled.fit e) known rows h.0
+    (said_with (λ x o. ShowsNamedTo (IsLost q q') x moment o b.tables said' new'.tables) a.app b.app (find n a.sessions) (find n b.sessions) app (subst (λ m. find m a.sessions ≡ find m b.sessions) named same) k.0)
+does_alike laws p p' q q' moment (Items n gallery from) body a b new new' said said' name is other settled app same known rows h k =
     let named : name ≡ n = cc in
-    laws.items a.app moment gallery from (find n a.sessions) said said' settled.app (holds_found laws.holds a n settled) h.0
-    (said_with (λ x o. ShowsItemsTo x moment gallery from o said') a.app b.app (find n a.sessions) (find n b.sessions) app (subst (λ m. find m a.sessions ≡ find m b.sessions) named same) k.0)
-does_alike laws lost lost' moment (Event n) body a b new new' said said' name is other settled app same h k =
+    laws.items p p' q q' a.app moment gallery from (find n a.sessions) a.tables new.tables b.tables new'.tables said said' settled.app (holds_found laws.holds a n settled) known rows h.0
+    (said_with (λ x o. ShowsItemsTo (IsLost q q') x moment gallery from o b.tables said' new'.tables) a.app b.app (find n a.sessions) (find n b.sessions) app (subst (λ m. find m a.sessions ≡ find m b.sessions) named same) k.0)
+does_alike laws p p' q q' moment (Event n) body a b new new' said said' name is other settled app same known rows h k =
     let named : name ≡ n = cc in
-    ((laws.outcome a.app moment n body said said' a.sessions new.sessions b.sessions new'.sessions settled.app (holds_found laws.holds a n settled)
-    (subst (λ m. find m a.sessions ≡ find m b.sessions) named same)).1 h.0 (subst (λ (x : App). PostsEvent x moment n body b.sessions said' new'.sessions) (sym app) k.0)).0
-does_alike laws lost lost' moment (Input n) body a b new new' said said' name is other settled app same h k =
+    ((laws.outcome p p' q q' a.app moment n body said said' a.tables new.tables b.tables new'.tables a.sessions new.sessions b.sessions new'.sessions settled.app (holds_found laws.holds a n settled)
+    (subst (λ m. find m a.sessions ≡ find m b.sessions) named same) known rows).1 h.0 (subst (λ (x : App). PostsEvent (IsLost q q') x moment n body b.tables b.sessions said' new'.tables new'.sessions) (sym app) k.0)).0
+does_alike laws p p' q q' moment (Input n) body a b new new' said said' name is other settled app same known rows h k =
     let named : name ≡ n = cc in
-    ((laws.outcome a.app moment n body said said' a.sessions new.sessions b.sessions new'.sessions settled.app (holds_found laws.holds a n settled)
-    (subst (λ m. find m a.sessions ≡ find m b.sessions) named same)).0 h.0 (subst (λ (x : App). PostsInput x moment n body b.sessions said' new'.sessions) (sym app) k.0)).0
-does_alike laws lost lost' moment (Rows n) body a b new new' said said' name is other settled app same h k = cc
-does_alike laws lost lost' moment (Edit n) body a b new new' said said' name is other settled app same h k = cc
-does_alike laws lost lost' moment (Page table after) body a b new new' said said' name is other settled app same h k = cc
-does_alike laws lost lost' moment Plan body a b new new' said said' name is other settled app same h k = cc
-does_alike laws lost lost' moment Graph body a b new new' said said' name is other settled app same h k = cc
+    ((laws.outcome p p' q q' a.app moment n body said said' a.tables new.tables b.tables new'.tables a.sessions new.sessions b.sessions new'.sessions settled.app (holds_found laws.holds a n settled)
+    (subst (λ m. find m a.sessions ≡ find m b.sessions) named same) known rows).0 h.0 (subst (λ (x : App). PostsInput (IsLost q q') x moment n body b.tables b.sessions said' new'.tables new'.sessions) (sym app) k.0)).0
+does_alike laws p p' q q' moment (Rows n) body a b new new' said said' name is other settled app same known rows h k = cc
+does_alike laws p p' q q' moment (Edit n) body a b new new' said said' name is other settled app same known rows h k = cc
+does_alike laws p p' q q' moment (Page table after) body a b new new' said said' name is other settled app same known rows h k = cc
+does_alike laws p p' q q' moment Plan body a b new new' said said' name is other settled app same known rows h k = cc
+does_alike laws p p' q q' moment Graph body a b new new' said said' name is other settled app same known rows h k = cc
 
 pub is_alone : ReplyLaws → IsOneRoute → (k l m n : Marks) (a b new new' : State) (moment : ℕ) (request : Asked) (said said' name : List ℕ)
-    → IsOf (session name) request → request.method ≢ Put → IsSettled a → a.app ≡ b.app → find name a.sessions ≡ find name b.sessions
+    → IsOf (session name) request → request.method ≢ Put → IsSettled a → a.app ≡ b.app → find name a.sessions ≡ find name b.sessions → AreKnown a.app (rows_told new.tables) → rows_told new.tables ≡ rows_told new'.tables
     → Step (IsLost k l) a moment request said new → Step (IsLost m n) b moment request said' new' → said ≡ said'
-is_alone laws one k l m n a b new new' moment request said said' name of other settled app same first second =
-    does_alike laws (IsLost k l) (IsLost m n) moment of.route request.body a b new new' said said' name of.caller_is (λ e. other (sym of.routed.1 ∙ e)) settled app same
+is_alone laws one k l m n a b new new' moment request said said' name of other settled app same known rows first second =
+    does_alike laws k l m n moment of.route request.body a b new new' said said' name of.caller_is (λ e. other (sym of.routed.1 ∙ e)) settled app same known rows
     (does_of one (IsLost k l) (session name) a new moment request said of first) (does_of one (IsLost m n) (session name) b new' moment request said' of second)

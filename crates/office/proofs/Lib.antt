@@ -11,3 +11,4 @@ pub mod StepLemmas
 pub mod Taken
 pub mod Desks
 pub mod Repeats
+pub use Rattle.session_requests.proofs.of_recalc

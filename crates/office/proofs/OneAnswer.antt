@@ -1,6 +1,13 @@
 -- A request has one answer.
-use Rattle.std.proofs.Common.{◌≡◌, ◌⊎◌, inl, inr, ℕ, List, Option, Some, None, Result, Ok, Err, refl, ap, sym, ◌∙◌, subst}
-use Rattle.fx_base.specs.Silence.{IsLost, Marks}
+use Rattle.std.proofs.Common.{◌≡◌, ◌⊎◌, inl, inr, ℕ, zero, suc, List, [], ◌∷◌, Option, Some, None, Result, Ok, Err, refl, ap, sym, ◌∙◌, subst}
+use Rattle.app_loader.specs.app_semantics.Fresh.{AreKnown}
+use Rattle.app_loader.specs.app_semantics.Holding.{HoldRows}
+use Rattle.app_loader.specs.app_semantics.Present.{present}
+use Rattle.app_views.specs.Galleries.{gallery_named}
+use Rattle.app_views.specs.Shows.{SaysItemsOf, ShowsItemsTo, ShowsViewTo}
+use Rattle.fx_base.specs.Silence.{Goes, IsLost, Marks}
+use Rattle.fx_base.specs.Telling.{Stays}
+use Rattle.std.specs.List.{All}
 use Rattle.app_wire.specs.Framing.{Asked}
 use Rattle.app_wire.specs.Routing.{IsOneRoute, Routing}
 use Rattle.app_wire.specs.declared.route.Route.{Route}
@@ -12,7 +19,10 @@ use Rattle.app_loader.specs.Verdicts.{IsSameApp}
 use Rattle.office.specs.DeskEdits.{IsSame}
 use Rattle.office.specs.DeskEditLaws.{AreRefused, IsOneOutcome as IsOneEditOutcome}
 use Rattle.fx_trees.specs.declared.schema.TableShape.{TableShape}
-use Rattle.row_keeper.specs.Tables.{Tables}
+use Rattle.fx_trees.specs.declared.schema.Schema.{Schema}
+use Rattle.row_keeper.specs.Tables.{AreStatesOf, TableState, Tables, rows_of, rows_told, state_at}
+use Rattle.row_queries.specs.TableRows.{IsRowOf, rows_at}
+use Rattle.row_queries.specs.declared.rows.Row.{Row}
 use Rattle.session_state.specs.Once.{Kept}
 use Rattle.session_state.specs.Sessions.{SessionState}
 use Rattle.view_text.specs.declared.refused.Refusal.{Refusal}
@@ -23,11 +33,20 @@ use Rattle.row_requests.specs.declared.bodies.Change.{Change}
 use Rattle.row_requests.specs.declared.bodies.Posted.{Posted}
 use Rattle.request_checks.specs.Directory.{find}
 use Rattle.request_checks.specs.declared.directory.Named.{Named}
+use Rattle.row_requests.specs.Sound.{AreSound}
+use Rattle.row_requests.proofs.Soundness.{state_is}
+use Rattle.session_requests.specs.Bodies.{event_in, input_in}
+use Rattle.session_requests.specs.Posting.{PostsEvent, PostsEventChecked, PostsInput, PostsInputChecked}
+use Rattle.session_requests.specs.declared.event.Event.{Event as Sent}
+use Rattle.session_requests.specs.declared.input.Input.{Input as Given}
+use Rattle.request_checks.specs.Checks.{checks, session_of}
 use Rattle.office.specs.Ready.{IsSettled}
+use Rattle.office.specs.Sessions.{ShowsNamedTo}
 use Rattle.office.specs.State.{State, schema_of}
 use Rattle.office.specs.Step.{AreOne, Does, DoesAt, Step, alike, edited, refused}
 use Rattle.office.proofs.Directories.{found_fits}
 use Rattle.office.proofs.Isolation.{ReplyLaws, holds_found, is_known, shows_alike}
+use Rattle.office.proofs.StepLemmas.{still}
 
 one_ok : (x y : List ℕ × Tables) (r : Result (List ℕ × Tables) Refusal) → r ≡ Ok x → r ≡ Ok y → x ≡ y
 one_ok x y r h k = cc
@@ -82,6 +101,77 @@ page_alike lost lost' shapes name after t u u' said said' = by (place_of name sh
     by None h k = (h.0 ∙ sym k.0, h.1 ∙ sym k.1)
     by (Some n) h k = (h.0.0 ∙ sym k.0.0, ap (λ (x : Tables). Some x) (h.0.1 ∙ sym k.0.1))
 
+-- ---- rows that are read
+
+-- where tables are told before and after a read, they are the same
+told_same : (lost : Type 0) (x y : Option Tables) (t u : Tables) → x ≡ Some t → y ≡ Some u → Goes lost Stays x y → y ≡ x
+told_same lost None y t u e f g = absurd cc
+told_same lost (Some a) None t u e f g = absurd cc
+told_same lost (Some a) (Some b) t u e f g = ap (λ (x : Tables). Some x) g
+
+pub view_goes : (lost : Type 0) (app : App) (moment : ℕ) (o : Option SessionState) (x y : Option Tables) (said : List ℕ) → ShowsViewTo lost app moment o x said y → Goes lost Stays x y
+view_goes lost app moment None x y said h = still lost x y h.1
+view_goes lost app moment (Some s) x y said h = h.1
+
+pub named_goes : (lost : Type 0) (app : App) (moment : ℕ) (o : Option SessionState) (x y : Option Tables) (said : List ℕ) → ShowsNamedTo lost app moment o x said y → Goes lost Stays x y
+named_goes lost app moment None x y said h = still lost x y h.1
+named_goes lost app moment (Some s) x y said h = h.1
+
+pub items_go : (lost : Type 0) (app : App) (moment : ℕ) (gallery : List ℕ) (from : ℕ) (o : Option SessionState) (x y : Option Tables) (said : List ℕ)
+    → ShowsItemsTo lost app moment gallery from o x said y → Goes lost Stays x y
+items_go lost app moment gallery from None x y said h = still lost x y h.1
+items_go lost app moment gallery from (Some s) x y said h = by (gallery_named gallery app.names) h
+  where
+    by : (g : Option ℕ) → SaysItemsOf lost (present app s (rows_told y) moment) from g x said y → Goes lost Stays x y
+    by None h = still lost x y h.1
+    by (Some g) h = h.1
+
+pub event_goes : (lost : Type 0) (app : App) (moment : ℕ) (name body said : List ℕ) (x y : Option Tables) (xs ys : List (Named SessionState)) → PostsEvent lost app moment name body x xs said y ys → Goes lost Stays x y
+event_goes lost app moment name body said x y xs ys = by (checks event_in (λ (e : Sent). e.seq) (session_of name xs) body)
+  where
+    by : (r : Result Sent (List ℕ)) → PostsEventChecked lost app moment name body r x xs said y ys → Goes lost Stays x y
+    by (Err words) h = still lost x y h.2
+    by (Ok e) h = h.1
+
+pub input_goes : (lost : Type 0) (app : App) (moment : ℕ) (name body said : List ℕ) (x y : Option Tables) (xs ys : List (Named SessionState)) → PostsInput lost app moment name body x xs said y ys → Goes lost Stays x y
+input_goes lost app moment name body said x y xs ys = by (checks input_in (λ (i : Given). i.seq) (session_of name xs) body)
+  where
+    by : (r : Result Given (List ℕ)) → PostsInputChecked lost app moment name body r x xs said y ys → Goes lost Stays x y
+    by (Err words) h = still lost x y h.2
+    by (Ok i) h = h.1
+
+-- ---- rows that are told
+
+rows_are : (ss : List TableState) (k : ℕ) → (state_at ss k).rows ≡ rows_at (rows_of ss) k
+rows_are [] k = refl
+rows_are (s ∷ ss) zero = refl
+rows_are (s ∷ ss) (suc k) = rows_are ss k
+
+hold : (schema : Schema) (t : Tables) → AreStatesOf schema.tables t.states → HoldRows schema (rows_told (Some t))
+hold schema t are k shape e = subst (λ (rows : List Row). All (IsRowOf shape) rows) (rows_are t.states k) (state_is schema.tables t.states k shape are e).fit
+
+-- all that formulas read is told
+known_of : (app : App) (x : Option Tables) (t : Tables) → x ≡ Some t → AreSound (schema_of app) x → AreKnown app (rows_told x)
+known_of app x t e sound = subst (λ (o : Option Tables). AreKnown app (rows_told o)) (sym e) (record {
+  told = λ k c f. refl;
+  fit = hold (schema_of app) t (subst (λ (o : Option Tables). AreSound (schema_of app) o) e sound);
+})
+
+-- over the same tables
+known_after : (app : App) (x y : Option Tables) (t : Tables) → x ≡ Some t → AreSound (schema_of app) x → y ≡ x → AreKnown app (rows_told y)
+known_after app x y t e sound same = subst (λ (o : Option Tables). AreKnown app (rows_told o)) (sym same) (known_of app x t e sound)
+
+-- states that a read left are the same
+alike_after : (s new new' : State) → new ≡ record s { tables = new.tables } → new' ≡ record s { tables = new'.tables } → new.tables ≡ new'.tables → new ≡ new'
+alike_after s new new' h k e = h ∙ ap (λ (o : Option Tables). record s { tables = o }) e ∙ sym k
+
+-- so are those with the same sessions
+alike_with : (s new new' : State) → new ≡ record s { tables = new.tables; sessions = new.sessions } → new' ≡ record s { tables = new'.tables; sessions = new'.sessions }
+    → new.tables ≡ new'.tables → new.sessions ≡ new'.sessions → new ≡ new'
+alike_with s new new' h k e f =
+    h ∙ ap (λ (o : Option Tables). record s { tables = o; sessions = new.sessions }) e
+    ∙ ap (λ (x : List (Named SessionState)). record s { tables = new'.tables; sessions = x }) f ∙ sym k
+
 -- what is known of replies to sessions and of edits
 pub record AnswerLaws : Type 0 where
   pub replies : ReplyLaws
@@ -92,74 +182,97 @@ unedited : (s : State) (app : App) (desks : List (Named Kept)) → IsSame s.app 
 unedited s app desks same = ap (λ (a : App). record s { app = a; desks = desks }) same.app ∙ ap (λ (d : List (Named Kept)). record s { desks = d }) same.desks
 
 -- edits of an app have one outcome
-edits_alike : (lost lost' : Type 0) (moment : ℕ) (n : List ℕ) (request : Asked) (s new new' : State) (said said' : List ℕ) → Routing request.method request.path (Ok (Edit n))
+edits_alike : (n : List ℕ) (request : Asked) (s new new' : State) (said said' : List ℕ) → Routing request.method request.path (Ok (Edit n))
     → new ≡ record s { app = new.app; desks = new.desks } → new' ≡ record s { app = new'.app; desks = new'.desks }
     → ((said ≡ said') × (new.desks ≡ new'.desks) × IsSameApp new.app new'.app) ⊎ AreRefused s.app s.desks said new.app new.desks said' new'.app new'.desks
     → AreOne request s new new' said said'
-edits_alike lost lost' moment n request s new new' said said' routed h k (inl e) =
+edits_alike n request s new new' said said' routed h k (inl e) =
     edited (n, routed) e.2
     (k ∙ ap (λ (d : List (Named Kept)). record s { app = new'.app; desks = d }) (sym e.1) ∙ sym (ap (λ (x : State). record x { app = new'.app }) h)) e.0
-edits_alike lost lost' moment n request s new new' said said' routed h k (inr e) =
+edits_alike n request s new new' said said' routed h k (inr e) =
     refused (n, routed) (record { breaks = e.breaks; breaks' = e.breaks'; same = e.same; first = e.first.0; second = e.second.0 })
     (h ∙ unedited s new.app new.desks e.first.1) (k ∙ unedited s new'.app new'.desks e.second.1)
 
 -- a route does one thing
-does_one : AnswerLaws → (lost lost' : Type 0) (moment : ℕ) (route : Route) (request : Asked) (s new new' : State) (said said' : List ℕ) (t u u' : Tables)
-    → Routing request.method request.path (Ok route) → IsSettled s → s.tables ≡ Some t → new.tables ≡ Some u → new'.tables ≡ Some u'
-    → Does lost moment route request.body s said new → Does lost' moment route request.body s said' new' → AreOne request s new new' said said'
+does_one : AnswerLaws → (p p' q q' : Marks) (moment : ℕ) (route : Route) (request : Asked) (s new new' : State) (said said' : List ℕ) (t u u' : Tables)
+    → Routing request.method request.path (Ok route) → IsSettled s → AreSound (schema_of s.app) s.tables → s.tables ≡ Some t → new.tables ≡ Some u → new'.tables ≡ Some u'
+    → Does (IsLost p p') moment route request.body s said new → Does (IsLost q q') moment route request.body s said' new' → AreOne request s new new' said said'
 unfolding Does
-does_one laws lost lost' moment (Begin n) request s new new' said said' t u u' routed settled e f g h k =
+does_one laws p p' q q' moment (Begin n) request s new new' said said' t u u' routed settled sound e f g h k =
     let same : (new.sessions, said) ≡ (new'.sessions, said') = h.0 ∙ sym k.0 in
     alike (h.1 ∙ ap (λ (p : List (Named SessionState) × List ℕ). record s { sessions = p.0 }) same ∙ sym k.1) (ap (λ (p : List (Named SessionState) × List ℕ). p.1) same)
-does_one laws lost lost' moment (End n) request s new new' said said' t u u' routed settled e f g h k = alike (h.1 ∙ sym k.1) (h.0 ∙ sym k.0)
-does_one laws lost lost' moment (View n) request s new new' said said' t u u' routed settled e f g h k =
-    alike (h.1 ∙ sym k.1) (laws.replies.view s.app moment (find n s.sessions) said said' settled.app (holds_found laws.replies.holds s n settled) h.0 k.0)
-does_one laws lost lost' moment (Shown n) request s new new' said said' t u u' routed settled e f g h k =
-    alike (h.1 ∙ sym k.1) (shows_alike laws.replies.fresh laws.replies.holds moment s.app (find n s.sessions) said said' settled.app (λ x e'. found_fits s.app.names s.sessions n x settled.fit e') h.0 k.0)
-does_one laws lost lost' moment (Items n gallery from) request s new new' said said' t u u' routed settled e f g h k =
-    alike (h.1 ∙ sym k.1) (laws.replies.items s.app moment gallery from (find n s.sessions) said said' settled.app (holds_found laws.replies.holds s n settled) h.0 k.0)
-does_one laws lost lost' moment (Event n) request s new new' said said' t u u' routed settled e f g h k =
-    let same = (laws.replies.outcome s.app moment n request.body said said' s.sessions new.sessions s.sessions new'.sessions settled.app (holds_found laws.replies.holds s n settled) refl).1 h.0 k.0 in
-    alike (h.1 ∙ ap (λ (x : List (Named SessionState)). record s { sessions = x }) (same.1 refl) ∙ sym k.1) same.0
-does_one laws lost lost' moment (Input n) request s new new' said said' t u u' routed settled e f g h k =
-    let same = (laws.replies.outcome s.app moment n request.body said said' s.sessions new.sessions s.sessions new'.sessions settled.app (holds_found laws.replies.holds s n settled) refl).0 h.0 k.0 in
-    alike (h.1 ∙ ap (λ (x : List (Named SessionState)). record s { sessions = x }) (same.1 refl) ∙ sym k.1) same.0
-does_one laws lost lost' moment (Rows n) request s new new' said said' t u u' routed settled e f g h k =
+does_one laws p p' q q' moment (End n) request s new new' said said' t u u' routed settled sound e f g h k = alike (h.1 ∙ sym k.1) (h.0 ∙ sym k.0)
+does_one laws p p' q q' moment (View n) request s new new' said said' t u u' routed settled sound e f g h k =
+    let o = find n s.sessions in
+    let x = told_same (IsLost p p') s.tables new.tables t u e f (view_goes (IsLost p p') s.app moment o s.tables new.tables said h.0) in
+    let y = told_same (IsLost q q') s.tables new'.tables t u' e g (view_goes (IsLost q q') s.app moment o s.tables new'.tables said' k.0) in
+    alike (alike_after s new new' h.1 k.1 (x ∙ sym y))
+    (laws.replies.view p p' q q' s.app moment o s.tables new.tables s.tables new'.tables said said' settled.app (holds_found laws.replies.holds s n settled)
+    (known_after s.app s.tables new.tables t e sound x) (ap rows_told (x ∙ sym y)) h.0 k.0)
+does_one laws p p' q q' moment (Shown n) request s new new' said said' t u u' routed settled sound e f g h k =
+    let o = find n s.sessions in
+    let x = told_same (IsLost p p') s.tables new.tables t u e f (named_goes (IsLost p p') s.app moment o s.tables new.tables said h.0) in
+    let y = told_same (IsLost q q') s.tables new'.tables t u' e g (named_goes (IsLost q q') s.app moment o s.tables new'.tables said' k.0) in
+    alike (alike_after s new new' h.1 k.1 (x ∙ sym y))
+    (shows_alike laws.replies.fresh laws.replies.holds (IsLost p p') (IsLost q q') moment s.app o s.tables new.tables s.tables new'.tables said said' settled.app
+    (λ x' e'. found_fits s.app.names s.sessions n x' settled.fit e') (known_after s.app s.tables new.tables t e sound x) (ap rows_told (x ∙ sym y)) h.0 k.0)
+does_one laws p p' q q' moment (Items n gallery from) request s new new' said said' t u u' routed settled sound e f g h k =
+    let o = find n s.sessions in
+    let x = told_same (IsLost p p') s.tables new.tables t u e f (items_go (IsLost p p') s.app moment gallery from o s.tables new.tables said h.0) in
+    let y = told_same (IsLost q q') s.tables new'.tables t u' e g (items_go (IsLost q q') s.app moment gallery from o s.tables new'.tables said' k.0) in
+    alike (alike_after s new new' h.1 k.1 (x ∙ sym y))
+    (laws.replies.items p p' q q' s.app moment gallery from o s.tables new.tables s.tables new'.tables said said' settled.app (holds_found laws.replies.holds s n settled)
+    (known_after s.app s.tables new.tables t e sound x) (ap rows_told (x ∙ sym y)) h.0 k.0)
+does_one laws p p' q q' moment (Event n) request s new new' said said' t u u' routed settled sound e f g h k =
+    let x = told_same (IsLost p p') s.tables new.tables t u e f (event_goes (IsLost p p') s.app moment n request.body said s.tables new.tables s.sessions new.sessions h.0) in
+    let y = told_same (IsLost q q') s.tables new'.tables t u' e g (event_goes (IsLost q q') s.app moment n request.body said' s.tables new'.tables s.sessions new'.sessions k.0) in
+    let same =
+    (laws.replies.outcome p p' q q' s.app moment n request.body said said' s.tables new.tables s.tables new'.tables s.sessions new.sessions s.sessions new'.sessions settled.app
+    (holds_found laws.replies.holds s n settled) refl (known_after s.app s.tables new.tables t e sound x) (ap rows_told (x ∙ sym y))).1 h.0 k.0 in
+    alike (alike_with s new new' h.1 k.1 (x ∙ sym y) (same.1 refl)) same.0
+does_one laws p p' q q' moment (Input n) request s new new' said said' t u u' routed settled sound e f g h k =
+    let x = told_same (IsLost p p') s.tables new.tables t u e f (input_goes (IsLost p p') s.app moment n request.body said s.tables new.tables s.sessions new.sessions h.0) in
+    let y = told_same (IsLost q q') s.tables new'.tables t u' e g (input_goes (IsLost q q') s.app moment n request.body said' s.tables new'.tables s.sessions new'.sessions k.0) in
+    let same =
+    (laws.replies.outcome p p' q q' s.app moment n request.body said said' s.tables new.tables s.tables new'.tables s.sessions new.sessions s.sessions new'.sessions settled.app
+    (holds_found laws.replies.holds s n settled) refl (known_after s.app s.tables new.tables t e sound x) (ap rows_told (x ∙ sym y))).0 h.0 k.0 in
+    alike (alike_with s new new' h.1 k.1 (x ∙ sym y) (same.1 refl)) same.0
+does_one laws p p' q q' moment (Rows n) request s new new' said said' t u u' routed settled sound e f g h k =
     let shapes = (schema_of s.app).tables in
-    let same = posts_alike lost lost' shapes n request.body t u u' s.desks new.desks new'.desks said said'
-    (subst (λ x. PostsRows lost shapes n request.body x s.desks said (Some u) new.desks) e (subst (λ x. PostsRows lost shapes n request.body s.tables s.desks said x new.desks) f h.0))
-    (subst (λ x. PostsRows lost' shapes n request.body x s.desks said' (Some u') new'.desks) e (subst (λ x. PostsRows lost' shapes n request.body s.tables s.desks said' x new'.desks) g k.0)) in
+    let same = posts_alike (IsLost p p') (IsLost q q') shapes n request.body t u u' s.desks new.desks new'.desks said said'
+    (subst (λ x. PostsRows (IsLost p p') shapes n request.body x s.desks said (Some u) new.desks) e (subst (λ x. PostsRows (IsLost p p') shapes n request.body s.tables s.desks said x new.desks) f h.0))
+    (subst (λ x. PostsRows (IsLost q q') shapes n request.body x s.desks said' (Some u') new'.desks) e (subst (λ x. PostsRows (IsLost q q') shapes n request.body s.tables s.desks said' x new'.desks) g k.0)) in
     alike
     (h.1 ∙ ap (λ (x : Option Tables). record s { tables = x; desks = new.desks }) (f ∙ same.tables_are ∙ sym g)
     ∙ ap (λ (d : List (Named Kept)). record s { tables = new'.tables; desks = d }) same.desks_are ∙ sym k.1)
     same.reply_is
-does_one laws lost lost' moment (Edit n) request s new new' said said' t u u' routed settled e f g h k =
-    edits_alike lost lost' moment n request s new new' said said' routed h.1 k.1
+does_one laws p p' q q' moment (Edit n) request s new new' said said' t u u' routed settled sound e f g h k =
+    edits_alike n request s new new' said said' routed h.1 k.1
     (laws.edit s.app new.app new'.app n request.body said said' s.desks new.desks new'.desks h.0 k.0)
-does_one laws lost lost' moment (Page table after) request s new new' said said' t u u' routed settled e f g h k =
+does_one laws p p' q q' moment (Page table after) request s new new' said said' t u u' routed settled sound e f g h k =
     let shapes = (schema_of s.app).tables in
-    let same = page_alike lost lost' shapes table after t u u' said said'
-    (subst (λ x. ShowsPage lost shapes table after x said (Some u)) e (subst (λ x. ShowsPage lost shapes table after s.tables said x) f h.0))
-    (subst (λ x. ShowsPage lost' shapes table after x said' (Some u')) e (subst (λ x. ShowsPage lost' shapes table after s.tables said' x) g k.0)) in
+    let same = page_alike (IsLost p p') (IsLost q q') shapes table after t u u' said said'
+    (subst (λ x. ShowsPage (IsLost p p') shapes table after x said (Some u)) e (subst (λ x. ShowsPage (IsLost p p') shapes table after s.tables said x) f h.0))
+    (subst (λ x. ShowsPage (IsLost q q') shapes table after x said' (Some u')) e (subst (λ x. ShowsPage (IsLost q q') shapes table after s.tables said' x) g k.0)) in
     alike (h.1 ∙ ap (λ (x : Option Tables). record s { tables = x }) (f ∙ same.1 ∙ sym g) ∙ sym k.1) same.0
-does_one laws lost lost' moment Plan request s new new' said said' t u u' routed settled e f g h k = alike (h.1 ∙ sym k.1) (h.0 ∙ sym k.0)
-does_one laws lost lost' moment Graph request s new new' said said' t u u' routed settled e f g h k = alike (h.1 ∙ sym k.1) (h.0 ∙ sym k.0)
+does_one laws p p' q q' moment Plan request s new new' said said' t u u' routed settled sound e f g h k = alike (h.1 ∙ sym k.1) (h.0 ∙ sym k.0)
+does_one laws p p' q q' moment Graph request s new new' said said' t u u' routed settled sound e f g h k = alike (h.1 ∙ sym k.1) (h.0 ∙ sym k.0)
 
-does_one_at : AnswerLaws → (lost lost' : Type 0) (moment : ℕ) (r : Result Route RouteEnd) (request : Asked) (s new new' : State) (said said' : List ℕ) (t u u' : Tables)
-    → Routing request.method request.path r → IsSettled s → s.tables ≡ Some t → new.tables ≡ Some u → new'.tables ≡ Some u'
-    → DoesAt lost moment r request.body s said new → DoesAt lost' moment r request.body s said' new' → AreOne request s new new' said said'
+does_one_at : AnswerLaws → (p p' q q' : Marks) (moment : ℕ) (r : Result Route RouteEnd) (request : Asked) (s new new' : State) (said said' : List ℕ) (t u u' : Tables)
+    → Routing request.method request.path r → IsSettled s → AreSound (schema_of s.app) s.tables → s.tables ≡ Some t → new.tables ≡ Some u → new'.tables ≡ Some u'
+    → DoesAt (IsLost p p') moment r request.body s said new → DoesAt (IsLost q q') moment r request.body s said' new' → AreOne request s new new' said said'
 unfolding DoesAt
-does_one_at laws lost lost' moment (Ok route) request s new new' said said' t u u' routed settled e f g h k =
-    does_one laws lost lost' moment route request s new new' said said' t u u' routed settled e f g h k
-does_one_at laws lost lost' moment (Err NoRoute) request s new new' said said' t u u' routed settled e f g h k = alike (h.1 ∙ sym k.1) (h.0 ∙ sym k.0)
-does_one_at laws lost lost' moment (Err WrongMethod) request s new new' said said' t u u' routed settled e f g h k = alike (h.1 ∙ sym k.1) (h.0 ∙ sym k.0)
-does_one_at laws lost lost' moment (Err Memory) request s new new' said said' t u u' routed settled e f g h k = absurd h
+does_one_at laws p p' q q' moment (Ok route) request s new new' said said' t u u' routed settled sound e f g h k =
+    does_one laws p p' q q' moment route request s new new' said said' t u u' routed settled sound e f g h k
+does_one_at laws p p' q q' moment (Err NoRoute) request s new new' said said' t u u' routed settled sound e f g h k = alike (h.1 ∙ sym k.1) (h.0 ∙ sym k.0)
+does_one_at laws p p' q q' moment (Err WrongMethod) request s new new' said said' t u u' routed settled sound e f g h k = alike (h.1 ∙ sym k.1) (h.0 ∙ sym k.0)
+does_one_at laws p p' q q' moment (Err Memory) request s new new' said said' t u u' routed settled sound e f g h k = absurd h
 
 pub one_answer : AnswerLaws → IsOneRoute → (k l m n : Marks) (old new new' : State) (moment : ℕ) (request : Asked) (said said' : List ℕ) (t u u' : Tables)
-    → IsSettled old → old.tables ≡ Some t → new.tables ≡ Some u → new'.tables ≡ Some u'
+    → IsSettled old → AreSound (schema_of old.app) old.tables → old.tables ≡ Some t → new.tables ≡ Some u → new'.tables ≡ Some u'
     → Step (IsLost k l) old moment request said new → Step (IsLost m n) old moment request said' new' → AreOne request old new new' said said'
-one_answer laws one k l m n old new new' moment request said said' t u u' settled e f g a b =
+one_answer laws one k l m n old new new' moment request said said' t u u' settled sound e f g a b =
     let same = one request.method request.path a.route b.route (is_known (IsLost k l) moment a.route request.body said old new a.does)
     (is_known (IsLost m n) moment b.route request.body said' old new' b.does) a.routed b.routed in
-    does_one_at laws (IsLost k l) (IsLost m n) moment b.route request old new new' said said' t u u' b.routed settled e f g
+    does_one_at laws k l m n moment b.route request old new new' said said' t u u' b.routed settled sound e f g
     (subst (λ r. DoesAt (IsLost k l) moment r request.body old said new) same a.does) b.does

@@ -6,16 +6,17 @@ use Rattle.fx_data.specs.Values.{Data}
 use Rattle.fx_trees.specs.Lawful.{IsLawful}
 use Rattle.fx_trees.specs.declared.names.Names.{Names}
 use Rattle.app_cells.specs.declared.app.App.{App}
-use Rattle.app_edits.specs.Frames.{frame_of}
-use Rattle.app_semantics.specs.Present.{present}
-use Rattle.app_semantics.specs.Sound.{IsSound}
+use Rattle.app_loader.specs.app_edits.Frames.{frame_of}
+use Rattle.app_loader.specs.app_semantics.Present.{present}
+use Rattle.app_loader.specs.app_semantics.Sound.{IsSound}
 use Rattle.app_wire.specs.Framing.{Asked}
 use Rattle.app_wire.specs.ReplyBytes.{refusal, reply}
 use Rattle.app_wire.specs.declared.route.Route.{Route}
 use Rattle.app_wire.specs.declared.route.Route.TheVariants.{Begin, End, View, Named as Shown, Items, Event, Input, Rows, Edit, Page, Plan, Graph}
 use Rattle.app_wire.specs.declared.route.RouteEnd.{RouteEnd}
 use Rattle.app_wire.specs.declared.route.RouteEnd.TheVariants.{NoRoute, WrongMethod, Memory}
-use Rattle.row_keeper.specs.Tables.{Tables}
+use Rattle.row_keeper.specs.Tables.{Tables, rows_told}
+use Rattle.row_queries.specs.declared.rows.Row.{Row}
 use Rattle.session_state.specs.Changes.{FitsNames}
 use Rattle.session_state.specs.Sessions.{SessionState, opened}
 use Rattle.session_state.proofs.Fitting.{fits_opened}
@@ -56,30 +57,32 @@ begin_fits n name xs opens fit = by (is_among name xs) (nat_le most_sessions (le
 end_fits : (n : Names) (name : List ℕ) (xs : List (Named SessionState)) → AreFit n xs → AreFit n (without name xs)
 end_fits n name xs fit = without_all SessionState (λ (s : Named SessionState). FitsNames n s.it) name xs fit
 
-input_fits : (app : App) (moment : ℕ) (name body said : List ℕ) (xs ys : List (Named SessionState)) → AreFit app.names xs → PostsInput app moment name body xs said ys → AreFit app.names ys
-input_fits app moment name body said xs ys fit h = by (checks input_in (λ (i : Given). i.seq) (session_of name xs) body) h
+input_fits : (lost : Type 0) (app : App) (moment : ℕ) (name body said : List ℕ) (told told' : Option Tables) (xs ys : List (Named SessionState))
+    → AreFit app.names xs → PostsInput lost app moment name body told xs said told' ys → AreFit app.names ys
+input_fits lost app moment name body said told told' xs ys fit h = by (checks input_in (λ (i : Given). i.seq) (session_of name xs) body) h
   where
-    by : (r : Result Given (List ℕ)) → PostsInputChecked app moment name body r xs said ys → AreFit app.names ys
+    by : (r : Result Given (List ℕ)) → PostsInputChecked lost app moment name body r told xs said told' ys → AreFit app.names ys
     by (Err words) k = subst (λ (l : List (Named SessionState)). AreFit app.names l) (sym k.1) fit
     by (Ok i) k =
-        input_stays app.names name body i.seq k.session k.verdict xs said ys (found_fits app.names xs name k.session fit k.found)
-        (λ g is. given_fits app.names k.session k.judged.values i g (sym k.judged.is ∙ is)) fit k.ends
+        input_stays app.names name body i.seq k.0.session k.0.verdict xs said ys (found_fits app.names xs name k.0.session fit k.0.found)
+        (λ g is. given_fits app.names k.0.session k.0.judged.values i g (sym k.0.judged.is ∙ is)) fit k.0.ends
 
 -- the item of an event that is accepted is one of a control
-accepted_within : (app : App) (moment : ℕ) (s : SessionState) (values : ℕ → Data) (e : Sent) (r v : Result Target Refusal) (t : Target)
-    → IsLawful app.names → event_target app.names s values e ≡ r → IsVerdict (present app s moment) values r v → v ≡ Ok t → IsWithin app.names t
-accepted_within app moment s values e (Err f) v t lawful target h is = let no : Err f ≡ Ok t = sym h ∙ is in absurd (cc)
-accepted_within app moment s values e (Ok u) v t lawful target h is =
+accepted_within : (app : App) (moment : ℕ) (s : SessionState) (rows : Option (List (List Row))) (values : ℕ → Data) (e : Sent) (r v : Result Target Refusal) (t : Target)
+    → IsLawful app.names → event_target app.names s values e ≡ r → IsVerdict (present app s rows moment) values r v → v ≡ Ok t → IsWithin app.names t
+accepted_within app moment s rows values e (Err f) v t lawful target h is = let no : Err f ≡ Ok t = sym h ∙ is in absurd (cc)
+accepted_within app moment s rows values e (Ok u) v t lawful target h is =
     subst (λ (q : Result Target Refusal). IfOk q (IsWithin app.names)) is (within app.names values u h.0 v lawful (target_is app.names s values e u target) h.2)
 
-event_fits : (app : App) (moment : ℕ) (name body said : List ℕ) (xs ys : List (Named SessionState)) → IsLawful app.names → AreFit app.names xs → PostsEvent app moment name body xs said ys → AreFit app.names ys
-event_fits app moment name body said xs ys lawful fit h = by (checks event_in (λ (e : Sent). e.seq) (session_of name xs) body) h
+event_fits : (lost : Type 0) (app : App) (moment : ℕ) (name body said : List ℕ) (told told' : Option Tables) (xs ys : List (Named SessionState))
+    → IsLawful app.names → AreFit app.names xs → PostsEvent lost app moment name body told xs said told' ys → AreFit app.names ys
+event_fits lost app moment name body said told told' xs ys lawful fit h = by (checks event_in (λ (e : Sent). e.seq) (session_of name xs) body) h
   where
-    by : (r : Result Sent (List ℕ)) → PostsEventChecked app moment name body r xs said ys → AreFit app.names ys
+    by : (r : Result Sent (List ℕ)) → PostsEventChecked lost app moment name body r told xs said told' ys → AreFit app.names ys
     by (Err words) k = subst (λ (l : List (Named SessionState)). AreFit app.names l) (sym k.1) fit
     by (Ok e) k =
-        event_stays app.names name body e.seq k.session k.verdict xs said ys (found_fits app.names xs name k.session fit k.found)
-        (λ t is. accepted_within app moment k.session k.judged.values e (event_target app.names k.session k.judged.values e) k.verdict t lawful refl k.judged.is is) fit k.ends
+        event_stays app.names name body e.seq k.0.session k.0.verdict xs said ys (found_fits app.names xs name k.0.session fit k.0.found)
+        (λ t is. accepted_within app moment k.0.session (rows_told told') k.0.judged.values e (event_target app.names k.0.session k.0.judged.values e) k.0.verdict t lawful refl k.0.judged.is is) fit k.0.ends
 
 -- ---- the state
 
@@ -123,13 +126,13 @@ does_goes lost moment (Begin n) body s new said settled opens does =
 does_goes lost moment (End n) body s new said settled opens does =
     fits s new settled opens (ap (λ (x : State). x.app) does.1)
     (subst (λ (l : List (Named SessionState)). AreFit s.app.names l) (sym (ap (λ (x : State). x.sessions) does.1)) (end_fits s.app.names n s.sessions settled.fit))
-does_goes lost moment (View n) body s new said settled opens does = unchanged s new settled opens does.1
-does_goes lost moment (Shown n) body s new said settled opens does = unchanged s new settled opens does.1
-does_goes lost moment (Items n gallery from) body s new said settled opens does = unchanged s new settled opens does.1
+does_goes lost moment (View n) body s new said settled opens does = stays s new settled opens (ap (λ (x : State). x.app) does.1) (ap (λ (x : State). x.sessions) does.1)
+does_goes lost moment (Shown n) body s new said settled opens does = stays s new settled opens (ap (λ (x : State). x.app) does.1) (ap (λ (x : State). x.sessions) does.1)
+does_goes lost moment (Items n gallery from) body s new said settled opens does = stays s new settled opens (ap (λ (x : State). x.app) does.1) (ap (λ (x : State). x.sessions) does.1)
 does_goes lost moment (Event n) body s new said settled opens does =
-    fits s new settled opens (ap (λ (x : State). x.app) does.1) (event_fits s.app moment n body said s.sessions new.sessions settled.app.names settled.fit does.0)
+    fits s new settled opens (ap (λ (x : State). x.app) does.1) (event_fits lost s.app moment n body said s.tables new.tables s.sessions new.sessions settled.app.names settled.fit does.0)
 does_goes lost moment (Input n) body s new said settled opens does =
-    fits s new settled opens (ap (λ (x : State). x.app) does.1) (input_fits s.app moment n body said s.sessions new.sessions settled.fit does.0)
+    fits s new settled opens (ap (λ (x : State). x.app) does.1) (input_fits lost s.app moment n body said s.tables new.tables s.sessions new.sessions settled.fit does.0)
 does_goes lost moment (Rows n) body s new said settled opens does = stays s new settled opens (ap (λ (x : State). x.app) does.1) (ap (λ (x : State). x.sessions) does.1)
 does_goes lost moment (Edit n) body s new said settled opens does = edited s new settled opens (ap (λ (x : State). x.sessions) does.1) does.2
 does_goes lost moment (Page table after) body s new said settled opens does = stays s new settled opens (ap (λ (x : State). x.app) does.1) (ap (λ (x : State). x.sessions) does.1)

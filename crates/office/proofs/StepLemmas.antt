@@ -1,18 +1,32 @@
 -- The steps of the office.
-use Rattle.std.proofs.Common.{◌≡◌, ℕ, List, Option, None, Some, Ok, Err, ap, sym, ◌∙◌, subst}
-use Rattle.fx_base.specs.Silence.{Goes}
+use Rattle.std.proofs.Common.{◌≡◌, ℕ, List, Option, None, Some, Result, Ok, Err, refl, ap, sym, ◌∙◌, subst}
+use Rattle.std.specs.Prelude.{OnErr}
+use Rattle.fx_base.specs.Silence.{Goes, IsLost}
 use Rattle.fx_base.specs.Telling.{Stays}
 use Rattle.row_keeper.specs.Tables.{Tables}
+use Rattle.row_keeper.specs.declared.keeper.KeeperEnd.{KeeperEnd}
 use Rattle.app_wire.specs.Framing.{Asked}
 use Rattle.app_wire.specs.ReplyBytes.{refusal}
 use Rattle.app_wire.specs.Routing.{Routing}
 use Rattle.app_wire.specs.declared.route.Route.{Route}
-use Rattle.app_wire.specs.declared.route.Route.TheVariants.{Page}
+use Rattle.app_views.specs.Shows.{ReachesItems, ReachesView}
+use Rattle.app_wire.specs.declared.route.Route.TheVariants.{Event, Input, Items, Named, Page, View}
 use Rattle.app_wire.specs.declared.route.RouteEnd.TheVariants.{NoRoute, WrongMethod}
 use Rattle.app_cells.specs.declared.app.App.{App}
 use Rattle.fx_trees.specs.declared.schema.Schema.{Schema}
+use Rattle.session_requests.specs.recalc.Asking.{HasRead, Keeping}
+use Rattle.session_requests.proofs.of_recalc.Asked.{read_none}
+use Rattle.request_checks.specs.Checked.{SessionsKeepReplies}
+use Rattle.request_checks.specs.declared.directory.Named.{Named as Caller}
+use Rattle.request_checks.specs.declared.reply.Reply.{Reply}
 use Rattle.row_requests.specs.Page.{ReachesPage}
-use Rattle.office.specs.State.{State, schema_of}
+use Rattle.row_requests.proofs.Soundness.{sound_stays}
+use Rattle.session_state.specs.Once.{Kept}
+use Rattle.session_state.specs.Sessions.{SessionState}
+use Rattle.session_requests.specs.Posting.{ReachesEvent, ReachesInput}
+use Rattle.office.specs.Ready.{AreFit, IsReady}
+use Rattle.office.specs.Sessions.{ReachesNamed}
+use Rattle.office.specs.State.{Seen, State, schema_of}
 use Rattle.office.specs.Step.{Does, DoesAt, Left, Reaches, Step}
 
 -- a route was taken
@@ -32,7 +46,8 @@ pub wrong_method : (lost : Type 0) (old new : State) (moment : ℕ) (request : A
 unfolding DoesAt
 wrong_method lost old new moment request said is replied same = record { route = Err WrongMethod; routed = is; does = (replied, same) }
 
-still : (lost : Type 0) (x y : Option Tables) → y ≡ x → Goes lost Stays x y
+-- a keeper that is left stays as it is
+pub still : (lost : Type 0) (x y : Option Tables) → y ≡ x → Goes lost Stays x y
 still lost None y e = e
 still lost (Some t) None e = cc
 still lost (Some t) (Some u) e = cc
@@ -50,3 +65,74 @@ pub reaches_page : (s : State) (app : App) (body : List ℕ) (route : Route) (ta
 unfolding Reaches
 reaches_page s app body route table after schema is same of reaches =
     subst (λ r. Reaches r body s) (sym is) (subst (λ (a : App). ReachesPage (schema_of a).tables table) (sym of) (subst (λ (x : Schema). ReachesPage x.tables table) same reaches))
+
+-- so are those that formulas read
+pub reaches_view : (s : State) (xs : List (Caller SessionState)) (body : List ℕ) (route : Route) (name : List ℕ) → route ≡ View name → s.sessions ≡ xs → ReachesView name xs → Reaches route body s
+unfolding Reaches
+reaches_view s xs body route name is of reaches = subst (λ r. Reaches r body s) (sym is) (subst (λ (l : List (Caller SessionState)). ReachesView name l) (sym of) reaches)
+
+pub reaches_named : (s : State) (xs : List (Caller SessionState)) (body : List ℕ) (route : Route) (name : List ℕ) → route ≡ Named name → s.sessions ≡ xs → ReachesNamed name xs → Reaches route body s
+unfolding Reaches
+reaches_named s xs body route name is of reaches = subst (λ r. Reaches r body s) (sym is) (subst (λ (l : List (Caller SessionState)). ReachesNamed name l) (sym of) reaches)
+
+pub reaches_items : (s : State) (app : App) (xs : List (Caller SessionState)) (body : List ℕ) (route : Route) (name gallery : List ℕ) (from : ℕ)
+    → route ≡ Items name gallery from → s.app ≡ app → s.sessions ≡ xs → ReachesItems app name gallery xs → Reaches route body s
+unfolding Reaches
+reaches_items s app xs body route name gallery from is served of reaches =
+    subst (λ r. Reaches r body s) (sym is) (subst (λ (a : App). ReachesItems a name gallery s.sessions) (sym served) (subst (λ (l : List (Caller SessionState)). ReachesItems app name gallery l) (sym of) reaches))
+
+pub reaches_event : (s : State) (xs : List (Caller SessionState)) (body given : List ℕ) (route : Route) (name : List ℕ) → route ≡ Event name → s.sessions ≡ xs → given ≡ body → ReachesEvent name given xs → Reaches route body s
+unfolding Reaches
+reaches_event s xs body given route name is of same reaches =
+    subst (λ r. Reaches r body s) (sym is) (subst (λ b. ReachesEvent name b s.sessions) same (subst (λ (l : List (Caller SessionState)). ReachesEvent name given l) (sym of) reaches))
+
+pub reaches_input : (s : State) (xs : List (Caller SessionState)) (body given : List ℕ) (route : Route) (name : List ℕ) → route ≡ Input name → s.sessions ≡ xs → given ≡ body → ReachesInput name given xs → Reaches route body s
+unfolding Reaches
+reaches_input s xs body given route name is of same reaches =
+    subst (λ r. Reaches r body s) (sym is) (subst (λ b. ReachesInput name b s.sessions) same (subst (λ (l : List (Caller SessionState)). ReachesInput name given l) (sym of) reaches))
+
+-- where no rows are read, a keeper stays as it is
+pub read_nothing : (a : Keeping) → HasRead a a
+read_nothing a = read_none a
+
+-- what is ready stays so where rows are read
+pub still_ready : (app : App) (a b : Keeping) (sessions : List (Caller SessionState)) (desks : List (Caller Kept)) → HasRead a b
+    → IsReady app a.in_transaction a.shaped a.told sessions desks → IsReady app b.in_transaction b.shaped b.told sessions desks
+still_ready app a b sessions desks read ready = record {
+  idle = read.mode ∙ ready.idle;
+  shaped = read.shaped ∙ ready.shaped;
+  sound = sound_stays (schema_of app) (IsLost a.marks b.marks) a.told b.told ready.sound read.told;
+  kept = ready.kept;
+  accepted = ready.accepted;
+  loaded = ready.loaded;
+  opens = ready.opens;
+  fit = ready.fit;
+  replies = ready.replies;
+}
+
+-- with other sessions too
+pub still_ready_with : (app : App) (a b : Keeping) (sessions sessions' : List (Caller SessionState)) (desks : List (Caller Kept)) → HasRead a b → AreFit app.names sessions' → SessionsKeepReplies sessions'
+    → IsReady app a.in_transaction a.shaped a.told sessions desks → IsReady app b.in_transaction b.shaped b.told sessions' desks
+still_ready_with app a b sessions sessions' desks read fit replies ready = record {
+  idle = read.mode ∙ ready.idle;
+  shaped = read.shaped ∙ ready.shaped;
+  sound = sound_stays (schema_of app) (IsLost a.marks b.marks) a.told b.told ready.sound read.told;
+  kept = ready.kept;
+  accepted = ready.accepted;
+  loaded = ready.loaded;
+  opens = ready.opens;
+  fit = fit;
+  replies = replies;
+}
+
+-- a keeper whose rows were read is left, with all beside it
+pub left_read : (a b : Keeping) (app : App) (sessions : List (Caller SessionState)) (desks : List (Caller Kept)) (old : Seen)
+    → record { state = record { app = app; tables = a.told; sessions = sessions; desks = desks }; marks = a.marks; loan = a.loan } ≡ old → HasRead a b
+    → Left (IsLost old.marks b.marks) old.state (record { app = app; tables = b.told; sessions = sessions; desks = desks })
+left_read a b app sessions desks old is read =
+    subst (λ (o : Seen). Left (IsLost o.marks b.marks) o.state (record { app = app; tables = b.told; sessions = sessions; desks = desks })) is (record { tables = read.told; others = refl })
+
+-- what holds however a call ends holds where it stops
+pub stopped : (r : Result Reply KeeperEnd) (P : Type 0) → P → OnErr r P
+stopped (Ok x) P p = tt
+stopped (Err e) P p = p

@@ -1,10 +1,10 @@
 -- An app that is edited while it is served.
 use Rattle.std.specs.Prelude.{◌≡◌, ℕ, List, Ok}
 use Rattle.app_cells.specs.declared.app.App.{App}
-use Rattle.app_edits.specs.Frames.{frame_of}
+use Rattle.app_loader.specs.app_edits.Frames.{frame_of}
 use Rattle.app_loader.specs.Edits.{StillFit}
 use Rattle.app_loader.specs.Verdicts.{AreSameBreaks}
-use Rattle.app_semantics.specs.Sound.{IsSound}
+use Rattle.app_loader.specs.app_semantics.Sound.{IsSound}
 use Rattle.app_wire.specs.Framing.{Asked}
 use Rattle.app_wire.specs.Routing.{Routing}
 use Rattle.app_wire.specs.declared.route.Route.TheVariants.{Edit}

@@ -1,6 +1,8 @@
 -- What callers have to do with one another, and with requests that come again.
 use Rattle.std.specs.Prelude.{◌≡◌, ◌≢◌, ◌⊎◌, ℕ, List, [], ◌∷◌, Option, Some, None, option_map, Ok}
+use Rattle.app_loader.specs.app_semantics.Fresh.{AreKnown}
 use Rattle.fx_base.specs.Silence.{IsLost, Marks}
+use Rattle.row_keeper.specs.Tables.{rows_told}
 use Rattle.app_wire.specs.Framing.{Asked}
 use Rattle.app_wire.specs.ReplyBytes.{refusal}
 use Rattle.app_wire.specs.Routing.{Routing}
@@ -53,13 +55,13 @@ LeavesDesk =
     → Answered old before moment request said now new → (IsOf (desk name) request → ⊥)
     → find name new.desks ≡ find name old.desks
 
--- Offices with the same app, and with the same record of a session or with none, answer its requests alike at one moment, PUT
--- aside, which counts sessions.
+-- Offices with the same app, and with the same record of a session or with none, of whose rows the same is told, which is all
+-- that the app's formulas read, answer its requests alike at one moment, PUT aside, which counts sessions.
 abbrev pub IsAlone : Type 0
 IsAlone =
     (k l m n : Marks) (a b new new' : State) (moment : ℕ) (request : Asked) (said said' name : List ℕ)
     → IsOf (session name) request → request.method ≢ Put
-    → IsSettled a → a.app ≡ b.app → find name a.sessions ≡ find name b.sessions
+    → IsSettled a → a.app ≡ b.app → find name a.sessions ≡ find name b.sessions → AreKnown a.app (rows_told new.tables) → rows_told new.tables ≡ rows_told new'.tables
     → Step (IsLost k l) a moment request said new → Step (IsLost m n) b moment request said' new' → said ≡ said'
 
 -- none of these exchanges is one of this caller

@@ -10,3 +10,4 @@ pub mod Step
 pub use Rattle.app_loader.specs as app_loader
 pub mod DeskEdits
 pub mod DeskEditLaws
+pub use Rattle.app_loader.specs.app_semantics

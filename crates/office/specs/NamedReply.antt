@@ -5,8 +5,8 @@ use Rattle.serde_json.specs.Data.{string, array, object, member, no_members}
 use Rattle.serde_json.specs.View.{items_of}
 use Rattle.serde_json.specs.Written.{compact_text}
 use Rattle.app_cells.specs.declared.app.App.{App}
-use Rattle.app_semantics.specs.Fresh.{IsFresh}
-use Rattle.app_semantics.specs.Present.{Present}
+use Rattle.app_loader.specs.app_semantics.Fresh.{IsFresh}
+use Rattle.app_loader.specs.app_semantics.Present.{Present}
 use Rattle.fx_data.specs.Values.{Data}
 use Rattle.fx_data.specs.ValueView.{view}
 use Rattle.fx_trees.specs.declared.names.FormulaName.{FormulaName}

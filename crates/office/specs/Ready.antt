@@ -3,7 +3,7 @@ use Rattle.std.specs.Prelude.{◌≡◌, ◌<◌, length, Bool, false, List, Opt
 use Rattle.std.specs.List.{AllByRecursion}
 use Rattle.app_cells.specs.declared.app.App.{App}
 use Rattle.app_loader.specs.Edits.{IsLoaded}
-use Rattle.app_semantics.specs.Sound.{IsSound}
+use Rattle.app_loader.specs.app_semantics.Sound.{IsSound}
 use Rattle.fx_trees.specs.declared.names.Names.{Names}
 use Rattle.fx_trees.specs.declared.schema.Schema.{Schema}
 use Rattle.row_keeper.specs.Tables.{Tables}

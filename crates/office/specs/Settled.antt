@@ -1,8 +1,8 @@
 -- Offices are settled whenever a request comes.
 use Rattle.std.specs.Prelude.{◌≡◌, List, Option}
 use Rattle.app_cells.specs.declared.app.App.{App}
-use Rattle.app_edits.specs.Frames.{frame_of}
-use Rattle.app_semantics.specs.Sound.{IsSound}
+use Rattle.app_loader.specs.app_edits.Frames.{frame_of}
+use Rattle.app_loader.specs.app_semantics.Sound.{IsSound}
 use Rattle.fx_base.specs.Silence.{Marks}
 use Rattle.row_keeper.specs.Tables.{Tables}
 use Rattle.office.specs.Answers.{Exchange, Plays}

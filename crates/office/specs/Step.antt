@@ -4,23 +4,25 @@ use Rattle.fx_base.specs.Faults.{Rose}
 use Rattle.fx_base.specs.Silence.{Goes, IsLost, Marks}
 use Rattle.fx_base.specs.Telling.{Stays}
 use Rattle.app_loader.specs.Verdicts.{IsSameApp}
-use Rattle.app_views.specs.Shows.{ShowsItems, ShowsView}
+use Rattle.app_plans.specs.Plans.{plan_text}
+use Rattle.app_views.specs.Shows.{ReachesItems, ReachesView, ShowsItems, ShowsView}
 use Rattle.row_keeper.specs.Tables.{Tables}
 use Rattle.app_wire.specs.Framing.{Asked}
 use Rattle.app_wire.specs.ReplyBytes.{refusal, reply}
 use Rattle.app_wire.specs.Routing.{Routing}
 use Rattle.app_wire.specs.declared.route.Route.{Route}
-use Rattle.app_wire.specs.declared.route.Route.TheVariants.{Begin, End, View, Named, Items, Event, Input, Rows, Edit, Page}
+use Rattle.app_wire.specs.declared.route.Route.TheVariants.{Begin, End, View, Named, Items, Event, Input, Rows, Edit, Page, Plan}
 use Rattle.app_wire.specs.declared.route.RouteEnd.{RouteEnd}
 use Rattle.app_wire.specs.declared.route.RouteEnd.TheVariants.{NoRoute, WrongMethod, Memory}
 use Rattle.office.specs.DeskEdits.{PostsEdit}
 use Rattle.view_text.specs.ReplyText.{ok_text}
 use Rattle.row_requests.specs.DeskRows.{PostsRows, ReachesRows}
 use Rattle.row_requests.specs.Page.{ReachesPage, ShowsPage}
-use Rattle.session_requests.specs.Posting.{PostsEvent, PostsInput}
+use Rattle.row_requests.specs.Sound.{AreSound}
+use Rattle.session_requests.specs.Posting.{PostsEvent, PostsInput, ReachesEvent, ReachesInput}
 use Rattle.office.specs.Editing.{AreSameRefusals, IsEdit, KeepsApp}
 use Rattle.office.specs.Ready.{IsSettled}
-use Rattle.office.specs.Sessions.{ShowsNamed, begins, without}
+use Rattle.office.specs.Sessions.{ReachesNamed, ShowsNamed, begins, without}
 use Rattle.office.specs.State.{State, schema_of}
 
 -- THE step by a route, at a moment: what it says, and which parts of the state may change. All others stay. `lost` is why the
@@ -30,13 +32,18 @@ Does lost moment (Begin name) body s said new =
     ((new.sessions, said) ≡ begins s.app.names name s.sessions) × (new ≡ record s { sessions = new.sessions })
 Does lost moment (End name) body s said new =
     (said ≡ reply 200 ok_text) × (new ≡ record s { sessions = without name s.sessions })
-Does lost moment (View name) body s said new = ShowsView moment s.app name s.sessions said × (new ≡ s)
-Does lost moment (Named name) body s said new = ShowsNamed moment s.app name s.sessions said × (new ≡ s)
-Does lost moment (Items name gallery from) body s said new = ShowsItems moment s.app name gallery from s.sessions said × (new ≡ s)
+Does lost moment (View name) body s said new =
+    ShowsView lost moment s.app name s.sessions s.tables said new.tables × (new ≡ record s { tables = new.tables })
+Does lost moment (Named name) body s said new =
+    ShowsNamed lost moment s.app name s.sessions s.tables said new.tables × (new ≡ record s { tables = new.tables })
+Does lost moment (Items name gallery from) body s said new =
+    ShowsItems lost moment s.app name gallery from s.sessions s.tables said new.tables × (new ≡ record s { tables = new.tables })
 Does lost moment (Event name) body s said new =
-    PostsEvent s.app moment name body s.sessions said new.sessions × (new ≡ record s { sessions = new.sessions })
+    PostsEvent lost s.app moment name body s.tables s.sessions said new.tables new.sessions
+    × (new ≡ record s { tables = new.tables; sessions = new.sessions })
 Does lost moment (Input name) body s said new =
-    PostsInput s.app moment name body s.sessions said new.sessions × (new ≡ record s { sessions = new.sessions })
+    PostsInput lost s.app moment name body s.tables s.sessions said new.tables new.sessions
+    × (new ≡ record s { tables = new.tables; sessions = new.sessions })
 Does lost moment (Rows name) body s said new =
     PostsRows lost (schema_of s.app).tables name body s.tables s.desks said new.tables new.desks
     × (new ≡ record s { tables = new.tables; desks = new.desks })
@@ -44,6 +51,7 @@ Does lost moment (Edit name) body s said new =
     PostsEdit s.app name body s.desks said new.app new.desks × (new ≡ record s { app = new.app; desks = new.desks }) × KeepsApp s.app new.app
 Does lost moment (Page table after) body s said new =
     ShowsPage lost (schema_of s.app).tables table after s.tables said new.tables × (new ≡ record s { tables = new.tables })
+Does lost moment Plan body s said new = (said ≡ reply 200 (plan_text s.app)) × (new ≡ s)
 Does lost moment _ body s said new = (said ≡ refusal 7) × (new ≡ s)
 
 -- the same, where there may be no route (7), or one with another method (8)
@@ -61,6 +69,11 @@ pub record Step (lost : Type 0) (old : State) (moment : ℕ) (request : Asked) (
 
 -- the checks that call no keeper are passed
 unfoldable pub Reaches : Route → List ℕ → State → Type 0
+Reaches (View name) body s = ReachesView name s.sessions
+Reaches (Named name) body s = ReachesNamed name s.sessions
+Reaches (Items name gallery from) body s = ReachesItems s.app name gallery s.sessions
+Reaches (Event name) body s = ReachesEvent name body s.sessions
+Reaches (Input name) body s = ReachesInput name body s.sessions
 Reaches (Rows name) body s = ReachesRows name body s.desks
 Reaches (Page table after) body s = ReachesPage (schema_of s.app).tables table
 Reaches _ body s = ⊥
@@ -91,9 +104,9 @@ pub data AreOne (request : Asked) (old new new' : State) (said said' : List ℕ)
   edited : IsEdit request → IsSameApp new.app new'.app → new' ≡ record new { app = new'.app } → said ≡ said' → AreOne request old new new' said said'
   refused : IsEdit request → AreSameRefusals said said' → new ≡ old → new' ≡ old → AreOne request old new new' said said'
 
--- a request has one answer where the tables are told
+-- a request has one answer where the tables are told, and fit the schema
 abbrev pub IsOneAnswer : Type 0
 IsOneAnswer =
     (k l m n : Marks) (old new new' : State) (moment : ℕ) (request : Asked) (said said' : List ℕ) (t u u' : Tables)
-    → IsSettled old → old.tables ≡ Some t → new.tables ≡ Some u → new'.tables ≡ Some u'
+    → IsSettled old → AreSound (schema_of old.app) old.tables → old.tables ≡ Some t → new.tables ≡ Some u → new'.tables ≡ Some u'
     → Step (IsLost k l) old moment request said new → Step (IsLost m n) old moment request said' new' → AreOne request old new new' said said'

@@ -4,8 +4,8 @@ ghost use Rattle.office.specs.Isolation.{ActsOnce, IsAlone, LeavesDesk, LeavesSe
 ghost use Rattle.office.specs.Settled.{StartsSettled, StaysSettled};
 ghost use Rattle.office.specs.Step.{IsOneAnswer};
 
+use crate::app_semantics::{fitting_holds, one_fresh};
 use crate::desk_edit_laws::one_outcome as one_edit_outcome;
-use app_semantics::{fitting_holds, one_fresh};
 use app_views::{one_items_reply, one_view_reply};
 use app_wire::route::one_route;
 use session_requests::laws as requests;

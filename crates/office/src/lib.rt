@@ -7,14 +7,17 @@ pub mod desk_edit_laws;
 pub mod laws;
 pub mod machine;
 pub mod named;
+mod plans;
 pub mod posting;
 pub mod sessions;
 
 pub use app_cells::App;
+use app_loader::app_semantics;
 pub use app_loader::{load, load_named, loaded_app, one_app, one_verdict};
 pub use converse::{ConvEnd, MOST_REQUESTS};
 pub use machine::Office;
 pub use named::named_list;
-pub use recalc::Steps;
 pub use request_checks::Reply;
+use session_requests::recalc;
+pub use session_requests::recalc::Steps;
 pub use sessions::MOST_SESSIONS;

@@ -2,7 +2,7 @@
 ghost use Rattle.std.specs.Prelude.{◌≡◌, ◌≢◌, ◌<◌, Err, IfOk, IsErrOf, Ok, OnErr, Some, false, length};
 ghost use Rattle.fx_base.specs.Silence.{IsLater, IsLost};
 ghost use Rattle.app_loader.specs.Edits.{IsLoaded};
-ghost use Rattle.app_semantics.specs.Sound.{IsSound};
+ghost use Rattle.app_loader.specs.app_semantics.Sound.{IsSound};
 ghost use Rattle.row_keeper.specs.Causes.{HasCause};
 ghost use Rattle.row_keeper.specs.declared.keeper.KeeperEnd.TheVariants.{Failed};
 ghost use Rattle.app_wire.specs.Framing.{asked};
@@ -13,7 +13,9 @@ ghost use Rattle.office.specs.Ready.{CanOpen};
 ghost use Rattle.office.specs.State.{schema_of, started};
 ghost use Rattle.office.specs.Step.{Answered, Does, Left, Reaches, ReachesKeeper, Step};
 
+use crate::plans::show_plan;
 use crate::posting::post_edit;
+use crate::recalc::Steps;
 use crate::sessions::{begin, end, show_named};
 use app_cells::App;
 use app_views::{show_items, show_view};
@@ -22,7 +24,6 @@ use app_wire::route::{Route, RouteEnd};
 use app_wire::routes::Routes;
 use fx_base::Memory;
 use fx_trees::Schema;
-use recalc::Steps;
 use request_checks::{Named, Reply};
 use row_keeper::{Keeper, KeeperEnd};
 use row_requests::{post_rows, show_page};
@@ -180,55 +181,55 @@ impl<K: Keeper + Drop> Office<K> {
                 Ok(reply) => Ok(reply),
                 Err(Memory) => Err(KeeperEnd::Memory),
             },
-            Route::View(name) => {
-                match show_view(self.alloc, &self.app, &self.sessions, &name, moment, steps) {
-                    Ok(reply) => Ok(reply),
-                    Err(Memory) => Err(KeeperEnd::Memory),
-                }
-            }
-            Route::Named(name) => {
-                match show_named(self.alloc, &self.app, &self.sessions, &name, moment, steps) {
-                    Ok(reply) => Ok(reply),
-                    Err(Memory) => Err(KeeperEnd::Memory),
-                }
-            }
-            Route::Items(name, gallery, from) => match show_items(
+            Route::View(name) => show_view(
                 self.alloc,
                 &self.app,
                 &self.sessions,
+                &mut self.keeper,
+                &name,
+                moment,
+                steps,
+            ),
+            Route::Named(name) => show_named(
+                self.alloc,
+                &self.app,
+                &self.sessions,
+                &mut self.keeper,
+                &name,
+                moment,
+                steps,
+            ),
+            Route::Items(name, gallery, from) => show_items(
+                self.alloc,
+                &self.app,
+                &self.sessions,
+                &mut self.keeper,
                 &name,
                 &gallery,
                 from,
                 moment,
                 steps,
-            ) {
-                Ok(reply) => Ok(reply),
-                Err(Memory) => Err(KeeperEnd::Memory),
-            },
-            Route::Event(name) => match post_event(
+            ),
+            Route::Event(name) => post_event(
                 self.alloc,
                 &self.app,
                 &mut self.sessions,
+                &mut self.keeper,
                 &name,
                 &request.body,
                 moment,
                 steps,
-            ) {
-                Ok(reply) => Ok(reply),
-                Err(Memory) => Err(KeeperEnd::Memory),
-            },
-            Route::Input(name) => match post_input(
+            ),
+            Route::Input(name) => post_input(
                 self.alloc,
                 &self.app,
                 &mut self.sessions,
+                &mut self.keeper,
                 &name,
                 &request.body,
                 moment,
                 steps,
-            ) {
-                Ok(reply) => Ok(reply),
-                Err(Memory) => Err(KeeperEnd::Memory),
-            },
+            ),
             Route::Rows(name) => post_rows(
                 self.alloc,
                 &mut self.keeper,
@@ -254,8 +255,12 @@ impl<K: Keeper + Drop> Office<K> {
                 &table,
                 after,
             ),
+            Route::Plan => match show_plan(self.alloc, &self.app) {
+                Ok(reply) => Ok(reply),
+                Err(Memory) => Err(KeeperEnd::Memory),
+            },
             // Not built yet.
-            Route::Plan | Route::Graph => Ok(Reply::fixed_refusal(self.alloc, 7, 404)),
+            Route::Graph => Ok(Reply::fixed_refusal(self.alloc, 7, 404)),
         }
     }
 

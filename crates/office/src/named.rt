@@ -1,34 +1,46 @@
 //! The named formulas of an app, shown.
-ghost use Rattle.std.specs.Prelude.{◌≡◌, IfOk, map, string_bytes};
-ghost use Rattle.app_semantics.specs.Holding.{HoldsFitting};
-ghost use Rattle.app_semantics.specs.Present.{present};
-ghost use Rattle.app_semantics.specs.Sound.{IsSound};
-ghost use Rattle.recalc.specs.Values.{value_of};
+ghost use Rattle.std.specs.Prelude.{◌≡◌, IfOk, IsErrOf, map, string_bytes};
+ghost use Rattle.app_loader.specs.app_semantics.Holding.{HoldsFitting};
+ghost use Rattle.app_loader.specs.app_semantics.Present.{present};
+ghost use Rattle.app_loader.specs.app_semantics.Sound.{IsSound};
+ghost use Rattle.session_requests.specs.recalc.Asking.{CanAsk, HasRead, IsHeardOf, ReadsNone, ToldRows, keeping};
+ghost use Rattle.session_requests.specs.recalc.Values.{value_of};
+ghost use Rattle.row_keeper.specs.Causes.{HasCause};
+ghost use Rattle.row_keeper.specs.declared.keeper.KeeperEnd.TheVariants.{Failed};
 ghost use Rattle.office.specs.NamedReply.{IsNamedBody, IsNamedList, named_values, shown};
 
+use crate::recalc::{Steps, Valued, evaluate};
 use app_cells::App;
 use fx_base::Memory;
-use recalc::{Steps, Valued, evaluate};
+use row_keeper::{Keeper, KeeperEnd};
 use session_state::Session;
 use std::alloc::Global;
 use std::sync::ledger::Ledger;
 use view_text::{Named, named_json};
 
-/// The named formulas of an app with their values over a session, at a moment in seconds since 1970-01-01 UTC, in the
-/// order of their text.
-pub fn named_list<L: Ledger>(
+/// The named formulas of an app with their values over a session and the rows of a keeper, at a moment in seconds since
+/// 1970-01-01 UTC, in the order of their text. Where no formula reads a table the keeper is left alone. `Failed` only where it
+/// counted a fault.
+pub fn named_list<K: Keeper, L: Ledger>(
     alloc: Global,
     app: &App,
     session: &Session,
+    keeper: &mut K,
     moment: u64,
     steps: &mut Steps<L>,
-) -> Result<Vec<Named>, Memory>
+) -> Result<Vec<Named>, KeeperEnd>
     requires sound { IsSound app.now }
     requires holds { HoldsFitting app.now.names session.now }
-    ensures { IfOk result (λ rows. IsNamedList (present app.now session.now moment) (map shown rows.items)) }
+    requires asks { CanAsk app.now (K.shaped keeper.old) }
+    ensures list { IfOk result (λ rows. (tables : ToldRows) → IsHeardOf (K.told keeper.new) tables → IsNamedList (present app.now session.now tables moment) (map shown rows.items)) }
+    ensures read { HasRead (keeping (K.told keeper.old) (K.shaped keeper.old) (K.in_transaction keeper.old) (K.marks keeper.old) (K.loan keeper.old))
+        (keeping (K.told keeper.new) (K.shaped keeper.new) (K.in_transaction keeper.new) (K.marks keeper.new) (K.loan keeper.new)) }
+    ensures cause { HasCause (K.marks keeper.old) (K.marks keeper.new) result }
+    ensures alone { ReadsNone app.now → keeper.new ≡ keeper.old }
+    ensures reached { IsErrOf result Failed → ReadsNone app.now → ⊥ }
 {
-    let values = evaluate(alloc, app, session, moment, steps)?;
-    name_values(alloc, app, &values)
+    let values = evaluate(alloc, app, session, keeper, moment, steps)?;
+    Ok(name_values(alloc, app, &values)?)
 }
 
 /// The named formulas with the values of their cells.
@@ -46,17 +58,22 @@ fn name_values(alloc: Global, app: &App, values: &Valued) -> Result<Vec<Named>, 
 }
 
 /// The body of the reply that shows each named formula with its value.
-pub(crate) fn named_body<L: Ledger>(
+pub(crate) fn named_body<K: Keeper, L: Ledger>(
     alloc: Global,
     app: &App,
     session: &Session,
+    keeper: &mut K,
     moment: u64,
     steps: &mut Steps<L>,
-) -> Result<String, Memory>
+) -> Result<String, KeeperEnd>
     requires sound { IsSound app.now }
     requires holds { HoldsFitting app.now.names session.now }
-    ensures { IfOk result (λ s. IsNamedBody (present app.now session.now moment) (string_bytes s)) }
+    requires asks { CanAsk app.now (K.shaped keeper.old) }
+    ensures body { IfOk result (λ s. (tables : ToldRows) → IsHeardOf (K.told keeper.new) tables → IsNamedBody (present app.now session.now tables moment) (string_bytes s)) }
+    ensures read { HasRead (keeping (K.told keeper.old) (K.shaped keeper.old) (K.in_transaction keeper.old) (K.marks keeper.old) (K.loan keeper.old))
+        (keeping (K.told keeper.new) (K.shaped keeper.new) (K.in_transaction keeper.new) (K.marks keeper.new) (K.loan keeper.new)) }
+    ensures cause { HasCause (K.marks keeper.old) (K.marks keeper.new) result }
 {
-    let rows = named_list(alloc, app, session, moment, steps)?;
-    named_json(alloc, &rows)
+    let rows = named_list(alloc, app, session, keeper, moment, steps)?;
+    Ok(named_json(alloc, &rows)?)
 }

@@ -1,6 +1,6 @@
 //! A desk edits a formula.
 ghost use Rattle.std.specs.Prelude.{◌≡◌, IfOk, OnErr};
-ghost use Rattle.app_edits.specs.Frames.{frame_of};
+ghost use Rattle.app_loader.specs.app_edits.Frames.{frame_of};
 ghost use Rattle.app_loader.specs.Edits.{IsLoaded, StillFit};
 ghost use Rattle.app_loader.specs.app_semantics.Sound.{IsSound};
 ghost use Rattle.office.specs.DeskEdits.{IsSame, MakesEdit, PostsEdit};

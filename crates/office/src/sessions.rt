@@ -1,22 +1,27 @@
 //! Sessions: they begin, end, and are shown the named formulas.
-ghost use Rattle.std.specs.Prelude.{◌≡◌, IfOk, OnErr};
+ghost use Rattle.std.specs.Prelude.{◌≡◌, IfOk, IsErrOf, OnErr, Some};
 ghost use Rattle.app_wire.specs.ReplyBytes.{reply};
 ghost use Rattle.request_checks.specs.Checked.{SessionsKeepReplies};
 ghost use Rattle.request_checks.specs.Replies.{IsReply, said};
 ghost use Rattle.view_text.specs.ReplyText.{ok_text};
-ghost use Rattle.app_semantics.specs.Sound.{IsSound};
+ghost use Rattle.app_loader.specs.app_semantics.Sound.{IsSound};
 ghost use Rattle.fx_trees.specs.declared.names.Names.{Names as Known};
 ghost use Rattle.office.specs.Ready.{AreFit, CanOpen};
-ghost use Rattle.office.specs.Sessions.{ShowsNamed, begins, without};
+ghost use Rattle.fx_base.specs.Silence.{IsLost};
+ghost use Rattle.session_requests.specs.recalc.Asking.{HasRead, keeping};
+ghost use Rattle.row_keeper.specs.Causes.{HasCause};
+ghost use Rattle.row_keeper.specs.declared.keeper.KeeperEnd.TheVariants.{Failed};
+ghost use Rattle.office.specs.Sessions.{ReachesNamed, ShowsNamed, begins, without};
 
+use crate::app_semantics::fitting_holds;
 use crate::named::named_body;
+use crate::recalc::Steps;
 use app_cells::App;
-use app_semantics::fitting_holds;
 use fx_base::Memory;
 use fx_data::words::Words;
 use fx_trees::Names;
-use recalc::Steps;
 use request_checks::{Named, Reply, is_among, place_of, put};
+use row_keeper::{Keeper, KeeperEnd};
 use session_state::Session;
 use std::alloc::Global;
 use std::sync::ledger::Ledger;
@@ -80,25 +85,33 @@ fn remove<T: Drop>(list: &mut Vec<Named<T>>, name: &Words)
     list.retain(|named| !named.name.is(name));
 }
 
-/// Shows the named formulas to a live session, evaluated afresh.
-pub(crate) fn show_named<L: Ledger>(
+/// Shows the named formulas to a live session, evaluated afresh over the rows of a keeper. `Failed` only where it counted a
+/// fault.
+#[tactic(auto, using(crate::proofs::StepLemmas::read_nothing))]
+pub(crate) fn show_named<K: Keeper, L: Ledger>(
     alloc: Global,
     app: &App,
     sessions: &[Named<Session>],
+    keeper: &mut K,
     name: &Words,
     moment: u64,
     steps: &mut Steps<L>,
-) -> Result<Reply, Memory>
+) -> Result<Reply, KeeperEnd>
     requires sound { IsSound app.now }
     requires fit { AreFit app.now.names sessions.now }
-    ensures done { IfOk result (λ r. ShowsNamed moment app.now name.now sessions.now (said r)) }
+    requires shaped { K.shaped keeper.old ≡ Some app.now.names.schema }
+    ensures done { IfOk result (λ r. ShowsNamed (IsLost (K.marks keeper.old) (K.marks keeper.new)) moment app.now name.now sessions.now (K.told keeper.old) (said r) (K.told keeper.new)) }
     ensures whole { IfOk result IsReply }
+    ensures reached { IsErrOf result Failed → ReachesNamed name.now sessions.now }
+    ensures read { HasRead (keeping (K.told keeper.old) (K.shaped keeper.old) (K.in_transaction keeper.old) (K.marks keeper.old) (K.loan keeper.old))
+        (keeping (K.told keeper.new) (K.shaped keeper.new) (K.in_transaction keeper.new) (K.marks keeper.new) (K.loan keeper.new)) }
+    ensures cause { HasCause (K.marks keeper.old) (K.marks keeper.new) result }
 {
     // The law is called for what it says of a session that fits.
     fitting_holds();
     let Some(place) = place_of(sessions, name) else {
-        return Reply::refuse_plain(alloc, 11);
+        return Ok(Reply::refuse_plain(alloc, 11)?);
     };
-    let body = named_body(alloc, app, &sessions[place].it, moment, steps)?;
-    Reply::accept(alloc, &body)
+    let body = named_body(alloc, app, &sessions[place].it, keeper, moment, steps)?;
+    Ok(Reply::accept(alloc, &body)?)
 }

@@ -5,7 +5,7 @@ use Rattle.fx_cli.specs.Report.{EndsOver}
 use Rattle.fx_cli.specs.Words.{service, wanted}
 use Rattle.fx_cli.specs.declared.replay.ReplayEnd.TheVariants.{Done}
 use Rattle.fx_cli.proofs.Opened.{stopped_rose}
-use Rattle.fx_cli.proofs.Reported.{built_at, refused_at, replayed_at}
+use Rattle.fx_cli.proofs.Reported.{built_at, checked_at, refused_at, replayed_at}
 use Rattle.fx_cli.proofs.Said.{differing_at, is_done, is_fault, is_keeper_fault, is_other_schema, or_fault, or_fault_replayed, replay_at, said_with, unopened_at}
 use Rattle.fx_cli.proofs.run.Goals as goal
 
@@ -45,3 +45,7 @@ returns-clause-refused g c = λ form bytes bs has is. or_fault 1 _ c.carry_out-r
 pub returns-clause-served : goal.returns-clause-served
 returns-clause-served g c = λ bytes app has is. or_fault_replayed _ c.carry_out-report.result _ _ _ _ c.say.ensures.said
     (replayed_at c.one_verdict.ensures c.one_app.ensures g.F.Files.told g.F.Files.asked g.F.Files.faults c.args.files.now c.carry_out-report.new.files (λ app text. IsShownNow (g.C.Clock.told c.args.clock.now) (g.C.Clock.told c.carry_out-report.new.clock) app (string_bytes text)) (EndsOver (service c.args.words.now).store g.K.Keeper.told g.K.Keeper.attached g.K.Keeper.marks g.K.Keeper.attaches c.args.keeper.now c.carry_out-report.new.keeper (λ end old new. Serves (service c.args.words.now).port (service c.args.words.now).most (g.D.Doors.single c.args.doors.now) old new (g.D.Doors.faults c.args.doors.now) (g.D.Doors.faults c.carry_out-report.new.doors) (g.C.Clock.told c.args.clock.now) (g.C.Clock.told c.carry_out-report.new.clock) (g.D.Doors.told c.args.doors.now) (g.D.Doors.told c.carry_out-report.new.doors) end)) (wanted c.args.words.now) c.carry_out-report.result _ bytes app c.carry_out-report.ensures.reports has is)
+
+pub returns-clause-checked : goal.returns-clause-checked
+returns-clause-checked g c = λ bytes app has is. or_fault 0 _ c.carry_out-report.result _ _ _ _ c.say.ensures.said
+    (checked_at c.one_verdict.ensures c.one_app.ensures g.F.Files.told g.F.Files.asked g.F.Files.faults c.args.files.now c.carry_out-report.new.files (λ app text. IsShownNow (g.C.Clock.told c.args.clock.now) (g.C.Clock.told c.carry_out-report.new.clock) app (string_bytes text)) (EndsOver (service c.args.words.now).store g.K.Keeper.told g.K.Keeper.attached g.K.Keeper.marks g.K.Keeper.attaches c.args.keeper.now c.carry_out-report.new.keeper (λ end old new. Serves (service c.args.words.now).port (service c.args.words.now).most (g.D.Doors.single c.args.doors.now) old new (g.D.Doors.faults c.args.doors.now) (g.D.Doors.faults c.carry_out-report.new.doors) (g.C.Clock.told c.args.clock.now) (g.C.Clock.told c.carry_out-report.new.clock) (g.D.Doors.told c.args.doors.now) (g.D.Doors.told c.carry_out-report.new.doors) end)) (wanted c.args.words.now) c.carry_out-report.result _ bytes app c.carry_out-report.ensures.reports has is)

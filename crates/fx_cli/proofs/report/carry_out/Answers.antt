@@ -6,9 +6,9 @@ use Rattle.fx_cli.specs.Opening.{IsStopped, Unsaid}
 use Rattle.fx_cli.specs.Report.{EndsOver, LeavesKeeper, Reports, no_show}
 use Rattle.fx_cli.specs.Words.{Service, service, wanted}
 use Rattle.fx_cli.specs.declared.report.Report.{Report}
-use Rattle.fx_cli.specs.declared.words.Form.TheVariants.{Serve, View}
-use Rattle.fx_cli.proofs.Reported.{replayed_so, viewed}
-use Rattle.fx_cli.proofs.Said.{replayed_leaves, viewed_leaves}
+use Rattle.fx_cli.specs.declared.words.Form.TheVariants.{Check, Serve, View}
+use Rattle.fx_cli.proofs.Reported.{checked_so, replayed_so, viewed}
+use Rattle.fx_cli.proofs.Said.{checked_leaves, replayed_leaves, viewed_leaves}
 use Rattle.fx_cli.proofs.report.carry_out.Goals as goal
 
 pub returns-in-Some-View-default-clause-reports : goal.returns-in-Some-View-default-clause-reports
@@ -36,3 +36,14 @@ returns-in-Some-Serve-default-clause-leaves g c =
     c.service_of.ensures c.serve_file.ensures.unopened in
     replayed_leaves (wanted c.args.words.now) c.in-Some-Serve-default.name.now _ _ _ _ _ _ c.serve_file.result (sym (rw c.in-Some-Serve-default.field-0-0-is at c.in-Some-Serve-default.ensures))
     (λ e. let none = rw e at c.serve_file.ensures.reports in cc) c.serve_file.ensures.unheld kept
+
+pub returns-in-Some-Check-default-clause-reports : goal.returns-in-Some-Check-default-clause-reports
+returns-in-Some-Check-default-clause-reports g c =
+    checked_so g.F.Files.told g.F.Files.asked g.F.Files.faults c.args.files.now c.check_file.new.files (λ app text. IsShownNow (g.C.Clock.told c.args.clock.now) (g.C.Clock.told c.args.clock.now) app (string_bytes text))
+    (EndsOver (service c.args.words.now).store g.K.Keeper.told g.K.Keeper.attached g.K.Keeper.marks g.K.Keeper.attaches c.args.keeper.now c.args.keeper.now (λ end old new. Serves (service c.args.words.now).port (service c.args.words.now).most (g.D.Doors.single c.args.doors.now) old new (g.D.Doors.faults c.args.doors.now) (g.D.Doors.faults c.args.doors.now) (g.C.Clock.told c.args.clock.now) (g.C.Clock.told c.args.clock.now) (g.D.Doors.told c.args.doors.now) (g.D.Doors.told c.args.doors.now) end))
+    (Some (Check, c.in-Some-Check-default.name.now)) (wanted c.args.words.now) c.check_file.result (rw c.in-Some-Check-default.field-0-0-is at c.in-Some-Check-default.ensures) c.check_file.ensures.reports
+
+pub returns-in-Some-Check-default-clause-leaves : goal.returns-in-Some-Check-default-clause-leaves
+returns-in-Some-Check-default-clause-leaves g c =
+    checked_leaves (wanted c.args.words.now) c.in-Some-Check-default.name.now _ _ _ _ _ _ c.check_file.result (sym (rw c.in-Some-Check-default.field-0-0-is at c.in-Some-Check-default.ensures))
+    (λ e. let none = rw e at c.check_file.ensures.reports in cc) refl refl refl

@@ -1,5 +1,5 @@
 use Rattle.std.proofs.Common.{◌≡◌, map, take}
-use Rattle.recalc.specs.Values.{value_of}
+use Rattle.session_requests.specs.recalc.Values.{value_of}
 use Rattle.office.specs.NamedReply.{by_name, shown}
 use Rattle.office.proofs.named.name_values.Given as goal
 

@@ -1,6 +1,6 @@
-use Rattle.std.proofs.Common.{ap, sym}
+use Rattle.std.proofs.Common.{ap, sym, ◌∙◌}
 use Rattle.office.specs.State.{Seen}
-use Rattle.office.proofs.StepLemmas.{reaches_page}
+use Rattle.office.proofs.StepLemmas.{left_read, reaches_event, reaches_input, reaches_items, reaches_named, reaches_page, reaches_view, still_ready, still_ready_with, stopped}
 use Rattle.office.proofs.machine.Office.take.Goals as goal
 
 pub returns-in-Page-clause-reached : goal.returns-in-Page-clause-reached
@@ -20,3 +20,59 @@ invariant_of-self-in-Ok-end g c = record {
   fit = c.end.ensures.fit c.self.inside.app.names c.self.invariant.fit;
   replies = c.end.ensures.replies c.self.invariant.replies;
 }
+
+pub returns-in-View-clause-reached : goal.returns-in-View-clause-reached
+returns-in-View-clause-reached g c failed =
+    reaches_view c.args.self.now.state c.deref.result.now c.args.request.now.body.items c.args.route c.in-View.name c.in-View.is
+    (sym (ap (λ (s : Seen). s.state.sessions) c.self.view_is) ∙ sym c.deref.ensures.value) (c.show_view.ensures.reached failed)
+
+pub returns-in-Named-clause-reached : goal.returns-in-Named-clause-reached
+returns-in-Named-clause-reached g c failed =
+    reaches_named c.args.self.now.state c.deref-in-Named.result.now c.args.request.now.body.items c.args.route c.in-Named.name c.in-Named.is
+    (sym (ap (λ (s : Seen). s.state.sessions) c.self.view_is) ∙ sym c.deref-in-Named.ensures.value) (c.show_named.ensures.reached failed)
+
+pub returns-in-Items-clause-reached : goal.returns-in-Items-clause-reached
+returns-in-Items-clause-reached g c failed =
+    reaches_items c.args.self.now.state c.self.inside.app c.deref-in-Items.result.now c.args.request.now.body.items c.args.route c.in-Items.name c.in-Items.gallery c.in-Items.from c.in-Items.is
+    (sym (ap (λ (s : Seen). s.state.app) c.self.view_is)) (sym (ap (λ (s : Seen). s.state.sessions) c.self.view_is) ∙ sym c.deref-in-Items.ensures.value) (c.show_items.ensures.reached failed)
+
+pub returns-in-Event-clause-reached : goal.returns-in-Event-clause-reached
+returns-in-Event-clause-reached g c failed =
+    reaches_event c.args.self.now.state c.self.inside.sessions.items c.args.request.now.body.items c.deref-in-Event.result.now c.args.route c.in-Event.name c.in-Event.is
+    (sym (ap (λ (s : Seen). s.state.sessions) c.self.view_is)) c.deref-in-Event.ensures.value (c.post_event.ensures.reached failed)
+
+pub returns-in-Input-clause-reached : goal.returns-in-Input-clause-reached
+returns-in-Input-clause-reached g c failed =
+    reaches_input c.args.self.now.state c.self.inside.sessions.items c.args.request.now.body.items c.deref-in-Input.result.now c.args.route c.in-Input.name c.in-Input.is
+    (sym (ap (λ (s : Seen). s.state.sessions) c.self.view_is)) c.deref-in-Input.ensures.value (c.post_input.ensures.reached failed)
+
+pub returns-in-View-clause-stopped : goal.returns-in-View-clause-stopped
+returns-in-View-clause-stopped g c =
+    stopped c.show_view.result _ (left_read _ _ c.self.inside.app c.self.inside.sessions.items c.self.inside.desks.items c.args.self.now c.self.view_is c.show_view.ensures.read)
+
+pub invariant_of-self-in-View : goal.invariant_of-self-in-View
+invariant_of-self-in-View g c = still_ready c.self.inside.app _ _ c.self.inside.sessions.items c.self.inside.desks.items c.show_view.ensures.read c.self.invariant
+
+pub returns-in-Named-clause-stopped : goal.returns-in-Named-clause-stopped
+returns-in-Named-clause-stopped g c =
+    stopped c.show_named.result _ (left_read _ _ c.self.inside.app c.self.inside.sessions.items c.self.inside.desks.items c.args.self.now c.self.view_is c.show_named.ensures.read)
+
+pub invariant_of-self-in-Named : goal.invariant_of-self-in-Named
+invariant_of-self-in-Named g c = still_ready c.self.inside.app _ _ c.self.inside.sessions.items c.self.inside.desks.items c.show_named.ensures.read c.self.invariant
+
+pub returns-in-Items-clause-stopped : goal.returns-in-Items-clause-stopped
+returns-in-Items-clause-stopped g c =
+    stopped c.show_items.result _ (left_read _ _ c.self.inside.app c.self.inside.sessions.items c.self.inside.desks.items c.args.self.now c.self.view_is c.show_items.ensures.read)
+
+pub invariant_of-self-in-Items : goal.invariant_of-self-in-Items
+invariant_of-self-in-Items g c = still_ready c.self.inside.app _ _ c.self.inside.sessions.items c.self.inside.desks.items c.show_items.ensures.read c.self.invariant
+
+pub invariant_of-self-in-Event : goal.invariant_of-self-in-Event
+invariant_of-self-in-Event g c =
+    still_ready_with c.self.inside.app _ _ c.self.inside.sessions.items c.post_event.new.sessions.items c.self.inside.desks.items c.post_event.ensures.read
+    c.post_event.ensures.fit c.post_event.ensures.kept c.self.invariant
+
+pub invariant_of-self-in-Input : goal.invariant_of-self-in-Input
+invariant_of-self-in-Input g c =
+    still_ready_with c.self.inside.app _ _ c.self.inside.sessions.items c.post_input.new.sessions.items c.self.inside.desks.items c.post_input.ensures.read
+    c.post_input.ensures.fit c.post_input.ensures.kept c.self.invariant

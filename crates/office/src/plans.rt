@@ -1,0 +1,20 @@
+// Where formulas take rows of tables, shown.
+ghost use Rattle.std.specs.Prelude.{◌≡◌, IfOk};
+ghost use Rattle.app_plans.specs.Plans.{plan_text};
+ghost use Rattle.app_wire.specs.ReplyBytes.{reply};
+ghost use Rattle.request_checks.specs.Replies.{IsReply, said};
+
+use app_cells::App;
+use app_plans::plan_json;
+use fx_base::Memory;
+use request_checks::Reply;
+use std::alloc::Global;
+
+/// Shows each place where a formula of the app takes rows of a table. No keeper is called.
+pub(crate) fn show_plan(alloc: Global, app: &App) -> Result<Reply, Memory>
+    ensures said { IfOk result (λ r. said r ≡ reply 200 (plan_text app.now)) }
+    ensures whole { IfOk result IsReply }
+{
+    let body = plan_json(alloc, app)?;
+    Reply::accept(alloc, &body)
+}
