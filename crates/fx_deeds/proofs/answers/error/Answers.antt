@@ -1,0 +1,8 @@
+use Rattle.std.proofs.Common.{ap}
+use Rattle.std.specs.Str.{chars}
+use Rattle.fx_data.specs.Values.{fault}
+use Rattle.fx_deeds.proofs.answers.error.Goals as goal
+
+pub returns : goal.returns
+unfolding chars
+returns c = ap (fault c.args.kind) c.in_ok-message.ensures

@@ -1,0 +1,9 @@
+use Rattle.fx_deeds.proofs.Changing.{row_removed_within}
+use Rattle.fx_deeds.proofs.Passing.{passed_changing}
+use Rattle.fx_deeds.specs.Changed.{IsRowRemoved}
+use Rattle.fx_deeds.proofs.changes.remove.Goals as goal
+
+pub returns-clause-passed : goal.returns-clause-passed
+returns-clause-passed g c =
+    passed_changing c.remove.result _ _ (λ f. IsRowRemoved c.args.table c.args.id f) (row_removed_within c.args.table c.args.id) c.remove.ensures.fixed c.remove.ensures.was c.remove.ensures.stops
+    c.remove.ensures.marks c.remove.ensures.visited

@@ -1,0 +1,29 @@
+use Rattle.std.proofs.Common.{◌++◌, ◌∙◌, refl, ap, subst}
+use Rattle.std.specs.Prelude.{MatchOption}
+use Rattle.fx_deeds.proofs.Adding.{gathers_rows, parted_fits}
+use Rattle.fx_deeds.proofs.Gathering.{take_fails, take_takes}
+use Rattle.fx_deeds.specs.Collections.{IsFirst, Lacks}
+use Rattle.fx_deeds.proofs.collections.take_row.Goals as goal
+
+pub change-requires : goal.change-requires
+change-requires g c =
+    let cs = c.requires.0 in
+    let all = c.as_slice.result.now in
+    let first = subst (λ o. MatchOption o (Lacks c.args.row all) (λ p. IsFirst c.args.row all p.before p.after)) c.in-Some.is (c.in_ok-parted.ensures c.args.row refl) in
+    gathers_rows (g.W.Env.fixed c.args.world.now) (g.W.Env.fixed c.rows_held.new.world) (g.W.World.names c.rows_held.new.world) c.args.collection cs _ c.rows_held.ensures.passed.fixed (g.met.W.World.typed c.rows_held.new.world) c.requires.1
+    (parted_fits cs c.in_ok-rows.rows all c.in-Some.parted.before c.in-Some.parted.after c.in_ok-left.left c.args.row c.as_slice.ensures first
+    (c.in_ok-left.ensures ∙ ap (λ z. c.in-Some.parted.before ++ z) c.as_slice-2.ensures) (c.in_ok-rows.ensures.fits cs c.requires.1))
+
+pub returns-then-branch-clause-done : goal.returns-then-branch-clause-done
+returns-then-branch-clause-done g c =
+    let all = c.as_slice.result.now in
+    let first = subst (λ o. MatchOption o (Lacks c.args.row all) (λ p. IsFirst c.args.row all p.before p.after)) c.in-Some.is (c.in_ok-parted.ensures c.args.row refl) in
+    take_takes _ _ _ _ _ _ c.args.collection c.args.row c.in_ok-rows.rows all c.in-Some.parted.before c.in-Some.parted.after c.rows_held.ensures.passed.later c.change.ensures.passed.later c.as_slice.ensures first c.in_ok-left.left _
+    (c.in_ok-left.ensures ∙ ap (λ z. c.in-Some.parted.before ++ z) c.as_slice-2.ensures) c.if-branch.true c.in_ok-rows.ensures.held c.in_ok-change.ensures.done
+
+pub returns-clause-done : goal.returns-clause-done
+returns-clause-done g c =
+    let all = c.as_slice.result.now in
+    let first = subst (λ o. MatchOption o (Lacks c.args.row all) (λ p. IsFirst c.args.row all p.before p.after)) c.in-Some.is (c.in_ok-parted.ensures c.args.row refl) in
+    take_fails _ _ _ _ _ _ c.args.collection c.args.row c.in_ok-rows.rows all c.in-Some.parted.before c.in-Some.parted.after c.rows_held.ensures.passed.later c.change.ensures.passed.later c.as_slice.ensures first c.in_ok-left.left _
+    c.in_ok-error-2.field-0 (c.in_ok-left.ensures ∙ ap (λ z. c.in-Some.parted.before ++ z) c.as_slice-2.ensures) c.if-branch.false c.in_ok-error-2.ensures c.in_ok-rows.ensures.held c.in_ok-change.ensures.done

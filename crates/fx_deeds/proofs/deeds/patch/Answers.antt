@@ -1,0 +1,41 @@
+use Rattle.std.proofs.Common.{◌≡◌, List, ◌∷◌, map, ap, subst, sym, true, ◌∙◌}
+use Rattle.std.specs.Prelude.{IfOk, option_map}
+use Rattle.fx_data.specs.declared.values.Value.{Value}
+use Rattle.fx_data.specs.ValueView.{view}
+use Rattle.fx_trees.specs.declared.deeds.Deed.TheVariants as deed
+use Rattle.fx_value.specs.Fits.{fits_in}
+use Rattle.fx_deeds.proofs.Adding.{error_fits}
+use Rattle.fx_deeds.proofs.Holding.{base_can}
+use Rattle.fx_deeds.proofs.Targets.{can_patch, patched_fits}
+use Rattle.fx_deeds.specs.Doable.{AnswersAs, CanDo}
+use Rattle.fx_deeds.specs.RowValues.{rows_among}
+use Rattle.fx_deeds.proofs.deeds.patch.Goals as goal
+
+pub returns-in-Some-clause-fits : goal.returns-in-Some-clause-fits
+returns-in-Some-clause-fits g c = λ u h. error_fits (map view c.args.values.now) (view c.in-Some.error) u (sym c.in_ok-error.ensures ∙ ap (option_map view) c.in-Some.is)
+
+pub patch_table-requires : goal.patch_table-requires
+patch_table-requires g c =
+    let w = c.args.world.now in
+    let types = (g.W.Env.fixed w).types in
+    let can = subst (λ (z : List Value). CanDo types (deed.Patch c.args.target) (map view z)) c.in-Some-split_first.ensures.cases.0 c.requires in
+    can_patch (g.W.Env.fixed w) (g.W.World.names w) c.in-Table.table (g.met.W.World.typed w) (g.met.W.World.shaped w) (view c.in-Some-split_first.base.now) (map view c.in-Some-split_first.changes.now)
+    (subst (λ p. CanDo types (deed.Patch p) (view c.in-Some-split_first.base.now ∷ map view c.in-Some-split_first.changes.now)) c.in-Table.is can)
+
+pub returns-in-Table-clause-fits : goal.returns-in-Table-clause-fits
+returns-in-Table-clause-fits g c = λ u h.
+    let w = c.args.world.now in
+    patched_fits (g.W.Env.fixed w) (g.W.World.names w) c.in-Table.table (g.met.W.World.typed w) (g.met.W.World.shaped w) c.patch_table.result u
+    (subst (λ p. AnswersAs (g.W.Env.fixed w).types (deed.Patch p) u) c.in-Table.is h) c.patch_table.ensures.fits
+
+pub patch_equal-requires : goal.patch_equal-requires
+patch_equal-requires g c =
+    let types = (g.W.Env.fixed c.args.world.now).types in
+    let all = subst (λ (z : List Value). CanDo types (deed.Patch c.args.target) (map view z)) c.in-Some-split_first.ensures.cases.0 c.requires in
+    let can = subst (λ p. CanDo types (deed.Patch p) (view c.in-Some-split_first.base.now ∷ map view c.in-Some-split_first.changes.now)) c.in-Gathered.is all in
+    (can.0, can.1, base_can can.0 (view c.in-Some-split_first.base.now) (rows_among (map view c.in-Some-split_first.changes.now)) can.2 can.3 can.4)
+
+pub returns-in-Gathered-clause-fits : goal.returns-in-Gathered-clause-fits
+returns-in-Gathered-clause-fits g c = λ u h.
+    let k = subst (λ p. AnswersAs (g.W.Env.fixed c.args.world.now).types (deed.Patch p) u) c.in-Gathered.is h in
+    subst (λ z. IfOk c.patch_equal.result (λ x. fits_in (view x) z ≡ true)) (sym k.2) (c.patch_equal.ensures.fits k.0 k.1)

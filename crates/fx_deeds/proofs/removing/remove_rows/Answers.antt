@@ -1,0 +1,18 @@
+use Rattle.fx_deeds.proofs.Passing.{passed_on}
+use Rattle.fx_deeds.proofs.Steps.{remove_goes, remove_stops, removing}
+use Rattle.fx_deeds.proofs.removing.remove_rows.Goals as goal
+
+pub returns-in_err-answer-clause-passed : goal.returns-in_err-answer-clause-passed
+returns-in_err-answer-clause-passed g c = passed_on _ _ _ c.loop-row.invariant.passed c.remove_row.ensures.passed
+
+pub returns-in-Some-2-clause-done : goal.returns-in-Some-2-clause-done
+returns-in-Some-2-clause-done g c =
+    remove_stops _ _ _ _ _ _ (removing c.args.table c.args.rows.now) c.args.table c.in-Some.row.now c.in-Some-2.answer c.in_ok-answer.field-0 c.in-Some.others.now c.loop-row.rest.now c.loop-row.invariant.passed.later
+    c.remove_row.ensures.passed.later c.in-Some.ensures.cases.0 c.in-Some-2.is c.loop-row.invariant.done c.in_ok-answer.ensures.done
+
+pub loop-row-preserved : goal.loop-row-preserved
+loop-row-preserved g c = record {
+  passed = passed_on _ _ _ c.loop-row.invariant.passed c.remove_row.ensures.passed;
+  done = remove_goes _ _ _ _ _ _ (removing c.args.table c.args.rows.now) c.args.table c.in-Some.row.now c.in_ok-answer.field-0 c.in-Some.others.now c.loop-row.rest.now c.loop-row.invariant.passed.later
+      c.remove_row.ensures.passed.later c.in-Some.ensures.cases.0 c.in_default-2.not-Some c.loop-row.invariant.done c.in_ok-answer.ensures.done;
+}

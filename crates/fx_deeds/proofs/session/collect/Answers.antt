@@ -1,0 +1,16 @@
+use Rattle.std.proofs.Common.{ap, sym, ◌∙◌, refl}
+use Rattle.std.specs.Prelude.{map, option_map}
+use Rattle.fx_data.specs.Types.{booleans}
+use Rattle.fx_data.specs.ValueView.{view}
+use Rattle.fx_deeds.proofs.Adding.{error_fits, gathers}
+use Rattle.fx_deeds.proofs.session.collect.Goals as goal
+
+pub returns-in-Some-clause-fits : goal.returns-in-Some-clause-fits
+returns-in-Some-clause-fits g c = error_fits (map view c.args.values.now) (view c.in-Some.error) booleans (sym c.in_ok-error.ensures ∙ ap (option_map view) c.in-Some.is)
+
+pub make-requires : goal.make-requires
+make-requires g c =
+    gathers (g.W.Env.fixed c.args.world.now) (g.W.Env.fixed c.rows_held.new.world) (g.W.World.names c.rows_held.new.world) c.args.collection (map view c.args.values.now) _ _ c.rows_held.ensures.passed.fixed (g.met.W.World.typed c.rows_held.new.world) c.requires c.in_ok-rows.ensures.fits c.in_ok-rows-2.ensures
+
+pub returns-clause-fits : goal.returns-clause-fits
+returns-clause-fits g c = c.make.ensures.fits booleans refl

@@ -1,0 +1,24 @@
+use Rattle.std.proofs.Common.{◌≡◌, ◌++◌, ap, ◌∙◌}
+use Rattle.fx_data.specs.ValueView.{view}
+use Rattle.fx_semantics.specs.Rows.{rows_in}
+use Rattle.fx_trees.specs.declared.sources.Source.TheVariants as source
+use Rattle.fx_deeds.proofs.Told.{given_there, rows_read_fit, state_holds, state_stays}
+use Rattle.fx_deeds.specs.Collections.{rows_held}
+use Rattle.fx_deeds.proofs.session.rows_held.Goals as goal
+
+pub returns-clause-held : goal.returns-clause-held
+returns-clause-held g c =
+    let old = c.args.world.now in
+    let new = c.read.new.self in
+    let d = view c.in_ok-value.value in
+    state_holds _ _ _ (λ s. c.in_ok-with_table.field-0 ≡ rows_held c.args.collection s)
+    (state_stays _ (g.W.Env.told old) (g.W.Env.told new) _ _ (g.met.W.World.keeps old new) (g.met.W.World.lost old) (g.met.W.World.lost new) c.read.ensures.told)
+    (λ s e.
+    c.in_ok-with_table.ensures ∙ ap (λ z. z ++ rows_in d) c.new.ensures
+    ∙ ap rows_in (g.met.W.World.collections s c.args.collection d
+    (given_there (g.W.Env.fixed old).types g.W.World.gives (g.W.World.state new) (g.W.Env.told new) (source.Gathered c.args.collection) d (g.met.W.World.lost new)
+    (λ t f p q x u h. g.met.W.World.values new t f p q x u (ap (λ z. z.types x) c.read.ensures.fixed ∙ h)) c.in_ok-value.ensures.value s e)))
+
+pub returns-clause-fits : goal.returns-clause-fits
+returns-clause-fits g c = λ cs h.
+    rows_read_fit (g.W.Env.fixed c.args.world.now).types (source.Gathered c.args.collection) (view c.in_ok-value.value) cs _ _ c.in_ok-value.ensures.value.0 c.new.ensures c.in_ok-with_table.ensures h

@@ -1,0 +1,25 @@
+use Rattle.std.proofs.Common.{subst}
+use Rattle.fx_base.specs.Silence.{IsLost}
+use Rattle.fx_data.specs.ValueView.{view}
+use Rattle.fx_deeds.proofs.Deeding.{goes_nowhere}
+use Rattle.fx_deeds.proofs.Tabling.{numbers_none, numbers_one, numbers_wrong}
+use Rattle.fx_deeds.specs.Deeds.{PatchesById, id_of}
+use Rattle.fx_deeds.specs.Found.{IsNamed}
+use Rattle.fx_deeds.proofs.table_rows.patch_numbered.Goals as goal
+
+pub returns-then-branch-clause-done : goal.returns-then-branch-clause-done
+returns-then-branch-clause-done g c =
+    numbers_none c.patch_new.result (IsLost (g.W.Env.marks c.args.world.now) (g.W.Env.marks c.patch_new.new.world)) (g.W.World.state c.args.world.now) (g.W.World.state c.patch_new.new.world) c.args.shape.now c.args.table c.args.changes.now (id_of (view c.args.base.now)) (c.in_ok-has_blank_number.ensures.blank c.if-branch.true)
+    c.patch_new.ensures.done
+
+pub returns-in-Ok-clause-done : goal.returns-in-Ok-clause-done
+returns-in-Ok-clause-done g c =
+    numbers_one c.patch_row.result (IsLost (g.W.Env.marks c.args.world.now) (g.W.Env.marks c.patch_row.new.world)) (g.W.World.state c.args.world.now) (g.W.World.state c.patch_row.new.world) c.args.shape.now c.args.table c.in-Ok.id c.args.changes.now (id_of (view c.args.base.now))
+    (c.in_ok-has_blank_number.ensures.other c.if-branch.false) (subst (IsNamed (view c.args.base.now)) c.in-Ok.is c.in_ok-named.ensures) c.patch_row.ensures.done
+
+pub returns-in-Err-clause-done : goal.returns-in-Err-clause-done
+returns-in-Err-clause-done g c =
+    let w = c.args.world.now in
+    let d = id_of (view c.args.base.now) in
+    goes_nowhere (IsLost (g.W.Env.marks w) (g.W.Env.marks w)) (λ s t. PatchesById c.args.shape.now c.args.table c.args.changes.now d s (view c.in-Err.error) t) (g.W.World.state w)
+    (λ s. numbers_wrong c.args.shape.now c.args.table c.args.changes.now c.in-Err.error d s (c.in_ok-has_blank_number.ensures.other c.if-branch.false) (subst (IsNamed (view c.args.base.now)) c.in-Err.is c.in_ok-named.ensures))

@@ -1,0 +1,47 @@
+use Rattle.std.proofs.Common.{map, inl, inr, subst, sym}
+use Rattle.fx_base.specs.Silence.{IsLost}
+use Rattle.fx_data.specs.ValueView.{view}
+use Rattle.fx_eval.specs.Scopes.{Fixed}
+use Rattle.fx_deeds.proofs.Passing.{passed_on}
+use Rattle.fx_deeds.proofs.Patching.{update_ends, update_goes, update_stops, updating}
+use Rattle.fx_deeds.proofs.Steps.{none_left}
+use Rattle.fx_deeds.specs.Finding.{CanChangeEach, IsShape}
+use Rattle.fx_deeds.proofs.table_rows.update_rows.Goals as goal
+
+pub update_row-requires-clause-shape : goal.update_row-requires-clause-shape
+update_row-requires-clause-shape g c = subst (λ (f : Fixed). IsShape f.schema c.args.table c.args.shape.now) (sym c.loop-row.invariant.passed.fixed) c.requires.shape
+
+pub update_row-requires-clause-can : goal.update_row-requires-clause-can
+update_row-requires-clause-can g c =
+    let can = subst (λ z. CanChangeEach c.args.shape.now (map view z)) c.in-Some-split_first.ensures.cases.0 c.loop-row.invariant.can in can.0
+
+pub returns-in_err-answer-clause-passed : goal.returns-in_err-answer-clause-passed
+returns-in_err-answer-clause-passed g c = passed_on _ _ _ c.loop-row.invariant.passed c.update_row.ensures.passed
+
+pub returns-in-Some-2-clause-done : goal.returns-in-Some-2-clause-done
+returns-in-Some-2-clause-done g c =
+    update_stops _ _ _ _ _ _ (updating c.args.shape.now c.args.table c.args.rows.now c.args.changes.now) c.args.shape.now c.args.table c.in-Some.row.now c.in-Some.others.now c.loop-row.rest.now c.in-Some-split_first.change.now c.in-Some-2.answer
+    c.in_ok-answer.field-0 c.in-Some-split_first.more.now c.loop-row.left.now c.loop-row.invariant.passed.later c.update_row.ensures.passed.later c.in-Some.ensures.cases.0 c.in-Some-split_first.ensures.cases.0 c.in-Some-2.is c.loop-row.invariant.done
+    c.in_ok-answer.ensures.done
+
+pub loop-row-preserved : goal.loop-row-preserved
+loop-row-preserved g c = record {
+  passed = passed_on _ _ _ c.loop-row.invariant.passed c.update_row.ensures.passed;
+  can = (let can = subst (λ z. CanChangeEach c.args.shape.now (map view z)) c.in-Some-split_first.ensures.cases.0 c.loop-row.invariant.can in can.1);
+  done = update_goes _ _ _ _ _ _ (updating c.args.shape.now c.args.table c.args.rows.now c.args.changes.now) c.args.shape.now c.args.table c.in-Some.row.now c.in-Some.others.now c.loop-row.rest.now c.in-Some-split_first.change.now
+      c.in_ok-answer.field-0 c.in-Some-split_first.more.now c.loop-row.left.now c.loop-row.invariant.passed.later c.update_row.ensures.passed.later c.in-Some.ensures.cases.0 c.in-Some-split_first.ensures.cases.0 c.in_default-2.not-Some
+      c.loop-row.invariant.done c.in_ok-answer.ensures.done;
+}
+
+pub returns-in_default-split_first-clause-done : goal.returns-in_default-split_first-clause-done
+returns-in_default-split_first-clause-done g c =
+    update_ends (IsLost (g.W.Env.marks c.args.world.now) (g.W.Env.marks c.loop-row.world)) (g.W.World.state c.args.world.now) (g.W.World.state c.loop-row.world) (updating c.args.shape.now c.args.table c.args.rows.now c.args.changes.now)
+    c.args.shape.now c.args.table c.loop-row.rest.now c.loop-row.left.now (inr (none_left _ c.in_default-split_first.ensures.cases)) c.loop-row.invariant.done
+
+pub returns-clause-done : goal.returns-clause-done
+returns-clause-done g c =
+    update_ends (IsLost (g.W.Env.marks c.args.world.now) (g.W.Env.marks c.loop-row.world)) (g.W.World.state c.args.world.now) (g.W.World.state c.loop-row.world) (updating c.args.shape.now c.args.table c.args.rows.now c.args.changes.now)
+    c.args.shape.now c.args.table c.loop-row.rest.now c.loop-row.left.now (inl (none_left _ c.in_default.ensures.cases)) c.loop-row.invariant.done
+
+pub returns-in-Some-2-clause-passed : goal.returns-in-Some-2-clause-passed
+returns-in-Some-2-clause-passed g c = passed_on _ _ _ c.loop-row.invariant.passed c.update_row.ensures.passed

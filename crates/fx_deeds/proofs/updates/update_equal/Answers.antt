@@ -1,0 +1,31 @@
+use Rattle.std.proofs.Common.{◌≡◌, ◌∙◌, refl, map, ap, subst, sym}
+use Rattle.fx_data.specs.Types.{booleans, column_list}
+use Rattle.fx_data.specs.ValueView.{view}
+use Rattle.fx_semantics.specs.Around.{record_of}
+use Rattle.fx_deeds.proofs.Holding.{same_columns, updated_in}
+use Rattle.fx_deeds.proofs.Lefting.{made_records, rows_back}
+use Rattle.fx_deeds.specs.Collections.{AreWith}
+use Rattle.fx_deeds.specs.Fitting.{CanChangeAll}
+use Rattle.fx_deeds.specs.Lefts.{rows_by}
+use Rattle.fx_deeds.proofs.updates.update_equal.Goals as goal
+
+pub rows_with-requires-clause-records : goal.rows_with-requires-clause-records
+rows_with-requires-clause-records g c = made_records c.as_slice-2.result.now c.args.kept.now (ap (map view) c.as_slice-2.ensures.value ∙ c.in_ok-kept.ensures)
+
+pub rows_with-requires-clause-can : goal.rows_with-requires-clause-can
+rows_with-requires-clause-can g c =
+    let cs = c.requires.0 in
+    let e : map view c.as_slice-2.result.now ≡ map record_of c.args.kept.now = ap (map view) c.as_slice-2.ensures.value ∙ c.in_ok-kept.ensures in
+    subst (λ z. CanChangeAll z (rows_by c.as_slice-2.result.now) (map view c.args.changes.now)) (same_columns (g.W.Env.fixed c.args.world.now).types c.args.collection cs (column_list c.in_ok-columns.columns) c.requires.1 c.in_ok-columns.ensures)
+    (subst (λ z. CanChangeAll cs z (map view c.args.changes.now)) (sym (rows_back c.as_slice-2.result.now c.args.kept.now e)) c.requires.2)
+
+pub returns-clause-done : goal.returns-clause-done
+returns-clause-done g c =
+    let cs = column_list c.in_ok-columns.columns in
+    let e : map view c.as_slice-2.result.now ≡ map record_of c.args.kept.now = ap (map view) c.as_slice-2.ensures.value ∙ c.in_ok-kept.ensures in
+    updated_in c.make.result _ _ _ _ _ _ c.args.collection (g.W.Env.fixed c.args.world.now).types cs c.in_ok-rows.rows c.in_ok-made.made c.args.kept.now (rows_by c.as_slice-2.result.now) (map view c.args.changes.now)
+    c.rows_held.ensures.passed.later c.make.ensures.passed.later c.in_ok-columns.ensures (rows_back c.as_slice-2.result.now c.args.kept.now e)
+    (subst (λ z. AreWith cs z (rows_by c.as_slice-2.result.now) (map view c.args.changes.now) c.in_ok-made.made) c.as_slice.ensures c.in_ok-made.ensures.with) c.in_ok-rows.ensures.held c.make.ensures.done
+
+pub returns-clause-fits : goal.returns-clause-fits
+returns-clause-fits g c = c.make.ensures.fits booleans refl

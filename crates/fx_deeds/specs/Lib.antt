@@ -1,0 +1,13 @@
+pub mod State
+pub mod Changed
+pub mod RowValues
+pub mod Deeds
+pub mod Collections
+pub mod Done
+pub mod Doable
+pub mod Within
+pub mod Stages
+pub mod Fitting
+pub mod Lefts
+pub mod Found
+pub mod Finding

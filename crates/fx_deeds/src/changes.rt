@@ -1,0 +1,98 @@
+//! Changes of a world, one call each.
+ghost use Rattle.std.specs.Prelude.{◌≡◌, IfOk, IsErrOf, IsSome, IsSomeAnd, slice_get, true};
+ghost use Rattle.fx_base.specs.Faults.{Rose};
+ghost use Rattle.fx_base.specs.Silence.{Goes, IsLost};
+ghost use Rattle.fx_data.specs.Types.{Shape};
+ghost use Rattle.fx_data.specs.ValueView.{view};
+ghost use Rattle.fx_value.specs.Fits.{fits_in};
+ghost use Rattle.row_keeper.specs.Changes.{IsInserted, IsReplaced};
+ghost use Rattle.row_keeper.specs.Tables.{columns_at};
+ghost use Rattle.row_queries.specs.TableRows.{AreCellsOf};
+ghost use Rattle.session_state.specs.Changes.{FitsChange};
+ghost use Rattle.fx_deeds.specs.Changed.{IsChanged, IsRowChanged, IsRowMade, IsRowRemoved};
+ghost use Rattle.fx_deeds.specs.Deeds.{Makes};
+ghost use Rattle.fx_deeds.specs.Stages.{Passed, stage};
+
+use crate::answers::taken_or;
+use crate::world::World;
+use fx_data::Value;
+use fx_eval::Stop;
+use row_keeper::Put;
+use row_queries::Cells;
+use session_state::Change;
+use std::alloc::Global;
+
+/// Makes a change of the session, or refuses it.
+pub(crate) fn change<W: World>(world: &mut W, change: Change) -> Result<bool, Stop>
+    requires { FitsChange (W.names world.old) change }
+    ensures passed { Passed
+        (stage (W.fixed world.old) (W.state world.old) (W.marks world.old) (W.visited world.old))
+        (stage (W.fixed world.new) (W.state world.new) (W.marks world.new) (W.visited world.new)) }
+    ensures named { W.names world.new ≡ W.names world.old }
+    ensures keeper { IsErrOf result Stop.Keeper → Rose (W.marks world.old).faults (W.marks world.new).faults }
+    ensures done { IfOk result (λ done. Goes (IsLost (W.marks world.old) (W.marks world.new)) (IsChanged change done) (W.state world.old) (W.state world.new)) }
+{
+    world.change(change)
+}
+
+/// Makes a change of the session, with this answer where it is made.
+pub(crate) fn make<W: World>(
+    alloc: Global,
+    world: &mut W,
+    wanted: Change,
+    taken: Value,
+) -> Result<Value, Stop>
+    requires { FitsChange (W.names world.old) wanted }
+    ensures passed { Passed
+        (stage (W.fixed world.old) (W.state world.old) (W.marks world.old) (W.visited world.old))
+        (stage (W.fixed world.new) (W.state world.new) (W.marks world.new) (W.visited world.new)) }
+    ensures keeper { IsErrOf result Stop.Keeper → Rose (W.marks world.old).faults (W.marks world.new).faults }
+    ensures done { IfOk result (λ x. Goes (IsLost (W.marks world.old) (W.marks world.new)) (λ s t. Makes wanted (view taken) s (view x) t) (W.state world.old) (W.state world.new)) }
+    ensures fits { (u : Shape) → fits_in (view taken) u ≡ true → IfOk result (λ x. fits_in (view x) u ≡ true) }
+{
+    let done = change(world, wanted)?;
+    Ok(taken_or(alloc, done, taken)?)
+}
+
+/// Puts a new row into a table, or says which rule it breaks first.
+pub(crate) fn insert<W: World>(world: &mut W, table: u16, cells: &Cells) -> Result<Put, Stop>
+    requires { IsSomeAnd (slice_get (W.fixed world.old).schema.tables table) (λ t. AreCellsOf t.columns cells.now) }
+    ensures passed { Passed
+        (stage (W.fixed world.old) (W.state world.old) (W.marks world.old) (W.visited world.old))
+        (stage (W.fixed world.new) (W.state world.new) (W.marks world.new) (W.visited world.new)) }
+    ensures keeper { IsErrOf result Stop.Keeper → Rose (W.marks world.old).faults (W.marks world.new).faults }
+    ensures put { IfOk result (λ put. Goes (IsLost (W.marks world.old) (W.marks world.new)) (IsRowMade (columns_at (W.fixed world.old).schema.tables table) table cells.now put) (W.state world.old) (W.state world.new)) }
+    ensures sound { IfOk result (λ put. IsInserted (columns_at (W.fixed world.old).schema.tables table) put) }
+{
+    world.insert(table, cells)
+}
+
+/// Puts other cells into a row of a table, or says that there is none, or which rule it would break first.
+pub(crate) fn replace<W: World>(
+    world: &mut W,
+    table: u16,
+    id: u32,
+    cells: &Cells,
+) -> Result<Put, Stop>
+    requires { IsSomeAnd (slice_get (W.fixed world.old).schema.tables table) (λ t. AreCellsOf t.columns cells.now) }
+    ensures passed { Passed
+        (stage (W.fixed world.old) (W.state world.old) (W.marks world.old) (W.visited world.old))
+        (stage (W.fixed world.new) (W.state world.new) (W.marks world.new) (W.visited world.new)) }
+    ensures keeper { IsErrOf result Stop.Keeper → Rose (W.marks world.old).faults (W.marks world.new).faults }
+    ensures put { IfOk result (λ put. Goes (IsLost (W.marks world.old) (W.marks world.new)) (IsRowChanged (columns_at (W.fixed world.old).schema.tables table) table id cells.now put) (W.state world.old) (W.state world.new)) }
+    ensures sound { IfOk result (λ put. IsReplaced (columns_at (W.fixed world.old).schema.tables table) id put) }
+{
+    world.replace(table, id, cells)
+}
+
+/// Takes a row out of a table, and says whether it was there.
+pub(crate) fn remove<W: World>(world: &mut W, table: u16, id: u32) -> Result<bool, Stop>
+    requires { IsSome (slice_get (W.fixed world.old).schema.tables table) }
+    ensures passed { Passed
+        (stage (W.fixed world.old) (W.state world.old) (W.marks world.old) (W.visited world.old))
+        (stage (W.fixed world.new) (W.state world.new) (W.marks world.new) (W.visited world.new)) }
+    ensures keeper { IsErrOf result Stop.Keeper → Rose (W.marks world.old).faults (W.marks world.new).faults }
+    ensures was { IfOk result (λ was. Goes (IsLost (W.marks world.old) (W.marks world.new)) (IsRowRemoved table id was) (W.state world.old) (W.state world.new)) }
+{
+    world.remove(table, id)
+}

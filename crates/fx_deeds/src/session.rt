@@ -1,0 +1,257 @@
+//! Deeds on a session.
+ghost use Rattle.std.specs.Prelude.{◌≡◌, ◌++◌, ◌∷◌, false, true, None, IfOk, IsErrOf, IsSome, MatchResult, map};
+ghost use Rattle.fx_base.specs.Faults.{Rose};
+ghost use Rattle.fx_base.specs.Silence.{Goes, IsLost};
+ghost use Rattle.fx_data.specs.Types.{ColumnList, booleans, tables};
+ghost use Rattle.fx_data.specs.Values.{boolean, fault};
+ghost use Rattle.fx_data.specs.ValueView.{view};
+ghost use Rattle.fx_semantics.specs.Rows.{table_of};
+ghost use Rattle.fx_tables.specs.Unions.{is_fault};
+ghost use Rattle.fx_trees.specs.declared.sources.Source.TheVariants as source;
+ghost use Rattle.fx_value.specs.Fits.{fits_in};
+ghost use Rattle.session_state.specs.declared.change.Change.TheVariants as change;
+ghost use Rattle.fx_deeds.specs.Collections.{Holds, rows_held as rows_held_by};
+ghost use Rattle.fx_deeds.specs.Deeds.{AreSet, Gives, Makes, OrError, OrErrorAmong, text_of};
+ghost use Rattle.fx_deeds.specs.Fitting.{CanAdd, CanTake, CanTakeAll, IsOfColumns, IsOfScreen};
+ghost use Rattle.fx_deeds.specs.RowValues.{rows_among};
+ghost use Rattle.fx_deeds.specs.Stages.{Passed, stage};
+
+use crate::answers::{error, first_error};
+use crate::changes::{change, make};
+use crate::tables::{with_table, with_tables};
+use crate::world::World;
+use fx_base::Memory;
+use fx_data::{Fault, Kind, Rows, Value, Words};
+use fx_eval::{Steps, Stop};
+use fx_trees::Source;
+use session_state::Change;
+use std::alloc::Global;
+use std::sync::ledger::Ledger;
+
+/// Sets a variable without a screen.
+pub fn set<W: World>(
+    alloc: Global,
+    world: &mut W,
+    variable: u32,
+    value: Value,
+) -> Result<Value, Stop>
+    requires { CanTake (W.fixed world.old).types (source.Global variable) (view value) }
+    ensures passed { Passed
+        (stage (W.fixed world.old) (W.state world.old) (W.marks world.old) (W.visited world.old))
+        (stage (W.fixed world.new) (W.state world.new) (W.marks world.new) (W.visited world.new)) }
+    ensures keeper { IsErrOf result Stop.Keeper → Rose (W.marks world.old).faults (W.marks world.new).faults }
+    ensures done { IfOk result (λ x. Goes (IsLost (W.marks world.old) (W.marks world.new)) (λ s t. Gives (change.Global variable) (view value) (boolean true) s (view x) t) (W.state world.old) (W.state world.new)) }
+    ensures fits { IfOk result (λ x. fits_in (view x) booleans ≡ true) }
+{
+    make(
+        alloc,
+        world,
+        Change::Global(variable, value),
+        Value::Boolean(true),
+    )
+}
+
+/// Sets variables of a screen from left to right, up to the first that is refused.
+pub fn set_all<W: World>(
+    alloc: Global,
+    world: &mut W,
+    variables: &[Source],
+    values: &[Value],
+) -> Result<Value, Stop>
+    requires { CanTakeAll (W.fixed world.old).types variables.now (map view values.now) }
+    ensures passed { Passed
+        (stage (W.fixed world.old) (W.state world.old) (W.marks world.old) (W.visited world.old))
+        (stage (W.fixed world.new) (W.state world.new) (W.marks world.new) (W.visited world.new)) }
+    ensures keeper { IsErrOf result Stop.Keeper → Rose (W.marks world.old).faults (W.marks world.new).faults }
+    ensures done { IfOk result (λ x. Goes (IsLost (W.marks world.old) (W.marks world.new)) (λ s t. AreSet variables.now (map view values.now) s (view x) t) (W.state world.old) (W.state world.new)) }
+    ensures fits { IfOk result (λ x. fits_in (view x) booleans ≡ true) }
+{
+    let mut names = variables;
+    let mut rest = values;
+    while let Some((value, others)) = rest.split_first() {
+        let (number, more) = first_variable(names);
+        if !change(world, Change::Context(number, value.copy(alloc)?))? {
+            return Ok(error(alloc, Kind::QuotaExceeded)?);
+        }
+        names = more;
+        rest = others;
+    }
+    Ok(Value::Boolean(true))
+}
+
+/// The rows of a collection.
+pub(crate) fn rows_held<W: World, L: Ledger>(
+    alloc: Global,
+    world: &mut W,
+    collection: u32,
+    steps: &mut Steps<L>,
+) -> Result<Rows, Stop>
+    requires { IsSome ((W.fixed world.old).types (source.Gathered collection)) }
+    ensures passed { Passed
+        (stage (W.fixed world.old) (W.state world.old) (W.marks world.old) (W.visited world.old))
+        (stage (W.fixed world.new) (W.state world.new) (W.marks world.new) (W.visited world.new)) }
+    ensures keeper { IsErrOf result Stop.Keeper → Rose (W.marks world.old).faults (W.marks world.new).faults }
+    ensures held { IfOk result (λ rows. Goes (IsLost (W.marks world.old) (W.marks world.new)) (λ s t. (t ≡ s) × (rows ≡ rows_held_by collection s)) (W.state world.old) (W.state world.new)) }
+    ensures fits { IfOk result (λ rows. (cs : ColumnList) → IsOfColumns (W.fixed world.old).types collection cs → fits_in (table_of rows) (tables cs) ≡ true) }
+{
+    let value = world.read(Source::Gathered(collection), steps)?;
+    Ok(with_table(alloc, Rows::new(alloc), &value)?)
+}
+
+/// Adds rows to a collection, unless there is an error among them.
+pub fn collect<W: World, L: Ledger>(
+    alloc: Global,
+    world: &mut W,
+    collection: u32,
+    values: &[Value],
+    steps: &mut Steps<L>,
+) -> Result<Value, Stop>
+    requires { CanAdd (W.fixed world.old).types collection (map view values.now) }
+    ensures passed { Passed
+        (stage (W.fixed world.old) (W.state world.old) (W.marks world.old) (W.visited world.old))
+        (stage (W.fixed world.new) (W.state world.new) (W.marks world.new) (W.visited world.new)) }
+    ensures keeper { IsErrOf result Stop.Keeper → Rose (W.marks world.old).faults (W.marks world.new).faults }
+    ensures done { IfOk result (λ x. Goes (IsLost (W.marks world.old) (W.marks world.new)) (λ s t. OrErrorAmong (map view values.now) (Holds collection (rows_held_by collection s ++ rows_among (map view values.now)) (boolean true) s (view x) t) s (view x) t) (W.state world.old) (W.state world.new)) }
+    ensures fits { IfOk result (λ x. fits_in (view x) booleans ≡ true) }
+{
+    if let Some(error) = first_error(alloc, values)? {
+        return Ok(error);
+    }
+    let rows = rows_held(alloc, world, collection, steps)?;
+    let rows = with_tables(alloc, rows, values)?;
+    make(
+        alloc,
+        world,
+        Change::Gather(collection, Value::Tab(rows)),
+        Value::Boolean(true),
+    )
+}
+
+/// Makes rows the only ones of a collection, unless there is an error among them.
+pub fn clear_collect<W: World>(
+    alloc: Global,
+    world: &mut W,
+    collection: u32,
+    values: &[Value],
+) -> Result<Value, Stop>
+    requires { CanAdd (W.fixed world.old).types collection (map view values.now) }
+    ensures passed { Passed
+        (stage (W.fixed world.old) (W.state world.old) (W.marks world.old) (W.visited world.old))
+        (stage (W.fixed world.new) (W.state world.new) (W.marks world.new) (W.visited world.new)) }
+    ensures keeper { IsErrOf result Stop.Keeper → Rose (W.marks world.old).faults (W.marks world.new).faults }
+    ensures done { IfOk result (λ x. Goes (IsLost (W.marks world.old) (W.marks world.new)) (λ s t. OrErrorAmong (map view values.now) (Holds collection (rows_among (map view values.now)) (boolean true) s (view x) t) s (view x) t) (W.state world.old) (W.state world.new)) }
+    ensures fits { IfOk result (λ x. fits_in (view x) booleans ≡ true) }
+{
+    if let Some(error) = first_error(alloc, values)? {
+        return Ok(error);
+    }
+    let rows = with_tables(alloc, Rows::new(alloc), values)?;
+    make(
+        alloc,
+        world,
+        Change::Gather(collection, Value::Tab(rows)),
+        Value::Boolean(true),
+    )
+}
+
+/// Empties a collection.
+pub fn clear<W: World>(alloc: Global, world: &mut W, collection: u32) -> Result<Value, Stop>
+    requires { (cs : ColumnList) × IsOfColumns (W.fixed world.old).types collection cs }
+    ensures passed { Passed
+        (stage (W.fixed world.old) (W.state world.old) (W.marks world.old) (W.visited world.old))
+        (stage (W.fixed world.new) (W.state world.new) (W.marks world.new) (W.visited world.new)) }
+    ensures keeper { IsErrOf result Stop.Keeper → Rose (W.marks world.old).faults (W.marks world.new).faults }
+    ensures done { IfOk result (λ x. Goes (IsLost (W.marks world.old) (W.marks world.new)) (λ s t. Makes (change.Empty collection) (boolean true) s (view x) t) (W.state world.old) (W.state world.new)) }
+    ensures fits { IfOk result (λ x. fits_in (view x) booleans ≡ true) }
+{
+    make(
+        alloc,
+        world,
+        Change::Empty(collection),
+        Value::Boolean(true),
+    )
+}
+
+/// Makes a screen the current one. The app has it; a world that was asked since may have forgotten that, so it is tested.
+pub fn navigate<W: World>(alloc: Global, world: &mut W, screen: u32) -> Result<Value, Stop>
+    ensures passed { Passed
+        (stage (W.fixed world.old) (W.state world.old) (W.marks world.old) (W.visited world.old))
+        (stage (W.fixed world.new) (W.state world.new) (W.marks world.new) (W.visited world.new)) }
+    ensures keeper { IsErrOf result Stop.Keeper → Rose (W.marks world.old).faults (W.marks world.new).faults }
+    ensures done { IfOk result (λ x. Goes (IsLost (W.marks world.old) (W.marks world.new)) (λ s t. Makes (change.Screen screen) (boolean true) s (view x) t) (W.state world.old) (W.state world.new)) }
+    ensures fits { IfOk result (λ x. fits_in (view x) booleans ≡ true) }
+{
+    if screen as usize >= world.names().screens.len() {
+        return Err(Stop::Memory);
+    }
+    make(alloc, world, Change::Screen(screen), Value::Boolean(true))
+}
+
+/// Tells the user a text, which a blank one has none of, unless it is an error.
+pub fn notify<W: World>(alloc: Global, world: &mut W, text: Value) -> Result<Value, Stop>
+    ensures passed { Passed
+        (stage (W.fixed world.old) (W.state world.old) (W.marks world.old) (W.visited world.old))
+        (stage (W.fixed world.new) (W.state world.new) (W.marks world.new) (W.visited world.new)) }
+    ensures keeper { IsErrOf result Stop.Keeper → Rose (W.marks world.old).faults (W.marks world.new).faults }
+    ensures done { IfOk result (λ x. Goes (IsLost (W.marks world.old) (W.marks world.new)) (λ s t. OrError (view text) (Makes (change.Notice (text_of (view text))) (boolean true) s (view x) t) s (view x) t) (W.state world.old) (W.state world.new)) }
+    ensures fits { IfOk result (λ x. fits_in (view x) booleans ≡ true) }
+{
+    match words_of(alloc, text)? {
+        Ok(words) => tell(alloc, world, words),
+        Err(fault) => Ok(Value::Fault(fault)),
+    }
+}
+
+// The words of a text, of which a blank one has none, or the error in its place.
+fn words_of(alloc: Global, text: Value) -> Result<Result<Words, Fault>, Memory>
+    ensures { IfOk result (λ r. MatchResult r
+        (λ w. (w ≡ text_of (view text)) × (is_fault (view text) ≡ false))
+        (λ f. view text ≡ fault f.kind f.message)) }
+{
+    match text {
+        Value::Text(words) => Ok(Ok(words)),
+        Value::Fault(fault) => Ok(Err(fault)),
+        _ => Ok(Ok(Words::of(alloc, "")?)),
+    }
+}
+
+// Tells the user these words.
+fn tell<W: World>(alloc: Global, world: &mut W, words: Words) -> Result<Value, Stop>
+    ensures passed { Passed
+        (stage (W.fixed world.old) (W.state world.old) (W.marks world.old) (W.visited world.old))
+        (stage (W.fixed world.new) (W.state world.new) (W.marks world.new) (W.visited world.new)) }
+    ensures keeper { IsErrOf result Stop.Keeper → Rose (W.marks world.old).faults (W.marks world.new).faults }
+    ensures done { IfOk result (λ x. Goes (IsLost (W.marks world.old) (W.marks world.new)) (λ s t. Makes (change.Notice words) (boolean true) s (view x) t) (W.state world.old) (W.state world.new)) }
+    ensures fits { IfOk result (λ x. fits_in (view x) booleans ≡ true) }
+{
+    make(alloc, world, Change::Notice(words), Value::Boolean(true))
+}
+
+/// Takes the user's input of a control away.
+pub fn reset<W: World>(alloc: Global, world: &mut W, control: u32) -> Result<Value, Stop>
+    requires { IsSome ((W.fixed world.old).types (source.Input control)) }
+    ensures passed { Passed
+        (stage (W.fixed world.old) (W.state world.old) (W.marks world.old) (W.visited world.old))
+        (stage (W.fixed world.new) (W.state world.new) (W.marks world.new) (W.visited world.new)) }
+    ensures keeper { IsErrOf result Stop.Keeper → Rose (W.marks world.old).faults (W.marks world.new).faults }
+    ensures done { IfOk result (λ x. Goes (IsLost (W.marks world.old) (W.marks world.new)) (λ s t. Makes (change.Input control None) (boolean true) s (view x) t) (W.state world.old) (W.state world.new)) }
+    ensures fits { IfOk result (λ x. fits_in (view x) booleans ≡ true) }
+{
+    make(
+        alloc,
+        world,
+        Change::Input(control, None),
+        Value::Boolean(true),
+    )
+}
+
+// The number of the first variable of a screen, and the other variables.
+fn first_variable(variables: &[Source]) -> (u32, &[Source])
+    requires { IsOfScreen variables.now }
+    ensures { variables.now ≡ source.Context result.0 ∷ result.1.now }
+{
+    match variables.split_first() {
+        Some((Source::Context(number), others)) => (*number, others),
+        _ => unreachable!(),
+    }
+}

@@ -1,0 +1,122 @@
+//! What behaviour formulas act on.
+ghost use Rattle.std.specs.Prelude.{◌≡◌, ◌≤◌, ℕ, Option, Some, None, IfOk, OnErr, IsErrOf, IsSome, IsSomeAnd, slice_get};
+ghost use Rattle.fx_base.specs.Faults.{Rose};
+ghost use Rattle.fx_base.specs.Silence.{Goes, IsLater, IsLost};
+ghost use Rattle.fx_base.specs.Telling.{Stays};
+ghost use Rattle.fx_data.specs.Types.{Shape};
+ghost use Rattle.fx_data.specs.Values.{Data};
+ghost use Rattle.fx_eval.specs.Telling.{Told};
+ghost use Rattle.fx_trees.specs.declared.names.Names.{Names as AppNames};
+ghost use Rattle.fx_trees.specs.declared.sources.Source.{Source as Origin};
+ghost use Rattle.fx_trees.specs.declared.sources.Source.TheVariants as source;
+ghost use Rattle.fx_trees.specs.Lawful.{IsLawfulSchema};
+ghost use Rattle.fx_trees.specs.SourceTypes.{sources};
+ghost use Rattle.row_keeper.specs.Changes.{IsInserted, IsReplaced};
+ghost use Rattle.row_keeper.specs.Tables.{columns_at, rows_of};
+ghost use Rattle.row_queries.specs.TableRows.{AreCellsOf};
+ghost use Rattle.session_state.specs.Changes.{FitsChange};
+ghost use Rattle.session_state.specs.Sessions.{held};
+ghost use Rattle.fx_deeds.specs.Changed.{IsChanged, IsRowChanged, IsRowMade, IsRowRemoved};
+ghost use Rattle.fx_deeds.specs.State.{State};
+
+use fx_eval::{Env, Stop};
+use fx_trees::Names;
+use row_keeper::Put;
+use row_queries::Cells;
+use session_state::Change;
+
+/// What behaviour formulas act on: an environment whose session and tables can be changed. Each call makes one
+/// change or none.
+///
+/// A world may tell its state: what the app is and the moment, the tables, the session, and the sources that were
+/// written. It falls silent, and stays silent, only as an environment does. After a call that gave no answer
+/// the state is as it was. No call changes the names of the app, the types of its sources, its schema or its limit.
+pub trait World: Env {
+    /// What a world tells besides tables and session, which no change touches: the formulas of cells and the moment.
+    ghost App: { Type 0 } = { Unit {0} };
+
+    /// What each source may give in a state.
+    ghost gives: { State Self.App → Origin → Data → Type 0 };
+
+    /// The names of the app.
+    ghost names: { Self → AppNames };
+
+    /// The state, where it is told.
+    ghost state: { Self → Option (State Self.App) };
+
+    /// The names of the app.
+    fn names(&self) -> &Names
+        ensures { result.now ≡ names self.now };
+
+    /// Makes a change of the session, and says whether it was made. `Keeper` only where a fault was counted.
+    fn change(&mut self, change: Change) -> Result<bool, Stop>
+        requires { FitsChange (names self.old) change }
+        ensures fixed { Self.fixed self.new ≡ Self.fixed self.old }
+        ensures named { names self.new ≡ names self.old }
+        ensures done { IfOk result (λ done. Goes (IsLost (Self.marks self.old) (Self.marks self.new)) (IsChanged change done) (state self.old) (state self.new)) }
+        ensures stops { OnErr result (Goes (IsLost (Self.marks self.old) (Self.marks self.new)) Stays (state self.old) (state self.new)) }
+        ensures marks { IsLater (Self.marks self.old) (Self.marks self.new) }
+        ensures keeper { IsErrOf result Stop.Keeper → Rose (Self.marks self.old).faults (Self.marks self.new).faults }
+        ensures visited { Self.visited self.old ≤ Self.visited self.new };
+
+    /// Puts a new row into a table, or says which rule it breaks first. `Keeper` only where a fault was counted.
+    fn insert(&mut self, table: u16, cells: &Cells) -> Result<Put, Stop>
+        requires { IsSomeAnd (slice_get (Self.fixed self.old).schema.tables table) (λ t. AreCellsOf t.columns cells.now) }
+        ensures fixed { Self.fixed self.new ≡ Self.fixed self.old }
+        ensures named { names self.new ≡ names self.old }
+        ensures put { IfOk result (λ put. Goes (IsLost (Self.marks self.old) (Self.marks self.new)) (IsRowMade (columns_at (Self.fixed self.old).schema.tables table) table cells.now put) (state self.old) (state self.new)) }
+        ensures sound { IfOk result (λ put. IsInserted (columns_at (Self.fixed self.old).schema.tables table) put) }
+        ensures stops { OnErr result (Goes (IsLost (Self.marks self.old) (Self.marks self.new)) Stays (state self.old) (state self.new)) }
+        ensures marks { IsLater (Self.marks self.old) (Self.marks self.new) }
+        ensures keeper { IsErrOf result Stop.Keeper → Rose (Self.marks self.old).faults (Self.marks self.new).faults }
+        ensures visited { Self.visited self.old ≤ Self.visited self.new };
+
+    /// Puts other cells into a row of a table, or says that there is none of this number, or which rule it would break
+    /// first. `Keeper` only where a fault was counted.
+    fn replace(&mut self, table: u16, id: u32, cells: &Cells) -> Result<Put, Stop>
+        requires { IsSomeAnd (slice_get (Self.fixed self.old).schema.tables table) (λ t. AreCellsOf t.columns cells.now) }
+        ensures fixed { Self.fixed self.new ≡ Self.fixed self.old }
+        ensures named { names self.new ≡ names self.old }
+        ensures put { IfOk result (λ put. Goes (IsLost (Self.marks self.old) (Self.marks self.new)) (IsRowChanged (columns_at (Self.fixed self.old).schema.tables table) table id cells.now put) (state self.old) (state self.new)) }
+        ensures sound { IfOk result (λ put. IsReplaced (columns_at (Self.fixed self.old).schema.tables table) id put) }
+        ensures stops { OnErr result (Goes (IsLost (Self.marks self.old) (Self.marks self.new)) Stays (state self.old) (state self.new)) }
+        ensures marks { IsLater (Self.marks self.old) (Self.marks self.new) }
+        ensures keeper { IsErrOf result Stop.Keeper → Rose (Self.marks self.old).faults (Self.marks self.new).faults }
+        ensures visited { Self.visited self.old ≤ Self.visited self.new };
+
+    /// Takes a row out of a table, and says whether it was there. `Keeper` only where a fault was counted.
+    fn remove(&mut self, table: u16, id: u32) -> Result<bool, Stop>
+        requires { IsSome (slice_get (Self.fixed self.old).schema.tables table) }
+        ensures fixed { Self.fixed self.new ≡ Self.fixed self.old }
+        ensures named { names self.new ≡ names self.old }
+        ensures was { IfOk result (λ was. Goes (IsLost (Self.marks self.old) (Self.marks self.new)) (IsRowRemoved table id was) (state self.old) (state self.new)) }
+        ensures stops { OnErr result (Goes (IsLost (Self.marks self.old) (Self.marks self.new)) Stays (state self.old) (state self.new)) }
+        ensures marks { IsLater (Self.marks self.old) (Self.marks self.new) }
+        ensures keeper { IsErrOf result Stop.Keeper → Rose (Self.marks self.old).faults (Self.marks self.new).faults }
+        ensures visited { Self.visited self.old ≤ Self.visited self.new };
+
+    /// A law: worlds that tell the same as environments have the same state.
+    ghost keeps: { (a b : Self) → Self.told a ≡ Self.told b → state a ≡ state b };
+
+    /// A law: where it tells nothing as an environment, its state isn't told either.
+    ghost lost: { (w : Self) → Self.told w ≡ None → state w ≡ None };
+
+    /// A law: the values that are told of sources are what these give in the state that is told.
+    ghost values: { (w : Self) (s : State Self.App) (e : Told Self.Beside) → state w ≡ Some s → Self.told w ≡ Some e →
+        (x : Origin) (t : Shape) → (Self.fixed w).types x ≡ Some t → gives s x (e.values x) };
+
+    /// A law: the rows that are told are those of the state.
+    ghost rows: { (w : Self) (s : State Self.App) (e : Told Self.Beside) → state w ≡ Some s → Self.told w ≡ Some e → e.tables ≡ rows_of s.tables.states };
+
+    /// A law: a collection gives what the session holds.
+    ghost collections: { (s : State Self.App) (k : ℕ) (d : Data) → gives s (source.Gathered k) d → d ≡ held s.session (source.Gathered k) };
+
+    /// A law: sources have the types that the names give them.
+    ghost typed: { (w : Self) (x : Origin) → (Self.fixed w).types x ≡ sources (names w) x };
+
+    /// A law: the tables are those of the names.
+    ghost shaped: { (w : Self) → (Self.fixed w).schema ≡ (names w).schema };
+
+    /// A law: they are lawful.
+    ghost lawful: { (w : Self) → IsLawfulSchema (Self.fixed w).schema };
+}
