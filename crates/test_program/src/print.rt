@@ -7,7 +7,8 @@ use std::{io, str};
 /// The first bytes of each reply, and of no part of one.
 const REPLY: &str = "HTTP/1.1 ";
 
-/// Prints the status, what was said, if anything, and the replies; `next` where another conversation came.
+/// Prints the status, what was said, if anything, and the replies; `next` where another conversation came; and how many rows
+/// were visited, where these are counted.
 pub fn print_end(rt: &(impl Print + AllocGlobal), ended: &Ended) -> io::Result<()> {
     let status = ended.status;
     println!(rt; "status {status}")?;
@@ -21,7 +22,10 @@ pub fn print_end(rt: &(impl Print + AllocGlobal), ended: &Ended) -> io::Result<(
         }
         print_replies(rt, text(answered))?;
     }
-    Ok(())
+    match ended.visited {
+        Some(visited) => println!(rt; "visited {visited}"),
+        None => Ok(()),
+    }
 }
 
 /// Prints each reply in a line, and those that repeat it with their count. What comes before the first is printed alone.

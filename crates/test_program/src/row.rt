@@ -21,6 +21,8 @@ pub struct Row {
     pub piece: usize,
     /// Whether a conversation ends after one reply.
     pub one: bool,
+    /// Whether the rows that the keeper visits are counted.
+    pub counts_visits: bool,
     /// The name of a table without columns that the keeper has been shaped by, or nothing.
     pub kept: String,
     /// The last number that this table gave, 0 at first.
@@ -44,6 +46,7 @@ impl Row {
             moments: Vec::new(alloc),
             piece: 4096,
             one: false,
+            counts_visits: false,
             kept: String::new(alloc),
             last: 0,
             file_fails: Vec::new(alloc),
@@ -66,6 +69,7 @@ impl Row {
             "moments" => self.moments = numbers(alloc, text)?,
             "piece" => self.piece = text.parse::<usize>().unwrap_or(1).max(1),
             "one" => self.one = true,
+            "visits" => self.counts_visits = true,
             "file_fails" => self.file_fails = numbers(alloc, text)?,
             "sink_fails" => self.sink_fails = numbers(alloc, text)?,
             "door_fails" => self.door_fails = numbers(alloc, text)?,

@@ -16,12 +16,14 @@ use std::alloc::{AllocError, Global};
 use std::marker::Brand;
 use std::sync::ledger::{Blank, Ledger};
 
-/// How a run ended, what it said, and what it answered to each conversation that came.
+/// How a run ended, what it said, what it answered to each conversation that came, and how many rows the keeper visited,
+/// where these are counted.
 #[derive(Drop)]
 pub struct Ended {
     pub status: u8,
     pub said: Vec<u8>,
     pub answered: Vec<Vec<u8>>,
+    pub visited: Option<u64>,
 }
 
 /// A run in memory.
@@ -47,6 +49,7 @@ pub fn run_row(alloc: Global, row: &Row) -> Result<Ended, AllocError> {
         status,
         said: Vec::from_slice(alloc, out.written())?,
         answered: answers(alloc, &doors, row.earlier.len())?,
+        visited: row.counts_visits.then_some(keeper.visited()),
     })
 }
 
