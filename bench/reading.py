@@ -27,10 +27,10 @@ STEPS = [
     ("7", "What typed trees are worth", ["fx_semantics", "fx_eval"], "The value of a typed tree by recursion on it."),
     ("8", "Rows and keepers", ["row_queries", "row_keeper", "fx_plan"], "What a query asks of rows, the rules of rows, and what a keeper tells and what each of its calls may do. `keeper.rt` is the trait `Keeper` with its clauses, which are a premise of `run`."),
     ("9", "App files", ["app_file"], "The form of an app file, its limits, and what is read of it. Hold `FormOfApp` against `docs/APP_FILE.md`."),
-    ("10", "Formulas of an app", ["app_cells", "app_texts", "app_names", "app_typing", "depend_graph", "app_edits", "app_loader"], "From what a file holds to an app or to what is broken, stage by stage: `Judged` of `app_loader` goes through them in their order; and the app in which one formula is replaced."),
+    ("10", "Formulas of an app", ["app_cells", "app_texts", "app_names", "depend_graph", "app_edits", "app_loader", "app_plans"], "From what a file holds to an app or to what is broken, stage by stage: `Judged` of `app_loader` goes through them in their order; the app in which one formula is replaced; and what is told of where formulas take rows."),
     ("11", "What the formulas of an app are worth", ["session_state", "app_semantics", "recalc", "app_views"], "What a session keeps, and the values of an app's formulas over it, whatever their order."),
     ("12", "Requests and replies", ["app_wire", "view_text", "request_checks"], "From bytes to requests, from requests to routes, from replies to bytes, and the checks of numbered requests."),
-    ("13", "Requests of rows and of sessions", ["row_requests", "session_requests", "edit_requests"], "The bodies of posted requests, what a desk's changes do to tables and its edits to the app, pages of rows, and what a session's inputs and events do."),
+    ("13", "Requests of rows and of sessions", ["row_requests", "session_requests", "office/specs/DeskEdits"], "The bodies of posted requests, what a desk's changes do to tables and its edits to the app, pages of rows, and what a session's inputs and events do."),
     ("14", "The office", ["office"], "What one request does, and what a whole conversation is."),
     ("15", "The run", ["fx_cli"], "All of this together. With it the clauses of `run` can be read again, each name of which is now known."),
 ]
