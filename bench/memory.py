@@ -3,11 +3,12 @@
 
     bench/memory.py [PFX]
 
-PFX is the built program, out/pfx where none is given. A desk's changes of rows are sent, each request twice, and the rows
-are shown after each. The run is made once for each allocation, which alone gets no memory (by a library that stands
-before the C library's, so a C compiler is needed). The replies must be those of a model in which a request that wants for
-memory changes nothing: no change of rows without its reply, and the same request again acts once. Where memory is refused
-before a request is whole, the conversation ends behind that reply; where the app isn't loaded yet, there is none.
+PFX is the built program, out/pfx where none is given. A session is opened and a desk's changes of rows are sent, each request
+twice; after each the rows are shown, and to the session its view and the named formulas, which read the rows. The run is made
+once for each allocation, which alone gets no memory (by a library that stands before the C library's, so a C compiler is
+needed). The replies must be those of a model in which a request that wants for memory changes nothing: no change of rows
+without its reply, and the same request again acts once. Where memory is refused before a request is whole, the conversation
+ends behind that reply; where the app isn't loaded yet, there is none.
 """
 import json
 import os
@@ -18,10 +19,18 @@ import tempfile
 TOP = os.path.dirname(os.path.dirname(os.path.abspath(__file__)))
 PROGRAM = sys.argv[1] if len(sys.argv) > 1 else f"{TOP}/out/pfx"
 COLUMNS = [{"name": "Name", "type": "Text", "required": True, "unique": True}, {"name": "Qty", "type": "Number", "indexed": True}]
-APP = {"format": "pfx-1", "tables": [{"name": "Stock", "columns": COLUMNS}], "formulas": "", "screens": [{"name": "Home", "controls": []}]}
-ADD, PAGE = {"op": "add", "table": "Stock", "row": {"Name": "Nut", "Qty": {"n": "2.5"}}}, "page"
+FORMULAS = "Low = CountRows(Filter(Stock, Qty < 3)); One = First(Stock).Name; All = Sort(Stock, Qty); Bad = Filter(Stock, Qty = 1/0);"
+CONTROLS = [
+    {"name": "Sign", "kind": "Label", "properties": {"Text": 'Low & " of " & CountRows(Stock)'}},
+    {"name": "List", "kind": "Gallery", "properties": {"Items": "Filter(Stock, Qty > 1)"}},
+    {"name": "Line", "kind": "Label", "in": "List", "properties": {"Text": "ThisItem.Name & CountRows(Stock)"}},
+]
+APP = {"format": "pfx-1", "tables": [{"name": "Stock", "columns": COLUMNS}], "formulas": FORMULAS, "screens": [{"name": "Home", "controls": CONTROLS}]}
+ADD = {"op": "add", "table": "Stock", "row": {"Name": "Nut", "Qty": {"n": "2.5"}}}
 CHANGES = [(1, [ADD]), (3, [ADD]), (2, [{"op": "remove", "table": "Stock", "id": 9}]), (2, [ADD]), (2, [{"op": "remove", "table": "Stock", "id": 1}, ADD])]
-REQUESTS = [it for change in CHANGES for it in (change, PAGE, change, PAGE)]
+OPEN, VIEW, NAMED, PAGE = "PUT /s/a", "GET /s/a/view", "GET /s/a/named", "GET /rows/Stock/0"
+SHOWN = [PAGE, VIEW, NAMED]
+REQUESTS = [OPEN, *SHOWN, *(it for change in CHANGES for it in (change, *SHOWN, change, *SHOWN)), OPEN]
 WANTS = b'{"refused":{"code":26,"detail":null,"name":"WantOfMemory"}}'
 
 # `memory` refuses the call of this number, counted from 1, and leaves a file that says so.
@@ -44,44 +53,77 @@ void *aligned_alloc(size_t a, size_t n) { return refuses() ? 0 : __libc_memalign
 """
 
 
+def compact(value):
+    """Returns a value as JSON without spaces."""
+    return json.dumps(value, separators=(",", ":"))
+
+
+def refusal(code, name, detail=None):
+    """Returns the body of a refusal."""
+    return compact({"refused": {"code": code, "detail": detail, "name": name}})
+
+
 def sent(request):
     """Returns the bytes of a request."""
-    if request == PAGE:
-        return b"GET /rows/Stock/0 HTTP/1.1\r\n\r\n"
+    if isinstance(request, str):
+        return f"{request} HTTP/1.1\r\n\r\n".encode()
     seq, changes = request
-    body = json.dumps({"seq": seq, "changes": changes}, separators=(",", ":"))
+    body = compact({"seq": seq, "changes": changes})
     return f"POST /desk/d/rows HTTP/1.1\r\nContent-Length: {len(body)}\r\n\r\n{body}".encode()
 
 
 class Model:
-    """The rows, the last number that was given, and what the desk last had answered."""
+    """Whether the session is open, the rows, the last number that was given, and what the desk last had answered."""
 
     def __init__(self):
-        self.rows, self.given, self.seq, self.body, self.reply = {}, 0, 0, None, None
+        self.open, self.rows, self.given, self.seq, self.body, self.reply = False, {}, 0, 0, None, None
 
     def answer(self, request):
         """Returns the body that a request is answered by, and does what it asks for."""
+        rows = [{"ID": it, **row} for it, row in sorted(self.rows.items())]
+        if request == OPEN:
+            self.open = True
+            return compact({"ok": True})
         if request == PAGE:
-            return json.dumps({"more": False, "rows": [{"ID": it, **row} for it, row in sorted(self.rows.items())]}, separators=(",", ":"))
-        seq, changes = request
+            return compact({"more": False, "rows": rows})
+        if request in (VIEW, NAMED):
+            return refusal(11, "NoSession") if not self.open else self.view(rows) if request == VIEW else self.named(rows)
+        return self.change(*request)
+
+    def view(self, rows):
+        """Returns the view over these rows, each of which is low and has more than 1."""
+        count = len(rows)
+        lines = [{"kind": "Label", "name": "Line", "values": {"Text": f"{row['Name']}{count}"}} for row in rows]
+        items = [{"at": at, "controls": [line], "id": row["ID"]} for at, (line, row) in enumerate(zip(lines, rows), 1)]
+        sign = {"kind": "Label", "name": "Sign", "values": {"Text": f"{count} of {count}"}}
+        return compact({"controls": [sign, {"items": items, "kind": "Gallery", "name": "List", "total": count}], "screen": "Home"})
+
+    def named(self, rows):
+        """Returns the named formulas over these rows. A condition's error is seen where there is a row."""
+        bad = {"e": {"kind": "Div0", "message": ""}} if rows else []
+        values = {"Low": len(rows), "One": rows[0]["Name"] if rows else None, "All": rows, "Bad": bad}
+        return compact({"named": [{"name": name, "value": value} for name, value in values.items()]})
+
+    def change(self, seq, changes):
+        """Returns the reply to a desk's changes of rows, and makes them."""
         if seq == self.seq:
-            return self.reply if changes == self.body else '{"refused":{"code":14,"detail":null,"name":"SeqReused"}}'
+            return self.reply if changes == self.body else refusal(14, "SeqReused")
         if seq != self.seq + 1:
-            return '{"refused":{"code":13,"detail":%d,"name":"OutOfStep"}}' % self.seq
+            return refusal(13, "OutOfStep", self.seq)
         rows, given, ids = dict(self.rows), self.given, []
         for place, change in enumerate(changes):
             if change["op"] == "remove":
                 if rows.pop(change["id"], None) is None:
-                    return '{"refused":{"code":22,"detail":null,"name":"NoRow"}}'
+                    return refusal(22, "NoRow")
                 ids.append(change["id"])
             elif any(it["Name"] == change["row"]["Name"] for it in rows.values()):
-                return '{"refused":{"code":23,"detail":{"at":%d,"column":"Name","rule":"unique"},"name":"RowRefused"}}' % place
+                return refusal(23, "RowRefused", {"at": place, "column": "Name", "rule": "unique"})
             else:
                 given += 1
                 rows[given] = change["row"]
                 ids.append(given)
         self.rows, self.given, self.seq, self.body = rows, given, seq, changes
-        self.reply = json.dumps({"ids": ids, "seq": seq}, separators=(",", ":"))
+        self.reply = compact({"ids": ids, "seq": seq})
         return self.reply
 
 
