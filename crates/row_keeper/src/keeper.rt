@@ -275,6 +275,9 @@ pub trait Keeper {
 
     /// A law: where it doesn't tell its tables, it doesn't tell those either that it had as the transaction began.
     ghost quiet: { (k : Self) → told k ≡ None → began k ≡ None };
+
+    /// A law: where it tells its tables, it tells those too.
+    ghost heard: { (k : Self) → IsSome (told k) → IsSome (began k) };
 }
 
 impl<K: Keeper> Keeper for &mut K {
@@ -303,6 +306,8 @@ impl<K: Keeper> Keeper for &mut K {
     ghost backs = { λ k l. K.backs k.now l.now };
 
     ghost quiet = { λ k. K.quiet k.now };
+
+    ghost heard = { λ k. K.heard k.now };
 
     fn attach(&mut self, name: &str) -> Result<(), KeeperEnd> {
         (**self).attach(name)

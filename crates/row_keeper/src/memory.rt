@@ -194,6 +194,8 @@ impl Keeper for MemoryKeeper {
 
     ghost quiet = { λ k e. absurd (none-some (tables_now k.store) (sym e)) };
 
+    ghost heard = { λ _ h. h };
+
     fn attach(&mut self, name: &str) -> Result<(), KeeperEnd> {
         if self.plan.next_fails() {
             return Err(KeeperEnd::Failed);

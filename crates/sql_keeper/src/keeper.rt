@@ -346,6 +346,8 @@ impl Keeper for SqlKeeper {
 
     ghost quiet = { λ _ _. refl };
 
+    ghost heard = { λ _ h. h };
+
     fn attach(&mut self, name: &str) -> Result<(), KeeperEnd> {
         let opened = self.open(name);
         self.counted(opened)
