@@ -1,0 +1,5 @@
+pub mod Stilled
+pub mod AllLawful
+pub mod PlacedParts
+pub mod PlacedDeeds
+pub mod Placed
