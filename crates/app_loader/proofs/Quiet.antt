@@ -114,6 +114,7 @@ module _ (a b : App) (e : frame_of b ≡ frame_of a) (none : HasNone b.names) wh
     controls = h.controls ∙ same_length a.names.controls b.names.controls controls;
     sources_held = λ x t o k. h.sources_held x t o (own_same x t o k);
     values_fit = λ x t o k. h.values_fit x t o (own_same x t o k);
+    spare = h.spare;
   }
 
 pub still_fit : (a b : App) → frame_of b ≡ frame_of a → HasNone b.names → StillFit a.names b.names

@@ -80,6 +80,7 @@ put_variable n s k d lt f g h = record {
   controls = f.controls;
   sources_held = holds_variable n s k d f;
   values_fit = fits_variable n s k d lt f g h;
+  spare = f.spare;
 }
 
 -- collections
@@ -109,6 +110,7 @@ put_collection n s k d f g = record {
   controls = f.controls;
   sources_held = holds_collection n s k d f;
   values_fit = fits_collection n s k d (f.sources_held (source.Gathered k) g.0 tt g.1) f (fits_at n (source.Gathered k) d g);
+  spare = f.spare;
 }
 
 -- inputs
@@ -144,6 +146,7 @@ put_input n s k d f g = record {
   controls = f.controls;
   sources_held = holds_input n s k d f;
   values_fit = fits_input n s k d (f.sources_held (source.Input k) g.0 tt g.1) f (fits_at n (source.Input k) (unwrap_or d blank) g);
+  spare = f.spare;
 }
 
 -- what is no value changes nothing of them
@@ -167,12 +170,13 @@ held_same s s' vs cs is (source.Chosen j) = refl
 held_same s s' vs cs is (source.Table j) = refl
 held_same s s' vs cs is source.Today = refl
 
-kept_values : (n : Names) (s s' : SessionState) → FitsNames n s → s'.screen < length n.screens → length s'.chosen ≡ length s.chosen → s'.variables ≡ s.variables → s'.collections ≡ s.collections → s'.inputs ≡ s.inputs → FitsNames n s'
-kept_values n s s' f screen chosen vs cs is = record {
+kept_values : (n : Names) (s s' : SessionState) → FitsNames n s → s'.screen < length n.screens → length s'.chosen ≡ length s.chosen → s'.variables ≡ s.variables → s'.collections ≡ s.collections → s'.inputs ≡ s.inputs → s'.room ≡ s.room → FitsNames n s'
+kept_values n s s' f screen chosen vs cs is room = record {
   screen = screen;
   controls = chosen ∙ f.controls;
   sources_held = λ x t own e. holds_same s s' vs cs is x (f.sources_held x t own e);
   values_fit = λ x t own e. ap (λ (d : Data). fits_in d t) (held_same s s' vs cs is x) ∙ f.values_fit x t own e;
+  spare = room ∙ f.spare;
 }
 
 -- a change that fits leaves a session that fits
@@ -188,9 +192,9 @@ fits_made n (Empty k) s f g = put_collection n s k (tab no_rows) f g
 fits_made n (Input k None) s f g = put_input n s k None f g
 fits_made n (Input k (Some v)) s f g = put_input n s k (Some (view v)) f g
 fits_made n (Choose k position id) s f g =
-    kept_values n s _ f f.screen (length-set s.chosen k (Some (position, id))) refl refl refl
-fits_made n (Screen k) s f g = kept_values n s _ f g refl refl refl refl
-fits_made n (Notice w) s f g = kept_values n s _ f f.screen refl refl refl refl
+    kept_values n s _ f f.screen (length-set s.chosen k (Some (position, id))) refl refl refl refl
+fits_made n (Screen k) s f g = kept_values n s _ f g refl refl refl refl refl
+fits_made n (Notice w) s f g = kept_values n s _ f f.screen refl refl refl refl refl
 
 -- what a session holds of its own
 own : (x : Source) (s : SessionState) → Holds s x → IsOwn x
@@ -207,13 +211,13 @@ pub held_fits : (n : Names) (s : SessionState) (x : Source) (t : Shape) → Hold
 held_fits n s x t h f e = f.values_fit x t (own x s h) e
 
 -- a session as it is opened
-typed_within : {A : Type 0} (xs : List A) (k : ℕ) (t : Shape) (T : A → Option Shape) → option_and_then T (slice_get xs k) ≡ Some t → k < length xs
+pub typed_within : {A : Type 0} (xs : List A) (k : ℕ) (t : Shape) (T : A → Option Shape) → option_and_then T (slice_get xs k) ≡ Some t → k < length xs
 typed_within xs k t T e = elim (cases_lt k (length xs)) [
   | inl lt ↦ lt
   | inr past ↦ let none : slice_get xs k ≡ None = slice_get_past xs k past in let is : option_and_then T (slice_get xs k) ≡ None = ap (option_and_then T) none in cc
 ]
 
-mapped_within : {A : Type 0} (xs : List A) (k : ℕ) (t : Shape) (T : A → Shape) → option_map T (slice_get xs k) ≡ Some t → k < length xs
+pub mapped_within : {A : Type 0} (xs : List A) (k : ℕ) (t : Shape) (T : A → Shape) → option_map T (slice_get xs k) ≡ Some t → k < length xs
 mapped_within xs k t T e = elim (cases_lt k (length xs)) [
   | inl lt ↦ lt
   | inr past ↦ let none : slice_get xs k ≡ None = slice_get_past xs k past in let is : option_map T (slice_get xs k) ≡ None = ap (option_map T) none in cc
@@ -252,4 +256,5 @@ fits_opened n some h = record {
   controls = let no : Option (ℕ × Option ℕ) = None in length-replicate (length n.controls) no;
   sources_held = opened_holds n;
   values_fit = opened_fits n h;
+  spare = refl;
 }

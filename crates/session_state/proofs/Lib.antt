@@ -1,2 +1,4 @@
 pub mod Weights
 pub mod Fitting
+pub mod Moving
+pub mod Carried

@@ -1,7 +1,7 @@
 -- The weight where one value of a list is changed.
-use Rattle.std.proofs.Common.{◌≡◌, ℕ, ◌+◌, ◌-◌, ◌<◌, ◌≤◌, List, length, get_or, set, map, arith, sym, ◌∙◌, ap}
+use Rattle.std.proofs.Common.{◌≡◌, ℕ, ◌+◌, ◌-◌, ◌*◌, ◌^◌, ◌<◌, ◌≤◌, List, length, take, get_or, set, map, arith, sym, ◌∙◌, ap}
 use Rattle.std.proofs.lemmas.List.{length-map, get_or-map, map-set}
-use Rattle.std.proofs.lemmas.List.Sums.{sum_by-set, get_or-le-sum_by}
+use Rattle.std.proofs.lemmas.List.Sums.{sum_by-le, sum_by-set, sum_by-take-le, sum_by_more, get_or-le-sum_by}
 use Rattle.std.specs.List.{sum_by}
 use Rattle.fx_data.specs.Values.{Data, blank}
 use Rattle.fx_data.specs.ValueView.{view}
@@ -55,3 +55,23 @@ with_collection s vs ws k v true are values =
     ap (λ (xs : List Data). record s { collections = xs }) (ap (map view) values ∙ map-set view vs k v ∙ ap (λ (xs : List Data). set xs k (view v)) (sym are))
 with_collection s vs ws k v false are values =
     ap (λ (xs : List Data). record s { collections = xs }) (ap (map view) values ∙ sym are)
+
+-- ---- all of them
+
+few_weigh_little : (ds : List Data) → length ds < 2 ^ 63 → sum_by weighed ds < 2 ^ 127
+few_weigh_little ds few =
+    let le : sum_by weighed ds ≤ length ds * 18446744073709551615 = sum_by-le weighed 18446744073709551615 ds (λ k d lt. omega arith) in
+    omega arith
+
+pub sum_is_little : (vs : List Value) → length vs < 2 ^ 63 → sum_by weighed (map view vs) < 2 ^ 127
+sum_is_little vs few = few_weigh_little (map view vs) (omega (arith, length-map vs view))
+
+-- one more
+pub one_more : (vs : List Value) (k : ℕ) (v : Value) → k < length vs → v ≡ get_or vs k v → sum_by weighed (take (k + 1) (map view vs)) ≡ sum_by weighed (take k (map view vs)) + weighed (view v)
+one_more vs k v lt e = sum_by_more weighed (map view vs) k blank (omega (arith, length-map vs view)) ∙ ap (λ (d : Data). sum_by weighed (take k (map view vs)) + weighed d) (view_at vs k v lt e)
+
+pub one_more_le : (vs : List Value) (k : ℕ) (v : Value) → k < length vs → v ≡ get_or vs k v → sum_by weighed (take k (map view vs)) + weighed (view v) ≤ sum_by weighed (map view vs)
+one_more_le vs k v lt e =
+    let more = one_more vs k v lt e in
+    let le = sum_by-take-le weighed (map view vs) (k + 1) in
+    omega arith

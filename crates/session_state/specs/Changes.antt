@@ -10,7 +10,7 @@ use Rattle.fx_trees.specs.declared.names.Names.{Names}
 use Rattle.fx_trees.specs.SourceTypes.{sources}
 use Rattle.session_state.specs.declared.change.Change.{Change}
 use Rattle.session_state.specs.declared.change.Change.TheVariants.{Global, Context, Gather, Empty, Input, Choose, Screen, Notice}
-use Rattle.session_state.specs.Sessions.{SessionState, weight, may_weigh, held, Holds}
+use Rattle.session_state.specs.Sessions.{SessionState, no_room, weight, may_weigh, held, Holds}
 
 -- the session that a change makes
 abbrev pub made : Change → SessionState → SessionState
@@ -56,13 +56,14 @@ IsOwn (source.Gathered k) = Unit {0}
 IsOwn (source.Input k) = Unit {0}
 IsOwn x = ⊥
 
--- a session fits an app's names where its screen is one, each control has a place, and each of its sources that has a
--- type is held, with a value that fits it
+-- a session fits an app's names where its screen is one, each control has a place, each of its sources that has a type is
+-- held, with a value that fits it, and there is no room beside it
 pub record FitsNames (n : Names) (s : SessionState) : Type 0 where
   pub screen : s.screen < length n.screens
   pub controls : length s.chosen ≡ length n.controls
   pub sources_held : (x : Source) (t : Shape) → IsOwn x → sources n x ≡ Some t → Holds s x
   pub values_fit : (x : Source) (t : Shape) → IsOwn x → sources n x ≡ Some t → fits_in (held s x) t ≡ true
+  pub spare : s.room ≡ no_room
 
 -- an empty table fits the type of each collection
 abbrev pub HoldsTables : Names → Type 0

@@ -1,3 +1,4 @@
 pub mod Once
 pub mod Sessions
 pub mod Changes
+pub mod Carrying

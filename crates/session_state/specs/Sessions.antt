@@ -1,5 +1,5 @@
 -- What is kept of a session.
-use Rattle.std.specs.Prelude.{ℕ, ◌+◌, ◌-◌, ◌^◌, ◌<◌, min, nat_le, ◌||◌, List, [], length, Bool, false, Option, None, unwrap_or, replicate}
+use Rattle.std.specs.Prelude.{ℕ, ◌+◌, ◌-◌, ◌^◌, ◌<◌, ◌≤◌, min, max, nat_le, ◌||◌, List, [], length, Bool, false, Option, None, unwrap_or, replicate}
 use Rattle.std.specs.List.{slice_index_or, sum_by}
 use Rattle.fx_data.specs.Values.{Data, blank, tab, no_rows}
 use Rattle.fx_value.specs.Weight.{weight_of}
@@ -8,9 +8,26 @@ use Rattle.fx_trees.specs.declared.sources.Source.TheVariants as source
 use Rattle.fx_trees.specs.declared.names.Names.{Names}
 use Rattle.session_state.specs.Once.{Kept, nobody}
 
+-- for how many variables and collections there is room beside a session, for an app that is edited
+pub record Room : Type 0 where
+  pub variables : ℕ
+  pub collections : ℕ
+
+abbrev pub no_room : Room
+no_room = record { variables = 0; collections = 0 }
+
+-- as much as the names want, and no less than there is
+abbrev pub room_with : Names → Room → Room
+room_with n r = record { variables = max (length n.variables) r.variables; collections = max (length n.collections) r.collections }
+
+-- there is as much as the names want
+pub record HasRoom (n : Names) (r : Room) : Type 0 where
+  pub variables : length n.variables ≤ r.variables
+  pub collections : length n.collections ≤ r.collections
+
 -- The current screen, and whether one was made current in this request; variables and collections, by their numbers; by the
--- numbers of controls what users gave, and the position and the id of what is chosen; the last accepted request; and the
--- notices of this request.
+-- numbers of controls what users gave, and the position and the id of what is chosen; the last accepted request; the notices
+-- of this request; and the spare room, which there is while an app is edited.
 pub record SessionState : Type 0 where
   pub screen : ℕ
   pub navigated : Bool
@@ -20,6 +37,7 @@ pub record SessionState : Type 0 where
   pub chosen : List (Option (ℕ × Option ℕ))
   pub kept : Kept
   pub notices : List (List ℕ)
+  pub room : Room
 
 -- a session at first: the first screen, blank variables, empty collections, and nothing else
 abbrev pub opened : Names → SessionState
@@ -32,6 +50,7 @@ opened n = record {
   chosen = replicate (length n.controls) None;
   kept = nobody;
   notices = [];
+  room = no_room;
 }
 
 -- what a value weighs, as far as 64 bits can tell

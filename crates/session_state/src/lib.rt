@@ -2,8 +2,10 @@
 #![tactic(auto)]
 
 mod caller;
+mod carrying;
 pub mod change;
 pub mod desk;
+pub mod laws;
 mod lists;
 pub mod session;
 pub mod turn;

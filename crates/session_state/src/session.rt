@@ -2,10 +2,11 @@
 ghost use Rattle.std.specs.Prelude.{◌≡◌, ◌<◌, IfOk, OnOk, OnErr, length, [], slice_index_or, slice_set, nat_le, ◌++◌, ◌∷◌, Some, None, not, if◌then◌else◌};
 
 use crate::caller::Caller;
+use crate::carrying::{carry_collections, carry_variables};
 use crate::change::Change;
 use crate::lists::{blanks, copy_of_inputs, copy_of_texts, copy_of_values, empty_tables, nothing};
 use crate::turn::Turn;
-use crate::weight::put;
+use crate::weight::{put, total_weight};
 use fx_base::Memory;
 use fx_data::values::{Rows, Value};
 use fx_data::words::Words;
@@ -29,15 +30,19 @@ pub struct Session {
     variables: Vec<Value>,
     collections: Vec<Value>,
     // What the variables and collections weigh. Kept, so that a change weighs two values alone.
-    weight: u64,
+    // In 128 bits, which no sum of weights fills.
+    weight: u128,
     inputs: Vec<Option<Value>>,
     chosen: Vec<Option<(u32, Option<u32>)>>,
     caller: Caller,
     notices: Vec<Words>,
+    // Empty, with room for what an edited app has.
+    spare_variables: Vec<Value>,
+    spare_collections: Vec<Value>,
 }
 
 impl Model for Session {
-    ghost use Rattle.std.specs.Prelude.{◌≡◌, map, option_map};
+    ghost use Rattle.std.specs.Prelude.{◌≡◌, [], map, option_map, vec_capacity};
     ghost use Rattle.std.specs.Coded.{codes};
     ghost use Rattle.fx_data.specs.ValueCode.{data_code};
     ghost use Rattle.fx_data.specs.ValueView.{view as value_view};
@@ -56,9 +61,12 @@ impl Model for Session {
       chosen = s.chosen.items;
       kept = s.caller;
       notices = s.notices.items;
+      room = record { variables = vec_capacity s.spare_variables; collections = vec_capacity s.spare_collections };
     } };
 
-    ghost invariant = { λ s. s.weight ≡ weight_of_values (map value_view s.variables.items) (map value_view s.collections.items) };
+    ghost invariant = { λ s.
+        (s.weight ≡ weight_of_values (map value_view s.variables.items) (map value_view s.collections.items))
+        × (s.spare_variables.items ≡ []) × (s.spare_collections.items ≡ []) };
 }
 
 impl Session {
@@ -72,7 +80,8 @@ impl Session {
     ghost use Rattle.fx_trees.specs.declared.names.Names.{Names as AppNames};
     ghost use Rattle.fx_trees.specs.SourceTypes.{sources};
     ghost use Rattle.session_state.specs.Once.{turn_of};
-    ghost use Rattle.session_state.specs.Sessions.{opened, held, Holds, weight as weight_of, may_weigh};
+    ghost use Rattle.session_state.specs.Carrying.{carried};
+    ghost use Rattle.session_state.specs.Sessions.{HasRoom, opened, held, Holds, no_room, room_with, weight as weight_of, may_weigh};
     ghost use Rattle.session_state.specs.Changes.{made, is_refused, IsNotice, IsThere, FitsNames, FitsChange, HoldsTables};
 
     /// A session of an app: on its first screen, with blank variables, empty collections, and nothing given, chosen or
@@ -87,7 +96,7 @@ impl Session {
             .checked_add(names.collections.len())
             .ok_or(Memory)?;
         // A blank value and an empty table weigh 16 each.
-        let weight = count.checked_mul(16).ok_or(Memory)? as u64;
+        let weight = count.checked_mul(16).ok_or(Memory)? as u128;
         Ok(Session {
             alloc,
             screen: 0,
@@ -99,10 +108,12 @@ impl Session {
             chosen: nothing(alloc, names.controls.len())?,
             caller: Caller::new(alloc),
             notices: Vec::new(alloc),
+            spare_variables: Vec::new(alloc),
+            spare_collections: Vec::new(alloc),
         })
     }
 
-    /// The same session.
+    /// The same session, with as much room beside it.
     pub fn copy(&self) -> Result<Session, Memory>
         ensures { IfOk result (λ s. s ≡ self.now) }
     {
@@ -118,7 +129,54 @@ impl Session {
             chosen: Vec::from_slice(alloc, &self.chosen)?,
             caller: self.caller.copy(alloc)?,
             notices: copy_of_texts(alloc, &self.notices)?,
+            spare_variables: Vec::with_capacity(alloc, self.spare_variables.capacity())?,
+            spare_collections: Vec::with_capacity(alloc, self.spare_collections.capacity())?,
         })
+    }
+
+    /// Makes room for the variables and the collections that an edited app has.
+    pub fn make_room(&mut self, names: &Names) -> Result<(), Memory>
+        ensures made { IfOk result (λ _. self.new ≡ record self.old { room = room_with names.now self.old.room }) }
+        ensures err { OnErr result (self.new ≡ self.old) }
+    {
+        let variables = names.variables.len().max(self.spare_variables.capacity());
+        let collections = names
+            .collections
+            .len()
+            .max(self.spare_collections.capacity());
+        let variables = Vec::with_capacity(self.alloc, variables)?;
+        let collections = Vec::with_capacity(self.alloc, collections)?;
+        self.spare_variables = variables;
+        self.spare_collections = collections;
+        Ok(())
+    }
+
+    /// Gives the room back.
+    pub fn drop_room(&mut self)
+        ensures { self.new ≡ record self.old { room = no_room } }
+    {
+        self.spare_variables = Vec::new(self.alloc);
+        self.spare_collections = Vec::new(self.alloc);
+    }
+
+    /// Goes over to an edited app. What both apps have keeps its value, and the room is used up. It takes no memory.
+    pub fn carry(&mut self, old: &Names, new: &Names)
+        requires { HasRoom new.now self.old.room }
+        ensures { self.new ≡ carried old.now new.now self.old }
+    {
+        let mut variables = mem::replace(&mut self.spare_variables, Vec::new(self.alloc));
+        let mut collections = mem::replace(&mut self.spare_collections, Vec::new(self.alloc));
+        carry_variables(old, new, &mut self.variables, &mut variables);
+        carry_collections(
+            self.alloc,
+            old,
+            new,
+            &mut self.collections,
+            &mut collections,
+        );
+        self.weight = total_weight(&variables) + total_weight(&collections);
+        self.variables = variables;
+        self.collections = collections;
     }
 
     /// The value of a variable or a collection, or what the user gave, which is blank where nothing was given.

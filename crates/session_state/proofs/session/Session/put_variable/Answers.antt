@@ -8,8 +8,11 @@ use Rattle.session_state.proofs.Weights.{kept_weight, with_variable}
 use Rattle.session_state.proofs.session.Session.put_variable.Goals as goal
 
 pub invariant_of-self : goal.invariant_of-self
-invariant_of-self c =
-    kept_weight c.self.inside.variables.items _ c.self.inside.weight _ (sum_by weighed (map view c.self.inside.collections.items)) c.args.number c.args.value c.put.result c.put.ensures.values c.put.ensures.weight c.self.invariant
+invariant_of-self c = (
+  kept_weight c.self.inside.variables.items _ c.self.inside.weight _ (sum_by weighed (map view c.self.inside.collections.items)) c.args.number c.args.value c.put.result c.put.ensures.values c.put.ensures.weight c.self.invariant.0,
+  c.self.invariant.1,
+  c.self.invariant.2,
+)
 
 pub returns-clause-changed : goal.returns-clause-changed
 returns-clause-changed c =

@@ -1,0 +1,7 @@
+//! The laws of sessions.
+ghost use Rattle.session_state.specs.Carrying.{CarriedFits};
+
+/// A session that fits an app fits the edited app once it is carried.
+pub fn carried_fits()
+    ensures { CarriedFits }
+{}
