@@ -1,5 +1,5 @@
 -- The types of the cells that sources lead to.
-use Rattle.std.proofs.Common.{◌≡◌, ℕ, zero, suc, List, [], ◌∷◌, Bool, true, false, Option, Some, None, refl, sym, subst, ap, arith, ◌∙◌, if◌then◌else◌}
+use Rattle.std.proofs.Common.{◌≡◌, ℕ, suc, List, [], ◌∷◌, Bool, true, false, Option, Some, None, refl, sym, subst, arith, ◌∙◌, if◌then◌else◌}
 use Rattle.std.proofs.lemmas.Slice.Eq.{bytes_eq-Decides}
 use Rattle.std.specs.List.{find, slice_get}
 use Rattle.std.specs.Prelude.{nat_eq, ◌&&◌, bytes_eq, codes, encode_utf8_all, option_map, option_and_then}
@@ -8,7 +8,7 @@ use Rattle.app_cells.specs.declared.app.App.{App}
 use Rattle.app_cells.specs.declared.app.CellInfo.{CellInfo}
 use Rattle.app_semantics.specs.Sound.{IsCellOf, IsSound}
 use Rattle.fx_data.specs.TypeView.{shape}
-use Rattle.fx_data.specs.Types.{Shape, booleans, dates, numbers, tables, texts}
+use Rattle.fx_data.specs.Types.{Shape, tables}
 use Rattle.fx_data.specs.declared.controls.Control.TheVariants as control
 use Rattle.fx_data.specs.declared.controls.Control.{Control}
 use Rattle.fx_trees.specs.Controls.{input_type, is_items, property_type}

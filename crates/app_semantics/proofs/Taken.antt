@@ -1,5 +1,5 @@
 -- The tree of a formula that is evaluated: it reads no more than the formula's, and is as lawful.
-use Rattle.std.proofs.Common.{ℕ, suc, List, [], ◌++◌, Bool, true, false, not, inl, inr}
+use Rattle.std.proofs.Common.{ℕ, suc, List, [], Bool, true, false, not, inl, inr}
 use Rattle.std.specs.Prelude.{◌&&◌, if◌then◌else◌}
 use Rattle.app_semantics.proofs.Typings.{among_either, among_left, among_right}
 use Rattle.app_cells.specs.fx_plan.Sites.{count_of, deeper, is_first, is_query, opens}

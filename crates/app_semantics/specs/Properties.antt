@@ -4,7 +4,7 @@ use Rattle.app_cells.specs.Leaning.{cell_of_property}
 use Rattle.app_cells.specs.declared.app.CellInfo.{CellInfo}
 use Rattle.app_semantics.specs.Fresh.{IsValueOf}
 use Rattle.app_semantics.specs.Present.{Present, value_or}
-use Rattle.fx_data.specs.Values.{Data, blank, number, text, boolean, date, rec, tab, fault}
+use Rattle.fx_data.specs.Values.{Data, boolean}
 use Rattle.fx_trees.specs.declared.names.Names.{Names}
 
 -- the value of a control's property, by the bytes of its name, and another value where it isn't written

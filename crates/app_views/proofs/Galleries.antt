@@ -1,20 +1,19 @@
 -- The properties of the controls of a template.
-use Rattle.std.proofs.Common.{◌≡◌, ℕ, zero, suc, ◌<◌, List, [], ◌∷◌, length, get_or, true, false, Option, Some, None, refl, sym, subst, ap, ◌∙◌, arith}
+use Rattle.std.proofs.Common.{◌≡◌, ℕ, zero, suc, ◌<◌, List, [], ◌∷◌, length, get_or, true, Option, Some, None, refl, sym, subst, ap, ◌∙◌, arith}
 use Rattle.std.proofs.lemmas.List.Quantifiers.{position-Some}
 use Rattle.std.proofs.lemmas.Option.{get_or_from_slice_get, slice_get_within}
 use Rattle.std.specs.List.{position, slice_get}
 use Rattle.std.specs.Prelude.{bytes_eq, codes, option_map}
 use Rattle.recalc.specs.app_cells.Leaning.{cell_of_property, items_cell}
 use Rattle.recalc.specs.app_cells.declared.app.App.{App}
-use Rattle.recalc.specs.app_cells.declared.app.CellInfo.{CellInfo}
 use Rattle.recalc.proofs.of_app_semantics.CellTypes.{both_true, equal, found, items_have, property_found, type_by}
 use Rattle.recalc.specs.app_semantics.Present.{items_of, value_or}
-use Rattle.recalc.specs.app_semantics.Sound.{IsCellOf, IsSound}
+use Rattle.recalc.specs.app_semantics.Sound.{IsSound}
 use Rattle.app_views.specs.Galleries.{is_gallery, is_gallery_named}
-use Rattle.app_views.specs.Ready.{IsGalleryOf, IsItemOf, IsTemplateProperty}
+use Rattle.app_views.specs.Ready.{IsGalleryOf, IsItemOf}
 use Rattle.app_views.specs.Views.{is_in}
 use Rattle.fx_data.specs.TypeView.{shape}
-use Rattle.fx_data.specs.Types.{ColumnList, Shape, booleans, tables, texts}
+use Rattle.fx_data.specs.Types.{ColumnList, Shape, tables, texts}
 use Rattle.fx_data.specs.Values.{Data, no_rows, tab}
 use Rattle.fx_data.specs.declared.controls.Control.TheVariants as control
 use Rattle.fx_data.specs.declared.controls.Control.{Control}
@@ -32,19 +31,13 @@ use Rattle.fx_trees.specs.declared.names.Names.{Names}
 use Rattle.fx_typing.specs.Typing.{item_of}
 use Rattle.fx_value.specs.Fits.{fits_in}
 use Rattle.recalc.specs.Values.{CellsFit}
+use Rattle.recalc.specs.Templates.{IsTemplateProperty}
+use Rattle.recalc.proofs.ForItems.{in_gallery, template}
 
-is_in_gallery : (g : ℕ) (o : Option ℕ) → is_in g o ≡ true → o ≡ Some g
+-- a control of a template stands in its gallery
+pub is_in_gallery : (g : ℕ) (o : Option ℕ) → is_in g o ≡ true → o ≡ Some g
 is_in_gallery g (Some h) e = ap Some (equal h g e)
 is_in_gallery g None e = absurd cc
-
-visible_type : (c : Control) (items : Shape) → type_by items c (codes "Visible") ≡ Some booleans
-visible_type control.Label items = refl
-visible_type control.Button items = refl
-visible_type control.TextInput items = refl
-visible_type control.Slider items = refl
-visible_type control.Checkbox items = refl
-visible_type control.DatePicker items = refl
-visible_type control.Gallery items = refl
 
 text_type : (c : Control) (items : Shape) → has_property c (codes "Text") ≡ true → type_by items c (codes "Text") ≡ Some texts
 text_type control.Label items h = refl
@@ -65,39 +58,16 @@ has_it a k d name c s e there =
     let has : Has at.property.name (Some c) = subst (Has at.property.name) control place in
     subst (λ x. has_property c.kind x ≡ true) at.name_is has
 
-template : (a : App) (g : ℕ) (o : Option ℕ) → ((d : ℕ) → o ≡ Some d → (t : Shape) × IsCellOf a.cells d (Some g) t) → IsTemplateProperty a g o
-template a g (Some d) h = h d refl
-template a g None h = tt
-
-in_gallery : (a : App) (g d : ℕ) (c : ControlName) (t : Shape) → is_in g c.gallery ≡ true → IsCellOf a.cells d c.gallery t → (u : Shape) × IsCellOf a.cells d (Some g) u
-in_gallery a g d c t i h = (t, subst (λ o. IsCellOf a.cells d o t) (is_in_gallery g c.gallery i) h)
-
-pub visible_for : (a : App) (g k : ℕ) (c : ControlName) → IsSound a → slice_get a.names.controls k ≡ Some c → is_in g c.gallery ≡ true → IsTemplateProperty a g (cell_of_property a.names k (codes "Visible"))
-visible_for a g k c s there i =
-    template a g (cell_of_property a.names k (codes "Visible")) (λ d e. in_gallery a g d c booleans i (property_found a k (codes "Visible") d c booleans s e there (visible_type c.kind (shape c.items))))
-
 pub text_for : (a : App) (g k : ℕ) (c : ControlName) → IsSound a → slice_get a.names.controls k ≡ Some c → is_in g c.gallery ≡ true → IsTemplateProperty a g (cell_of_property a.names k (codes "Text"))
 text_for a g k c s there i =
-    template a g (cell_of_property a.names k (codes "Text")) (λ d e. in_gallery a g d c texts i
+    template a g (cell_of_property a.names k (codes "Text")) (λ d e. in_gallery a g d c.gallery texts (is_in_gallery g c.gallery i)
     (property_found a k (codes "Text") d c texts s e there (text_type c.kind (shape c.items) (has_it a k d (codes "Text") c s e there))))
 
--- an item fits where a formula of the template sees it
-pub item_fits : (n : Names) (g : ℕ) (r : Row) (o : Option ℕ) → o ≡ Some g → IsItemOf n g r → IsItemFit (Some (record_of r)) (item_of n o)
-item_fits n g r o e h =
+-- an item fits what the formulas of the template see
+pub item_fits : (n : Names) (g : ℕ) (r : Row) → IsItemOf n g r → IsItemFit (Some (record_of r)) (item_of n (Some g))
+item_fits n g r h =
     let type : item_of n (Some g) ≡ Some (item_type h.0) = ap (λ p. option_map item_type p) (h.1).there in
-    subst (λ q. IsItemFit (Some (record_of r)) (item_of n q)) (sym e) (subst (λ t. IsItemFit (Some (record_of r)) t) (sym type) h.2)
-
-same_info : (c d : CellInfo) (o : Option CellInfo) → o ≡ Some c → o ≡ Some d → c ≡ d
-same_info c d o e f = cc
-
--- the cell of a template's property doesn't act, and sees the gallery's item
-pub template_cell : (a : App) (g k : ℕ) (c : CellInfo) → IsTemplateProperty a g (Some k) → slice_get a.cells k ≡ Some c → (c.cell.acts ≡ false) × (c.cell.item ≡ Some g)
-template_cell a g k c h there =
-    let same : (h.1).cell ≡ c = same_info (h.1).cell c (slice_get a.cells k) (h.1).there there in
-    (subst (λ (x : CellInfo). x.cell.acts ≡ false) same (h.1).quiet, subst (λ (x : CellInfo). x.cell.item ≡ Some g) same (h.1).item)
-
-pub template_there : (a : App) (g k : ℕ) → IsTemplateProperty a g (Some k) → k < length a.cells
-template_there a g k h = slice_get_within a.cells k (h.1).cell (h.1).there
+    subst (λ t. IsItemFit (Some (record_of r)) t) (sym type) h.2
 
 -- ---- a gallery by its name
 pub gallery_kind : (c : Control) → is_gallery c ≡ true → c ≡ control.Gallery

@@ -1,71 +1,29 @@
 -- A session has one view, and a gallery one list of items.
 use Rattle.std.proofs.Common.{◌≡◌, ℕ, suc, List, [], ◌∷◌, Bool, true, false, codes, max, take, drop, ◌-◌, Option, Some, None, refl, sym, subst, ap, ◌∙◌}
 use Rattle.std.specs.List.{slice_get}
-use Rattle.recalc.specs.app_cells.Leaning.{cell_of_property}
-use Rattle.recalc.specs.app_cells.declared.app.CellInfo.{CellInfo}
-use Rattle.recalc.proofs.of_app_semantics.Freshness.{fresh_fits, given_in, given_told, taken, today_is, where_told}
-use Rattle.recalc.specs.app_semantics.Fresh.{AreKnown, IsFresh, IsValueOf, is_told, standing}
+use Rattle.recalc.proofs.of_app_semantics.Freshness.{fresh_fits}
+use Rattle.recalc.specs.app_semantics.Fresh.{AreKnown, IsFresh}
 use Rattle.recalc.specs.app_semantics.Holding.{HoldsFitting}
 use Rattle.recalc.specs.app_semantics.Laws.{OneFresh}
 use Rattle.recalc.specs.app_semantics.Present.{Present, items_of}
-use Rattle.recalc.specs.app_semantics.Properties.{IsForItem, IsPropertyForItem, is_true}
-use Rattle.recalc.specs.app_semantics.Sound.{IsSound, IsSoundCell}
-use Rattle.recalc.specs.app_semantics.Telling.{told_on}
+use Rattle.recalc.specs.app_semantics.Properties.{is_true}
+use Rattle.recalc.specs.app_semantics.Sound.{IsSound}
 use Rattle.app_views.specs.Laws.{OneItems, OneView}
 use Rattle.app_views.specs.Views.{AreGiven, AreItemsFrom, AreItemsUnless, AreRowItems, AreSeenItems, IsItemAt, IsItemControl, IsShown, IsShownControl, IsShownFor, IsView, ShowsFirstItems, fault_in, is_seen_at, is_shown, put}
 use Rattle.fx_data.specs.Values.{Data, text, boolean}
 use Rattle.fx_data.specs.declared.faults.Fault.{Fault}
 use Rattle.fx_data.specs.declared.controls.Control.TheVariants as control
 use Rattle.fx_data.specs.declared.controls.Control.{Control}
-use Rattle.recalc.proofs.of_fx_semantics.Wider.{stays}
 use Rattle.recalc.specs.fx_semantics.Around.{record_of}
 use Rattle.recalc.specs.fx_semantics.Rows.{rows_in}
-use Rattle.recalc.specs.fx_semantics.Sources.{Gives as GivesTold}
 use Rattle.recalc.specs.fx_semantics.Unique.{OneValue}
 use Rattle.fx_value.specs.Columns.{Row}
-use Rattle.fx_trees.specs.SourceTypes.{sources}
 use Rattle.fx_trees.specs.declared.names.ControlName.{ControlName}
-use Rattle.fx_trees.specs.declared.sources.Source.{Source}
-use Rattle.recalc.specs.Values.{CellsFit}
+use Rattle.recalc.proofs.ForItems.{Ground, property_one}
 use Rattle.view_text.specs.declared.views.ItemControl.{ItemControl}
 use Rattle.view_text.specs.declared.views.Items.{Items}
 use Rattle.view_text.specs.declared.views.Shown.{Shown}
 use Rattle.view_text.specs.declared.views.View.{View}
-
--- ---- values for items
-
--- what the laws of values and of fresh values need
-record Ground (p : Present) (values : ℕ → Data) : Type 0 where
-  one : OneValue
-  sound : IsSound p.app
-  holds : HoldsFitting p.app.names p.session
-  known : AreKnown p.app p.tables
-  fits : CellsFit p.app values
-
-value_one : (p : Present) (values : ℕ → Data) (item : Data) (k : ℕ) (c : CellInfo) (v w : Data) → Ground p values → slice_get p.app.cells k ≡ Some c →
-    IsValueOf p values (Some item) c v → IsValueOf p values (Some item) c w → v ≡ w
-value_one p values item k c v w g there x y =
-    let day = today_is p.moment in
-    let T : Source → Data = told_on day.0 p.app.names p.session p.tables values in
-    let sound : IsSoundCell p.app.names c = g.sound.cells k c there in
-    let told : is_told p.tables c.reads ≡ true = g.known.told k c there in
-    g.one (sources p.app.names) T [] (Some item) None (taken p c) v w
-    (stays (GivesTold (sources p.app.names) (Some T)) (taken p c) (standing p values c.reads (Some item)) v
-    (λ r d q. (given_in p values c r d g.sound g.holds g.known.fit sound (λ s among e f behind at. g.fits e f at) q.0 q.1, given_told p values day.0 r d day.1 q.1)) (where_told _ (is_told p.tables c.reads) told x))
-    (stays (GivesTold (sources p.app.names) (Some T)) (taken p c) (standing p values c.reads (Some item)) w
-    (λ r d q. (given_in p values c r d g.sound g.holds g.known.fit sound (λ s among e f behind at. g.fits e f at) q.0 q.1, given_told p values day.0 r d day.1 q.1)) (where_told _ (is_told p.tables c.reads) told y))
-
-same_info : (c d : CellInfo) (o : Option CellInfo) → o ≡ Some c → o ≡ Some d → d ≡ c
-same_info c d o e f = cc
-
-for_item_one : (p : Present) (values : ℕ → Data) (item unwritten : Data) (o : Option ℕ) (v w : Data) → Ground p values → IsForItem p values item unwritten o v → IsForItem p values item unwritten o w → v ≡ w
-for_item_one p values item unwritten None v w g h j = h ∙ sym j
-for_item_one p values item unwritten (Some k) v w g h j =
-    value_one p values item k h.0 v w g h.1 h.2 (subst (λ (c : CellInfo). IsValueOf p values (Some item) c w) (same_info h.0 j.0 (slice_get p.app.cells k) h.1 j.1) j.2)
-
-property_one : (p : Present) (values : ℕ → Data) (item : Data) (k : ℕ) (name : List ℕ) (unwritten v w : Data) → Ground p values →
-    IsPropertyForItem p values item k name unwritten v → IsPropertyForItem p values item k name unwritten w → v ≡ w
-property_one p values item k name unwritten v w g h j = for_item_one p values item unwritten (cell_of_property p.app.names k name) v w g h j
 
 -- ---- lists of what is given
 

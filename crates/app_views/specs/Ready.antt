@@ -1,9 +1,8 @@
 -- What views are made of.
-use Rattle.std.specs.Prelude.{◌≡◌, ℕ, true, Option, Some, None, slice_get}
+use Rattle.std.specs.Prelude.{◌≡◌, ℕ, true, Some, slice_get}
 use Rattle.recalc.specs.app_cells.declared.app.App.{App}
 use Rattle.recalc.specs.app_semantics.Holding.{HoldsFitting}
-use Rattle.recalc.specs.app_semantics.Sound.{IsCellOf, IsSound}
-use Rattle.fx_data.specs.Types.{Shape}
+use Rattle.recalc.specs.app_semantics.Sound.{IsSound}
 use Rattle.fx_data.specs.declared.controls.Control.TheVariants as control
 use Rattle.fx_scalar.specs.ScalarFunctions.{IsToday}
 use Rattle.recalc.specs.fx_semantics.Around.{record_of}
@@ -33,8 +32,3 @@ IsGalleryOf n g = (c : ControlName) × IsGalleryAt n g c
 -- a row is an item of the gallery of this number
 abbrev pub IsItemOf : Names → ℕ → Row → Type 0
 IsItemOf n g r = (c : ControlName) × IsGalleryAt n g c × (fits_in (record_of r) (item_type c) ≡ true)
-
--- a property of the control of a template, where it is written, is the formula of a cell that sees the gallery's item
-abbrev pub IsTemplateProperty : App → ℕ → Option ℕ → Type 0
-IsTemplateProperty a g None = Unit {0}
-IsTemplateProperty a g (Some d) = (t : Shape) × IsCellOf a.cells d (Some g) t

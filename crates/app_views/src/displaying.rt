@@ -1,5 +1,5 @@
 // The properties that controls show.
-ghost use Rattle.std.specs.Prelude.{◌≡◌, ◌∷◌, [], IfOk, Some, codes, map, pos, slice_get};
+ghost use Rattle.std.specs.Prelude.{◌≡◌, ◌∷◌, [], IfOk, Some, codes, pos, slice_get};
 ghost use Rattle.recalc.specs.app_semantics.Holding.{HoldsFitting};
 ghost use Rattle.recalc.specs.app_semantics.Properties as properties;
 ghost use Rattle.app_views.specs.Views as views;
@@ -7,7 +7,6 @@ ghost use Rattle.fx_data.specs.ValueView.{view};
 ghost use Rattle.fx_data.specs.declared.controls.Control.TheVariants as kinds;
 ghost use Rattle.fx_data.specs.Values.{number as number_data, text as text_data};
 ghost use Rattle.fx_trees.specs.declared.sources.Source.TheVariants as source;
-ghost use Rattle.recalc.specs.Reading.{cell_value};
 ghost use Rattle.recalc.specs.Values.{value_of};
 ghost use Rattle.session_state.specs.Sessions.{Holds};
 
@@ -16,16 +15,9 @@ use fx_data::{Control, Fields, Value, Words};
 use fx_number::Num;
 use fx_trees::Names;
 use fx_trees::names::ControlName;
-use recalc::{Valued, cell_of_property};
+use recalc::{Valued, cell_of_property, is_visible};
 use session_state::Session;
 use std::alloc::Global;
-
-/// Whether a value is true.
-pub(crate) fn is_true(value: &Value) -> bool
-    ensures { result ≡ properties.is_true (view value.now) }
-{
-    matches!(value, Value::Boolean(true))
-}
 
 /// An empty text.
 pub(crate) fn no_text(alloc: Global) -> Result<Value, Memory>
@@ -98,26 +90,6 @@ fn property(
     }
 }
 
-// Whether the value of a cell is true.
-fn is_true_at(values: &[Value], cell: u32) -> bool
-    ensures { result ≡ properties.is_true (cell_value (map view values.now) cell) }
-{
-    match values.get(cell as usize) {
-        Some(value) => is_true(value),
-        None => false,
-    }
-}
-
-// Whether a control is visible by itself.
-fn is_visible(names: &Names, valued: &Valued, control: u32) -> bool
-    ensures { result ≡ properties.is_visible names.now (value_of valued.now) control }
-{
-    match cell_of_property(names, control, "Visible") {
-        Some(cell) => is_true_at(valued.as_slice(), cell),
-        None => true,
-    }
-}
-
 /// Whether a control stands on the current screen, and is visible.
 pub(crate) fn is_seen(
     names: &Names,
@@ -128,7 +100,8 @@ pub(crate) fn is_seen(
 ) -> bool
     ensures { result ≡ views.is_seen names.now session.now (value_of valued.now) number control.now }
 {
-    control.screen == session.screen() && is_visible(names, valued, number)
+    let values = valued.as_slice();
+    control.screen == session.screen() && is_visible(names, values, number)
 }
 
 // What a slider goes from where nothing is written, and what it goes to.

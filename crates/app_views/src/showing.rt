@@ -47,8 +47,8 @@ pub fn show_view<K: Keeper, L: Ledger>(
     ensures done { IfOk result (λ r. ShowsView (IsLost (K.marks keeper.old) (K.marks keeper.new)) moment app.now name.now sessions.now (K.told keeper.old) (said r) (K.told keeper.new)) }
     ensures whole { IfOk result IsReply }
     ensures reached { IsErrOf result Failed → ReachesView name.now sessions.now }
-    ensures read { HasRead (keeping (K.told keeper.old) (K.shaped keeper.old) (K.in_transaction keeper.old) (K.marks keeper.old) (K.loan keeper.old))
-        (keeping (K.told keeper.new) (K.shaped keeper.new) (K.in_transaction keeper.new) (K.marks keeper.new) (K.loan keeper.new)) }
+    ensures read { HasRead (keeping (K.told keeper.old) (K.began keeper.old) (K.shaped keeper.old) (K.in_transaction keeper.old) (K.marks keeper.old) (K.visited keeper.old) (K.loan keeper.old))
+        (keeping (K.told keeper.new) (K.began keeper.new) (K.shaped keeper.new) (K.in_transaction keeper.new) (K.marks keeper.new) (K.visited keeper.new) (K.loan keeper.new)) }
     ensures cause { HasCause (K.marks keeper.old) (K.marks keeper.new) result }
 {
     match place_of(sessions, name) {
@@ -71,8 +71,8 @@ fn show_view_to<K: Keeper, L: Ledger>(
     requires shaped { K.shaped keeper.old ≡ Some app.now.names.schema }
     ensures done { IfOk result (λ r. ShowsViewTo (IsLost (K.marks keeper.old) (K.marks keeper.new)) app.now moment (Some session.now) (K.told keeper.old) (said r) (K.told keeper.new)) }
     ensures whole { IfOk result IsReply }
-    ensures read { HasRead (keeping (K.told keeper.old) (K.shaped keeper.old) (K.in_transaction keeper.old) (K.marks keeper.old) (K.loan keeper.old))
-        (keeping (K.told keeper.new) (K.shaped keeper.new) (K.in_transaction keeper.new) (K.marks keeper.new) (K.loan keeper.new)) }
+    ensures read { HasRead (keeping (K.told keeper.old) (K.began keeper.old) (K.shaped keeper.old) (K.in_transaction keeper.old) (K.marks keeper.old) (K.visited keeper.old) (K.loan keeper.old))
+        (keeping (K.told keeper.new) (K.began keeper.new) (K.shaped keeper.new) (K.in_transaction keeper.new) (K.marks keeper.new) (K.visited keeper.new) (K.loan keeper.new)) }
     ensures cause { HasCause (K.marks keeper.old) (K.marks keeper.new) result }
 {
     fitting_holds();
@@ -110,8 +110,8 @@ pub fn show_items<K: Keeper, L: Ledger>(
     ensures done { IfOk result (λ r. ShowsItems (IsLost (K.marks keeper.old) (K.marks keeper.new)) moment app.now name.now gallery.now from sessions.now (K.told keeper.old) (said r) (K.told keeper.new)) }
     ensures whole { IfOk result IsReply }
     ensures reached { IsErrOf result Failed → ReachesItems app.now name.now gallery.now sessions.now }
-    ensures read { HasRead (keeping (K.told keeper.old) (K.shaped keeper.old) (K.in_transaction keeper.old) (K.marks keeper.old) (K.loan keeper.old))
-        (keeping (K.told keeper.new) (K.shaped keeper.new) (K.in_transaction keeper.new) (K.marks keeper.new) (K.loan keeper.new)) }
+    ensures read { HasRead (keeping (K.told keeper.old) (K.began keeper.old) (K.shaped keeper.old) (K.in_transaction keeper.old) (K.marks keeper.old) (K.visited keeper.old) (K.loan keeper.old))
+        (keeping (K.told keeper.new) (K.began keeper.new) (K.shaped keeper.new) (K.in_transaction keeper.new) (K.marks keeper.new) (K.visited keeper.new) (K.loan keeper.new)) }
     ensures cause { HasCause (K.marks keeper.old) (K.marks keeper.new) result }
 {
     match place_of(sessions, name) {
@@ -141,8 +141,8 @@ fn show_items_to<K: Keeper, L: Ledger>(
     ensures done { IfOk result (λ r. SaysItems (IsLost (K.marks keeper.old) (K.marks keeper.new)) (present app.now session.now (rows_told (K.told keeper.new)) moment) gallery.now from (K.told keeper.old) (said r) (K.told keeper.new)) }
     ensures whole { IfOk result IsReply }
     ensures reached { IsErrOf result Failed → IsSome (named_gallery gallery.now app.now.names) }
-    ensures read { HasRead (keeping (K.told keeper.old) (K.shaped keeper.old) (K.in_transaction keeper.old) (K.marks keeper.old) (K.loan keeper.old))
-        (keeping (K.told keeper.new) (K.shaped keeper.new) (K.in_transaction keeper.new) (K.marks keeper.new) (K.loan keeper.new)) }
+    ensures read { HasRead (keeping (K.told keeper.old) (K.began keeper.old) (K.shaped keeper.old) (K.in_transaction keeper.old) (K.marks keeper.old) (K.visited keeper.old) (K.loan keeper.old))
+        (keeping (K.told keeper.new) (K.began keeper.new) (K.shaped keeper.new) (K.in_transaction keeper.new) (K.marks keeper.new) (K.visited keeper.new) (K.loan keeper.new)) }
     ensures cause { HasCause (K.marks keeper.old) (K.marks keeper.new) result }
 {
     match gallery_named(&app.names, gallery) {
@@ -168,8 +168,8 @@ fn show_items_of<K: Keeper, L: Ledger>(
     requires shaped { K.shaped keeper.old ≡ Some app.now.names.schema }
     ensures done { IfOk result (λ r. SaysItemsOf (IsLost (K.marks keeper.old) (K.marks keeper.new)) (present app.now session.now (rows_told (K.told keeper.new)) moment) from (Some gallery) (K.told keeper.old) (said r) (K.told keeper.new)) }
     ensures whole { IfOk result IsReply }
-    ensures read { HasRead (keeping (K.told keeper.old) (K.shaped keeper.old) (K.in_transaction keeper.old) (K.marks keeper.old) (K.loan keeper.old))
-        (keeping (K.told keeper.new) (K.shaped keeper.new) (K.in_transaction keeper.new) (K.marks keeper.new) (K.loan keeper.new)) }
+    ensures read { HasRead (keeping (K.told keeper.old) (K.began keeper.old) (K.shaped keeper.old) (K.in_transaction keeper.old) (K.marks keeper.old) (K.visited keeper.old) (K.loan keeper.old))
+        (keeping (K.told keeper.new) (K.began keeper.new) (K.shaped keeper.new) (K.in_transaction keeper.new) (K.marks keeper.new) (K.visited keeper.new) (K.loan keeper.new)) }
     ensures cause { HasCause (K.marks keeper.old) (K.marks keeper.new) result }
 {
     fitting_holds();

@@ -1,14 +1,11 @@
 // The controls of a template, as they are for an item.
 ghost use Rattle.std.specs.Prelude.{◌≡◌, ◌++◌, ◌∷◌, [], ℕ, true, IfOk, OnOk, Some, codes, slice_get};
-ghost use Rattle.recalc.specs.app_cells.Leaning as leaning;
-ghost use Rattle.recalc.specs.app_cells.declared.app.CellInfo.{CellInfo as Info};
-ghost use Rattle.recalc.specs.app_semantics.Fresh.{IsValueOf};
 ghost use Rattle.recalc.specs.app_semantics.Present.{present};
-ghost use Rattle.recalc.specs.app_semantics.Properties.{IsPropertyForItem, is_true as is_true_of};
-ghost use Rattle.app_views.specs.Ready.{CanShow, IsItemOf, IsTemplateProperty};
+ghost use Rattle.recalc.specs.app_semantics.Properties.{IsPropertyForItem};
+ghost use Rattle.app_views.specs.Ready.{CanShow, IsItemOf};
 ghost use Rattle.app_views.specs.Views.{AreGiven, IsShownFor, is_in as is_in_of, put};
 ghost use Rattle.fx_data.specs.ValueView.{view};
-ghost use Rattle.fx_data.specs.Values.{Data, boolean, text as text_data};
+ghost use Rattle.fx_data.specs.Values.{text as text_data};
 ghost use Rattle.fx_scalar.specs.ScalarFunctions.{IsToday};
 ghost use Rattle.recalc.specs.fx_semantics.Around.{record_of};
 ghost use Rattle.recalc.specs.Asking.{HasRead, IsHeardOf, ToldRows, keeping};
@@ -16,11 +13,11 @@ ghost use Rattle.recalc.specs.Values.{value_of};
 ghost use Rattle.row_keeper.specs.Causes.{HasCause};
 
 use crate::app_cells::App;
-use crate::displaying::{is_true, no_text, text_alone};
+use crate::displaying::{no_text, text_alone};
 use fx_base::{InOrder, Memory};
 use fx_data::{Fields, Value};
 use fx_trees::names::ControlName;
-use recalc::{Steps, Valued, cell_of_property};
+use recalc::{Steps, Valued, is_visible_for_item, property_for_item};
 use row_keeper::{Keeper, KeeperEnd};
 use session_state::Session;
 use std::alloc::Global;
@@ -47,102 +44,6 @@ fn is_in(gallery: u32, control: &ControlName) -> bool
     }
 }
 
-// The value of a cell of a template for an item.
-#[tactic(auto, using(recalc::proofs::Asked::read_none, recalc::proofs::Asked::read_on))]
-fn cell_for_item<K: Keeper, L: Ledger>(
-    alloc: Global,
-    app: &App,
-    session: &Session,
-    keeper: &mut K,
-    valued: &Valued,
-    gallery: u32,
-    cell: u32,
-    row: &Fields,
-    steps: &mut Steps<L>,
-) -> Result<Value, KeeperEnd>
-    requires ready { CanShow app.now session.now valued.now }
-    requires cell { IsTemplateProperty app.now gallery (Some cell) }
-    requires row { IsItemOf app.now.names gallery row.now }
-    requires shaped { K.shaped keeper.old ≡ Some app.now.names.schema }
-    ensures shows { IfOk result (λ v. (moment : ℕ) (tables : ToldRows) → IsToday moment valued.now.day → IsHeardOf (K.told keeper.new) tables → (c : Info) × (slice_get app.now.cells cell ≡ Some c) × IsValueOf (present app.now session.now tables moment) (value_of valued.now) (Some (record_of row.now)) c (view v)) }
-    ensures read { HasRead (keeping (K.told keeper.old) (K.shaped keeper.old) (K.in_transaction keeper.old) (K.marks keeper.old) (K.loan keeper.old))
-        (keeping (K.told keeper.new) (K.shaped keeper.new) (K.in_transaction keeper.new) (K.marks keeper.new) (K.loan keeper.new)) }
-    ensures cause { HasCause (K.marks keeper.old) (K.marks keeper.new) result }
-{
-    match app.cells.get(cell as usize) {
-        Some(info) => {
-            let fields = row.copy(alloc)?;
-            let item = Value::Rec(fields);
-            valued.in_item(alloc, app, session, keeper, info, item, steps)
-        }
-        None => unreachable!(),
-    }
-}
-
-// The value of a property of a template's control for an item, and another where it isn't written.
-#[tactic(auto, using(recalc::proofs::Asked::read_none, recalc::proofs::Asked::read_on))]
-fn item_property<K: Keeper, L: Ledger>(
-    alloc: Global,
-    app: &App,
-    session: &Session,
-    keeper: &mut K,
-    valued: &Valued,
-    gallery: u32,
-    control: u32,
-    name: &str,
-    row: &Fields,
-    unwritten: Value,
-    steps: &mut Steps<L>,
-) -> Result<Value, KeeperEnd>
-    requires ready { CanShow app.now session.now valued.now }
-    requires property { IsTemplateProperty app.now gallery (leaning.cell_of_property app.now.names control name.now) }
-    requires row { IsItemOf app.now.names gallery row.now }
-    requires shaped { K.shaped keeper.old ≡ Some app.now.names.schema }
-    ensures shows { IfOk result (λ v. (moment : ℕ) (tables : ToldRows) → IsToday moment valued.now.day → IsHeardOf (K.told keeper.new) tables → IsPropertyForItem (present app.now session.now tables moment) (value_of valued.now) (record_of row.now) control name.now (view unwritten) (view v)) }
-    ensures read { HasRead (keeping (K.told keeper.old) (K.shaped keeper.old) (K.in_transaction keeper.old) (K.marks keeper.old) (K.loan keeper.old))
-        (keeping (K.told keeper.new) (K.shaped keeper.new) (K.in_transaction keeper.new) (K.marks keeper.new) (K.loan keeper.new)) }
-    ensures cause { HasCause (K.marks keeper.old) (K.marks keeper.new) result }
-{
-    match cell_of_property(&app.names, control, name) {
-        Some(cell) => cell_for_item(
-            alloc, app, session, keeper, valued, gallery, cell, row, steps,
-        ),
-        None => Ok(unwritten),
-    }
-}
-
-// Whether a control of a template is visible for an item.
-#[tactic(auto, using(recalc::proofs::Asked::read_none, recalc::proofs::Asked::read_on))]
-fn visible_for<K: Keeper, L: Ledger>(
-    alloc: Global,
-    app: &App,
-    session: &Session,
-    keeper: &mut K,
-    valued: &Valued,
-    gallery: u32,
-    number: u32,
-    control: &ControlName,
-    row: &Fields,
-    steps: &mut Steps<L>,
-) -> Result<bool, KeeperEnd>
-    requires ready { CanShow app.now session.now valued.now }
-    requires control { slice_get app.now.names.controls number ≡ Some control.now }
-    requires within { is_in_of gallery control.now.gallery ≡ true }
-    requires row { IsItemOf app.now.names gallery row.now }
-    requires shaped { K.shaped keeper.old ≡ Some app.now.names.schema }
-    ensures shows { IfOk result (λ b. (moment : ℕ) (tables : ToldRows) → IsToday moment valued.now.day → IsHeardOf (K.told keeper.new) tables →
-        (v : Data) × IsPropertyForItem (present app.now session.now tables moment) (value_of valued.now) (record_of row.now) number (codes "Visible") (boolean true) v × (b ≡ is_true_of v)) }
-    ensures read { HasRead (keeping (K.told keeper.old) (K.shaped keeper.old) (K.in_transaction keeper.old) (K.marks keeper.old) (K.loan keeper.old))
-        (keeping (K.told keeper.new) (K.shaped keeper.new) (K.in_transaction keeper.new) (K.marks keeper.new) (K.loan keeper.new)) }
-    ensures cause { HasCause (K.marks keeper.old) (K.marks keeper.new) result }
-{
-    let always = Value::Boolean(true);
-    let visible = item_property(
-        alloc, app, session, keeper, valued, gallery, number, "Visible", row, always, steps,
-    )?;
-    Ok(is_true(&visible))
-}
-
 // The text of a control of a template for an item.
 #[tactic(auto, using(recalc::proofs::Asked::read_none, recalc::proofs::Asked::read_on))]
 fn text_for<K: Keeper, L: Ledger>(
@@ -164,12 +65,12 @@ fn text_for<K: Keeper, L: Ledger>(
     requires shaped { K.shaped keeper.old ≡ Some app.now.names.schema }
     ensures shows { IfOk result (λ v. (moment : ℕ) (tables : ToldRows) → IsToday moment valued.now.day → IsHeardOf (K.told keeper.new) tables →
         IsPropertyForItem (present app.now session.now tables moment) (value_of valued.now) (record_of row.now) number (codes "Text") (text_data []) (view v)) }
-    ensures read { HasRead (keeping (K.told keeper.old) (K.shaped keeper.old) (K.in_transaction keeper.old) (K.marks keeper.old) (K.loan keeper.old))
-        (keeping (K.told keeper.new) (K.shaped keeper.new) (K.in_transaction keeper.new) (K.marks keeper.new) (K.loan keeper.new)) }
+    ensures read { HasRead (keeping (K.told keeper.old) (K.began keeper.old) (K.shaped keeper.old) (K.in_transaction keeper.old) (K.marks keeper.old) (K.visited keeper.old) (K.loan keeper.old))
+        (keeping (K.told keeper.new) (K.began keeper.new) (K.shaped keeper.new) (K.in_transaction keeper.new) (K.marks keeper.new) (K.visited keeper.new) (K.loan keeper.new)) }
     ensures cause { HasCause (K.marks keeper.old) (K.marks keeper.new) result }
 {
     let unwritten = no_text(alloc)?;
-    item_property(
+    property_for_item(
         alloc, app, session, keeper, valued, gallery, number, "Text", row, unwritten, steps,
     )
 }
@@ -210,12 +111,12 @@ fn template_control<K: Keeper, L: Ledger>(
     requires row { IsItemOf app.now.names gallery row.now }
     requires shaped { K.shaped keeper.old ≡ Some app.now.names.schema }
     ensures shows { IfOk result (λ o. (moment : ℕ) (tables : ToldRows) → IsToday moment valued.now.day → IsHeardOf (K.told keeper.new) tables → IsShownFor (present app.now session.now tables moment) (value_of valued.now) gallery (record_of row.now) number control.now o) }
-    ensures read { HasRead (keeping (K.told keeper.old) (K.shaped keeper.old) (K.in_transaction keeper.old) (K.marks keeper.old) (K.loan keeper.old))
-        (keeping (K.told keeper.new) (K.shaped keeper.new) (K.in_transaction keeper.new) (K.marks keeper.new) (K.loan keeper.new)) }
+    ensures read { HasRead (keeping (K.told keeper.old) (K.began keeper.old) (K.shaped keeper.old) (K.in_transaction keeper.old) (K.marks keeper.old) (K.visited keeper.old) (K.loan keeper.old))
+        (keeping (K.told keeper.new) (K.began keeper.new) (K.shaped keeper.new) (K.in_transaction keeper.new) (K.marks keeper.new) (K.visited keeper.new) (K.loan keeper.new)) }
     ensures cause { HasCause (K.marks keeper.old) (K.marks keeper.new) result }
 {
-    let visible = visible_for(
-        alloc, app, session, keeper, valued, gallery, number, control, row, steps,
+    let visible = is_visible_for_item(
+        alloc, app, session, keeper, valued, gallery, number, row, steps,
     )?;
     if visible {
         let text = text_for(
@@ -247,8 +148,8 @@ fn item_control<K: Keeper, L: Ledger>(
     requires row { IsItemOf app.now.names gallery row.now }
     requires shaped { K.shaped keeper.old ≡ Some app.now.names.schema }
     ensures shows { IfOk result (λ o. (moment : ℕ) (tables : ToldRows) → IsToday moment valued.now.day → IsHeardOf (K.told keeper.new) tables → IsShownFor (present app.now session.now tables moment) (value_of valued.now) gallery (record_of row.now) number control.now o) }
-    ensures read { HasRead (keeping (K.told keeper.old) (K.shaped keeper.old) (K.in_transaction keeper.old) (K.marks keeper.old) (K.loan keeper.old))
-        (keeping (K.told keeper.new) (K.shaped keeper.new) (K.in_transaction keeper.new) (K.marks keeper.new) (K.loan keeper.new)) }
+    ensures read { HasRead (keeping (K.told keeper.old) (K.began keeper.old) (K.shaped keeper.old) (K.in_transaction keeper.old) (K.marks keeper.old) (K.visited keeper.old) (K.loan keeper.old))
+        (keeping (K.told keeper.new) (K.began keeper.new) (K.shaped keeper.new) (K.in_transaction keeper.new) (K.marks keeper.new) (K.visited keeper.new) (K.loan keeper.new)) }
     ensures cause { HasCause (K.marks keeper.old) (K.marks keeper.new) result }
 {
     if is_in(gallery, control) {
@@ -276,8 +177,8 @@ pub(crate) fn item_controls<K: Keeper, L: Ledger>(
     requires row { IsItemOf app.now.names gallery row.now }
     requires shaped { K.shaped keeper.old ≡ Some app.now.names.schema }
     ensures shows { IfOk result (λ l. (moment : ℕ) (tables : ToldRows) → IsToday moment valued.now.day → IsHeardOf (K.told keeper.new) tables → AreGiven (IsShownFor (present app.now session.now tables moment) (value_of valued.now) gallery (record_of row.now)) 0 app.now.names.controls l) }
-    ensures read { HasRead (keeping (K.told keeper.old) (K.shaped keeper.old) (K.in_transaction keeper.old) (K.marks keeper.old) (K.loan keeper.old))
-        (keeping (K.told keeper.new) (K.shaped keeper.new) (K.in_transaction keeper.new) (K.marks keeper.new) (K.loan keeper.new)) }
+    ensures read { HasRead (keeping (K.told keeper.old) (K.began keeper.old) (K.shaped keeper.old) (K.in_transaction keeper.old) (K.marks keeper.old) (K.visited keeper.old) (K.loan keeper.old))
+        (keeping (K.told keeper.new) (K.began keeper.new) (K.shaped keeper.new) (K.in_transaction keeper.new) (K.marks keeper.new) (K.visited keeper.new) (K.loan keeper.new)) }
     ensures cause { HasCause (K.marks keeper.old) (K.marks keeper.new) result }
 {
     let mut shown = InOrder::new(alloc);

@@ -40,8 +40,8 @@ pub fn view_of<K: Keeper, L: Ledger>(
     requires screen { session.now.screen < length app.now.names.screens }
     requires shaped { K.shaped keeper.old ≡ Some app.now.names.schema }
     ensures shows { IfOk result (λ v. (tables : ToldRows) → IsHeardOf (K.told keeper.new) tables → IsFreshView (present app.now session.now tables moment) v) }
-    ensures read { HasRead (keeping (K.told keeper.old) (K.shaped keeper.old) (K.in_transaction keeper.old) (K.marks keeper.old) (K.loan keeper.old))
-        (keeping (K.told keeper.new) (K.shaped keeper.new) (K.in_transaction keeper.new) (K.marks keeper.new) (K.loan keeper.new)) }
+    ensures read { HasRead (keeping (K.told keeper.old) (K.began keeper.old) (K.shaped keeper.old) (K.in_transaction keeper.old) (K.marks keeper.old) (K.visited keeper.old) (K.loan keeper.old))
+        (keeping (K.told keeper.new) (K.began keeper.new) (K.shaped keeper.new) (K.in_transaction keeper.new) (K.marks keeper.new) (K.visited keeper.new) (K.loan keeper.new)) }
     ensures cause { HasCause (K.marks keeper.old) (K.marks keeper.new) result }
 {
     let valued = evaluate(alloc, app, session, keeper, moment, steps)?;
@@ -62,8 +62,8 @@ fn view_by<K: Keeper, L: Ledger>(
     requires screen { session.now.screen < length app.now.names.screens }
     requires shaped { K.shaped keeper.old ≡ Some app.now.names.schema }
     ensures shows { IfOk result (λ v. (moment : ℕ) (tables : ToldRows) → IsToday moment valued.now.day → IsHeardOf (K.told keeper.new) tables → IsView (present app.now session.now tables moment) (value_of valued.now) v) }
-    ensures read { HasRead (keeping (K.told keeper.old) (K.shaped keeper.old) (K.in_transaction keeper.old) (K.marks keeper.old) (K.loan keeper.old))
-        (keeping (K.told keeper.new) (K.shaped keeper.new) (K.in_transaction keeper.new) (K.marks keeper.new) (K.loan keeper.new)) }
+    ensures read { HasRead (keeping (K.told keeper.old) (K.began keeper.old) (K.shaped keeper.old) (K.in_transaction keeper.old) (K.marks keeper.old) (K.visited keeper.old) (K.loan keeper.old))
+        (keeping (K.told keeper.new) (K.began keeper.new) (K.shaped keeper.new) (K.in_transaction keeper.new) (K.marks keeper.new) (K.visited keeper.new) (K.loan keeper.new)) }
     ensures cause { HasCause (K.marks keeper.old) (K.marks keeper.new) result }
 {
     let shown = all_shown(alloc, app, session, keeper, valued, steps)?;
@@ -90,8 +90,8 @@ fn all_shown<K: Keeper, L: Ledger>(
     requires ready { CanShow app.now session.now valued.now }
     requires shaped { K.shaped keeper.old ≡ Some app.now.names.schema }
     ensures shows { IfOk result (λ l. (moment : ℕ) (tables : ToldRows) → IsToday moment valued.now.day → IsHeardOf (K.told keeper.new) tables → AreGiven (IsShown (present app.now session.now tables moment) (value_of valued.now)) 0 app.now.names.controls l) }
-    ensures read { HasRead (keeping (K.told keeper.old) (K.shaped keeper.old) (K.in_transaction keeper.old) (K.marks keeper.old) (K.loan keeper.old))
-        (keeping (K.told keeper.new) (K.shaped keeper.new) (K.in_transaction keeper.new) (K.marks keeper.new) (K.loan keeper.new)) }
+    ensures read { HasRead (keeping (K.told keeper.old) (K.began keeper.old) (K.shaped keeper.old) (K.in_transaction keeper.old) (K.marks keeper.old) (K.visited keeper.old) (K.loan keeper.old))
+        (keeping (K.told keeper.new) (K.began keeper.new) (K.shaped keeper.new) (K.in_transaction keeper.new) (K.marks keeper.new) (K.visited keeper.new) (K.loan keeper.new)) }
     ensures cause { HasCause (K.marks keeper.old) (K.marks keeper.new) result }
 {
     let mut shown = InOrder::new(alloc);
@@ -134,8 +134,8 @@ fn shown_control<K: Keeper, L: Ledger>(
     requires control { slice_get app.now.names.controls number ≡ Some control.now }
     requires shaped { K.shaped keeper.old ≡ Some app.now.names.schema }
     ensures shows { IfOk result (λ o. (moment : ℕ) (tables : ToldRows) → IsToday moment valued.now.day → IsHeardOf (K.told keeper.new) tables → IsShown (present app.now session.now tables moment) (value_of valued.now) number control.now o) }
-    ensures read { HasRead (keeping (K.told keeper.old) (K.shaped keeper.old) (K.in_transaction keeper.old) (K.marks keeper.old) (K.loan keeper.old))
-        (keeping (K.told keeper.new) (K.shaped keeper.new) (K.in_transaction keeper.new) (K.marks keeper.new) (K.loan keeper.new)) }
+    ensures read { HasRead (keeping (K.told keeper.old) (K.began keeper.old) (K.shaped keeper.old) (K.in_transaction keeper.old) (K.marks keeper.old) (K.visited keeper.old) (K.loan keeper.old))
+        (keeping (K.told keeper.new) (K.began keeper.new) (K.shaped keeper.new) (K.in_transaction keeper.new) (K.marks keeper.new) (K.visited keeper.new) (K.loan keeper.new)) }
     ensures cause { HasCause (K.marks keeper.old) (K.marks keeper.new) result }
 {
     if is_shown(&app.names, session, valued, number, control) {
@@ -162,8 +162,8 @@ fn shown_with<K: Keeper, L: Ledger>(
     requires control { slice_get app.now.names.controls number ≡ Some control.now }
     requires shaped { K.shaped keeper.old ≡ Some app.now.names.schema }
     ensures shows { IfOk result (λ s. (moment : ℕ) (tables : ToldRows) → IsToday moment valued.now.day → IsHeardOf (K.told keeper.new) tables → IsShownControl (present app.now session.now tables moment) (value_of valued.now) number control.now s) }
-    ensures read { HasRead (keeping (K.told keeper.old) (K.shaped keeper.old) (K.in_transaction keeper.old) (K.marks keeper.old) (K.loan keeper.old))
-        (keeping (K.told keeper.new) (K.shaped keeper.new) (K.in_transaction keeper.new) (K.marks keeper.new) (K.loan keeper.new)) }
+    ensures read { HasRead (keeping (K.told keeper.old) (K.began keeper.old) (K.shaped keeper.old) (K.in_transaction keeper.old) (K.marks keeper.old) (K.visited keeper.old) (K.loan keeper.old))
+        (keeping (K.told keeper.new) (K.began keeper.new) (K.shaped keeper.new) (K.in_transaction keeper.new) (K.marks keeper.new) (K.visited keeper.new) (K.loan keeper.new)) }
     ensures cause { HasCause (K.marks keeper.old) (K.marks keeper.new) result }
 {
     let items = shown_items(alloc, app, session, keeper, valued, number, control, steps)?;
@@ -194,8 +194,8 @@ fn shown_items<K: Keeper, L: Ledger>(
     requires control { slice_get app.now.names.controls number ≡ Some control.now }
     requires shaped { K.shaped keeper.old ≡ Some app.now.names.schema }
     ensures shows { IfOk result (λ o. (moment : ℕ) (tables : ToldRows) → IsToday moment valued.now.day → IsHeardOf (K.told keeper.new) tables → ShowsFirstItems (present app.now session.now tables moment) (value_of valued.now) number control.now.kind o) }
-    ensures read { HasRead (keeping (K.told keeper.old) (K.shaped keeper.old) (K.in_transaction keeper.old) (K.marks keeper.old) (K.loan keeper.old))
-        (keeping (K.told keeper.new) (K.shaped keeper.new) (K.in_transaction keeper.new) (K.marks keeper.new) (K.loan keeper.new)) }
+    ensures read { HasRead (keeping (K.told keeper.old) (K.began keeper.old) (K.shaped keeper.old) (K.in_transaction keeper.old) (K.marks keeper.old) (K.visited keeper.old) (K.loan keeper.old))
+        (keeping (K.told keeper.new) (K.began keeper.new) (K.shaped keeper.new) (K.in_transaction keeper.new) (K.marks keeper.new) (K.visited keeper.new) (K.loan keeper.new)) }
     ensures cause { HasCause (K.marks keeper.old) (K.marks keeper.new) result }
 {
     if is_gallery(control.kind) {

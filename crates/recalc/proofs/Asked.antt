@@ -18,15 +18,17 @@ stays lost (Some t) = refl
 
 -- no call
 pub read_none : (a : Keeping) → HasRead a a
-read_none a = record { told = stays (IsLost a.marks a.marks) a.told; shaped = refl; mode = refl; later = record { faults = omega arith; doubt = omega arith }; loan = refl }
+read_none a = record { told = stays (IsLost a.marks a.marks) a.told; began = stays (IsLost a.marks a.marks) a.began; shaped = refl; mode = refl; later = record { faults = omega arith; doubt = omega arith }; visited = omega arith; loan = refl }
 
 -- one after another
 pub read_on : (a b c : Keeping) → HasRead a b → HasRead b c → HasRead a c
 read_on a b c p q = record {
   told = goes_two Stays Stays Stays (λ x y z e f. f ∙ e) a.marks b.marks c.marks p.later q.later a.told b.told c.told p.told q.told;
+  began = goes_two Stays Stays Stays (λ x y z e f. f ∙ e) a.marks b.marks c.marks p.later q.later a.began b.began c.began p.began q.began;
   shaped = q.shaped ∙ p.shaped;
   mode = q.mode ∙ p.mode;
   later = later_then a.marks b.marks c.marks p.later q.later;
+  visited = omega arith;
   loan = q.loan ∙ p.loan;
 }
 

@@ -21,10 +21,10 @@ use Rattle.fx_trees.specs.declared.sources.Source.{Source}
 use Rattle.fx_value.specs.Fits.{fits_in}
 use Rattle.recalc.proofs.Tellings.{is_held, typed_fits}
 use Rattle.recalc.specs.Queries.{IsTableValue}
-use Rattle.recalc.specs.Reading.{cell_value, fixed_over, told_by, told_over, types_on, types_over}
+use Rattle.recalc.specs.Reading.{Kept, cell_value, fixed_over, told_by, told_over, types_over}
 use Rattle.row_keeper.specs.Tables.{Tables, rows_of, rows_told}
 use Rattle.row_queries.specs.Laws.{RowsFit}
-use Rattle.row_queries.specs.TableRows.{rows_at, table_of}
+use Rattle.row_queries.specs.TableRows.{table_of}
 use Rattle.row_queries.specs.declared.rows.Row.{Row}
 use Rattle.session_state.specs.Changes.{IsOwn}
 use Rattle.session_state.specs.Sessions.{Holds, SessionState}
@@ -49,30 +49,30 @@ pub table_there : (n : Names) (reads : List Source) (told : Source → Data) (x 
 table_there n reads told x k h e = some_shape (slice_get n.schema.tables k) (subst (λ y. IsSome (types_over n reads told y)) e h)
 
 -- the rows that are told are the keeper's
-pub tables_over : (day : Data) (n : Names) (s : SessionState) (values : List Data) (y : Option Tables) → tables_told (option_map (told_over day n s values) y) ≡ rows_told y
-tables_over day n s values None = refl
-tables_over day n s values (Some t) = refl
+pub tables_over : (day : Data) (n : Names) (s : SessionState) (values : List Data) (b y : Option Tables) → tables_told (option_map (told_over day n s values b) y) ≡ rows_told y
+tables_over day n s values b None = refl
+tables_over day n s values b (Some t) = refl
 
 -- each table may be read, and its value is that of its rows
-pub keeps_tables : (day : Data) (n : Names) (s : SessionState) (values : List Data) (reads : List Source) (told : Source → Data) (limit : ℕ) (loans : List (Option ℕ)) (mode : Bool) (y : Option Tables) →
-    IsLawfulSchema n.schema → KeepsTables (fixed_over n reads told limit loans mode) (option_map (told_over day n s values) y)
-keeps_tables day n s values reads told limit loans mode y lawful = record {
+pub keeps_tables : (day : Data) (n : Names) (s : SessionState) (values : List Data) (reads : List Source) (told : Source → Data) (limit : ℕ) (loans : List (Option ℕ)) (mode : Bool) (b y : Option Tables) →
+    IsLawfulSchema n.schema → KeepsTables (fixed_over n reads told limit loans mode) (option_map (told_over day n s values b) y)
+keeps_tables day n s values reads told limit loans mode b y lawful = record {
   lawful = lawful;
   read = λ k t e. ap (λ (o : Option TableShape). option_map (λ (x : TableShape). tables (columns_of x)) o) e;
   values = λ w e. by y w e;
 }
   where
-    by : (y : Option Tables) (w : Told Tables) → option_map (told_over day n s values) y ≡ Some w → AreValuesOf n.schema.tables w.values w.tables
+    by : (y : Option Tables) (w : Told Kept) → option_map (told_over day n s values b) y ≡ Some w → AreValuesOf n.schema.tables w.values w.tables
     by None w e = absurd cc
     by (Some a) w e =
-        let same : told_over day n s values a ≡ w = cc in
-        subst (λ (x : Told Tables). AreValuesOf n.schema.tables x.values x.tables) same (λ k t there. ap (λ (o : Option TableShape). table_told o (Some (rows_of a.states)) k) there)
+        let same : told_over day n s values b a ≡ w = cc in
+        subst (λ (x : Told Kept). AreValuesOf n.schema.tables x.values x.tables) same (λ k t there. ap (λ (o : Option TableShape). table_told o (Some (rows_of a.states)) k) there)
 
 -- what a table gives
-pub table_given : RowsFit → (day : Data) (n : Names) (s : SessionState) (values : List Data) (reads : List Source) (told : Source → Data) (y : Option Tables) (k : ℕ) (x : Source) (v : Data) →
-    IsLawfulSchema n.schema → x ≡ source.Table k → IsTableValue n.schema.tables (rows_told y) k v → Gives (types_over n reads told) (values_told (option_map (told_over day n s values) y)) x v
-table_given fit day n s values reads told y k x v lawful e h =
-    subst (λ z. Gives (types_over n reads told) (values_told (option_map (told_over day n s values) y)) z v) (sym e) (fits, by y h)
+pub table_given : RowsFit → (day : Data) (n : Names) (s : SessionState) (values : List Data) (reads : List Source) (told : Source → Data) (b y : Option Tables) (k : ℕ) (x : Source) (v : Data) →
+    IsLawfulSchema n.schema → x ≡ source.Table k → IsTableValue n.schema.tables (rows_told y) k v → Gives (types_over n reads told) (values_told (option_map (told_over day n s values b) y)) x v
+table_given fit day n s values reads told b y k x v lawful e h =
+    subst (λ z. Gives (types_over n reads told) (values_told (option_map (told_over day n s values b) y)) z v) (sym e) (fits, by y h)
   where
     shape_at : IsLawfulTable h.table
     shape_at = lawful_at n.schema.tables k h.table (recursion_from_All IsLawfulTable n.schema.tables lawful.2) h.is_table
@@ -83,7 +83,7 @@ table_given fit day n s values reads told y k x v lawful e h =
         subst (λ (o : Option Shape). FitsIn o v) (sym type)
         (subst (λ d. fits_in d (tables (columns_of h.table)) ≡ true) (sym h.is) (fit h.table h.rows shape_at (λ i d l. (h.held.1 i d l).0)))
 
-    by : (y : Option Tables) → IsTableValue n.schema.tables (rows_told y) k v → IsTold (values_told (option_map (told_over day n s values) y)) (source.Table k) v
+    by : (y : Option Tables) → IsTableValue n.schema.tables (rows_told y) k v → IsTold (values_told (option_map (told_over day n s values b) y)) (source.Table k) v
     by None t = tt
     by (Some a) t = t.is ∙ ap (table_of t.table) t.told_rows ∙ sym (ap (λ (o : Option TableShape). table_told o (Some (rows_of a.states)) k) t.is_table)
 
@@ -108,11 +108,11 @@ over_fits n reads told (source.Chosen k) u h = typed_fits n reads told (source.C
 over_fits n reads told (source.Table k) u h = absurd (u k refl)
 over_fits n reads told source.Today u h = typed_fits n reads told source.Today h
 
-pub other_given : (day : Data) (n : Names) (s : SessionState) (values : List Data) (reads : List Source) (y : Option Tables) (x : Source) (v : Data) → IsNoTable x →
-    IsSome (types_over n reads (told_by day n s values) x) → v ≡ told_by day n s values x → Gives (types_over n reads (told_by day n s values)) (values_told (option_map (told_over day n s values) y)) x v
-other_given day n s values reads y x v u h e =
+pub other_given : (day : Data) (n : Names) (s : SessionState) (values : List Data) (reads : List Source) (b y : Option Tables) (x : Source) (v : Data) → IsNoTable x →
+    IsSome (types_over n reads (told_by day n s values) x) → v ≡ told_by day n s values x → Gives (types_over n reads (told_by day n s values)) (values_told (option_map (told_over day n s values b) y)) x v
+other_given day n s values reads b y x v u h e =
     (subst (FitsIn (types_over n reads (told_by day n s values) x)) (sym e) (over_fits n reads (told_by day n s values) x u h), by y)
   where
-    by : (y : Option Tables) → IsTold (values_told (option_map (told_over day n s values) y)) x v
+    by : (y : Option Tables) → IsTold (values_told (option_map (told_over day n s values b) y)) x v
     by None = tt
     by (Some a) = e ∙ told_same day n s values (rows_of a.states) x u

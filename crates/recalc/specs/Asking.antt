@@ -1,5 +1,5 @@
 -- What calls that read rows leave of a keeper.
-use Rattle.std.specs.Prelude.{◌≡◌, ◌⊎◌, Bool, false, ℕ, List, Option, Some, slice_get}
+use Rattle.std.specs.Prelude.{◌≡◌, ◌⊎◌, ◌≤◌, Bool, false, ℕ, List, Option, Some, slice_get}
 use Rattle.app_semantics.specs.app_cells.declared.app.App.{App}
 use Rattle.app_semantics.specs.app_cells.declared.app.CellInfo.{CellInfo}
 use Rattle.app_semantics.specs.Fresh.{reads_table}
@@ -13,20 +13,24 @@ use Rattle.row_queries.specs.declared.rows.Row.{Row}
 -- a keeper as those see it who read its rows
 pub record Keeping : Type 0 where
   pub told : Option Tables
+  pub began : Option Tables
   pub shaped : Option Schema
   pub in_transaction : Bool
   pub marks : Marks
+  pub visited : ℕ
   pub loan : Option ℕ
 
-abbrev pub keeping : Option Tables → Option Schema → Bool → Marks → Option ℕ → Keeping
-keeping told shaped in_transaction marks loan = record { told = told; shaped = shaped; in_transaction = in_transaction; marks = marks; loan = loan }
+abbrev pub keeping : Option Tables → Option Tables → Option Schema → Bool → Marks → ℕ → Option ℕ → Keeping
+keeping told began shaped in_transaction marks visited loan = record { told = told; began = began; shaped = shaped; in_transaction = in_transaction; marks = marks; visited = visited; loan = loan }
 
 -- nothing changed, but that it may have fallen silent, and counted faults
 pub record HasRead (a b : Keeping) : Type 0 where
   pub told : Goes (IsLost a.marks b.marks) Stays a.told b.told
+  pub began : Goes (IsLost a.marks b.marks) Stays a.began b.began
   pub shaped : b.shaped ≡ a.shaped
   pub mode : b.in_transaction ≡ a.in_transaction
   pub later : IsLater a.marks b.marks
+  pub visited : a.visited ≤ b.visited
   pub loan : b.loan ≡ a.loan
 
 -- the rows of each table, where they are told

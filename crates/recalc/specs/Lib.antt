@@ -3,6 +3,7 @@ pub mod Reading
 pub mod Queries
 pub mod Stops
 pub mod Values
+pub mod Templates
 pub mod Schemas
 pub mod Asking
 pub use Rattle.app_semantics.specs.app_cells

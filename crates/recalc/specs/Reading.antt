@@ -63,6 +63,10 @@ abbrev pub fixed_over : Names → List Source → (Source → Data) → ℕ → 
 fixed_over n reads told limit loans in_transaction =
     record { types = types_over n reads told; schema = n.schema; limit = limit; loans = loans; in_transaction = in_transaction }
 
+-- all that a keeper tells: its tables, and what they were as its transaction began
+abbrev pub Kept : Type 0
+Kept = Tables × Option Tables
+
 -- the values of sources, tables among them, the rows of tables, and all that a keeper tells
-abbrev pub told_over : Data → Names → SessionState → List Data → Tables → Told Tables
-told_over day n s values t = record { values = told_on day n s (Some (rows_of t.states)) (cell_value values); tables = rows_of t.states; beside = t }
+abbrev pub told_over : Data → Names → SessionState → List Data → Option Tables → Tables → Told Kept
+told_over day n s values began t = record { values = told_on day n s (Some (rows_of t.states)) (cell_value values); tables = rows_of t.states; beside = (t, began) }

@@ -39,7 +39,7 @@ fn reads_table(reads: &[Source]) -> bool
 }
 
 /// Why a keeper's rows gave no value.
-fn end_of(stop: Stop) -> KeeperEnd
+pub fn end_of(stop: Stop) -> KeeperEnd
     ensures { result ≡ end_by stop }
 {
     match stop {
@@ -76,8 +76,8 @@ pub(crate) fn formula_value<K: Keeper, L: Ledger>(
         IsValueOf (present app.now session.now tables moment) (cell_value (map view values.now)) (option_map view item) info.now (view v)) }
     ensures fits { IfOk result (λ v. fits_in (view v) (shape info.now.ty) ≡ true) }
     ensures steps { IfOk result (λ v. steps.new ≡ steps.old + 1) }
-    ensures read { HasRead (keeping (K.told keeper.old) (K.shaped keeper.old) (K.in_transaction keeper.old) (K.marks keeper.old) (K.loan keeper.old))
-        (keeping (K.told keeper.new) (K.shaped keeper.new) (K.in_transaction keeper.new) (K.marks keeper.new) (K.loan keeper.new)) }
+    ensures read { HasRead (keeping (K.told keeper.old) (K.began keeper.old) (K.shaped keeper.old) (K.in_transaction keeper.old) (K.marks keeper.old) (K.visited keeper.old) (K.loan keeper.old))
+        (keeping (K.told keeper.new) (K.began keeper.new) (K.shaped keeper.new) (K.in_transaction keeper.new) (K.marks keeper.new) (K.visited keeper.new) (K.loan keeper.new)) }
     ensures cause { HasCause (K.marks keeper.old) (K.marks keeper.new) result }
     ensures alone { reads_any info.now.reads ≡ false → keeper.new ≡ keeper.old }
     ensures reached { IsErrOf result Failed → reads_any info.now.reads ≡ true }
@@ -166,8 +166,8 @@ fn value_over_rows<'a, K: Keeper, L: Ledger>(
         IsValueOf (present app.now session.now tables moment) (cell_value (map view values.now)) (option_map view item) info.now (view v)) }
     ensures fits { IfOk result (λ v. fits_in (view v) (shape info.now.ty) ≡ true) }
     ensures steps { IfOk result (λ v. steps.new ≡ steps.old + 1) }
-    ensures read { HasRead (keeping (K.told keeper.old) (K.shaped keeper.old) (K.in_transaction keeper.old) (K.marks keeper.old) (K.loan keeper.old))
-        (keeping (K.told keeper.new) (K.shaped keeper.new) (K.in_transaction keeper.new) (K.marks keeper.new) (K.loan keeper.new)) }
+    ensures read { HasRead (keeping (K.told keeper.old) (K.began keeper.old) (K.shaped keeper.old) (K.in_transaction keeper.old) (K.marks keeper.old) (K.visited keeper.old) (K.loan keeper.old))
+        (keeping (K.told keeper.new) (K.began keeper.new) (K.shaped keeper.new) (K.in_transaction keeper.new) (K.marks keeper.new) (K.visited keeper.new) (K.loan keeper.new)) }
     ensures cause { HasCause (K.marks keeper.old) (K.marks keeper.new) result }
 {
     let mut env = RowReading {

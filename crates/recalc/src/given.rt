@@ -15,7 +15,7 @@ use std::alloc::Global;
 
 /// The value of a source, where cells have these values: of one that is a session's own where the session holds it.
 #[tactic(auto, using(crate::proofs::Tellings::own_held, crate::proofs::Tellings::own_input))]
-pub(crate) fn given_value(
+pub fn given_value(
     alloc: Global,
     names: &Names,
     session: &Session,

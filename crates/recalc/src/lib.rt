@@ -2,20 +2,26 @@
 #![tactic(auto)]
 
 mod choosing;
-mod evaluating;
-mod given;
+pub mod evaluating;
+pub mod given;
 pub mod ids;
 mod reading;
-mod row_reading;
+pub mod row_reading;
 pub mod sources;
-mod tables;
+pub mod tables;
+pub mod templates;
 pub mod valued;
 
 pub use app_semantics;
 use app_semantics::app_cells;
+pub use evaluating::end_of;
 pub use fx_eval::Steps;
 use fx_eval::fx_plan;
 pub use fx_semantics;
+pub use given::given_value;
 pub use ids::{id_name, item_id};
+pub use row_reading::stop_of;
 pub use sources::cell_of_property;
+pub use tables::table_value;
+pub use templates::{is_true, is_visible, is_visible_for_item, property_for_item};
 pub use valued::{Valued, evaluate};

@@ -5,10 +5,9 @@ ghost use Rattle.app_semantics.specs.Holding.{HoldsFitting};
 ghost use Rattle.fx_data.specs.ValueView.{view};
 ghost use Rattle.fx_trees.specs.Lawful.{IsLawfulSchema};
 ghost use Rattle.recalc.specs.Holds.{holds_prop};
-ghost use Rattle.recalc.specs.Reading.{fixed_over, loans_of, told_by, told_over};
+ghost use Rattle.recalc.specs.Reading.{Kept, fixed_over, loans_of, told_by, told_over};
 ghost use Rattle.recalc.specs.Schemas.{schema_prop, shaped_prop};
 ghost use Rattle.recalc.specs.Stops.{stop_of as stop_by};
-ghost use Rattle.row_keeper.specs.Tables.{Tables};
 
 use crate::given::given_value;
 use crate::tables::table_value;
@@ -42,7 +41,7 @@ pub(crate) struct RowReading<'a, K: Keeper> {
 }
 
 /// Why an evaluation stops where the keeper gives no answer.
-fn stop_of(end: KeeperEnd) -> Stop
+pub fn stop_of(end: KeeperEnd) -> Stop
     ensures { result ≡ stop_by end }
 {
     match end {
@@ -52,11 +51,11 @@ fn stop_of(end: KeeperEnd) -> Stop
 }
 
 impl<K: Keeper> Env for RowReading<'_, K> {
-    ghost Beside = { Tables };
+    ghost Beside = { Kept };
 
     ghost fixed = { λ r. fixed_over r.names.now r.reads.now (told_by (view r.today.now) r.names.now r.session.now (map view r.values.now)) r.limit (loans_of r.keeper.ghost_name (K.loan r.keeper.now)) (K.in_transaction r.keeper.now) };
 
-    ghost told = { λ r. option_map (told_over (view r.today.now) r.names.now r.session.now (map view r.values.now)) (K.told r.keeper.now) };
+    ghost told = { λ r. option_map (told_over (view r.today.now) r.names.now r.session.now (map view r.values.now) (K.began r.keeper.now)) (K.told r.keeper.now) };
 
     ghost marks = { λ r. K.marks r.keeper.now };
 

@@ -36,7 +36,7 @@ fn whole_table(alloc: Global, table: u16) -> Result<Query, Memory>
 }
 
 /// The value of a table: all of its rows.
-pub(crate) fn table_value<K: Keeper>(
+pub fn table_value<K: Keeper>(
     alloc: Global,
     keeper: &mut K,
     schema: &Schema,
@@ -47,6 +47,7 @@ pub(crate) fn table_value<K: Keeper>(
     requires table { IsSome (slice_get schema.now.tables table) }
     ensures value { IfOk result (λ v. IsTableValue schema.now.tables (rows_told (K.told keeper.new)) table (view v)) }
     ensures told { Goes (IsLost (K.marks keeper.old) (K.marks keeper.new)) Stays (K.told keeper.old) (K.told keeper.new) }
+    ensures began { Goes (IsLost (K.marks keeper.old) (K.marks keeper.new)) Stays (K.began keeper.old) (K.began keeper.new) }
     ensures cause { HasCause (K.marks keeper.old) (K.marks keeper.new) result }
     ensures shaped { K.shaped keeper.new ≡ K.shaped keeper.old }
     ensures mode { K.in_transaction keeper.new ≡ K.in_transaction keeper.old }

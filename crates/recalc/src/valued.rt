@@ -127,8 +127,8 @@ impl Valued {
             IsValueOf (present app.now session.now tables moment) (value_of self.now) (Some (view item)) info.now (view v)) }
         ensures fits { IfOk result (λ v. fits_in (view v) (shape info.now.ty) ≡ true) }
         ensures steps { IfOk result (λ v. steps.new ≡ steps.old + 1) }
-        ensures read { HasRead (keeping (K.told keeper.old) (K.shaped keeper.old) (K.in_transaction keeper.old) (K.marks keeper.old) (K.loan keeper.old))
-            (keeping (K.told keeper.new) (K.shaped keeper.new) (K.in_transaction keeper.new) (K.marks keeper.new) (K.loan keeper.new)) }
+        ensures read { HasRead (keeping (K.told keeper.old) (K.began keeper.old) (K.shaped keeper.old) (K.in_transaction keeper.old) (K.marks keeper.old) (K.visited keeper.old) (K.loan keeper.old))
+            (keeping (K.told keeper.new) (K.began keeper.new) (K.shaped keeper.new) (K.in_transaction keeper.new) (K.marks keeper.new) (K.visited keeper.new) (K.loan keeper.new)) }
         ensures cause { HasCause (K.marks keeper.old) (K.marks keeper.new) result }
     {
         let values = self.values.as_slice();
@@ -166,8 +166,8 @@ pub fn evaluate<K: Keeper, L: Ledger>(
     ensures fits { IfOk result (λ v. CellsFit app.now (value_of v)) }
     ensures day { IfOk result (λ v. IsToday moment v.day) }
     ensures steps { IfOk result (λ v. steps.new ≡ steps.old + count_by (is_alone app.now.cells) app.now.order) }
-    ensures read { HasRead (keeping (K.told keeper.old) (K.shaped keeper.old) (K.in_transaction keeper.old) (K.marks keeper.old) (K.loan keeper.old))
-        (keeping (K.told keeper.new) (K.shaped keeper.new) (K.in_transaction keeper.new) (K.marks keeper.new) (K.loan keeper.new)) }
+    ensures read { HasRead (keeping (K.told keeper.old) (K.began keeper.old) (K.shaped keeper.old) (K.in_transaction keeper.old) (K.marks keeper.old) (K.visited keeper.old) (K.loan keeper.old))
+        (keeping (K.told keeper.new) (K.began keeper.new) (K.shaped keeper.new) (K.in_transaction keeper.new) (K.marks keeper.new) (K.visited keeper.new) (K.loan keeper.new)) }
     ensures cause { HasCause (K.marks keeper.old) (K.marks keeper.new) result }
     ensures alone { ReadsNone app.now → keeper.new ≡ keeper.old }
     ensures reached { IsErrOf result Failed → ReadsNone app.now → ⊥ }
@@ -196,8 +196,8 @@ fn keep_values<K: Keeper, L: Ledger>(
     ensures long { IfOk result (λ v. length v.items ≡ length app.now.cells) }
     ensures fits { IfOk result (λ v. CellsFit app.now (cell_value (map view v.items))) }
     ensures steps { IfOk result (λ v. steps.new ≡ steps.old + count_by (is_alone app.now.cells) app.now.order) }
-    ensures read { HasRead (keeping (K.told keeper.old) (K.shaped keeper.old) (K.in_transaction keeper.old) (K.marks keeper.old) (K.loan keeper.old))
-        (keeping (K.told keeper.new) (K.shaped keeper.new) (K.in_transaction keeper.new) (K.marks keeper.new) (K.loan keeper.new)) }
+    ensures read { HasRead (keeping (K.told keeper.old) (K.began keeper.old) (K.shaped keeper.old) (K.in_transaction keeper.old) (K.marks keeper.old) (K.visited keeper.old) (K.loan keeper.old))
+        (keeping (K.told keeper.new) (K.began keeper.new) (K.shaped keeper.new) (K.in_transaction keeper.new) (K.marks keeper.new) (K.visited keeper.new) (K.loan keeper.new)) }
     ensures cause { HasCause (K.marks keeper.old) (K.marks keeper.new) result }
     ensures alone { ReadsNone app.now → keeper.new ≡ keeper.old }
     ensures reached { IsErrOf result Failed → ReadsNone app.now → ⊥ }
@@ -263,8 +263,8 @@ fn keep_value<K: Keeper, L: Ledger>(
     ensures value { OnOk result ((moment : ℕ) (tables : ToldRows) (c : Info) → IsToday moment (view day.now) → IsHeardOf (K.told keeper.new) tables → slice_get app.now.cells number ≡ Some c →
         IsCellValue (present app.now session.now tables moment) (cell_value (map view values.old.items)) c (cell_value (map view values.new.items) number)) }
     ensures steps { OnOk result (steps.new ≡ steps.old + (if is_alone app.now.cells number then 1 else 0)) }
-    ensures read { HasRead (keeping (K.told keeper.old) (K.shaped keeper.old) (K.in_transaction keeper.old) (K.marks keeper.old) (K.loan keeper.old))
-        (keeping (K.told keeper.new) (K.shaped keeper.new) (K.in_transaction keeper.new) (K.marks keeper.new) (K.loan keeper.new)) }
+    ensures read { HasRead (keeping (K.told keeper.old) (K.began keeper.old) (K.shaped keeper.old) (K.in_transaction keeper.old) (K.marks keeper.old) (K.visited keeper.old) (K.loan keeper.old))
+        (keeping (K.told keeper.new) (K.began keeper.new) (K.shaped keeper.new) (K.in_transaction keeper.new) (K.marks keeper.new) (K.visited keeper.new) (K.loan keeper.new)) }
     ensures cause { HasCause (K.marks keeper.old) (K.marks keeper.new) result }
     ensures alone { ReadsNone app.now → keeper.new ≡ keeper.old }
     ensures reached { IsErrOf result Failed → ReadsNone app.now → ⊥ }
@@ -305,8 +305,8 @@ fn keep_formula<K: Keeper, L: Ledger>(
     ensures value { OnOk result ((moment : ℕ) (tables : ToldRows) → IsToday moment (view day.now) → IsHeardOf (K.told keeper.new) tables →
         IsCellValue (present app.now session.now tables moment) (cell_value (map view values.old.items)) info.now (cell_value (map view values.new.items) number)) }
     ensures steps { OnOk result (steps.new ≡ steps.old + (if is_by_itself info.now then 1 else 0)) }
-    ensures read { HasRead (keeping (K.told keeper.old) (K.shaped keeper.old) (K.in_transaction keeper.old) (K.marks keeper.old) (K.loan keeper.old))
-        (keeping (K.told keeper.new) (K.shaped keeper.new) (K.in_transaction keeper.new) (K.marks keeper.new) (K.loan keeper.new)) }
+    ensures read { HasRead (keeping (K.told keeper.old) (K.began keeper.old) (K.shaped keeper.old) (K.in_transaction keeper.old) (K.marks keeper.old) (K.visited keeper.old) (K.loan keeper.old))
+        (keeping (K.told keeper.new) (K.began keeper.new) (K.shaped keeper.new) (K.in_transaction keeper.new) (K.marks keeper.new) (K.visited keeper.new) (K.loan keeper.new)) }
     ensures cause { HasCause (K.marks keeper.old) (K.marks keeper.new) result }
     ensures alone { ReadsNone app.now → keeper.new ≡ keeper.old }
     ensures reached { IsErrOf result Failed → ReadsNone app.now → ⊥ }

@@ -88,6 +88,7 @@ fits_answered n s seq body f =
       controls = f.controls;
       sources_held = λ x t own e. still_holds s k x (f.sources_held x t own e);
       values_fit = λ x t own e. subst (λ (d : Data). fits_in d t ≡ true) (sym (still_held s k x)) (f.values_fit x t own e);
+      spare = f.spare;
     }
 
 -- ---- all of them

@@ -1,34 +1,24 @@
 -- Whether a control in a gallery is visible for an item.
-use Rattle.std.proofs.Common.{◌≡◌, ℕ, ◌<◌, Bool, true, false, List, Option, Some, None, refl, ap, sym, ◌∙◌, subst, length, map}
-use Rattle.std.specs.Prelude.{IfSome, codes, option_and_then, slice_get}
-use Rattle.std.proofs.lemmas.Option.{slice_get_within}
-use Rattle.recalc.specs.app_cells.Leaning.{cell_of_property}
+use Rattle.std.proofs.Common.{◌≡◌, ℕ, ◌<◌, Bool, true, List, Option, Some, None, refl, ap, sym, ◌∙◌, subst, map}
+use Rattle.std.specs.Prelude.{IfSome, option_and_then, slice_get}
 use Rattle.recalc.specs.app_cells.Spots.{item_or}
-use Rattle.recalc.specs.app_cells.declared.app.App.{App}
-use Rattle.recalc.specs.app_cells.declared.app.CellInfo.{CellInfo}
 use Rattle.recalc.specs.app_semantics.Chosen.{row_at}
-use Rattle.recalc.specs.app_semantics.Fresh.{IsValueOf}
 use Rattle.recalc.specs.app_semantics.Present.{Present, items_of}
-use Rattle.recalc.specs.app_semantics.Properties.{IsForItem, is_true}
-use Rattle.recalc.specs.app_semantics.Sound.{IsSound}
 use Rattle.fx_data.specs.ValueView.{view}
-use Rattle.fx_data.specs.Values.{Data, boolean}
+use Rattle.fx_data.specs.Values.{Data}
 use Rattle.fx_data.specs.declared.values.Value.{Value}
-use Rattle.recalc.specs.fx_semantics.Around.{record_of}
 use Rattle.recalc.specs.fx_semantics.Rows.{rows_in}
-use Rattle.recalc.specs.fx_semantics.Sound.{IsItemFit}
 use Rattle.fx_value.specs.Columns.{Row}
 use Rattle.fx_trees.specs.declared.names.ControlName.{ControlName}
 use Rattle.fx_trees.specs.declared.names.Names.{Names}
-use Rattle.fx_typing.specs.Typing.{item_of}
 use Rattle.recalc.specs.Reading.{cell_value}
-use Rattle.recalc.specs.Values.{CellsFit, Values, value_of}
+use Rattle.recalc.specs.Templates.{StandsIn}
+use Rattle.recalc.specs.Values.{Values, value_of}
 use Rattle.session_requests.specs.Posting.{IsShownFor, IsVisibleFor, gallery_around}
 use Rattle.session_requests.specs.Shown.{cell_values}
 use Rattle.session_requests.specs.Targets.{IsItemOf, IsTarget, gallery_of, is_gallery}
 use Rattle.session_requests.specs.declared.target.Item.{Item}
 use Rattle.session_requests.specs.declared.target.Target.{Target}
-use Rattle.session_requests.proofs.Items.{is_one, row_fits, visible_in}
 
 -- ---- the item of a target
 
@@ -49,7 +39,7 @@ same_gallery n values t g i h own e =
     in_same (h.control).gallery (is_gallery (h.control).kind) t.control g i.gallery (sym (around n t.control h.control h.there) ∙ own) (item_is n values t i h e).gallery_is
 
 pub stands_in : (n : Names) (values : ℕ → Data) (t : Target) (g : ℕ) (i : Item) → IsTarget n values t → option_and_then (λ (x : ControlName). x.gallery) (slice_get n.controls t.control) ≡ Some g → t.item ≡ Some i
-    → (c : ControlName) × (slice_get n.controls t.control ≡ Some c) × (c.gallery ≡ Some i.gallery)
+    → StandsIn n t.control i.gallery
 stands_in n values t g i h own e =
     (h.control, h.there, sym (around n t.control h.control h.there) ∙ own ∙ ap (λ (j : ℕ). Some j) (same_gallery n values t g i h own e))
 
@@ -73,51 +63,8 @@ itemless p values t e = by (gallery_around p.app t.control)
     by None = refl
     by (Some g) = subst (λ o. IsShownFor p values t.control (Some g) o true) (sym e) refl
 
--- ---- a formula of a template
+-- ---- the row of an item
 
--- the row that is read of the values as they are lent
-pub row_read : (n : Names) (vs : List Value) (w : Values) (g at : ℕ) (r copy : Row) → map view vs ≡ w.cells → Some r ≡ row_at at (rows_in (items_of n (cell_values vs) g)) → copy ≡ r
-    → row_at at (rows_in (items_of n (value_of w) g)) ≡ Some copy
-row_read n vs w g at r copy same is e = ap (λ (ds : List Data). row_at at (rows_in (items_of n (cell_value ds) g))) (sym same) ∙ sym is ∙ ap (λ (x : Row). Some x) (sym e)
-
--- the cell of a control in a gallery doesn't act, and sees the items of the gallery
-pub record IsTemplateCell (g : ℕ) (info : CellInfo) : Type 0 where
-  pub quiet : info.cell.acts ≡ false
-  pub item : info.cell.item ≡ Some g
-
-pub template_within : (a : App) (k d g : ℕ) (c : ControlName) → IsSound a → cell_of_property a.names k (codes "Visible") ≡ Some d → slice_get a.names.controls k ≡ Some c → c.gallery ≡ Some g → d < length a.cells
-template_within a k d g c sound e there own = let at = visible_in a k d g c sound e there own in slice_get_within a.cells d at.cell at.there
-
-pub template_cell : (a : App) (k d g : ℕ) (c : ControlName) (info : CellInfo) → IsSound a → cell_of_property a.names k (codes "Visible") ≡ Some d → slice_get a.names.controls k ≡ Some c → c.gallery ≡ Some g
-    → slice_get a.cells d ≡ Some info → IsTemplateCell g info
-template_cell a k d g c info sound e there own found =
-    let at = visible_in a k d g c sound e there own in
-    let both : Some at.cell ≡ Some info = sym at.there ∙ found in
-    let same : at.cell ≡ info = cc in
-    subst (IsTemplateCell g) same (record { quiet = at.quiet; item = at.item })
-
-pub template_fits : (a : App) (values : ℕ → Data) (k d g at : ℕ) (c : ControlName) (info : CellInfo) (r : Row) → IsSound a → CellsFit a values → cell_of_property a.names k (codes "Visible") ≡ Some d → slice_get a.names.controls k ≡ Some c → c.gallery ≡ Some g
-    → slice_get a.cells d ≡ Some info → row_at at (rows_in (items_of a.names values g)) ≡ Some r → IsItemFit (Some (record_of r)) (item_of a.names info.cell.item)
-template_fits a values k d g at c info r sound fits e there own found row =
-    subst (λ o. IsItemFit (Some (record_of r)) (item_of a.names o)) (sym (template_cell a k d g c info sound e there own found).item)
-    (row_fits a values g at r sound fits (is_one a k g c sound there own) row)
-
-pub unwritten : (p : Present) (values : ℕ → Data) (k g at : ℕ) (r : Row) → row_at at (rows_in (items_of p.app.names values g)) ≡ Some r → cell_of_property p.app.names k (codes "Visible") ≡ None
-    → IsVisibleFor p values k g at true
-unwritten p values k g at r there none = record {
-  row = r;
-  there = there;
-  value = boolean true;
-  is_value = subst (λ o. IsForItem p values (record_of r) (boolean true) o (boolean true)) (sym none) refl;
-  is = refl;
-}
-
-pub written : (p : Present) (values : ℕ → Data) (k d g at : ℕ) (r : Row) (info : CellInfo) (v : Data) (b : Bool) → row_at at (rows_in (items_of p.app.names values g)) ≡ Some r → cell_of_property p.app.names k (codes "Visible") ≡ Some d
-    → slice_get p.app.cells d ≡ Some info → IsValueOf p values (Some (record_of r)) info v → b ≡ is_true v → IsVisibleFor p values k g at b
-written p values k d g at r info v b there some found value is = record {
-  row = r;
-  there = there;
-  value = v;
-  is_value = subst (λ o. IsForItem p values (record_of r) (boolean true) o v) (sym some) (info, found, value);
-  is = is;
-}
+-- what is read of the values as they are lent
+pub row_read : (n : Names) (vs : List Value) (w : Values) (g at : ℕ) (r : Row) → map view vs ≡ w.cells → Some r ≡ row_at at (rows_in (items_of n (cell_values vs) g)) → row_at at (rows_in (items_of n (value_of w) g)) ≡ Some r
+row_read n vs w g at r same is = ap (λ (ds : List Data). row_at at (rows_in (items_of n (cell_value ds) g))) (sym same) ∙ sym is

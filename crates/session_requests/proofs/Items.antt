@@ -1,20 +1,17 @@
 -- What the checks of events let through: a control, with an item of its gallery.
 use Rattle.std.proofs.Common.{◌≡◌, ℕ, zero, suc, ◌<◌, Bool, true, false, List, [], ◌∷◌, Option, Some, None, Ok, Err, refl, sym, subst, length, if◌then◌else◌}
-use Rattle.std.specs.Prelude.{IfSome, codes, option_map, slice_get}
+use Rattle.std.specs.Prelude.{IfSome, option_map, slice_get}
 use Rattle.std.proofs.lemmas.List.Elements.{All-get_or}
 use Rattle.std.proofs.lemmas.Option.{get_or_from_slice_get, slice_get_within}
-use Rattle.recalc.specs.app_cells.Leaning.{cell_of_property}
 use Rattle.recalc.specs.app_cells.Spots.{item_or}
 use Rattle.recalc.specs.app_cells.declared.app.App.{App}
-use Rattle.recalc.proofs.of_app_semantics.CellTypes.{property_found, type_by}
 use Rattle.recalc.proofs.of_app_semantics.Given.{items_fit}
 use Rattle.recalc.specs.app_semantics.Chosen.{item_id, row_at}
 use Rattle.recalc.specs.app_semantics.Present.{items_of}
-use Rattle.recalc.specs.app_semantics.Sound.{IsCellOf, IsSound}
+use Rattle.recalc.specs.app_semantics.Sound.{IsSound}
 use Rattle.fx_data.specs.TypeView.{shape}
-use Rattle.fx_data.specs.Types.{ColumnList, Shape, booleans}
+use Rattle.fx_data.specs.Types.{ColumnList}
 use Rattle.fx_data.specs.Values.{Data}
-use Rattle.fx_data.specs.declared.controls.Control.{Control}
 use Rattle.fx_data.specs.declared.controls.Control.TheVariants as control
 use Rattle.recalc.proofs.of_fx_semantics.Tables.{RowsFit, rows_in_fit}
 use Rattle.recalc.specs.fx_semantics.Around.{record_of}
@@ -135,24 +132,6 @@ row_fits a values g at r sound fits gallery there = by (slice_get a.names.contro
         let items = items_fit a values g c sound (λ d x led cell. fits d x cell) e q in
         subst (λ (o : Option ControlName). IsItemFit (Some (record_of r)) (option_map item_type o)) (sym e)
         (placed_fits cs (rows_in (items_of a.names values g)) at r (rows_in_fit (items_of a.names values g) cs items) there)
-
-visible_type : (kind : Control) (items : Shape) → type_by items kind (codes "Visible") ≡ Some booleans
-visible_type control.Label items = refl
-visible_type control.Button items = refl
-visible_type control.TextInput items = refl
-visible_type control.Slider items = refl
-visible_type control.Checkbox items = refl
-visible_type control.DatePicker items = refl
-visible_type control.Gallery items = refl
-
--- the cell of the property that says whether a control is visible
-pub visible_cell : (a : App) (k d : ℕ) (c : ControlName) → IsSound a → cell_of_property a.names k (codes "Visible") ≡ Some d → slice_get a.names.controls k ≡ Some c → IsCellOf a.cells d c.gallery booleans
-visible_cell a k d c sound e there = property_found a k (codes "Visible") d c booleans sound e there (visible_type c.kind (shape c.items))
-
--- the cell of a control in a gallery
-pub visible_in : (a : App) (k d g : ℕ) (c : ControlName) → IsSound a → cell_of_property a.names k (codes "Visible") ≡ Some d → slice_get a.names.controls k ≡ Some c → c.gallery ≡ Some g
-    → IsCellOf a.cells d (Some g) booleans
-visible_in a k d g c sound e there own = subst (λ o. IsCellOf a.cells d o booleans) own (visible_cell a k d c sound e there)
 
 -- a gallery that a control stands in is one
 pub is_one : (a : App) (k g : ℕ) (c : ControlName) → IsSound a → slice_get a.names.controls k ≡ Some c → c.gallery ≡ Some g → IsGallery (slice_get a.names.controls g)

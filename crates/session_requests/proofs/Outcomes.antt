@@ -1,25 +1,17 @@
 -- What a session sends has one outcome.
 use Rattle.std.proofs.Common.{◌≡◌, ℕ, Bool, true, List, [], Option, Some, None, Result, Ok, Err, ap, sym, ◌∙◌, subst}
-use Rattle.std.specs.Prelude.{codes, slice_get}
-use Rattle.recalc.specs.app_cells.Leaning.{cell_of_property}
+use Rattle.std.specs.Prelude.{codes}
 use Rattle.recalc.specs.app_cells.declared.app.App.{App}
-use Rattle.recalc.specs.app_cells.declared.app.CellInfo.{CellInfo}
-use Rattle.recalc.proofs.of_app_semantics.Freshness.{AllFit, given_in, given_told, taken, today_is, where_told}
-use Rattle.recalc.specs.app_semantics.Fresh.{AreKnown, IsFresh, IsValueOf, is_told, standing}
+use Rattle.recalc.specs.app_semantics.Fresh.{AreKnown, IsFresh}
 use Rattle.recalc.specs.app_semantics.Holding.{HoldsFitting}
 use Rattle.recalc.specs.app_semantics.Laws.{FreshFits, OneFresh}
 use Rattle.recalc.specs.app_semantics.Present.{Present, present}
-use Rattle.recalc.specs.app_semantics.Properties.{IsForItem, IsPropertyForItem, is_true}
-use Rattle.recalc.specs.app_semantics.Sound.{IsSound, IsSoundCell}
-use Rattle.recalc.specs.app_semantics.Telling.{told_on}
+use Rattle.recalc.specs.app_semantics.Properties.{IsPropertyForItem, is_true}
+use Rattle.recalc.specs.app_semantics.Sound.{IsSound}
 use Rattle.fx_data.specs.Values.{Data, boolean}
-use Rattle.recalc.proofs.of_fx_semantics.Wider.{stays}
 use Rattle.recalc.specs.fx_semantics.Around.{record_of}
-use Rattle.recalc.specs.fx_semantics.Sources.{Gives as GivesTold}
 use Rattle.recalc.specs.fx_semantics.Unique.{OneValue}
 use Rattle.fx_value.specs.Columns.{Row}
-use Rattle.fx_trees.specs.SourceTypes.{sources}
-use Rattle.fx_trees.specs.declared.sources.Source.{Source}
 use Rattle.fx_base.specs.Silence.{IsLost}
 use Rattle.session_state.specs.Sessions.{SessionState}
 use Rattle.view_text.specs.declared.refused.Refusal.{Refusal}
@@ -29,6 +21,7 @@ use Rattle.request_checks.specs.declared.directory.Named.{Named}
 use Rattle.session_requests.specs.Acting.{Ends, answered, with_input, with_target}
 use Rattle.session_requests.specs.Bodies.{event_in, input_in}
 use Rattle.session_requests.specs.Laws.{IsOneOutcome}
+use Rattle.recalc.proofs.ForItems.{Ground, property_one}
 use Rattle.recalc.specs.Asking.{ToldRows}
 use Rattle.row_keeper.specs.Tables.{Tables, rows_told}
 use Rattle.session_requests.specs.Posting.{IsShownFor, IsVerdict, IsVisibleFor, JudgesEvent, JudgesInput, PostsEventChecked, PostsInputChecked, SendsEvent, SendsInput, gallery_around}
@@ -48,39 +41,15 @@ record IsGood (p : Present) : Type 0 where
   holds : HoldsFitting p.app.names p.session
   known : AreKnown p.app p.tables
 
--- ---- a formula of a template has one value for an item
-
-one_for_item : OneValue → FreshFits → (p : Present) (values : ℕ → Data) (item : Data) (k : ℕ) (c : CellInfo) (v w : Data) → IsGood p → IsFresh p values → slice_get p.app.cells k ≡ Some c
-    → IsValueOf p values (Some item) c v → IsValueOf p values (Some item) c w → v ≡ w
-one_for_item one fit p values item k c v w good fresh there x y =
-    let day = today_is p.moment in
-    let T : Source → Data = told_on day.0 p.app.names p.session p.tables values in
-    let cell : IsSoundCell p.app.names c = good.sound.cells k c there in
-    let led : AllFit p.app values c.reads = λ r among d e behind at. fit p values good.sound good.holds good.known.fit fresh d e at in
-    let told : is_told p.tables c.reads ≡ true = good.known.told k c there in
-    one (sources p.app.names) T [] (Some item) None (taken p c) v w
-    (stays (GivesTold (sources p.app.names) (Some T)) (taken p c) (standing p values c.reads (Some item)) v
-    (λ r d g. (given_in p values c r d good.sound good.holds good.known.fit cell led g.0 g.1, given_told p values day.0 r d day.1 g.1)) (where_told _ (is_told p.tables c.reads) told x))
-    (stays (GivesTold (sources p.app.names) (Some T)) (taken p c) (standing p values c.reads (Some item)) w
-    (λ r d g. (given_in p values c r d good.sound good.holds good.known.fit cell led g.0 g.1, given_told p values day.0 r d day.1 g.1)) (where_told _ (is_told p.tables c.reads) told y))
-
-one_property : OneValue → FreshFits → (p : Present) (values : ℕ → Data) (item : Data) (k : ℕ) (name : List ℕ) (unwritten v w : Data) → IsGood p → IsFresh p values
-    → IsPropertyForItem p values item k name unwritten v → IsPropertyForItem p values item k name unwritten w → v ≡ w
-one_property one fit p values item k name unwritten v w good fresh = by (cell_of_property p.app.names k name)
-  where
-    by : (o : Option ℕ) → IsForItem p values item unwritten o v → IsForItem p values item unwritten o w → v ≡ w
-    by None x y = x ∙ sym y
-    by (Some d) x y =
-        let both : Some x.0 ≡ Some y.0 = sym x.1 ∙ y.1 in
-        let same : y.0 ≡ x.0 = cc in
-        one_for_item one fit p values item d x.0 v w good fresh x.1 x.2 (subst (λ (c : CellInfo). IsValueOf p values (Some item) c w) same y.2)
+-- ---- a control is visible or not
 
 one_visible : OneValue → FreshFits → (p : Present) (values : ℕ → Data) (k g at : ℕ) (b b' : Bool) → IsGood p → IsFresh p values
     → IsVisibleFor p values k g at b → IsVisibleFor p values k g at b' → b ≡ b'
 one_visible one fit p values k g at b b' good fresh x y =
     let both : Some x.row ≡ Some y.row = sym x.there ∙ y.there in
     let same : y.row ≡ x.row = cc in
-    let value = one_property one fit p values (record_of x.row) k (codes "Visible") (boolean true) x.value y.value good fresh x.is_value
+    let ground : Ground p values = record { one = one; sound = good.sound; holds = good.holds; known = good.known; fits = fit p values good.sound good.holds good.known.fit fresh } in
+    let value = property_one p values (record_of x.row) k (codes "Visible") (boolean true) x.value y.value ground x.is_value
     (subst (λ (r : Row). IsPropertyForItem p values (record_of r) k (codes "Visible") (boolean true) y.value) same y.is_value) in
     x.is ∙ ap is_true value ∙ sym y.is
 

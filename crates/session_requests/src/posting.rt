@@ -59,8 +59,8 @@ pub fn post_input<K: Keeper, L: Ledger>(
     ensures stopped { OnErr result (sessions.new.items ≡ sessions.old.items) }
     ensures fit { SessionsFit app.now.names sessions.new.items }
     ensures kept { SessionsKeepReplies sessions.new.items }
-    ensures read { HasRead (keeping (K.told keeper.old) (K.shaped keeper.old) (K.in_transaction keeper.old) (K.marks keeper.old) (K.loan keeper.old))
-        (keeping (K.told keeper.new) (K.shaped keeper.new) (K.in_transaction keeper.new) (K.marks keeper.new) (K.loan keeper.new)) }
+    ensures read { HasRead (keeping (K.told keeper.old) (K.began keeper.old) (K.shaped keeper.old) (K.in_transaction keeper.old) (K.marks keeper.old) (K.visited keeper.old) (K.loan keeper.old))
+        (keeping (K.told keeper.new) (K.began keeper.new) (K.shaped keeper.new) (K.in_transaction keeper.new) (K.marks keeper.new) (K.visited keeper.new) (K.loan keeper.new)) }
     ensures cause { HasCause (K.marks keeper.old) (K.marks keeper.new) result }
 {
     match check_session::<Input>(alloc, sessions, name, body)? {
@@ -96,8 +96,8 @@ fn send_input<K: Keeper, L: Ledger>(
     ensures stopped { OnErr result (sessions.new.items ≡ sessions.old.items) }
     ensures fit { SessionsFit app.now.names sessions.new.items }
     ensures kept { SessionsKeepReplies sessions.new.items }
-    ensures read { HasRead (keeping (K.told keeper.old) (K.shaped keeper.old) (K.in_transaction keeper.old) (K.marks keeper.old) (K.loan keeper.old))
-        (keeping (K.told keeper.new) (K.shaped keeper.new) (K.in_transaction keeper.new) (K.marks keeper.new) (K.loan keeper.new)) }
+    ensures read { HasRead (keeping (K.told keeper.old) (K.began keeper.old) (K.shaped keeper.old) (K.in_transaction keeper.old) (K.marks keeper.old) (K.visited keeper.old) (K.loan keeper.old))
+        (keeping (K.told keeper.new) (K.began keeper.new) (K.shaped keeper.new) (K.in_transaction keeper.new) (K.marks keeper.new) (K.visited keeper.new) (K.loan keeper.new)) }
     ensures cause { HasCause (K.marks keeper.old) (K.marks keeper.new) result }
 {
     let seq = input.seq;
@@ -128,8 +128,8 @@ fn judge_input<K: Keeper, L: Ledger>(
     ensures judged { IfOk result (λ v. JudgesInput app.now (rows_told (K.told keeper.new)) moment session.now input v) }
     ensures given { IfOk result (λ v. IfOk v (λ g. FitsSource app.now.names (source.Input g.0) (unwrap_or g.1 blank))) }
     ensures detail { IfOk result (λ v. IfErr v (λ r. Fits r.code r.detail)) }
-    ensures read { HasRead (keeping (K.told keeper.old) (K.shaped keeper.old) (K.in_transaction keeper.old) (K.marks keeper.old) (K.loan keeper.old))
-        (keeping (K.told keeper.new) (K.shaped keeper.new) (K.in_transaction keeper.new) (K.marks keeper.new) (K.loan keeper.new)) }
+    ensures read { HasRead (keeping (K.told keeper.old) (K.began keeper.old) (K.shaped keeper.old) (K.in_transaction keeper.old) (K.marks keeper.old) (K.visited keeper.old) (K.loan keeper.old))
+        (keeping (K.told keeper.new) (K.began keeper.new) (K.shaped keeper.new) (K.in_transaction keeper.new) (K.marks keeper.new) (K.visited keeper.new) (K.loan keeper.new)) }
     ensures cause { HasCause (K.marks keeper.old) (K.marks keeper.new) result }
 {
     fitting_holds();
@@ -164,8 +164,8 @@ pub fn post_event<K: Keeper, L: Ledger>(
     ensures stopped { OnErr result (sessions.new.items ≡ sessions.old.items) }
     ensures fit { SessionsFit app.now.names sessions.new.items }
     ensures kept { SessionsKeepReplies sessions.new.items }
-    ensures read { HasRead (keeping (K.told keeper.old) (K.shaped keeper.old) (K.in_transaction keeper.old) (K.marks keeper.old) (K.loan keeper.old))
-        (keeping (K.told keeper.new) (K.shaped keeper.new) (K.in_transaction keeper.new) (K.marks keeper.new) (K.loan keeper.new)) }
+    ensures read { HasRead (keeping (K.told keeper.old) (K.began keeper.old) (K.shaped keeper.old) (K.in_transaction keeper.old) (K.marks keeper.old) (K.visited keeper.old) (K.loan keeper.old))
+        (keeping (K.told keeper.new) (K.began keeper.new) (K.shaped keeper.new) (K.in_transaction keeper.new) (K.marks keeper.new) (K.visited keeper.new) (K.loan keeper.new)) }
     ensures cause { HasCause (K.marks keeper.old) (K.marks keeper.new) result }
 {
     match check_session::<Event>(alloc, sessions, name, body)? {
@@ -201,8 +201,8 @@ fn send_event<K: Keeper, L: Ledger>(
     ensures stopped { OnErr result (sessions.new.items ≡ sessions.old.items) }
     ensures fit { SessionsFit app.now.names sessions.new.items }
     ensures kept { SessionsKeepReplies sessions.new.items }
-    ensures read { HasRead (keeping (K.told keeper.old) (K.shaped keeper.old) (K.in_transaction keeper.old) (K.marks keeper.old) (K.loan keeper.old))
-        (keeping (K.told keeper.new) (K.shaped keeper.new) (K.in_transaction keeper.new) (K.marks keeper.new) (K.loan keeper.new)) }
+    ensures read { HasRead (keeping (K.told keeper.old) (K.began keeper.old) (K.shaped keeper.old) (K.in_transaction keeper.old) (K.marks keeper.old) (K.visited keeper.old) (K.loan keeper.old))
+        (keeping (K.told keeper.new) (K.began keeper.new) (K.shaped keeper.new) (K.in_transaction keeper.new) (K.marks keeper.new) (K.visited keeper.new) (K.loan keeper.new)) }
     ensures cause { HasCause (K.marks keeper.old) (K.marks keeper.new) result }
 {
     match place_of(sessions, name) {
@@ -232,8 +232,8 @@ fn judge_event<K: Keeper, L: Ledger>(
     ensures judged { IfOk result (λ v. JudgesEvent app.now (rows_told (K.told keeper.new)) moment session.now event.now v) }
     ensures within { IfOk result (λ v. IfOk v (λ t. IfSome t.item (λ i. i.gallery < length app.now.names.controls))) }
     ensures detail { IfOk result (λ v. IfErr v (λ r. Fits r.code r.detail)) }
-    ensures read { HasRead (keeping (K.told keeper.old) (K.shaped keeper.old) (K.in_transaction keeper.old) (K.marks keeper.old) (K.loan keeper.old))
-        (keeping (K.told keeper.new) (K.shaped keeper.new) (K.in_transaction keeper.new) (K.marks keeper.new) (K.loan keeper.new)) }
+    ensures read { HasRead (keeping (K.told keeper.old) (K.began keeper.old) (K.shaped keeper.old) (K.in_transaction keeper.old) (K.marks keeper.old) (K.visited keeper.old) (K.loan keeper.old))
+        (keeping (K.told keeper.new) (K.began keeper.new) (K.shaped keeper.new) (K.in_transaction keeper.new) (K.marks keeper.new) (K.visited keeper.new) (K.loan keeper.new)) }
     ensures cause { HasCause (K.marks keeper.old) (K.marks keeper.new) result }
 {
     fitting_holds();

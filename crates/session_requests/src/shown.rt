@@ -2,7 +2,7 @@
 ghost use Rattle.std.specs.Prelude.{◌≡◌, ◌<◌, IfSome, length, option_map, unwrap_or};
 ghost use Rattle.recalc.specs.app_semantics.Chosen.{row_at as row_at_position};
 ghost use Rattle.recalc.specs.app_semantics.Present.{items_of};
-ghost use Rattle.recalc.specs.app_semantics.Properties.{is_true as is_true_of, is_visible as is_visible_of, property_value};
+ghost use Rattle.recalc.specs.app_semantics.Properties.{property_value};
 ghost use Rattle.fx_data.specs.ValueView.{view};
 ghost use Rattle.fx_data.specs.Values.{blank, number as number_data};
 ghost use Rattle.recalc.specs.fx_semantics.Rows.{rows_in};
@@ -13,7 +13,7 @@ ghost use Rattle.session_requests.specs.Targets.{bound_of};
 use fx_data::{Fields, Value, Words};
 use fx_trees::Names;
 use fx_trees::names::ControlName;
-use recalc::cell_of_property;
+use recalc::{cell_of_property, is_visible};
 
 /// The place of the control of a name.
 pub(crate) fn control_named(names: &Names, name: &Words) -> Option<usize>
@@ -25,23 +25,6 @@ pub(crate) fn control_named(names: &Names, name: &Words) -> Option<usize>
         .as_slice()
         .iter()
         .position(|control| control.name.is(name))
-}
-
-/// Whether a value is true.
-pub(crate) fn is_true(value: Option<&Value>) -> bool
-    ensures { result ≡ is_true_of (unwrap_or (option_map (λ v. view v.now) value.entry) blank) }
-{
-    matches!(value, Some(Value::Boolean(true)))
-}
-
-/// Whether a control is visible by itself.
-fn is_visible(names: &Names, values: &[Value], control: u32) -> bool
-    ensures { result ≡ is_visible_of names.now (cell_values values.now) control }
-{
-    match cell_of_property(names, control, "Visible") {
-        Some(cell) => is_true(values.get(cell as usize)),
-        None => true,
-    }
 }
 
 /// Whether a control is on the current screen and visible, or the gallery that it stands in is.

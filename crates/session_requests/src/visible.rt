@@ -1,5 +1,5 @@
 //! Whether controls in galleries are visible for an item.
-ghost use Rattle.std.specs.Prelude.{◌≡◌, ℕ, IfOk, Some, slice_get};
+ghost use Rattle.std.specs.Prelude.{◌≡◌, ℕ, IfOk, Some};
 ghost use Rattle.recalc.specs.app_semantics.Chosen.{row_at};
 ghost use Rattle.recalc.specs.app_semantics.Holding.{HoldsFitting};
 ghost use Rattle.recalc.specs.app_semantics.Present.{items_of, present};
@@ -7,18 +7,17 @@ ghost use Rattle.recalc.specs.app_semantics.Sound.{IsSound};
 ghost use Rattle.fx_scalar.specs.ScalarFunctions.{IsToday};
 ghost use Rattle.recalc.specs.fx_semantics.Rows.{rows_in};
 ghost use Rattle.fx_value.specs.Columns.{Row};
-ghost use Rattle.fx_trees.specs.declared.names.ControlName.{ControlName as Control};
 ghost use Rattle.recalc.specs.Asking.{HasRead, IsHeardOf, ToldRows, keeping};
+ghost use Rattle.recalc.specs.Templates.{StandsIn};
 ghost use Rattle.recalc.specs.Values.{CellsFit, value_of};
 ghost use Rattle.row_keeper.specs.Causes.{HasCause};
 ghost use Rattle.session_requests.specs.Posting.{IsShownFor, IsVisibleFor, gallery_around as gallery_around_of};
 ghost use Rattle.session_requests.specs.Targets.{IsTarget};
 
 use crate::app_cells::App;
-use crate::shown::{is_true, item_row};
+use crate::shown::item_row;
 use crate::target::{Item, Target};
-use fx_data::Value;
-use recalc::{Steps, Valued, cell_of_property};
+use recalc::{Steps, Valued, is_visible_for_item};
 use row_keeper::{Keeper, KeeperEnd};
 use session_state::Session;
 use std::alloc::Global;
@@ -44,13 +43,13 @@ pub(crate) fn is_shown_for<K: Keeper, L: Ledger>(
     requires shaped { K.shaped keeper.old ≡ Some app.now.names.schema }
     ensures shows { IfOk result (λ b. (moment : ℕ) (tables : ToldRows) → IsToday moment valued.now.day → IsHeardOf (K.told keeper.new) tables →
         IsShownFor (present app.now session.now tables moment) (value_of valued.now) target.control (gallery_around_of app.now target.control) target.item b) }
-    ensures read { HasRead (keeping (K.told keeper.old) (K.shaped keeper.old) (K.in_transaction keeper.old) (K.marks keeper.old) (K.loan keeper.old))
-        (keeping (K.told keeper.new) (K.shaped keeper.new) (K.in_transaction keeper.new) (K.marks keeper.new) (K.loan keeper.new)) }
+    ensures read { HasRead (keeping (K.told keeper.old) (K.began keeper.old) (K.shaped keeper.old) (K.in_transaction keeper.old) (K.marks keeper.old) (K.visited keeper.old) (K.loan keeper.old))
+        (keeping (K.told keeper.new) (K.began keeper.new) (K.shaped keeper.new) (K.in_transaction keeper.new) (K.marks keeper.new) (K.visited keeper.new) (K.loan keeper.new)) }
     ensures cause { HasCause (K.marks keeper.old) (K.marks keeper.new) result }
 {
     match (gallery_around(app, target.control), target.item) {
         (Some(_), Some(item)) => {
-            is_visible_for(
+            is_visible_at(
                 alloc,
                 app,
                 session,
@@ -72,9 +71,9 @@ fn gallery_around(app: &App, control: u32) -> Option<u32>
     app.names.controls.get(control as usize)?.gallery
 }
 
-/// Whether a control in a gallery is visible for an item of it.
+/// Whether a control in a gallery is visible for the item at a place.
 #[tactic(auto, using(recalc::proofs::Asked::read_none))]
-fn is_visible_for<K: Keeper, L: Ledger>(
+fn is_visible_at<K: Keeper, L: Ledger>(
     alloc: Global,
     app: &App,
     session: &Session,
@@ -88,26 +87,27 @@ fn is_visible_for<K: Keeper, L: Ledger>(
     requires holds { HoldsFitting app.now.names session.now }
     requires fits { CellsFit app.now (value_of valued.now) }
     requires day { (moment : ℕ) × IsToday moment valued.now.day }
-    requires stands { (c : Control) × (slice_get app.now.names.controls control ≡ Some c) × (c.gallery ≡ Some item.gallery) }
+    requires stands { StandsIn app.now.names control item.gallery }
     requires there { (row : Row) × (row_at item.at (rows_in (items_of app.now.names (value_of valued.now) item.gallery)) ≡ Some row) }
     requires shaped { K.shaped keeper.old ≡ Some app.now.names.schema }
     ensures shows { IfOk result (λ b. (moment : ℕ) (tables : ToldRows) → IsToday moment valued.now.day → IsHeardOf (K.told keeper.new) tables →
         IsVisibleFor (present app.now session.now tables moment) (value_of valued.now) control item.gallery item.at b) }
-    ensures read { HasRead (keeping (K.told keeper.old) (K.shaped keeper.old) (K.in_transaction keeper.old) (K.marks keeper.old) (K.loan keeper.old))
-        (keeping (K.told keeper.new) (K.shaped keeper.new) (K.in_transaction keeper.new) (K.marks keeper.new) (K.loan keeper.new)) }
+    ensures read { HasRead (keeping (K.told keeper.old) (K.began keeper.old) (K.shaped keeper.old) (K.in_transaction keeper.old) (K.marks keeper.old) (K.visited keeper.old) (K.loan keeper.old))
+        (keeping (K.told keeper.new) (K.began keeper.new) (K.shaped keeper.new) (K.in_transaction keeper.new) (K.marks keeper.new) (K.visited keeper.new) (K.loan keeper.new)) }
     ensures cause { HasCause (K.marks keeper.old) (K.marks keeper.new) result }
 {
-    let names = &app.names;
-    let Some(cell) = cell_of_property(names, control, "Visible") else {
-        return Ok(true);
-    };
-    let Some(info) = app.cells.get(cell as usize) else {
-        unreachable!()
-    };
-    let Some(row) = item_row(names, valued.as_slice(), item.gallery, item.at) else {
-        unreachable!()
-    };
-    let record = Value::Rec(row.copy(alloc)?);
-    let value = valued.in_item(alloc, app, session, keeper, info, record, steps)?;
-    Ok(is_true(Some(&value)))
+    match item_row(&app.names, valued.as_slice(), item.gallery, item.at) {
+        Some(row) => is_visible_for_item(
+            alloc,
+            app,
+            session,
+            keeper,
+            valued,
+            item.gallery,
+            control,
+            row,
+            steps,
+        ),
+        None => unreachable!(),
+    }
 }

@@ -11,7 +11,7 @@ pub loop-row-init : goal.loop-row-init
 loop-row-init g c = record {
   at = omega arith;
   given = λ moment tables today heard. none_given (IsItemAt (present c.args.app.now c.args.session.now tables moment) (value_of c.args.valued.now) c.args.gallery) c.args.first 0 c.args.rows.now c.new-list.result refl c.new-list.ensures;
-  read = read_none (keeping (g.K.Keeper.told c.args.keeper.now) (g.K.Keeper.shaped c.args.keeper.now) (g.K.Keeper.in_transaction c.args.keeper.now) (g.K.Keeper.marks c.args.keeper.now) (g.K.Keeper.loan c.args.keeper.now));
+  read = read_none (keeping (g.K.Keeper.told c.args.keeper.now) (g.K.Keeper.began c.args.keeper.now) (g.K.Keeper.shaped c.args.keeper.now) (g.K.Keeper.in_transaction c.args.keeper.now) (g.K.Keeper.marks c.args.keeper.now) (g.K.Keeper.visited c.args.keeper.now) (g.K.Keeper.loan c.args.keeper.now));
 }
 
 pub item_view-requires-clause-row : goal.item_view-requires-clause-row
@@ -21,9 +21,9 @@ item_view-requires-clause-row g c =
 
 pub loop-row-preserved : goal.loop-row-preserved
 loop-row-preserved g c =
-    let first : Keeping = keeping (g.K.Keeper.told c.args.keeper.now) (g.K.Keeper.shaped c.args.keeper.now) (g.K.Keeper.in_transaction c.args.keeper.now) (g.K.Keeper.marks c.args.keeper.now) (g.K.Keeper.loan c.args.keeper.now) in
-    let before : Keeping = keeping (g.K.Keeper.told c.loop-row.keeper) (g.K.Keeper.shaped c.loop-row.keeper) (g.K.Keeper.in_transaction c.loop-row.keeper) (g.K.Keeper.marks c.loop-row.keeper) (g.K.Keeper.loan c.loop-row.keeper) in
-    let after : Keeping = keeping (g.K.Keeper.told c.item_view.new.keeper) (g.K.Keeper.shaped c.item_view.new.keeper) (g.K.Keeper.in_transaction c.item_view.new.keeper) (g.K.Keeper.marks c.item_view.new.keeper) (g.K.Keeper.loan c.item_view.new.keeper) in
+    let first : Keeping = keeping (g.K.Keeper.told c.args.keeper.now) (g.K.Keeper.began c.args.keeper.now) (g.K.Keeper.shaped c.args.keeper.now) (g.K.Keeper.in_transaction c.args.keeper.now) (g.K.Keeper.marks c.args.keeper.now) (g.K.Keeper.visited c.args.keeper.now) (g.K.Keeper.loan c.args.keeper.now) in
+    let before : Keeping = keeping (g.K.Keeper.told c.loop-row.keeper) (g.K.Keeper.began c.loop-row.keeper) (g.K.Keeper.shaped c.loop-row.keeper) (g.K.Keeper.in_transaction c.loop-row.keeper) (g.K.Keeper.marks c.loop-row.keeper) (g.K.Keeper.visited c.loop-row.keeper) (g.K.Keeper.loan c.loop-row.keeper) in
+    let after : Keeping = keeping (g.K.Keeper.told c.item_view.new.keeper) (g.K.Keeper.began c.item_view.new.keeper) (g.K.Keeper.shaped c.item_view.new.keeper) (g.K.Keeper.in_transaction c.item_view.new.keeper) (g.K.Keeper.marks c.item_view.new.keeper) (g.K.Keeper.visited c.item_view.new.keeper) (g.K.Keeper.loan c.item_view.new.keeper) in
     record {
       at = omega (arith, c.loop-row.invariant.at);
       given = λ moment tables today heard.

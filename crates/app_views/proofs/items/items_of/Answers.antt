@@ -9,8 +9,8 @@ items_from-requires-clause-ready g c = record { sound = c.requires.sound; holds 
 
 pub returns-then-is_seen_at-clause-shows : goal.returns-then-is_seen_at-clause-shows
 returns-then-is_seen_at-clause-shows g c = λ tables heard.
-    let before : Keeping = keeping (g.K.Keeper.told c.evaluate.new.keeper) (g.K.Keeper.shaped c.evaluate.new.keeper) (g.K.Keeper.in_transaction c.evaluate.new.keeper) (g.K.Keeper.marks c.evaluate.new.keeper) (g.K.Keeper.loan c.evaluate.new.keeper) in
-    let after : Keeping = keeping (g.K.Keeper.told c.items_from.new.keeper) (g.K.Keeper.shaped c.items_from.new.keeper) (g.K.Keeper.in_transaction c.items_from.new.keeper) (g.K.Keeper.marks c.items_from.new.keeper) (g.K.Keeper.loan c.items_from.new.keeper) in
+    let before : Keeping = keeping (g.K.Keeper.told c.evaluate.new.keeper) (g.K.Keeper.began c.evaluate.new.keeper) (g.K.Keeper.shaped c.evaluate.new.keeper) (g.K.Keeper.in_transaction c.evaluate.new.keeper) (g.K.Keeper.marks c.evaluate.new.keeper) (g.K.Keeper.visited c.evaluate.new.keeper) (g.K.Keeper.loan c.evaluate.new.keeper) in
+    let after : Keeping = keeping (g.K.Keeper.told c.items_from.new.keeper) (g.K.Keeper.began c.items_from.new.keeper) (g.K.Keeper.shaped c.items_from.new.keeper) (g.K.Keeper.in_transaction c.items_from.new.keeper) (g.K.Keeper.marks c.items_from.new.keeper) (g.K.Keeper.visited c.items_from.new.keeper) (g.K.Keeper.loan c.items_from.new.keeper) in
     record {
       values = value_of c.in_ok-valued.valued;
       fresh = c.in_ok-valued.ensures.fresh tables (heard_before before after c.in_ok-items.ensures.read tables heard);

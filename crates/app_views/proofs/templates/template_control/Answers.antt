@@ -2,12 +2,19 @@ use Rattle.std.proofs.Common.{sym, ◌∙◌}
 use Rattle.fx_data.specs.ValueView.{view}
 use Rattle.recalc.proofs.Asked.{heard_before}
 use Rattle.recalc.specs.Asking.{Keeping, keeping}
+use Rattle.app_views.proofs.Galleries.{is_in_gallery, item_fits}
 use Rattle.app_views.proofs.templates.template_control.Goals as goal
+
+pub is_visible_for_item-requires-clause-stands : goal.is_visible_for_item-requires-clause-stands
+is_visible_for_item-requires-clause-stands g c = (c.args.control.now, c.requires.control, is_in_gallery c.args.gallery c.args.control.now.gallery c.requires.within)
+
+pub is_visible_for_item-requires-clause-item : goal.is_visible_for_item-requires-clause-item
+is_visible_for_item-requires-clause-item g c = item_fits c.args.app.now.names c.args.gallery c.args.row.now c.requires.row
 
 pub returns-in_ok-shown-clause-shows : goal.returns-in_ok-shown-clause-shows
 returns-in_ok-shown-clause-shows g c = λ moment tables today heard.
-    let before : Keeping = keeping (g.K.Keeper.told c.visible_for.new.keeper) (g.K.Keeper.shaped c.visible_for.new.keeper) (g.K.Keeper.in_transaction c.visible_for.new.keeper) (g.K.Keeper.marks c.visible_for.new.keeper) (g.K.Keeper.loan c.visible_for.new.keeper) in
-    let after : Keeping = keeping (g.K.Keeper.told c.text_for.new.keeper) (g.K.Keeper.shaped c.text_for.new.keeper) (g.K.Keeper.in_transaction c.text_for.new.keeper) (g.K.Keeper.marks c.text_for.new.keeper) (g.K.Keeper.loan c.text_for.new.keeper) in
+    let before : Keeping = keeping (g.K.Keeper.told c.is_visible_for_item.new.keeper) (g.K.Keeper.began c.is_visible_for_item.new.keeper) (g.K.Keeper.shaped c.is_visible_for_item.new.keeper) (g.K.Keeper.in_transaction c.is_visible_for_item.new.keeper) (g.K.Keeper.marks c.is_visible_for_item.new.keeper) (g.K.Keeper.visited c.is_visible_for_item.new.keeper) (g.K.Keeper.loan c.is_visible_for_item.new.keeper) in
+    let after : Keeping = keeping (g.K.Keeper.told c.text_for.new.keeper) (g.K.Keeper.began c.text_for.new.keeper) (g.K.Keeper.shaped c.text_for.new.keeper) (g.K.Keeper.in_transaction c.text_for.new.keeper) (g.K.Keeper.marks c.text_for.new.keeper) (g.K.Keeper.visited c.text_for.new.keeper) (g.K.Keeper.loan c.text_for.new.keeper) in
     let seen = c.in_ok-visible.ensures.shows moment tables today (heard_before before after c.in_ok-text.ensures.read tables heard) in (
       c.requires.within,
       (seen.0, seen.1, sym seen.2 ∙ c.if-visible.true),

@@ -6,14 +6,17 @@ use Rattle.fx_data.specs.ValueView.{view}
 use Rattle.fx_data.specs.Values.{Data}
 use Rattle.recalc.specs.fx_semantics.Around.{record_of}
 use Rattle.recalc.specs.Values.{value_of}
-use Rattle.app_views.proofs.Galleries.{text_for as found}
+use Rattle.app_views.proofs.Galleries.{item_fits, text_for as found}
 use Rattle.app_views.proofs.templates.text_for.Goals as goal
 
-pub item_property-requires-clause-property : goal.item_property-requires-clause-property
-item_property-requires-clause-property g c = found c.args.app.now c.args.gallery c.args.number c.args.control.now c.requires.ready.sound c.requires.control c.requires.within
+pub property_for_item-requires-clause-property : goal.property_for_item-requires-clause-property
+property_for_item-requires-clause-property g c = found c.args.app.now c.args.gallery c.args.number c.args.control.now c.requires.ready.sound c.requires.control c.requires.within
+
+pub property_for_item-requires-clause-item : goal.property_for_item-requires-clause-item
+property_for_item-requires-clause-item g c = item_fits c.args.app.now.names c.args.gallery c.args.row.now c.requires.row
 
 pub returns-clause-shows : goal.returns-clause-shows
 returns-clause-shows g c =
-    IfOk-weaker c.item_property.result _ _ (λ v h moment tables today heard.
+    IfOk-weaker c.property_for_item.result _ _ (λ v h moment tables today heard.
     subst (λ (d : Data). IsPropertyForItem (present c.args.app.now c.args.session.now tables moment) (value_of c.args.valued.now) (record_of c.args.row.now) c.args.number (codes "Text") d (view v)) c.in_ok-unwritten.ensures (h moment tables today heard))
-    c.item_property.ensures.shows
+    c.property_for_item.ensures.shows

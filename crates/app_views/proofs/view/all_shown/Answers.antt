@@ -11,7 +11,7 @@ pub loop-control-init : goal.loop-control-init
 loop-control-init g c = record {
   number = refl;
   given = λ moment tables today heard. none_given (IsShown (present c.args.app.now c.args.session.now tables moment) (value_of c.args.valued.now)) 0 0 c.args.app.now.names.controls c.new-shown.result refl c.new-shown.ensures;
-  read = read_none (keeping (g.K.Keeper.told c.args.keeper.now) (g.K.Keeper.shaped c.args.keeper.now) (g.K.Keeper.in_transaction c.args.keeper.now) (g.K.Keeper.marks c.args.keeper.now) (g.K.Keeper.loan c.args.keeper.now));
+  read = read_none (keeping (g.K.Keeper.told c.args.keeper.now) (g.K.Keeper.began c.args.keeper.now) (g.K.Keeper.shaped c.args.keeper.now) (g.K.Keeper.in_transaction c.args.keeper.now) (g.K.Keeper.marks c.args.keeper.now) (g.K.Keeper.visited c.args.keeper.now) (g.K.Keeper.loan c.args.keeper.now));
 }
 
 pub shown_control-requires-clause-control : goal.shown_control-requires-clause-control
@@ -26,9 +26,9 @@ overflow_add-number g c =
 
 pub loop-control-preserved : goal.loop-control-preserved
 loop-control-preserved g c =
-    let first : Keeping = keeping (g.K.Keeper.told c.args.keeper.now) (g.K.Keeper.shaped c.args.keeper.now) (g.K.Keeper.in_transaction c.args.keeper.now) (g.K.Keeper.marks c.args.keeper.now) (g.K.Keeper.loan c.args.keeper.now) in
-    let before : Keeping = keeping (g.K.Keeper.told c.loop-control.keeper) (g.K.Keeper.shaped c.loop-control.keeper) (g.K.Keeper.in_transaction c.loop-control.keeper) (g.K.Keeper.marks c.loop-control.keeper) (g.K.Keeper.loan c.loop-control.keeper) in
-    let after : Keeping = keeping (g.K.Keeper.told c.shown_control.new.keeper) (g.K.Keeper.shaped c.shown_control.new.keeper) (g.K.Keeper.in_transaction c.shown_control.new.keeper) (g.K.Keeper.marks c.shown_control.new.keeper) (g.K.Keeper.loan c.shown_control.new.keeper) in
+    let first : Keeping = keeping (g.K.Keeper.told c.args.keeper.now) (g.K.Keeper.began c.args.keeper.now) (g.K.Keeper.shaped c.args.keeper.now) (g.K.Keeper.in_transaction c.args.keeper.now) (g.K.Keeper.marks c.args.keeper.now) (g.K.Keeper.visited c.args.keeper.now) (g.K.Keeper.loan c.args.keeper.now) in
+    let before : Keeping = keeping (g.K.Keeper.told c.loop-control.keeper) (g.K.Keeper.began c.loop-control.keeper) (g.K.Keeper.shaped c.loop-control.keeper) (g.K.Keeper.in_transaction c.loop-control.keeper) (g.K.Keeper.marks c.loop-control.keeper) (g.K.Keeper.visited c.loop-control.keeper) (g.K.Keeper.loan c.loop-control.keeper) in
+    let after : Keeping = keeping (g.K.Keeper.told c.shown_control.new.keeper) (g.K.Keeper.began c.shown_control.new.keeper) (g.K.Keeper.shaped c.shown_control.new.keeper) (g.K.Keeper.in_transaction c.shown_control.new.keeper) (g.K.Keeper.marks c.shown_control.new.keeper) (g.K.Keeper.visited c.shown_control.new.keeper) (g.K.Keeper.loan c.shown_control.new.keeper) in
     let place : c.loop-control.number ≡ 0 + c.loop-control.control-index = omega (arith, c.loop-control.invariant.number) in
     record {
       number = omega (arith, c.loop-control.invariant.number);

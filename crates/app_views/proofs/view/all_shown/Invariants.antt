@@ -11,6 +11,6 @@ abbrev pub invariant-loop-control : goal.invariant-loop-control
 invariant-loop-control g l = record {
   number : l.number ≡ l.control-index;
   given : (moment : ℕ) (tables : ToldRows) → IsToday moment l.valued.day → IsHeardOf (g.K.Keeper.told l.keeper) tables → GivenUpTo (IsShown (present l.app l.session tables moment) (value_of l.valued)) 0 l.app.names.controls l.control-index l.shown;
-  read : HasRead (keeping (g.K.Keeper.told l.fn.keeper) (g.K.Keeper.shaped l.fn.keeper) (g.K.Keeper.in_transaction l.fn.keeper) (g.K.Keeper.marks l.fn.keeper) (g.K.Keeper.loan l.fn.keeper))
-      (keeping (g.K.Keeper.told l.keeper) (g.K.Keeper.shaped l.keeper) (g.K.Keeper.in_transaction l.keeper) (g.K.Keeper.marks l.keeper) (g.K.Keeper.loan l.keeper));
+  read : HasRead (keeping (g.K.Keeper.told l.fn.keeper) (g.K.Keeper.began l.fn.keeper) (g.K.Keeper.shaped l.fn.keeper) (g.K.Keeper.in_transaction l.fn.keeper) (g.K.Keeper.marks l.fn.keeper) (g.K.Keeper.visited l.fn.keeper) (g.K.Keeper.loan l.fn.keeper))
+      (keeping (g.K.Keeper.told l.keeper) (g.K.Keeper.began l.keeper) (g.K.Keeper.shaped l.keeper) (g.K.Keeper.in_transaction l.keeper) (g.K.Keeper.marks l.keeper) (g.K.Keeper.visited l.keeper) (g.K.Keeper.loan l.keeper));
 }

@@ -1,5 +1,4 @@
-use Rattle.std.proofs.Common.{◌≡◌, ◌∙◌, ℕ, List, Option, None, Some, ap, arith, map, rules, subst, sym}
-use Rattle.std.proofs.lemmas.Grind.{common_steps}
+use Rattle.std.proofs.Common.{◌≡◌, ◌∙◌, ℕ, List, Option, None, Some, ap, map, rules, subst, sym}
 use Rattle.std.specs.Prelude.{option_map}
 use Rattle.app_semantics.specs.app_cells.declared.app.CellInfo.{CellInfo}
 use Rattle.app_semantics.specs.Fresh.{IsValueOf}
@@ -65,11 +64,11 @@ returns-in-Ok-clause-value g c =
     let told : Option Tables = g.K.Keeper.told env.keeper.now in
     let was : Option Tables = g.K.Keeper.told c.args.keeper.now in
     let lost = IsLost (g.K.Keeper.marks c.args.keeper.now) (g.K.Keeper.marks env.keeper.now) in
-    let f = told_over day n s cells in
-    let other = told_over (view env.today.now) env.names.now env.session.now (map view env.values.now) in
+    let f = told_over day n s cells (g.K.Keeper.began c.args.keeper.now) in
+    let other = told_over (view env.today.now) env.names.now env.session.now (map view env.values.now) (g.K.Keeper.began env.keeper.now) in
     let v : Data = view c.in-Ok.value in
     let types : Source → Option Shape = types_over n info.reads (told_on day n s None (cell_value cells)) in
-    let same = same_values lost f other (whole day n s cells) (whole (view env.today.now) env.names.now env.session.now (map view env.values.now)) was told c.eval.ensures.told ∙ values_over day n s cells told in
+    let same = same_values lost f other (whole day n s cells (g.K.Keeper.began c.args.keeper.now)) (whole (view env.today.now) env.names.now env.session.now (map view env.values.now) (g.K.Keeper.began env.keeper.now)) was told c.eval.ensures.told ∙ values_over day n s cells (g.K.Keeper.began c.args.keeper.now) told in
     let empty : held c.new.result.items c.args.item None ≡ outermost (option_map view c.args.item) = ap (λ (vs : List Value). held vs c.args.item None) c.new.ensures.items in
     carried (λ (k : g.row.K.Denot). (moment : ℕ) (tables : ToldRows) → IsToday moment day → IsHeardOf (g.K.Keeper.told k) tables → IsValueOf (present c.args.app.now s tables moment) (cell_value cells) (option_map view c.args.item) info v)
     env.keeper.now _ (search rules)
@@ -84,15 +83,17 @@ returns-in-Ok-clause-value g c =
 pub returns-in-Ok-clause-read : goal.returns-in-Ok-clause-read
 returns-in-Ok-clause-read g c =
     let env = c.eval.new.env in
-    let keeps = λ (k : g.row.K.Denot). keeping (g.K.Keeper.told k) (g.K.Keeper.shaped k) (g.K.Keeper.in_transaction k) (g.K.Keeper.marks k) (g.K.Keeper.loan k) in
-    carried (λ (k : g.row.K.Denot). HasRead (keeps c.args.keeper.now) (keeps k)) env.keeper.now _ (first_of (search rules, cc, grind (arith, common_steps)))
+    let keeps = λ (k : g.row.K.Denot). keeping (g.K.Keeper.told k) (g.K.Keeper.began k) (g.K.Keeper.shaped k) (g.K.Keeper.in_transaction k) (g.K.Keeper.marks k) (g.K.Keeper.visited k) (g.K.Keeper.loan k) in
+    carried (λ (k : g.row.K.Denot). HasRead (keeps c.args.keeper.now) (keeps k)) env.keeper.now _ (search rules)
     (has_read c.args.app.now.names env.names.now c.as_slice.result.now env.reads.now (view c.args.day.now) (view env.today.now) c.args.session.now env.session.now (map view c.args.values.now) (map view env.values.now)
-    c.args.app.now.limit env.limit _ _ _ _ _ _ _ _ _ _ _ _ c.requires.shaped env.shaped c.eval.ensures.fixed c.eval.ensures.told c.eval.ensures.marks)
+    c.args.app.now.limit env.limit _ _ _ _ _ _ _ _ _ _ _ _ _ _ _ _ c.requires.shaped env.shaped c.eval.ensures.fixed c.eval.ensures.told c.eval.ensures.marks c.eval.ensures.visited
+    (g.met.K.Keeper.quiet c.args.keeper.now) (g.met.K.Keeper.quiet env.keeper.now))
 
 pub returns-clause-read : goal.returns-clause-read
 returns-clause-read g c =
     let env = c.eval.new.env in
-    let keeps = λ (k : g.row.K.Denot). keeping (g.K.Keeper.told k) (g.K.Keeper.shaped k) (g.K.Keeper.in_transaction k) (g.K.Keeper.marks k) (g.K.Keeper.loan k) in
-    carried (λ (k : g.row.K.Denot). HasRead (keeps c.args.keeper.now) (keeps k)) env.keeper.now _ (first_of (search rules, cc, grind (arith, common_steps)))
+    let keeps = λ (k : g.row.K.Denot). keeping (g.K.Keeper.told k) (g.K.Keeper.began k) (g.K.Keeper.shaped k) (g.K.Keeper.in_transaction k) (g.K.Keeper.marks k) (g.K.Keeper.visited k) (g.K.Keeper.loan k) in
+    carried (λ (k : g.row.K.Denot). HasRead (keeps c.args.keeper.now) (keeps k)) env.keeper.now _ (search rules)
     (has_read c.args.app.now.names env.names.now c.as_slice.result.now env.reads.now (view c.args.day.now) (view env.today.now) c.args.session.now env.session.now (map view c.args.values.now) (map view env.values.now)
-    c.args.app.now.limit env.limit _ _ _ _ _ _ _ _ _ _ _ _ c.requires.shaped env.shaped c.eval.ensures.fixed c.eval.ensures.told c.eval.ensures.marks)
+    c.args.app.now.limit env.limit _ _ _ _ _ _ _ _ _ _ _ _ _ _ _ _ c.requires.shaped env.shaped c.eval.ensures.fixed c.eval.ensures.told c.eval.ensures.marks c.eval.ensures.visited
+    (g.met.K.Keeper.quiet c.args.keeper.now) (g.met.K.Keeper.quiet env.keeper.now))

@@ -1,4 +1,4 @@
-use Rattle.std.proofs.Common.{◌≡◌, ◌∙◌, ℕ, List, map}
+use Rattle.std.proofs.Common.{◌∙◌, ℕ, List, map}
 use Rattle.fx_data.specs.ValueView.{view}
 use Rattle.recalc.specs.Asking.{Keeping, keeping}
 use Rattle.recalc.specs.Reading.{cell_value}
@@ -23,9 +23,9 @@ pub loop-number-preserved : goal.loop-number-preserved
 loop-number-preserved g c =
     let xs : List ℕ = c.as_slice-order.result.now in
     let i : ℕ = c.loop-number.number-index in
-    let first : Keeping = keeping (g.K.Keeper.told c.args.keeper.now) (g.K.Keeper.shaped c.args.keeper.now) (g.K.Keeper.in_transaction c.args.keeper.now) (g.K.Keeper.marks c.args.keeper.now) (g.K.Keeper.loan c.args.keeper.now) in
-    let before : Keeping = keeping (g.K.Keeper.told c.loop-number.keeper) (g.K.Keeper.shaped c.loop-number.keeper) (g.K.Keeper.in_transaction c.loop-number.keeper) (g.K.Keeper.marks c.loop-number.keeper) (g.K.Keeper.loan c.loop-number.keeper) in
-    let after : Keeping = keeping (g.K.Keeper.told c.keep_value.new.keeper) (g.K.Keeper.shaped c.keep_value.new.keeper) (g.K.Keeper.in_transaction c.keep_value.new.keeper) (g.K.Keeper.marks c.keep_value.new.keeper) (g.K.Keeper.loan c.keep_value.new.keeper) in
+    let first : Keeping = keeping (g.K.Keeper.told c.args.keeper.now) (g.K.Keeper.began c.args.keeper.now) (g.K.Keeper.shaped c.args.keeper.now) (g.K.Keeper.in_transaction c.args.keeper.now) (g.K.Keeper.marks c.args.keeper.now) (g.K.Keeper.visited c.args.keeper.now) (g.K.Keeper.loan c.args.keeper.now) in
+    let before : Keeping = keeping (g.K.Keeper.told c.loop-number.keeper) (g.K.Keeper.began c.loop-number.keeper) (g.K.Keeper.shaped c.loop-number.keeper) (g.K.Keeper.in_transaction c.loop-number.keeper) (g.K.Keeper.marks c.loop-number.keeper) (g.K.Keeper.visited c.loop-number.keeper) (g.K.Keeper.loan c.loop-number.keeper) in
+    let after : Keeping = keeping (g.K.Keeper.told c.keep_value.new.keeper) (g.K.Keeper.began c.keep_value.new.keeper) (g.K.Keeper.shaped c.keep_value.new.keeper) (g.K.Keeper.in_transaction c.keep_value.new.keeper) (g.K.Keeper.marks c.keep_value.new.keeper) (g.K.Keeper.visited c.keep_value.new.keeper) (g.K.Keeper.loan c.keep_value.new.keeper) in
     record {
       long = c.in_ok-keep_value.ensures.long;
       kept = more_kept c.args.app.now c.args.session.now (rows_told before.told) (rows_told after.told) (view c.args.day.now) xs i (cell_value (map view c.loop-number.values.items)) (cell_value (map view c.keep_value.new.values.items))

@@ -13,8 +13,8 @@ invariant-loop-number g l = record {
   long : length l.values.items ≡ length l.app.cells;
   kept : AreKept l.app l.session (rows_told (g.K.Keeper.told l.keeper)) (view l.day) (take l.number-index l.app.order) (cell_value (map view l.values.items));
   read : HasRead
-      (keeping (g.K.Keeper.told l.fn.keeper) (g.K.Keeper.shaped l.fn.keeper) (g.K.Keeper.in_transaction l.fn.keeper) (g.K.Keeper.marks l.fn.keeper) (g.K.Keeper.loan l.fn.keeper))
-      (keeping (g.K.Keeper.told l.keeper) (g.K.Keeper.shaped l.keeper) (g.K.Keeper.in_transaction l.keeper) (g.K.Keeper.marks l.keeper) (g.K.Keeper.loan l.keeper));
+      (keeping (g.K.Keeper.told l.fn.keeper) (g.K.Keeper.began l.fn.keeper) (g.K.Keeper.shaped l.fn.keeper) (g.K.Keeper.in_transaction l.fn.keeper) (g.K.Keeper.marks l.fn.keeper) (g.K.Keeper.visited l.fn.keeper) (g.K.Keeper.loan l.fn.keeper))
+      (keeping (g.K.Keeper.told l.keeper) (g.K.Keeper.began l.keeper) (g.K.Keeper.shaped l.keeper) (g.K.Keeper.in_transaction l.keeper) (g.K.Keeper.marks l.keeper) (g.K.Keeper.visited l.keeper) (g.K.Keeper.loan l.keeper));
   alone : ReadsNone l.app → l.keeper ≡ l.fn.keeper;
   steps : l.steps ≡ l.fn.steps + count_by (is_alone l.app.cells) (take l.number-index l.app.order);
 }

@@ -16,5 +16,5 @@ returns-in-Ok-clause-value g c =
     let r = c.args.self.now in
     let told = g.K.Keeper.told c.count.new.self in
     subst (λ (rows : Option (List (List Row))). IsCountAnswer r.names.now.schema.tables rows c.args.query.now c.in-Ok.number)
-    (sym (tables_over (view r.today.now) r.names.now r.session.now (map view r.values.now) told))
+    (sym (tables_over (view r.today.now) r.names.now r.session.now (map view r.values.now) (g.K.Keeper.began c.count.new.self) told))
     (subst (λ (o : Option Schema). IsCountAnswer (shapes_of o) (rows_told told) c.args.query.now c.in-Ok.number) r.shaped c.in-Ok.ensures.answer)

@@ -15,11 +15,11 @@ given_value-requires g c =
 pub returns-in-Ok-clause-value : goal.returns-in-Ok-clause-value
 returns-in-Ok-clause-value g c =
     let r = c.args.self.now in
-    table_given c.rows_fit.ensures (view r.today.now) r.names.now r.session.now (map view r.values.now) r.reads.now (told_by (view r.today.now) r.names.now r.session.now (map view r.values.now)) (g.K.Keeper.told c.table_value.new.keeper) c.in-Table.table c.args.source (view c.in-Ok.value)
+    table_given c.rows_fit.ensures (view r.today.now) r.names.now r.session.now (map view r.values.now) r.reads.now (told_by (view r.today.now) r.names.now r.session.now (map view r.values.now)) (g.K.Keeper.began c.table_value.new.keeper) (g.K.Keeper.told c.table_value.new.keeper) c.in-Table.table c.args.source (view c.in-Ok.value)
     r.lawful c.in-Table.is c.in-Ok.ensures.value
 
 pub returns-in_ok-given_value-in_default-clause-value : goal.returns-in_ok-given_value-in_default-clause-value
 returns-in_ok-given_value-in_default-clause-value g c =
     let r = c.args.self.now in
-    other_given (view r.today.now) r.names.now r.session.now (map view r.values.now) r.reads.now (g.K.Keeper.told r.keeper.now) c.args.source (view c.in_ok-given_value-in_default.field-0)
+    other_given (view r.today.now) r.names.now r.session.now (map view r.values.now) r.reads.now (g.K.Keeper.began r.keeper.now) (g.K.Keeper.told r.keeper.now) c.args.source (view c.in_ok-given_value-in_default.field-0)
     (λ k e. c.in_default.not-Table k e) c.requires c.in_ok-given_value-in_default.ensures

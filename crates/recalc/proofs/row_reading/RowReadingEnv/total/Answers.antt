@@ -19,5 +19,5 @@ returns-in-Ok-clause-value g c =
     let r = c.args.self.now in
     let told = g.K.Keeper.told c.total.new.self in
     subst (λ (rows : Option (List (List Row))). IsTotalAnswer r.names.now.schema.tables rows c.args.query.now c.args.column c.in-Ok.totals)
-    (sym (tables_over (view r.today.now) r.names.now r.session.now (map view r.values.now) told))
+    (sym (tables_over (view r.today.now) r.names.now r.session.now (map view r.values.now) (g.K.Keeper.began c.total.new.self) told))
     (subst (λ (o : Option Schema). IsTotalAnswer (shapes_of o) (rows_told told) c.args.query.now c.args.column c.in-Ok.totals) r.shaped c.in-Ok.ensures.answer)

@@ -1,11 +1,11 @@
 use Rattle.std.proofs.Common.{Option, ℕ, subst}
 use Rattle.std.proofs.lemmas.Result.{IfOk-weaker}
-use Rattle.recalc.specs.app_semantics.Present.{present}
-use Rattle.recalc.specs.app_semantics.Properties.{IsForItem}
+use Rattle.app_semantics.specs.Present.{present}
+use Rattle.app_semantics.specs.Properties.{IsForItem}
 use Rattle.fx_data.specs.ValueView.{view}
-use Rattle.recalc.specs.fx_semantics.Around.{record_of}
+use Rattle.fx_semantics.specs.Around.{record_of}
 use Rattle.recalc.specs.Values.{value_of}
-use Rattle.app_views.proofs.templates.item_property.Goals as goal
+use Rattle.recalc.proofs.templates.property_for_item.Goals as goal
 
 pub returns-in-Some-clause-shows : goal.returns-in-Some-clause-shows
 returns-in-Some-clause-shows g c =

@@ -1,15 +1,15 @@
 use Rattle.std.proofs.Common.{Some, arith, subst, sym}
 use Rattle.std.proofs.lemmas.Result.{IfOk-weaker}
-use Rattle.recalc.specs.app_semantics.Fresh.{IsValueOf}
-use Rattle.recalc.specs.app_semantics.Present.{present}
+use Rattle.app_semantics.specs.Fresh.{IsValueOf}
+use Rattle.app_semantics.specs.Present.{present}
 use Rattle.fx_data.specs.ValueView.{view}
-use Rattle.recalc.specs.fx_semantics.Around.{record_of}
-use Rattle.recalc.specs.fx_semantics.Sound.{IsItemFit}
+use Rattle.fx_semantics.specs.Around.{record_of}
+use Rattle.fx_semantics.specs.Sound.{IsItemFit}
 use Rattle.fx_value.specs.Columns.{Row}
 use Rattle.fx_typing.specs.Typing.{item_of}
 use Rattle.recalc.specs.Values.{value_of}
-use Rattle.app_views.proofs.Galleries.{item_fits, template_cell, template_there}
-use Rattle.app_views.proofs.templates.cell_for_item.Goals as goal
+use Rattle.recalc.proofs.ForItems.{sees_item, template_cell, template_there}
+use Rattle.recalc.proofs.templates.cell_for_item.Goals as goal
 
 pub in_item-requires-clause-cell : goal.in_item-requires-clause-cell
 in_item-requires-clause-cell g c = (c.args.cell, c.in-Some.ensures)
@@ -20,7 +20,7 @@ in_item-requires-clause-quiet g c = (template_cell c.args.app.now c.args.gallery
 pub in_item-requires-clause-item : goal.in_item-requires-clause-item
 in_item-requires-clause-item g c =
     subst (λ (r : Row). IsItemFit (Some (record_of r)) (item_of c.args.app.now.names c.in-Some.info.now.cell.item)) (sym c.in_ok-fields-in-Some.ensures)
-    (item_fits c.args.app.now.names c.args.gallery c.args.row.now c.in-Some.info.now.cell.item (template_cell c.args.app.now c.args.gallery c.args.cell c.in-Some.info.now c.requires.cell c.in-Some.ensures).1 c.requires.row)
+    (sees_item c.args.app.now.names c.args.gallery (record_of c.args.row.now) c.in-Some.info.now.cell.item (template_cell c.args.app.now c.args.gallery c.args.cell c.in-Some.info.now c.requires.cell c.in-Some.ensures).1 c.requires.item)
 
 pub returns-clause-shows : goal.returns-clause-shows
 returns-clause-shows g c =

@@ -1,0 +1,155 @@
+//! Whether controls are visible, and the properties of controls in galleries for an item.
+ghost use Rattle.std.specs.Prelude.{◌≡◌, ℕ, true, IfOk, Some, codes, map, option_map, slice_get, unwrap_or};
+ghost use Rattle.app_semantics.specs.app_cells.Leaning as leaning;
+ghost use Rattle.app_semantics.specs.app_cells.declared.app.CellInfo.{CellInfo as Info};
+ghost use Rattle.app_semantics.specs.Fresh.{IsValueOf};
+ghost use Rattle.app_semantics.specs.Holding.{HoldsFitting};
+ghost use Rattle.app_semantics.specs.Present.{present};
+ghost use Rattle.app_semantics.specs.Properties.{IsPropertyForItem, is_true as is_true_of, is_visible as is_visible_of};
+ghost use Rattle.app_semantics.specs.Sound.{IsSound};
+ghost use Rattle.fx_data.specs.ValueView.{view};
+ghost use Rattle.fx_data.specs.Values.{Data, blank, boolean};
+ghost use Rattle.fx_scalar.specs.ScalarFunctions.{IsToday};
+ghost use Rattle.fx_semantics.specs.Around.{record_of};
+ghost use Rattle.fx_semantics.specs.Sound.{IsItemFit};
+ghost use Rattle.fx_typing.specs.Typing.{item_of};
+ghost use Rattle.recalc.specs.Asking.{HasRead, IsHeardOf, ToldRows, keeping};
+ghost use Rattle.recalc.specs.Reading.{cell_value};
+ghost use Rattle.recalc.specs.Templates.{IsTemplateProperty, StandsIn};
+ghost use Rattle.recalc.specs.Values.{CellsFit, value_of};
+ghost use Rattle.row_keeper.specs.Causes.{HasCause};
+
+use crate::app_cells::App;
+use crate::sources::cell_of_property;
+use crate::valued::Valued;
+use fx_data::values::{Fields, Value};
+use fx_eval::Steps;
+use fx_trees::Names;
+use row_keeper::{Keeper, KeeperEnd};
+use session_state::Session;
+use std::alloc::Global;
+use std::sync::ledger::Ledger;
+
+/// Whether a value is true. None counts as blank.
+pub fn is_true(value: Option<&Value>) -> bool
+    ensures { result ≡ is_true_of (unwrap_or (option_map (λ v. view v.now) value.entry) blank) }
+{
+    matches!(value, Some(Value::Boolean(true)))
+}
+
+/// Whether a control is visible by itself, where cells have these values.
+pub fn is_visible(names: &Names, values: &[Value], control: u32) -> bool
+    ensures { result ≡ is_visible_of names.now (cell_value (map view values.now)) control }
+{
+    match cell_of_property(names, control, "Visible") {
+        Some(cell) => is_true(values.get(cell as usize)),
+        None => true,
+    }
+}
+
+/// Whether a control in a gallery is visible for an item of it, in at most one step. `Failed` only where the keeper counted a
+/// fault.
+#[tactic(auto, using(crate::proofs::Asked::read_none))]
+pub fn is_visible_for_item<K: Keeper, L: Ledger>(
+    alloc: Global,
+    app: &App,
+    session: &Session,
+    keeper: &mut K,
+    valued: &Valued,
+    gallery: u32,
+    control: u32,
+    row: &Fields,
+    steps: &mut Steps<L>,
+) -> Result<bool, KeeperEnd>
+    requires sound { IsSound app.now }
+    requires holds { HoldsFitting app.now.names session.now }
+    requires fits { CellsFit app.now (value_of valued.now) }
+    requires day { (moment : ℕ) × IsToday moment valued.now.day }
+    requires stands { StandsIn app.now.names control gallery }
+    requires item { IsItemFit (Some (record_of row.now)) (item_of app.now.names (Some gallery)) }
+    requires shaped { K.shaped keeper.old ≡ Some app.now.names.schema }
+    ensures shows { IfOk result (λ b. (moment : ℕ) (tables : ToldRows) → IsToday moment valued.now.day → IsHeardOf (K.told keeper.new) tables →
+        (v : Data) × IsPropertyForItem (present app.now session.now tables moment) (value_of valued.now) (record_of row.now) control (codes "Visible") (boolean true) v × (b ≡ is_true_of v)) }
+    ensures read { HasRead (keeping (K.told keeper.old) (K.began keeper.old) (K.shaped keeper.old) (K.in_transaction keeper.old) (K.marks keeper.old) (K.visited keeper.old) (K.loan keeper.old))
+        (keeping (K.told keeper.new) (K.began keeper.new) (K.shaped keeper.new) (K.in_transaction keeper.new) (K.marks keeper.new) (K.visited keeper.new) (K.loan keeper.new)) }
+    ensures cause { HasCause (K.marks keeper.old) (K.marks keeper.new) result }
+{
+    let always = Value::Boolean(true);
+    let visible = property_for_item(
+        alloc, app, session, keeper, valued, gallery, control, "Visible", row, always, steps,
+    )?;
+    Ok(is_true(Some(&visible)))
+}
+
+/// The value of a property of a control in a gallery for an item of it, in at most one step, and another where it isn't
+/// written. `Failed` only where the keeper counted a fault.
+#[tactic(auto, using(crate::proofs::Asked::read_none))]
+pub fn property_for_item<K: Keeper, L: Ledger>(
+    alloc: Global,
+    app: &App,
+    session: &Session,
+    keeper: &mut K,
+    valued: &Valued,
+    gallery: u32,
+    control: u32,
+    name: &str,
+    row: &Fields,
+    unwritten: Value,
+    steps: &mut Steps<L>,
+) -> Result<Value, KeeperEnd>
+    requires sound { IsSound app.now }
+    requires holds { HoldsFitting app.now.names session.now }
+    requires fits { CellsFit app.now (value_of valued.now) }
+    requires day { (moment : ℕ) × IsToday moment valued.now.day }
+    requires property { IsTemplateProperty app.now gallery (leaning.cell_of_property app.now.names control name.now) }
+    requires item { IsItemFit (Some (record_of row.now)) (item_of app.now.names (Some gallery)) }
+    requires shaped { K.shaped keeper.old ≡ Some app.now.names.schema }
+    ensures shows { IfOk result (λ v. (moment : ℕ) (tables : ToldRows) → IsToday moment valued.now.day → IsHeardOf (K.told keeper.new) tables →
+        IsPropertyForItem (present app.now session.now tables moment) (value_of valued.now) (record_of row.now) control name.now (view unwritten) (view v)) }
+    ensures read { HasRead (keeping (K.told keeper.old) (K.began keeper.old) (K.shaped keeper.old) (K.in_transaction keeper.old) (K.marks keeper.old) (K.visited keeper.old) (K.loan keeper.old))
+        (keeping (K.told keeper.new) (K.began keeper.new) (K.shaped keeper.new) (K.in_transaction keeper.new) (K.marks keeper.new) (K.visited keeper.new) (K.loan keeper.new)) }
+    ensures cause { HasCause (K.marks keeper.old) (K.marks keeper.new) result }
+{
+    match cell_of_property(&app.names, control, name) {
+        Some(cell) => cell_for_item(
+            alloc, app, session, keeper, valued, gallery, cell, row, steps,
+        ),
+        None => Ok(unwritten),
+    }
+}
+
+// The value of a cell of a template for an item.
+#[tactic(auto, using(crate::proofs::Asked::read_none))]
+fn cell_for_item<K: Keeper, L: Ledger>(
+    alloc: Global,
+    app: &App,
+    session: &Session,
+    keeper: &mut K,
+    valued: &Valued,
+    gallery: u32,
+    cell: u32,
+    row: &Fields,
+    steps: &mut Steps<L>,
+) -> Result<Value, KeeperEnd>
+    requires sound { IsSound app.now }
+    requires holds { HoldsFitting app.now.names session.now }
+    requires fits { CellsFit app.now (value_of valued.now) }
+    requires day { (moment : ℕ) × IsToday moment valued.now.day }
+    requires cell { IsTemplateProperty app.now gallery (Some cell) }
+    requires item { IsItemFit (Some (record_of row.now)) (item_of app.now.names (Some gallery)) }
+    requires shaped { K.shaped keeper.old ≡ Some app.now.names.schema }
+    ensures shows { IfOk result (λ v. (moment : ℕ) (tables : ToldRows) → IsToday moment valued.now.day → IsHeardOf (K.told keeper.new) tables →
+        (c : Info) × (slice_get app.now.cells cell ≡ Some c) × IsValueOf (present app.now session.now tables moment) (value_of valued.now) (Some (record_of row.now)) c (view v)) }
+    ensures read { HasRead (keeping (K.told keeper.old) (K.began keeper.old) (K.shaped keeper.old) (K.in_transaction keeper.old) (K.marks keeper.old) (K.visited keeper.old) (K.loan keeper.old))
+        (keeping (K.told keeper.new) (K.began keeper.new) (K.shaped keeper.new) (K.in_transaction keeper.new) (K.marks keeper.new) (K.visited keeper.new) (K.loan keeper.new)) }
+    ensures cause { HasCause (K.marks keeper.old) (K.marks keeper.new) result }
+{
+    match app.cells.get(cell as usize) {
+        Some(info) => {
+            let fields = row.copy(alloc)?;
+            let item = Value::Rec(fields);
+            valued.in_item(alloc, app, session, keeper, info, item, steps)
+        }
+        None => unreachable!(),
+    }
+}
