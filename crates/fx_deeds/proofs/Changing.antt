@@ -32,6 +32,7 @@ made_within (change.Global k x) s = record {
   inputs = λ j n. refl;
   chosen = λ j n. refl;
   accepted = refl;
+  room = refl;
 }
 made_within (change.Context k x) s = record {
   app = refl;
@@ -42,6 +43,7 @@ made_within (change.Context k x) s = record {
   inputs = λ j n. refl;
   chosen = λ j n. refl;
   accepted = refl;
+  room = refl;
 }
 made_within (change.Gather k x) s = record {
   app = refl;
@@ -52,6 +54,7 @@ made_within (change.Gather k x) s = record {
   inputs = λ j n. refl;
   chosen = λ j n. refl;
   accepted = refl;
+  room = refl;
 }
 made_within (change.Empty k) s = record {
   app = refl;
@@ -62,6 +65,7 @@ made_within (change.Empty k) s = record {
   inputs = λ j n. refl;
   chosen = λ j n. refl;
   accepted = refl;
+  room = refl;
 }
 made_within (change.Input k x) s = record {
   app = refl;
@@ -72,6 +76,7 @@ made_within (change.Input k x) s = record {
   inputs = λ j n. get_set_other s.session.inputs k j _ (λ e. n (inl (ap source.Input e)));
   chosen = λ j n. refl;
   accepted = refl;
+  room = refl;
 }
 made_within (change.Choose k position id) s = record {
   app = refl;
@@ -82,6 +87,7 @@ made_within (change.Choose k position id) s = record {
   inputs = λ j n. refl;
   chosen = λ j n. get_set_other s.session.chosen k j _ (λ e. n (inl (ap source.Chosen e)));
   accepted = refl;
+  room = refl;
 }
 made_within (change.Screen k) s = record {
   app = refl;
@@ -92,6 +98,7 @@ made_within (change.Screen k) s = record {
   inputs = λ j n. refl;
   chosen = λ j n. refl;
   accepted = refl;
+  room = refl;
 }
 made_within (change.Notice w) s = record {
   app = refl;
@@ -102,6 +109,7 @@ made_within (change.Notice w) s = record {
   inputs = λ j n. refl;
   chosen = λ j n. refl;
   accepted = refl;
+  room = refl;
 }
 
 pub changed_within : {A : Type 0} (c : Change) (done : Bool) (a b : State A) → IsChanged c done a b → Within a b
@@ -130,6 +138,7 @@ table_within s k x b e = subst (λ z. Within s (with_table k z s)) (sym e) (reco
     inputs = λ j n. refl;
     chosen = λ j n. refl;
     accepted = refl;
+    room = refl;
   };
 })
 

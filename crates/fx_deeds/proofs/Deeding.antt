@@ -27,7 +27,7 @@ use Rattle.fx_deeds.specs.Deeds.{Answers, OrErrorAmong, text_of}
 use Rattle.fx_deeds.specs.Done.{IsDeed, IsUpdate}
 use Rattle.fx_deeds.specs.Fitting.{IsOfColumns, SourceTypes}
 use Rattle.fx_deeds.specs.RowValues.{columns_in}
-use Rattle.fx_deeds.specs.State.{State}
+use Rattle.fx_deeds.specs.State.{Frame, State}
 
 -- ---- errors among values
 
@@ -51,12 +51,12 @@ goes_nowhere lost P (Some s) f = f s
 
 -- ---- what a call does is what a deed does
 
-pub deed_by : {A E : Type 0} (r : Result Value E) (lost : Type 0) (y z : Option (State A)) (f : Fixed) (d e : Deed) (ys : List Data) (Q : Data → State A → State A → Type 0) → d ≡ e → ((x : Data) (s t : State A) → Q x s t → IsDeed f e ys s x t) →
+pub deed_by : {A E : Type 0} (r : Result Value E) (lost : Type 0) (y z : Option (State A)) (f : Frame) (d e : Deed) (ys : List Data) (Q : Data → State A → State A → Type 0) → d ≡ e → ((x : Data) (s t : State A) → Q x s t → IsDeed f e ys s x t) →
     IfOk r (λ x. Goes lost (Q (view x)) y z) → IfOk r (λ x. Goes lost (λ s t. IsDeed f d ys s (view x) t) y z)
 deed_by (Ok x) lost y z f d e ys Q same g h = goes_weaker lost (Q (view x)) (λ s t. IsDeed f d ys s (view x) t) (λ s t k. subst (λ w. IsDeed f w ys s (view x) t) (sym same) (g (view x) s t k)) y z h
 deed_by (Err w) lost y z f d e ys Q same g h = tt
 
-pub update_by : {A E : Type 0} (r : Result Value E) (lost : Type 0) (y z : Option (State A)) (f : Fixed) (p q : Target) (rows : List Row) (ds : List Data) (Q : Data → State A → State A → Type 0) → p ≡ q →
+pub update_by : {A E : Type 0} (r : Result Value E) (lost : Type 0) (y z : Option (State A)) (f : Frame) (p q : Target) (rows : List Row) (ds : List Data) (Q : Data → State A → State A → Type 0) → p ≡ q →
     ((x : Data) (s t : State A) → Q x s t → IsUpdate f q rows ds s x t) → IfOk r (λ x. Goes lost (Q (view x)) y z) → IfOk r (λ x. Goes lost (λ s t. IsUpdate f p rows ds s (view x) t) y z)
 update_by (Ok x) lost y z f p q rows ds Q same g h = goes_weaker lost (Q (view x)) (λ s t. IsUpdate f p rows ds s (view x) t) (λ s t k. subst (λ w. IsUpdate f w rows ds s (view x) t) (sym same) (g (view x) s t k)) y z h
 update_by (Err w) lost y z f p q rows ds Q same g h = tt

@@ -29,6 +29,7 @@ same_on xs ys a b c p q = record {
   inputs = λ k n. q.inputs k (λ h. n (among_right _ xs ys h)) ∙ p.inputs k (λ h. n (among_left _ xs ys h));
   chosen = λ k n. q.chosen k (λ h. n (among_right _ xs ys h)) ∙ p.chosen k (λ h. n (among_left _ xs ys h));
   accepted = q.accepted ∙ p.accepted;
+  room = q.room ∙ p.room;
 }
 
 pub within_nowhere : {A : Type 0} (a : State A) → Within a a
@@ -44,6 +45,7 @@ within_nowhere a = record {
     inputs = λ k n. refl;
     chosen = λ k n. refl;
     accepted = refl;
+    room = refl;
   };
 }
 

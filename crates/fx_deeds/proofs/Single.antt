@@ -6,7 +6,6 @@ use Rattle.fx_data.specs.declared.values.Value.{Value}
 use Rattle.fx_data.specs.Types.{ColumnList}
 use Rattle.fx_data.specs.Values.{Data, blank, number, text, boolean, date, rec, tab, fault}
 use Rattle.fx_data.specs.ValueView.{view}
-use Rattle.fx_eval.specs.Scopes.{Fixed}
 use Rattle.fx_scalar.proofs.Single.{AtMostOne}
 use Rattle.fx_semantics.specs.Around.{record_of}
 use Rattle.fx_semantics.specs.Rows.{rows_in, table_of}
@@ -35,7 +34,7 @@ use Rattle.fx_deeds.specs.Collections.{Appends, AreBlank, AreLeft, AreTaken, Are
 use Rattle.fx_deeds.specs.Deeds.{Answers, AreRemoved, AreSet, AreUpdated, ByDone, ByFound, ByPut, ChangesRow, Gives, IsGiven, IsPatched, Makes, MakesRow, OfTable, OrError, OrErrorAmong, PatchesBase, PatchesById, PatchesRow, Removes as TakesOut, Updates, id_of, named_id, row_at, text_of}
 use Rattle.fx_deeds.specs.Done.{IsDeed, IsUpdate, errors_in}
 use Rattle.fx_deeds.specs.RowValues.{columns_in, changed_cells, changed_row, put_answer, row_named, rows_among, taken_or, values_among}
-use Rattle.fx_deeds.specs.State.{State}
+use Rattle.fx_deeds.specs.State.{Frame, State}
 
 -- an answer and the state that is left
 abbrev pub Outcome : Type 0 → Type 0
@@ -386,7 +385,7 @@ taken_one cs k (y ∷ ys) s =
 
 -- ---- deeds
 
-pub update_one : {A : Type 0} (f : Fixed) (p : Target) (rows : List Row) (changes : List Data) (s : State A) → AtMostOne (λ (o : Outcome A). IsUpdate f p rows changes s o.0 o.1)
+pub update_one : {A : Type 0} (f : Frame) (p : Target) (rows : List Row) (changes : List Data) (s : State A) → AtMostOne (λ (o : Outcome A). IsUpdate f p rows changes s o.0 o.1)
 update_one f (target.Table k) rows changes s =
     among_one (errors_in changes) (λ o. OfTable f.schema k (λ p. AreUpdated p k rows changes s o.0 o.1)) s
     (table_one (slice_get f.schema.tables k) (λ p o. AreUpdated p k rows changes s o.0 o.1) (λ p. updated_one p k rows changes s))
@@ -394,7 +393,7 @@ update_one f (target.Gathered k) rows changes s =
     let cs = columns_in (f.types (source.Gathered k)) in
     among_one (errors_in changes) (λ o. AreUpdatedIn cs k rows changes s o.0 o.1) s (updated_in_one cs k rows changes s)
 
-pub deed_once : {A : Type 0} (f : Fixed) (d : Deed) (ys : List Data) (s : State A) → AtMostOne (λ (o : Outcome A). IsDeed f d ys s o.0 o.1)
+pub deed_once : {A : Type 0} (f : Frame) (d : Deed) (ys : List Data) (s : State A) → AtMostOne (λ (o : Outcome A). IsDeed f d ys s o.0 o.1)
 deed_once f (deed.Set k) (y ∷ []) s = set_one k y (boolean true) s
 deed_once f (deed.Set k) [] s = λ v w p q. absurd p
 deed_once f (deed.Set k) (y ∷ z ∷ ys) s = λ v w p q. absurd p

@@ -1,5 +1,5 @@
 -- What a world tells of its state, by what it tells as an environment.
-use Rattle.std.proofs.Common.{◌≡◌, ◌++◌, List, [], Option, Some, None, true, refl, ap, sym, subst, ◌∙◌}
+use Rattle.std.proofs.Common.{◌≡◌, ℕ, ◌++◌, List, [], Option, Some, None, true, refl, ap, sym, subst, ◌∙◌}
 use Rattle.fx_base.specs.Silence.{Goes}
 use Rattle.fx_base.specs.Telling.{Stays}
 use Rattle.fx_data.specs.Types.{Shape, ColumnList, tables}
@@ -10,9 +10,11 @@ use Rattle.fx_semantics.specs.Sources.{FitsIn, Gives}
 use Rattle.fx_semantics.proofs.Tables.{rows_in_fit, table_fits}
 use Rattle.fx_value.specs.Columns.{Row}
 use Rattle.fx_trees.specs.declared.sources.Source.{Source}
+use Rattle.fx_trees.specs.declared.sources.Source.TheVariants as source
 use Rattle.fx_value.specs.Fits.{fits_in}
 use Rattle.fx_deeds.specs.Fitting.{SourceTypes}
-use Rattle.fx_deeds.specs.State.{Giving, State}
+use Rattle.fx_deeds.specs.State.{State}
+use Rattle.session_state.specs.Sessions.{held}
 
 stays_same : {A : Type 0} (lost : Type 0) (x : Option A) → Goes lost Stays x x
 stays_same lost None = refl
@@ -32,19 +34,17 @@ state_holds lost None y Q h f = h
 state_holds lost (Some s) None Q h f = h
 state_holds lost (Some s) (Some t) Q h f = (h, subst Q h (f t refl))
 
-abbrev ValuesTold : {A B : Type 0} → SourceTypes → Giving A → Option (State A) → Option (Told B) → Type 0
-ValuesTold {A} {B} types gives state told =
-    (s : State A) (e : Told B) → state ≡ Some s → told ≡ Some e → (x : Source) (t : Shape) → types x ≡ Some t → gives s x (e.values x)
+-- what is told of a collection the session holds
+abbrev CollectionsTold : {A B : Type 0} → Option (State A) → Option (Told B) → ℕ → Type 0
+CollectionsTold {A} {B} state told k =
+    (s : State A) (e : Told B) → state ≡ Some s → told ≡ Some e → e.values (source.Gathered k) ≡ held s.session (source.Gathered k)
 
--- what a source gives by what is told, it gives in the state
-pub given_there : {A B : Type 0} (types : SourceTypes) (gives : Giving A) (state : Option (State A)) (told : Option (Told B)) (x : Source) (d : Data) →
-    (told ≡ None → state ≡ None) → ValuesTold types gives state told → Gives types (values_told told) x d → (s : State A) → state ≡ Some s → gives s x d
-given_there types gives state None x d lost values h s e = let wrong : Some s ≡ None = sym e ∙ lost refl in absurd cc
-given_there types gives state (Some e) x d lost values h s q = by (types x) refl h
-  where
-    by : (o : Option Shape) → types x ≡ o → FitsIn o d × (d ≡ e.values x) → gives s x d
-    by None p k = absurd k.0
-    by (Some t) p k = subst (λ z. gives s x z) (sym k.1) (values s e q refl x t p)
+-- so what a collection gives by what is told is what the session holds
+pub held_there : {A B : Type 0} (types : SourceTypes) (state : Option (State A)) (told : Option (Told B)) (k : ℕ) (d : Data) →
+    (told ≡ None → state ≡ None) → CollectionsTold state told k → Gives types (values_told told) (source.Gathered k) d →
+    (s : State A) → state ≡ Some s → d ≡ held s.session (source.Gathered k)
+held_there types state None k d lost values h s e = let wrong : Some s ≡ None = sym e ∙ lost refl in absurd cc
+held_there types state (Some e) k d lost values h s q = h.1 ∙ values s e q refl
 
 -- rows that were read fit
 pub rows_read_fit : (types : SourceTypes) (x : Source) (d : Data) (cs : ColumnList) (start rows : List Row) → FitsIn (types x) d → start ≡ [] → rows ≡ start ++ rows_in d →

@@ -12,7 +12,6 @@ use Rattle.fx_trees.specs.declared.deeds.Target.TheVariants as target
 use Rattle.fx_trees.specs.declared.schema.TableShape.{TableShape}
 use Rattle.fx_trees.specs.declared.sources.Source.{Source}
 use Rattle.fx_trees.specs.declared.sources.Source.TheVariants as source
-use Rattle.fx_eval.specs.Scopes.{Fixed}
 use Rattle.fx_semantics.specs.Around.{record_of}
 use Rattle.fx_semantics.specs.Rows.{rows_in}
 use Rattle.fx_value.specs.Columns.{Row}
@@ -27,7 +26,7 @@ use Rattle.fx_deeds.specs.Collections.{AreTaken, AreTakenIf, AreUpdatedIn, Holds
 use Rattle.fx_deeds.specs.Deeds.{Answers, AreRemoved, AreSet, AreUpdated, ByDone, ByFound, ByPut, Gives, IsGiven, IsPatched, Makes, MakesRow, ChangesRow, OfTable, OrError, OrErrorAmong, PatchesBase, PatchesById, PatchesRow, id_of, named_id, row_at, text_of}
 use Rattle.fx_deeds.specs.Done.{IsDeed, IsUpdate, errors_in}
 use Rattle.fx_deeds.specs.RowValues.{changed_row, row_named, rows_among, values_among}
-use Rattle.fx_deeds.specs.State.{State}
+use Rattle.fx_deeds.specs.State.{Frame, State}
 use Rattle.fx_trees.specs.Lawful.{id_name}
 use Rattle.fx_value.specs.Coercion.{value_in}
 use Rattle.fx_deeds.specs.Within.{Within}
@@ -188,12 +187,12 @@ updates_in cs k kept changes s x t h = holds k h.0 _ s x t h.2
 
 -- ---- deeds
 
-pub update : {A : Type 0} (f : Fixed) (p : Target) (rows : List Row) (changes : List Data) (s : State A) (x : Data) (t : State A) → IsUpdate f p rows changes s x t → Within s t
+pub update : {A : Type 0} (f : Frame) (p : Target) (rows : List Row) (changes : List Data) (s : State A) (x : Data) (t : State A) → IsUpdate f p rows changes s x t → Within s t
 update f (target.Table k) rows changes s x t h =
     or_among (errors_in changes) _ s x t (of_table (slice_get f.schema.tables k) (λ p. AreUpdated p k rows changes s x t) s t (λ p r. updates p k rows changes s x t r)) h
 update f (target.Gathered k) rows changes s x t h = or_among (errors_in changes) _ s x t (updates_in _ k rows changes s x t) h
 
-pub done_by : {A : Type 0} (f : Fixed) (d : Deed) (ys : List Data) (s : State A) (x : Data) (t : State A) → IsDeed f d ys s x t → Within s t
+pub done_by : {A : Type 0} (f : Frame) (d : Deed) (ys : List Data) (s : State A) (x : Data) (t : State A) → IsDeed f d ys s x t → Within s t
 done_by f (deed.Set k) (y ∷ []) s x t h = gives (change.Global k) y _ s x t h
 done_by f (deed.Set k) [] s x t h = absurd h
 done_by f (deed.Set k) (y ∷ z ∷ ys) s x t h = absurd h

@@ -1,7 +1,6 @@
 -- What a deed does with the values of its parts, over what stays.
 use Rattle.std.specs.Prelude.{◌++◌, List, [], ◌∷◌, true, map, None}
 use Rattle.fx_data.specs.Values.{Data, boolean, fault}
-use Rattle.fx_eval.specs.Scopes.{Fixed}
 use Rattle.fx_semantics.specs.Around.{record_of}
 use Rattle.fx_semantics.specs.Rows.{rows_in}
 use Rattle.fx_value.specs.Columns.{Row}
@@ -14,10 +13,10 @@ use Rattle.session_state.specs.declared.change.Change.TheVariants as change
 use Rattle.fx_deeds.specs.Collections.{AreTaken, AreTakenIf, AreUpdatedIn, Holds, IsPatchedIn, rows_held}
 use Rattle.fx_deeds.specs.Deeds.{AreRemoved, AreSet, AreUpdated, Gives, IsPatched, Makes, OfTable, OrError, OrErrorAmong, text_of}
 use Rattle.fx_deeds.specs.RowValues.{columns_in, rows_among, values_among}
-use Rattle.fx_deeds.specs.State.{State}
+use Rattle.fx_deeds.specs.State.{Frame, State}
 
 -- `Set` and `UpdateContext` take errors, and of the others the first error among the values is the answer
-abbrev pub IsDeed : {A : Type 0} → Fixed → Deed → List Data → State A → Data → State A → Type 0
+abbrev pub IsDeed : {A : Type 0} → Frame → Deed → List Data → State A → Data → State A → Type 0
 IsDeed f (deed.Set k) (y ∷ []) s x t = Gives (change.Global k) y (boolean true) s x t
 IsDeed f (deed.UpdateContext ks) ys s x t = AreSet ks ys s x t
 IsDeed f (deed.Collect k) ys s x t = OrErrorAmong ys (Holds k (rows_held k s ++ rows_among ys) (boolean true) s x t) s x t
@@ -47,7 +46,7 @@ errors_in [] = []
 errors_in (d ∷ ds) = errors_of d ++ errors_in ds
 
 -- `UpdateIf`, from the rows of its filter and the change of each: the first error among the changes is the answer
-abbrev pub IsUpdate : {A : Type 0} → Fixed → Target → List Row → List Data → State A → Data → State A → Type 0
+abbrev pub IsUpdate : {A : Type 0} → Frame → Target → List Row → List Data → State A → Data → State A → Type 0
 IsUpdate f (target.Table k) rows changes s x t =
     OrErrorAmong (errors_in changes) (OfTable f.schema k (λ p. AreUpdated p k rows changes s x t)) s x t
 IsUpdate f (target.Gathered k) rows changes s x t =

@@ -1,6 +1,9 @@
 -- What behaviour formulas read and change, and what they stand on.
-use Rattle.std.specs.Prelude.{List}
+use Rattle.std.specs.Prelude.{◌≡◌, ℕ, List, Option, Some}
+use Rattle.fx_data.specs.Types.{Shape}
 use Rattle.fx_data.specs.Values.{Data}
+use Rattle.fx_trees.specs.Reads.{IsAmong}
+use Rattle.fx_trees.specs.declared.schema.Schema.{Schema}
 use Rattle.fx_trees.specs.declared.sources.Source.{Source}
 use Rattle.fx_eval.specs.Scopes.{Fixed, Held}
 use Rattle.fx_semantics.specs.Around.{Around}
@@ -19,13 +22,28 @@ pub record State (A : Type 0) : Type 0 where
 abbrev pub Giving : Type 0 → Type 1
 Giving A = State A → Source → Data → Type 0
 
--- what sources give, and what stays: the types of sources and the schema
+-- the value that is told of each of these sources that has a type is one that it gives in the state
+abbrev pub AreReady : {A : Type 0} → (Source → Option Shape) → Giving A → List Source → Option (State A) → Option (Source → Data) → Type 0
+AreReady {A} types gives reads state told =
+    (s : State A) (values : Source → Data) → state ≡ Some s → told ≡ Some values →
+    (x : Source) (t : Shape) → IsAmong x reads → types x ≡ Some t → gives s x (values x)
+
+-- the types of sources, the tables, and how many rows a query may take that isn't delegated
+pub record Frame : Type 0 where
+  pub types : Source → Option Shape
+  pub schema : Schema
+  pub limit : ℕ
+
+abbrev pub frame_of : Fixed → Frame
+frame_of f = record { types = f.types; schema = f.schema; limit = f.limit }
+
+-- what sources give, and what stays
 pub record Ground (A : Type 0) : Type 1 where
   pub gives : Giving A
-  pub fixed : Fixed
+  pub frame : Frame
 
 abbrev pub ground : {A : Type 0} → Giving A → Fixed → Ground A
-ground gives fixed = record { gives = gives; fixed = fixed }
+ground gives fixed = record { gives = gives; frame = frame_of fixed }
 
 -- where a formula stands, over what is there now
 abbrev pub standing : {A : Type 0} → Ground A → Held → State A → Around

@@ -21,6 +21,7 @@ pub record SameBut {A : Type 0} (ws : List Source) (s t : State A) : Type 0 wher
   pub inputs : (k : ℕ) → (IsAmong (source.Input k) ws → ⊥) → slice_get t.session.inputs k ≡ slice_get s.session.inputs k
   pub chosen : (k : ℕ) → (IsAmong (source.Chosen k) ws → ⊥) → slice_get t.session.chosen k ≡ slice_get s.session.chosen k
   pub accepted : t.session.kept ≡ s.session.kept
+  pub room : t.session.room ≡ s.session.room
 
 -- these sources were written, one after another
 abbrev pub Written : {A : Type 0} → State A → State A → List Source → Type 0

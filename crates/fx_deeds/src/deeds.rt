@@ -10,6 +10,7 @@ ghost use Rattle.fx_value.specs.Fits.{fits_in};
 ghost use Rattle.fx_deeds.specs.Doable.{AnswersAs, CanDo, CanUpdate};
 ghost use Rattle.fx_deeds.specs.Done.{IsDeed, IsUpdate};
 ghost use Rattle.fx_deeds.specs.Stages.{Passed, stage};
+ghost use Rattle.fx_deeds.specs.State.{frame_of};
 
 use crate::answers::first_error;
 use crate::collections::{patch_equal, remove_equal};
@@ -38,7 +39,7 @@ pub fn remove<W: World, L: Ledger>(
         (stage (W.fixed world.old) (W.state world.old) (W.marks world.old) (W.visited world.old))
         (stage (W.fixed world.new) (W.state world.new) (W.marks world.new) (W.visited world.new)) }
     ensures keeper { IsErrOf result Stop.Keeper → Rose (W.marks world.old).faults (W.marks world.new).faults }
-    ensures done { IfOk result (λ x. Goes (IsLost (W.marks world.old) (W.marks world.new)) (λ s t. IsDeed (W.fixed world.old) (deed.Remove target) (map view values.now) s (view x) t) (W.state world.old) (W.state world.new)) }
+    ensures done { IfOk result (λ x. Goes (IsLost (W.marks world.old) (W.marks world.new)) (λ s t. IsDeed (frame_of (W.fixed world.old)) (deed.Remove target) (map view values.now) s (view x) t) (W.state world.old) (W.state world.new)) }
     ensures fits { IfOk result (λ x. fits_in (view x) booleans ≡ true) }
 {
     if let Some(error) = first_error(alloc, values)? {
@@ -63,7 +64,7 @@ pub fn remove_if<W: World, L: Ledger>(
         (stage (W.fixed world.old) (W.state world.old) (W.marks world.old) (W.visited world.old))
         (stage (W.fixed world.new) (W.state world.new) (W.marks world.new) (W.visited world.new)) }
     ensures keeper { IsErrOf result Stop.Keeper → Rose (W.marks world.old).faults (W.marks world.new).faults }
-    ensures done { IfOk result (λ x. Goes (IsLost (W.marks world.old) (W.marks world.new)) (λ s t. IsDeed (W.fixed world.old) (deed.RemoveIf target) (view filtered ∷ []) s (view x) t) (W.state world.old) (W.state world.new)) }
+    ensures done { IfOk result (λ x. Goes (IsLost (W.marks world.old) (W.marks world.new)) (λ s t. IsDeed (frame_of (W.fixed world.old)) (deed.RemoveIf target) (view filtered ∷ []) s (view x) t) (W.state world.old) (W.state world.new)) }
     ensures fits { IfOk result (λ x. fits_in (view x) booleans ≡ true) }
 {
     match target {
@@ -87,7 +88,7 @@ pub fn patch<W: World, L: Ledger>(
         (stage (W.fixed world.old) (W.state world.old) (W.marks world.old) (W.visited world.old))
         (stage (W.fixed world.new) (W.state world.new) (W.marks world.new) (W.visited world.new)) }
     ensures keeper { IsErrOf result Stop.Keeper → Rose (W.marks world.old).faults (W.marks world.new).faults }
-    ensures done { IfOk result (λ x. Goes (IsLost (W.marks world.old) (W.marks world.new)) (λ s t. IsDeed (W.fixed world.old) (deed.Patch target) (map view values.now) s (view x) t) (W.state world.old) (W.state world.new)) }
+    ensures done { IfOk result (λ x. Goes (IsLost (W.marks world.old) (W.marks world.new)) (λ s t. IsDeed (frame_of (W.fixed world.old)) (deed.Patch target) (map view values.now) s (view x) t) (W.state world.old) (W.state world.new)) }
     ensures fits { (u : Shape) → AnswersAs (W.fixed world.old).types (deed.Patch target) u → IfOk result (λ x. fits_in (view x) u ≡ true) }
 {
     if let Some(error) = first_error(alloc, values)? {
@@ -120,7 +121,7 @@ pub fn update<W: World, L: Ledger>(
         (stage (W.fixed world.old) (W.state world.old) (W.marks world.old) (W.visited world.old))
         (stage (W.fixed world.new) (W.state world.new) (W.marks world.new) (W.visited world.new)) }
     ensures keeper { IsErrOf result Stop.Keeper → Rose (W.marks world.old).faults (W.marks world.new).faults }
-    ensures done { IfOk result (λ x. Goes (IsLost (W.marks world.old) (W.marks world.new)) (λ s t. IsUpdate (W.fixed world.old) target rows.now (map view changes.now) s (view x) t) (W.state world.old) (W.state world.new)) }
+    ensures done { IfOk result (λ x. Goes (IsLost (W.marks world.old) (W.marks world.new)) (λ s t. IsUpdate (frame_of (W.fixed world.old)) target rows.now (map view changes.now) s (view x) t) (W.state world.old) (W.state world.new)) }
     ensures fits { IfOk result (λ x. fits_in (view x) booleans ≡ true) }
 {
     if let Some(error) = first_of_changes(alloc, changes)? {

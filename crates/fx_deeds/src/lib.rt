@@ -6,6 +6,7 @@
 //! `session` has the deeds on variables, collections, screens, notices and inputs, and `deeds` those on rows.
 #![tactic(auto)]
 
+pub mod acts;
 mod answers;
 mod changes;
 mod collections;
@@ -20,6 +21,7 @@ mod tables;
 mod updates;
 pub mod world;
 
+pub use acts::do_deed;
 pub use deeds::{patch, remove, remove_if, update};
 pub use session::{clear, clear_collect, collect, navigate, notify, reset, set, set_all};
 pub use world::World;

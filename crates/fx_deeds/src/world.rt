@@ -1,15 +1,15 @@
 //! What behaviour formulas act on.
-ghost use Rattle.std.specs.Prelude.{◌≡◌, ◌≤◌, ℕ, Option, Some, None, IfOk, OnErr, IsErrOf, IsSome, IsSomeAnd, slice_get};
+ghost use Rattle.std.specs.Prelude.{◌≡◌, ◌≤◌, ℕ, Option, Some, None, IfOk, OnErr, OnOk, IsErrOf, IsSome, IsSomeAnd, slice_get};
 ghost use Rattle.fx_base.specs.Faults.{Rose};
 ghost use Rattle.fx_base.specs.Silence.{Goes, IsLater, IsLost};
 ghost use Rattle.fx_base.specs.Telling.{Stays};
-ghost use Rattle.fx_data.specs.Types.{Shape};
 ghost use Rattle.fx_data.specs.Values.{Data};
-ghost use Rattle.fx_eval.specs.Telling.{Told};
+ghost use Rattle.fx_eval.specs.Telling.{Told, values_told};
 ghost use Rattle.fx_trees.specs.declared.names.Names.{Names as AppNames};
 ghost use Rattle.fx_trees.specs.declared.sources.Source.{Source as Origin};
 ghost use Rattle.fx_trees.specs.declared.sources.Source.TheVariants as source;
 ghost use Rattle.fx_trees.specs.Lawful.{IsLawfulSchema};
+ghost use Rattle.fx_trees.specs.Reads.{sources_in};
 ghost use Rattle.fx_trees.specs.SourceTypes.{sources};
 ghost use Rattle.row_keeper.specs.Changes.{IsInserted, IsReplaced};
 ghost use Rattle.row_keeper.specs.Tables.{columns_at, rows_of};
@@ -17,13 +17,14 @@ ghost use Rattle.row_queries.specs.TableRows.{AreCellsOf};
 ghost use Rattle.session_state.specs.Changes.{FitsChange};
 ghost use Rattle.session_state.specs.Sessions.{held};
 ghost use Rattle.fx_deeds.specs.Changed.{IsChanged, IsRowChanged, IsRowMade, IsRowRemoved};
-ghost use Rattle.fx_deeds.specs.State.{State};
+ghost use Rattle.fx_deeds.specs.State.{AreReady, State};
 
-use fx_eval::{Env, Stop};
-use fx_trees::Names;
+use fx_eval::{Env, Steps, Stop};
+use fx_trees::{Core, Names};
 use row_keeper::Put;
 use row_queries::Cells;
 use session_state::Change;
+use std::sync::ledger::Ledger;
 
 /// What behaviour formulas act on: an environment whose session and tables can be changed. Each call makes one
 /// change or none.
@@ -47,6 +48,17 @@ pub trait World: Env {
     /// The names of the app.
     fn names(&self) -> &Names
         ensures { result.now ≡ names self.now };
+
+    /// Makes ready what a formula reads: afterwards the value that is told of each of its sources is one that the source
+    /// gives in the state. Nothing changes. `Keeper` only where a fault was counted.
+    fn ready<L: Ledger>(&mut self, core: &Core, steps: &mut Steps<L>) -> Result<(), Stop>
+        ensures fixed { Self.fixed self.new ≡ Self.fixed self.old }
+        ensures named { names self.new ≡ names self.old }
+        ensures stays { Goes (IsLost (Self.marks self.old) (Self.marks self.new)) Stays (state self.old) (state self.new) }
+        ensures ready { OnOk result (AreReady (Self.fixed self.old).types gives (sources_in core.now) (state self.new) (values_told (Self.told self.new))) }
+        ensures marks { IsLater (Self.marks self.old) (Self.marks self.new) }
+        ensures keeper { IsErrOf result Stop.Keeper → Rose (Self.marks self.old).faults (Self.marks self.new).faults }
+        ensures visited { Self.visited self.old ≤ Self.visited self.new };
 
     /// Makes a change of the session, and says whether it was made. `Keeper` only where a fault was counted.
     fn change(&mut self, change: Change) -> Result<bool, Stop>
@@ -101,15 +113,12 @@ pub trait World: Env {
     /// A law: where it tells nothing as an environment, its state isn't told either.
     ghost lost: { (w : Self) → Self.told w ≡ None → state w ≡ None };
 
-    /// A law: the values that are told of sources are what these give in the state that is told.
-    ghost values: { (w : Self) (s : State Self.App) (e : Told Self.Beside) → state w ≡ Some s → Self.told w ≡ Some e →
-        (x : Origin) (t : Shape) → (Self.fixed w).types x ≡ Some t → gives s x (e.values x) };
+    /// A law: of a collection the value is told that the session holds.
+    ghost collections: { (w : Self) (s : State Self.App) (e : Told Self.Beside) → state w ≡ Some s → Self.told w ≡ Some e →
+        (k : ℕ) → e.values (source.Gathered k) ≡ held s.session (source.Gathered k) };
 
     /// A law: the rows that are told are those of the state.
     ghost rows: { (w : Self) (s : State Self.App) (e : Told Self.Beside) → state w ≡ Some s → Self.told w ≡ Some e → e.tables ≡ rows_of s.tables.states };
-
-    /// A law: a collection gives what the session holds.
-    ghost collections: { (s : State Self.App) (k : ℕ) (d : Data) → gives s (source.Gathered k) d → d ≡ held s.session (source.Gathered k) };
 
     /// A law: sources have the types that the names give them.
     ghost typed: { (w : Self) (x : Origin) → (Self.fixed w).types x ≡ sources (names w) x };

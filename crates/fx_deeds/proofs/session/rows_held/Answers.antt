@@ -2,7 +2,7 @@ use Rattle.std.proofs.Common.{◌≡◌, ◌++◌, ap, ◌∙◌}
 use Rattle.fx_data.specs.ValueView.{view}
 use Rattle.fx_semantics.specs.Rows.{rows_in}
 use Rattle.fx_trees.specs.declared.sources.Source.TheVariants as source
-use Rattle.fx_deeds.proofs.Told.{given_there, rows_read_fit, state_holds, state_stays}
+use Rattle.fx_deeds.proofs.Told.{held_there, rows_read_fit, state_holds, state_stays}
 use Rattle.fx_deeds.specs.Collections.{rows_held}
 use Rattle.fx_deeds.proofs.session.rows_held.Goals as goal
 
@@ -15,9 +15,8 @@ returns-clause-held g c =
     (state_stays _ (g.W.Env.told old) (g.W.Env.told new) _ _ (g.met.W.World.keeps old new) (g.met.W.World.lost old) (g.met.W.World.lost new) c.read.ensures.told)
     (λ s e.
     c.in_ok-with_table.ensures ∙ ap (λ z. z ++ rows_in d) c.new.ensures
-    ∙ ap rows_in (g.met.W.World.collections s c.args.collection d
-    (given_there (g.W.Env.fixed old).types g.W.World.gives (g.W.World.state new) (g.W.Env.told new) (source.Gathered c.args.collection) d (g.met.W.World.lost new)
-    (λ t f p q x u h. g.met.W.World.values new t f p q x u (ap (λ z. z.types x) c.read.ensures.fixed ∙ h)) c.in_ok-value.ensures.value s e)))
+    ∙ ap rows_in (held_there (g.W.Env.fixed old).types (g.W.World.state new) (g.W.Env.told new) c.args.collection d (g.met.W.World.lost new)
+    (λ t f p q. g.met.W.World.collections new t f p q c.args.collection) c.in_ok-value.ensures.value s e))
 
 pub returns-clause-fits : goal.returns-clause-fits
 returns-clause-fits g c = λ cs h.
