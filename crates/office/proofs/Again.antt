@@ -1,6 +1,6 @@
 -- Posted requests that come again.
 use Rattle.serde_json.specs.Data as json
-use Rattle.std.proofs.Common.{◌≡◌, ◌≢◌, ◌⊎◌, inl, inr, ℕ, List, Option, Some, Result, Ok, Err, refl, ap, sym, ◌∙◌, subst}
+use Rattle.std.proofs.Common.{◌≡◌, ◌≢◌, ◌⊎◌, inl, inr, ℕ, List, Option, None, Some, Result, Ok, Err, refl, ap, sym, ◌∙◌, subst}
 use Rattle.fx_base.specs.Silence.{IsLost, Marks}
 use Rattle.fx_trees.specs.declared.schema.TableShape.{TableShape}
 use Rattle.row_keeper.specs.Tables.{Tables}
@@ -21,7 +21,7 @@ use Rattle.session_requests.specs.Laws as laws
 use Rattle.session_requests.specs.Posting.{PostsEvent, PostsEventChecked, PostsInput, PostsInputChecked}
 use Rattle.session_requests.specs.declared.event.Event.{Event as Sent}
 use Rattle.session_requests.specs.declared.input.Input.{Input as Given}
-use Rattle.office.specs.DeskEdits.{Ends as Edited, PostsChecked as EditChecked, PostsEdit, accepted_reply as edit_reply, edit_checks}
+use Rattle.office.specs.DeskEdits.{Ends as Edited, Parts, PostsChecked as EditChecked, PostsEdit, accepted_reply as edit_reply, edit_checks}
 use Rattle.fx_trees.specs.declared.broken.Broken.{Broken}
 use Rattle.request_checks.specs.Bodies.{edit_in}
 use Rattle.request_checks.specs.declared.edit.Edit.{Edit as Change}
@@ -34,12 +34,12 @@ use Rattle.request_checks.specs.declared.directory.Named.{Named}
 use Rattle.office.specs.Answers.{Exchange, Plays}
 use Rattle.office.specs.Isolation.{AreOfOthers, Caller, IsOf, caller_of, desk, kept_of, kept_of_session, session}
 use Rattle.office.specs.State.{State, schema_of}
-use Rattle.office.specs.Step.{Answered, Does, Left, Reaches}
+use Rattle.office.specs.Step.{Answered, Does, Left, Reaches, parts_of}
 use Rattle.office.proofs.Repeats.{acts_once as edits_again}
 use Rattle.row_requests.proofs.Again.{checks_again}
 use Rattle.request_checks.proofs.Again.{Asks, comes_again, passed}
 use Rattle.request_checks.proofs.Directories.{find_put}
-use Rattle.office.proofs.Isolation.{does_of, plays_leave_desk, plays_leave_session, route_is}
+use Rattle.office.proofs.Isolation.{does_of, plays_keep_session, plays_leave_desk, route_is}
 use Rattle.office.proofs.StepLemmas.{left_all}
 
 -- it is the last of its desk, and what was said is kept
@@ -134,24 +134,24 @@ pub record IsKeptEdit (desks : List (Named Kept)) (name body said : List ℕ) : 
   pub reply_is : kept.reply ≡ said
 
 -- an accepted edit is kept
-edit_kept : (a a' : App) (name body said : List ℕ) (desks desks' : List (Named Kept)) → PostsEdit a name body desks said a' desks' → find name desks' ≢ find name desks → IsKeptEdit desks' name body said
-edit_kept a a' name body said desks desks' h differ = by (edit_checks desks name body) refl h
+edit_kept : (name body said : List ℕ) (p p' : Parts) → PostsEdit name body p said p' → find name p'.desks ≢ find name p.desks → IsKeptEdit p'.desks name body said
+edit_kept name body said p p' h differ = by (edit_checks p.desks name body) refl h
   where
-    ended : (it : Change) → edit_checks desks name body ≡ Ok it → (v : Result App (List Broken)) → Edited name body it.seq v a desks said a' desks' → IsKeptEdit desks' name body said
-    ended it e (Err bs) k = absurd (differ (ap (find name) k.1.desks))
+    ended : (it : Change) → edit_checks p.desks name body ≡ Ok it → (v : Result App (List Broken)) → Edited name body it.seq v p said p' → IsKeptEdit p'.desks name body said
+    ended it e (Err bs) k = absurd (differ (ap (λ (x : Parts). find name x.desks) k.1))
     ended it e (Ok b) k =
         let kept : Kept = record { last = it.seq; body = body; reply = edit_reply it.seq } in
-        let asks = passed Change edit_in edit_number (desk_of name desks) body it e in
+        let asks = passed Change edit_in edit_number (desk_of name p.desks) body it e in
         record {
           kept = kept;
-          found = ap (find name) k.1.desks ∙ find_put Kept name kept desks;
+          found = ap (λ (x : Parts). find name x.desks) k.1 ∙ find_put Kept name kept p.desks;
           last = record { value = asks.value; is_json = asks.is_json; it = it; shape = asks.shape; last = refl };
           body_is = refl;
           reply_is = sym k.0;
         }
 
-    by : (r : Result Change (List ℕ)) → edit_checks desks name body ≡ r → EditChecked a name body r desks said a' desks' → IsKeptEdit desks' name body said
-    by (Err words) e k = absurd (differ (ap (find name) k.1.desks))
+    by : (r : Result Change (List ℕ)) → edit_checks p.desks name body ≡ r → EditChecked name body r p said p' → IsKeptEdit p'.desks name body said
+    by (Err words) e k = absurd (differ (ap (λ (x : Parts). find name x.desks) k.1))
     by (Ok it) e k = ended it e k.verdict k.ends
 
 -- ---- the last request of a caller
@@ -184,7 +184,7 @@ does_keep lost moment (Input n) body s new said caller is posted does differ =
 does_keep lost moment (Edit n) body s new said caller is posted does differ =
     let named : desk n ≡ caller = cc in
     subst (λ c. IsLastOf c (Edit n) new body said) named
-    (edit n body said new (edit_kept s.app new.app n body said s.desks new.desks does.0 (subst (λ c. kept_of c new ≢ kept_of c s) (sym named) differ)))
+    (edit n body said new (edit_kept n body said (parts_of s) (parts_of new) does.0 (subst (λ c. kept_of c new ≢ kept_of c s) (sym named) differ)))
 does_keep lost moment (Begin n) body s new said caller is posted does differ = absurd (cc)
 does_keep lost moment (End n) body s new said caller is posted does differ = absurd (cc)
 does_keep lost moment (View n) body s new said caller is posted does differ = absurd (cc)
@@ -215,9 +215,9 @@ says_again once before now moment _ _ s new body said reply (rows name _ _ _ is)
     (subst (λ b. PostsRows (IsLost before now) (schema_of s.app).tables name b s.tables s.desks said new.tables new.desks) (sym is.body_is) does.0) in
     (h.0 ∙ is.reply_is, does.1 ∙ ap (λ (t : Option Tables). record s { tables = t; desks = new.desks }) h.1 ∙ ap (λ (d : List (Named Kept)). record s { desks = d }) h.2)
 says_again once before now moment _ _ s new body said reply (edit name _ _ _ is) does =
-    let h = edits_again s.app new.app name said is.kept s.desks new.desks is.found is.last
-    (subst (λ b. PostsEdit s.app name b s.desks said new.app new.desks) (sym is.body_is) does.0) in
-    (h.0 ∙ is.reply_is, does.1 ∙ ap (λ (a : App). record s { app = a; desks = new.desks }) h.1.app ∙ ap (λ (d : List (Named Kept)). record s { desks = d }) h.1.desks)
+    let h = edits_again name said is.kept (parts_of s) (parts_of new) is.found is.last
+    (subst (λ b. PostsEdit name b (parts_of s) said (parts_of new)) (sym is.body_is) does.0) in
+    (h.0 ∙ is.reply_is, does.1 ∙ ap (λ (p : Parts). record s { app = p.app; sessions = p.sessions; desks = p.desks }) h.1)
 says_again once before now moment _ _ s new body said reply (event name _ _ _ is) does =
     let h = (once before now s.app moment name said is.state s.tables new.tables s.sessions new.sessions is.found).1 is.last
     (subst (λ b. PostsEvent (IsLost before now) s.app moment name b s.tables s.sessions said new.tables new.sessions) (sym is.body_is) does.0) in
@@ -269,9 +269,22 @@ desk_still t u name body said same is = record {
 edit_still : (t u : State) (name body said : List ℕ) → find name u.desks ≡ find name t.desks → IsKeptEdit t.desks name body said → IsKeptEdit u.desks name body said
 edit_still t u name body said same is = record { kept = is.kept; found = same ∙ is.found; last = is.last; body_is = is.body_is; reply_is = is.reply_is }
 
-session_still : (T : Type 0) (asked : json.Data → Option T) (number : T → ℕ) (t u : State) (name body said : List ℕ) → find name u.sessions ≡ find name t.sessions
+-- a session of which the same is kept was asked the same last
+session_still : (T : Type 0) (asked : json.Data → Option T) (number : T → ℕ) (t u : State) (name body said : List ℕ) → kept_of_session (find name u.sessions) ≡ kept_of_session (find name t.sessions)
     → IsKeptOf T asked number t.sessions name body said → IsKeptOf T asked number u.sessions name body said
-session_still T asked number t u name body said same is = record { state = is.state; found = same ∙ is.found; last = is.last; body_is = is.body_is; reply_is = is.reply_is }
+session_still T asked number t u name body said same is = by (find name u.sessions) refl (same ∙ ap kept_of_session is.found)
+  where
+    by : (o : Option SessionState) → find name u.sessions ≡ o → kept_of_session o ≡ Some is.state.kept → IsKeptOf T asked number u.sessions name body said
+    by None found e = absurd cc
+    by (Some s) found e =
+        let kept : s.kept ≡ is.state.kept = cc in
+        record {
+          state = s;
+          found = found;
+          last = subst (IsLastAsked T asked number) (sym kept) is.last;
+          body_is = ap (λ (k : Kept). k.body) kept ∙ is.body_is;
+          reply_is = ap (λ (k : Kept). k.reply) kept ∙ is.reply_is;
+        }
 
 -- requests of others leave it the last
 still_last : laws.LeavesOthers → (caller : Caller) (route : Route) (t u : State) (l m : Marks) (body said : List ℕ) (between : List Exchange)
@@ -281,9 +294,9 @@ still_last leaves _ _ t u l m body said between plays others (rows name _ _ _ is
 still_last leaves _ _ t u l m body said between plays others (edit name _ _ _ is) =
     edit name body said u (edit_still t u name body said (plays_leave_desk t l between u m name plays others) is)
 still_last leaves _ _ t u l m body said between plays others (event name _ _ _ is) =
-    event name body said u (session_still Sent event_in event_number t u name body said (plays_leave_session leaves t l between u m name plays others) is)
+    event name body said u (session_still Sent event_in event_number t u name body said (plays_keep_session leaves t l between u m name plays others) is)
 still_last leaves _ _ t u l m body said between plays others (input name _ _ _ is) =
-    input name body said u (session_still Given input_in input_number t u name body said (plays_leave_session leaves t l between u m name plays others) is)
+    input name body said u (session_still Given input_in input_number t u name body said (plays_keep_session leaves t l between u m name plays others) is)
 
 pub acts_once : laws.LeavesOthers → laws.ActsOnce → IsOneRoute → (s t u v : State) (k l m n : Marks) (moment moment' : ℕ) (request : Asked) (said said' : List ℕ) (caller : Caller) (between : List Exchange)
     → IsOf caller request → request.method ≡ Post → Answered s k moment request said l t → kept_of caller t ≢ kept_of caller s

@@ -9,7 +9,7 @@ use Rattle.request_checks.specs.Directory.{is_named, put, put_at}
 use Rattle.request_checks.specs.Replies.{IsAccepted, KeepReplies}
 use Rattle.request_checks.specs.declared.directory.Named.{Named}
 use Rattle.session_state.specs.Once.{Kept}
-use Rattle.office.specs.DeskEdits.{Ends, IsSame, accepted_reply, answered, seq_data}
+use Rattle.office.specs.DeskEdits.{accepted_reply, answered, seq_data}
 
 all_more : (P : Named Kept → Type 0) (xs : List (Named Kept)) (x : Named Kept) → AllByRecursion P xs → P x → AllByRecursion P (xs ++ x ∷ [])
 all_more P [] x h p = (p, tt)

@@ -1,14 +1,16 @@
 -- Things by their names: which are found, and which are left.
 use Rattle.std.proofs.Common.{◌≡◌, ◌≢◌, ℕ, zero, suc, Bool, true, false, List, [], ◌∷◌, ◌++◌, Option, Some, None, refl, ap, sym, ◌∙◌, subst, arith}
-use Rattle.std.specs.Prelude.{slice_set}
+use Rattle.std.specs.Prelude.{option_map, slice_set}
 use Rattle.std.proofs.lemmas.Grind.{common_steps}
 use Rattle.request_checks.specs.Directory.{find, is_named, put, put_at}
 use Rattle.request_checks.specs.declared.directory.Named.{Named}
 use Rattle.request_checks.proofs.Directories.{find_here, find_past, same_bytes}
 use Rattle.std.specs.List.{AllByRecursion, position}
 use Rattle.fx_trees.specs.declared.names.Names.{Names}
+use Rattle.session_state.specs.Carrying.{carried}
 use Rattle.session_state.specs.Changes.{FitsNames}
 use Rattle.session_state.specs.Sessions.{SessionState}
+use Rattle.office.specs.DeskEdits.{all_carried}
 use Rattle.office.specs.Ready.{AreFit}
 use Rattle.office.specs.Sessions.{without}
 
@@ -28,6 +30,21 @@ find_without T name other (n ∷ ns) differ = by (is_named name n) refl (is_name
     by true e false f rest = ap (λ (l : List (Named T)). find other l) (without_here T name n ns e) ∙ rest ∙ sym (find_past T other n ns f)
     by false e true f rest = ap (λ (l : List (Named T)). find other l) (without_past T name n ns e) ∙ find_here T other n (without name ns) f ∙ sym (find_here T other n ns f)
     by false e false f rest = ap (λ (l : List (Named T)). find other l) (without_past T name n ns e) ∙ find_past T other n (without name ns) f ∙ rest ∙ sym (find_past T other n ns f)
+
+-- ---- that are carried
+
+-- each is found by its name as before
+pub find_carried : (old new : Names) (name : List ℕ) (list : List (Named SessionState)) → find name (all_carried old new list) ≡ option_map (carried old new) (find name list)
+find_carried old new name [] = refl
+find_carried old new name (n ∷ ns) = by (is_named name n) refl (find_carried old new name ns)
+  where
+    after : Named SessionState
+    after = record n { it = carried old new n.it }
+
+    by : (b : Bool) → is_named name n ≡ b → find name (all_carried old new ns) ≡ option_map (carried old new) (find name ns)
+        → find name (after ∷ all_carried old new ns) ≡ option_map (carried old new) (find name (n ∷ ns))
+    by true e rest = find_here SessionState name after (all_carried old new ns) e ∙ sym (ap (option_map (carried old new)) (find_here SessionState name n ns e))
+    by false e rest = find_past SessionState name after (all_carried old new ns) e ∙ rest ∙ sym (ap (option_map (carried old new)) (find_past SessionState name n ns e))
 
 -- ---- all of them
 

@@ -1,19 +1,20 @@
 -- An edited app takes the place of the one that was served.
-use Rattle.std.proofs.Common.{◌≡◌, ℕ, ◌<◌, Bool, List, [], ◌∷◌, length, Option, Some, ap, sym, ◌∙◌, subst}
+use Rattle.std.proofs.Common.{◌≡◌, ℕ, ◌<◌, List, [], ◌∷◌, length, map, refl, ap, sym, ◌∙◌, subst}
+use Rattle.fx_data.specs.declared.controls.Control.{Control}
+use Rattle.fx_trees.specs.declared.names.ControlName.{ControlName}
 use Rattle.fx_trees.specs.declared.names.Names.{Names}
-use Rattle.fx_trees.specs.declared.schema.Schema.{Schema}
-use Rattle.row_keeper.specs.Tables.{Tables}
-use Rattle.session_state.specs.Once.{Kept}
+use Rattle.session_state.proofs.Carried.{fits_carried}
+use Rattle.session_state.specs.Carrying.{AreAlike}
+use Rattle.session_state.specs.Changes.{HoldsTables}
 use Rattle.session_state.specs.Sessions.{SessionState}
 use Rattle.app_cells.specs.declared.app.App.{App}
 use Rattle.app_cells.specs.declared.frame.Frame.{Frame}
-use Rattle.app_loader.specs.Edits.{IsLoaded, StillFit}
-use Rattle.request_checks.specs.Replies.{KeepReplies}
+use Rattle.app_loader.specs.app_edits.Frames.{frame_of, without_items}
+use Rattle.request_checks.specs.Checked.{SessionsKeepReplies}
 use Rattle.request_checks.specs.declared.directory.Named.{Named}
-use Rattle.row_requests.specs.Sound.{AreSound}
+use Rattle.office.specs.DeskEdits.{all_carried}
 use Rattle.office.specs.Editing.{KeepsApp}
-use Rattle.office.specs.Ready.{AreFit, CanOpen, IsReady}
-use Rattle.office.specs.State.{schema_of}
+use Rattle.office.specs.Ready.{AreFit, CanOpen}
 
 -- sessions of it can be opened, since it has the same screens
 pub can_open : (a b : App) → CanOpen a.names → KeepsApp a b → CanOpen b.names
@@ -22,26 +23,23 @@ can_open a b opens keeps = record {
   tables = keeps.tables;
 }
 
--- it has the same tables
-pub same_schema : (a b : App) → KeepsApp a b → schema_of b ≡ schema_of a
-same_schema a b keeps = ap (λ (f : Frame). f.schema) keeps.frame
+-- it has the same screens, and controls of the same kinds
+kinds_of : (cs : List ControlName) → map (λ (c : ControlName). c.kind) (map without_items cs) ≡ map (λ (c : ControlName). c.kind) cs
+kinds_of [] = refl
+kinds_of (c ∷ cs) = ap (λ (ks : List Control). c.kind ∷ ks) (kinds_of cs)
 
--- the sessions fit it
-pub edit_fits : (n m : Names) (xs : List (Named SessionState)) → StillFit n m → AreFit n xs → AreFit m xs
-edit_fits n m [] still fit = tt
-edit_fits n m (x ∷ xs) still fit = (still x.it fit.0, edit_fits n m xs still fit.1)
-
--- so the office is ready for the next request
-pub ready_edited : (a b : App) (t : Bool) (by : Option Schema) (told : Option Tables) (sessions : List (Named SessionState)) (desks desks' : List (Named Kept))
-    → IsReady a t by told sessions desks → KeepsApp a b → IsLoaded b → KeepReplies desks' → IsReady b t by told sessions desks'
-ready_edited a b t by told sessions desks desks' ready keeps loaded kept = record {
-  idle = ready.idle;
-  shaped = ready.shaped ∙ ap (λ (s : Schema). Some s) (sym (same_schema a b keeps));
-  sound = subst (λ (s : Schema). AreSound s told) (sym (same_schema a b keeps)) ready.sound;
-  kept = kept;
-  accepted = keeps.sound;
-  loaded = loaded;
-  opens = can_open a b ready.opens keeps;
-  fit = edit_fits a.names b.names sessions keeps.fit ready.fit;
-  replies = ready.replies;
+pub alike : (a b : App) → frame_of b ≡ frame_of a → AreAlike a.names b.names
+alike a b e = record {
+  screens = ap (λ (f : Frame). length f.screens) (sym e);
+  controls = sym (kinds_of a.names.controls) ∙ ap (λ (f : Frame). map (λ (c : ControlName). c.kind) f.controls) (sym e) ∙ kinds_of b.names.controls;
 }
+
+-- the sessions fit it once they are carried
+pub carried_fit : (n m : Names) (xs : List (Named SessionState)) → AreAlike n m → HoldsTables m → AreFit n xs → AreFit m (all_carried n m xs)
+carried_fit n m [] alike tables fit = tt
+carried_fit n m (x ∷ xs) alike tables fit = (fits_carried n m x.it alike tables fit.0, carried_fit n m xs alike tables fit.1)
+
+-- and what is kept of their requests stays
+pub carried_keep : (n m : Names) (xs : List (Named SessionState)) → SessionsKeepReplies xs → SessionsKeepReplies (all_carried n m xs)
+carried_keep n m [] keep = tt
+carried_keep n m (x ∷ xs) keep = (keep.0, carried_keep n m xs keep.1)

@@ -1,5 +1,6 @@
 -- What callers have to do with one another.
-use Rattle.std.proofs.Common.{◌≡◌, ◌≢◌, ℕ, inl, inr, Bool, true, false, cond, nat_le, List, [], ◌∷◌, length, Option, None, Some, Result, Ok, Err, refl, ap, sym, ◌∙◌, subst}
+use Rattle.std.proofs.Common.{◌≡◌, ◌≢◌, ◌⊎◌, ℕ, inl, inr, Bool, true, false, cond, nat_le, List, [], ◌∷◌, length, Option, None, Some, Result, Ok, Err, refl, ap, sym, ◌∙◌, subst}
+use Rattle.std.specs.Prelude.{option_map}
 use Rattle.fx_base.specs.Silence.{IsLost, Marks}
 use Rattle.app_cells.specs.declared.app.App.{App}
 use Rattle.app_loader.specs.app_semantics.Fresh.{AreKnown}
@@ -20,6 +21,7 @@ use Rattle.app_wire.specs.declared.route.RouteEnd.TheVariants.{NoRoute, WrongMet
 use Rattle.fx_trees.specs.declared.names.Names.{Names}
 use Rattle.row_keeper.specs.Tables.{Tables, rows_told}
 use Rattle.row_queries.specs.declared.rows.Row.{Row}
+use Rattle.session_state.specs.Carrying.{carried}
 use Rattle.session_state.specs.Changes.{FitsNames}
 use Rattle.session_state.specs.Sessions.{SessionState, opened}
 use Rattle.view_text.specs.ReplyText.{ok_text}
@@ -27,18 +29,20 @@ use Rattle.row_requests.specs.DeskRows.{desk_checks}
 use Rattle.request_checks.specs.Directory.{find, is_among, put}
 use Rattle.request_checks.specs.declared.directory.Named.{Named}
 use Rattle.office.specs.Answers.{Exchange, Plays}
-use Rattle.office.specs.Isolation.{AreOfOthers, Caller, IsOf, caller_of, desk, session}
+use Rattle.office.specs.DeskEdits.{PostsEdit, all_carried}
+use Rattle.office.specs.Editing.{IsEdit}
+use Rattle.office.specs.Isolation.{AreOfOthers, Caller, IsCarried, IsOf, caller_of, desk, kept_of_session, session}
 use Rattle.session_requests.specs.Posting.{PostsEvent, PostsInput}
 use Rattle.session_requests.specs.Laws.{IsOneOutcome, LeavesOthers}
 use Rattle.office.specs.NamedReply.{IsNamedBody}
 use Rattle.office.specs.Ready.{IsSettled}
 use Rattle.office.specs.Sessions.{ShowsNamedTo, begins, most_sessions}
 use Rattle.office.specs.State.{State, schema_of}
-use Rattle.office.specs.Step.{Answered, Does, DoesAt, Step}
-use Rattle.office.proofs.Repeats.{leaves_others as edits_leave}
+use Rattle.office.specs.Step.{Answered, Does, DoesAt, Step, parts_of}
+use Rattle.office.proofs.Repeats.{carries_sessions, leaves_others as edits_leave}
 use Rattle.row_requests.proofs.Again.{posts_others}
 use Rattle.request_checks.proofs.Directories.{find_other}
-use Rattle.office.proofs.Directories.{find_without, found_fits}
+use Rattle.office.proofs.Directories.{find_carried, find_without, found_fits}
 use Rattle.office.proofs.Replies.{one_body}
 
 -- ---- the records of others
@@ -57,27 +61,38 @@ sessions_of s new e = ap (λ (x : State). x.sessions) e
 desks_of : (s new : State) → new ≡ s → new.desks ≡ s.desks
 desks_of s new e = ap (λ (x : State). x.desks) e
 
+-- the route is that of edits
+abbrev IsEditOf : Route → Type 0
+IsEditOf route = (n : List ℕ) × (route ≡ Edit n)
+
+-- a session is left, or goes over to the app that an edit makes
+abbrev IsLeft : Route → State → State → List ℕ → Type 0
+IsLeft route s new name = (find name new.sessions ≡ find name s.sessions) ⊎ (IsEditOf route × IsCarried s new name)
+
+edit_leaves : (n body : List ℕ) (s new : State) (said name : List ℕ) → PostsEdit n body (parts_of s) said (parts_of new) → IsLeft (Edit n) s new name
+edit_leaves n body s new said name h = by (carries_sessions n body said (parts_of s) (parts_of new) h)
+  where
+    by : ((new.app ≡ s.app) × (new.sessions ≡ s.sessions)) ⊎ (new.sessions ≡ all_carried s.app.names new.app.names s.sessions) → IsLeft (Edit n) s new name
+    by (inl e) = inl (ap (find name) e.1)
+    by (inr e) = inr ((n, refl), ap (find name) e ∙ find_carried s.app.names new.app.names name s.sessions)
+
 -- a route leaves the sessions but the one that it is of
 pub does_session : LeavesOthers → (before now : Marks) (moment : ℕ) (route : Route) (body : List ℕ) (s new : State) (said name : List ℕ)
-    → Does (IsLost before now) moment route body s said new → caller_of route ≢ Some (session name) → find name new.sessions ≡ find name s.sessions
+    → Does (IsLost before now) moment route body s said new → caller_of route ≢ Some (session name) → IsLeft route s new name
 unfolding Does
-does_session others before now moment (Begin n) body s new said name does other =
-    ap (λ (p : List (Named SessionState) × List ℕ). find name p.0) does.0
-    ∙ begins_others s.app.names n name s.sessions (λ e. other (ap (λ (m : List ℕ). Some (session m)) e))
-does_session others before now moment (End n) body s new said name does other =
-    ap (λ (x : State). find name x.sessions) does.1 ∙ find_without SessionState n name s.sessions (λ e. other (ap (λ (m : List ℕ). Some (session m)) e))
-does_session others before now moment (View n) body s new said name does other = ap (λ (x : State). find name x.sessions) does.1
-does_session others before now moment (Shown n) body s new said name does other = ap (λ (x : State). find name x.sessions) does.1
-does_session others before now moment (Items n gallery from) body s new said name does other = ap (λ (x : State). find name x.sessions) does.1
-does_session others before now moment (Event n) body s new said name does other =
-    (others before now s.app moment n name body said s.tables new.tables s.sessions new.sessions (λ e. other (ap (λ (m : List ℕ). Some (session m)) e))).1 does.0
-does_session others before now moment (Input n) body s new said name does other =
-    (others before now s.app moment n name body said s.tables new.tables s.sessions new.sessions (λ e. other (ap (λ (m : List ℕ). Some (session m)) e))).0 does.0
-does_session others before now moment (Rows n) body s new said name does other = ap (λ (x : State). find name x.sessions) does.1
-does_session others before now moment (Edit n) body s new said name does other = ap (λ (x : State). find name x.sessions) does.1
-does_session others before now moment (Page table after) body s new said name does other = ap (λ (x : State). find name x.sessions) does.1
-does_session others before now moment Plan body s new said name does other = ap (find name) (sessions_of s new does.1)
-does_session others before now moment Graph body s new said name does other = ap (find name) (sessions_of s new does.1)
+does_session others before now moment (Begin n) body s new said name does other = inl (ap (λ (p : List (Named SessionState) × List ℕ). find name p.0) does.0
+    ∙ begins_others s.app.names n name s.sessions (λ e. other (ap (λ (m : List ℕ). Some (session m)) e)))
+does_session others before now moment (End n) body s new said name does other = inl (ap (λ (x : State). find name x.sessions) does.1 ∙ find_without SessionState n name s.sessions (λ e. other (ap (λ (m : List ℕ). Some (session m)) e)))
+does_session others before now moment (View n) body s new said name does other = inl (ap (λ (x : State). find name x.sessions) does.1)
+does_session others before now moment (Shown n) body s new said name does other = inl (ap (λ (x : State). find name x.sessions) does.1)
+does_session others before now moment (Items n gallery from) body s new said name does other = inl (ap (λ (x : State). find name x.sessions) does.1)
+does_session others before now moment (Event n) body s new said name does other = inl ((others before now s.app moment n name body said s.tables new.tables s.sessions new.sessions (λ e. other (ap (λ (m : List ℕ). Some (session m)) e))).1 does.0)
+does_session others before now moment (Input n) body s new said name does other = inl ((others before now s.app moment n name body said s.tables new.tables s.sessions new.sessions (λ e. other (ap (λ (m : List ℕ). Some (session m)) e))).0 does.0)
+does_session others before now moment (Rows n) body s new said name does other = inl (ap (λ (x : State). find name x.sessions) does.1)
+does_session others before now moment (Edit n) body s new said name does other = edit_leaves n body s new said name does.0
+does_session others before now moment (Page table after) body s new said name does other = inl (ap (λ (x : State). find name x.sessions) does.1)
+does_session others before now moment Plan body s new said name does other = inl (ap (find name) (sessions_of s new does.1))
+does_session others before now moment Graph body s new said name does other = inl (ap (find name) (sessions_of s new does.1))
 
 -- and the desks but the one that it is of
 pub does_desk : (lost : Type 0) (moment : ℕ) (route : Route) (body : List ℕ) (s new : State) (said name : List ℕ)
@@ -94,23 +109,33 @@ does_desk lost moment (Rows n) body s new said name does other =
     posts_others lost (schema_of s.app).tables n name body (desk_checks s.desks n body) s.tables new.tables s.desks new.desks said
     (λ e. other (ap (λ (m : List ℕ). Some (desk m)) e)) does.0
 does_desk lost moment (Edit n) body s new said name does other =
-    edits_leave s.app new.app n name body said s.desks new.desks (λ e. other (ap (λ (m : List ℕ). Some (desk m)) e)) does.0
+    edits_leave n name body said (parts_of s) (parts_of new) (λ e. other (ap (λ (m : List ℕ). Some (desk m)) e)) does.0
 does_desk lost moment (Page table after) body s new said name does other = ap (λ (x : State). find name x.desks) does.1
 does_desk lost moment Plan body s new said name does other = ap (find name) (desks_of s new does.1)
 does_desk lost moment Graph body s new said name does other = ap (find name) (desks_of s new does.1)
 
+-- the same of a request, whose route may be that of edits
+abbrev LeavesIt : State → State → Asked → List ℕ → Type 0
+LeavesIt old new request name = (find name new.sessions ≡ find name old.sessions) ⊎ (IsEdit request × IsCarried old new name)
+
+by_route : (route : Route) (request : Asked) (old new : State) (name : List ℕ) → Routing request.method request.path (Ok route) → IsLeft route old new name → LeavesIt old new request name
+by_route route request old new name routed (inl e) = inl e
+by_route route request old new name routed (inr h) = inr ((h.0.0, subst (λ (r : Route). Routing request.method request.path (Ok r)) h.0.1 routed), h.1)
+
 pub leaves_session : LeavesOthers → (old new : State) (before now : Marks) (moment : ℕ) (request : Asked) (said name : List ℕ)
-    → Answered old before moment request said now new → (IsOf (session name) request → ⊥) → find name new.sessions ≡ find name old.sessions
+    → Answered old before moment request said now new → (IsOf (session name) request → ⊥) → LeavesIt old new request name
 unfolding DoesAt
 leaves_session law old new before now moment request said name (inl step) other = by step.route step.routed step.does
   where
-    by : (r : Result Route RouteEnd) → Routing request.method request.path r → DoesAt (IsLost before now) moment r request.body old said new → find name new.sessions ≡ find name old.sessions
-    by (Ok route) routed does = does_session law before now moment route request.body old new said name does (λ e. other (record { route = route; routed = routed; caller_is = e }))
-    by (Err NoRoute) routed does = ap (find name) (sessions_of old new does.1)
-    by (Err WrongMethod) routed does = ap (find name) (sessions_of old new does.1)
+    by : (r : Result Route RouteEnd) → Routing request.method request.path r → DoesAt (IsLost before now) moment r request.body old said new → LeavesIt old new request name
+    by (Ok route) routed does =
+        by_route route request old new name routed
+        (does_session law before now moment route request.body old new said name does (λ e. other (record { route = route; routed = routed; caller_is = e })))
+    by (Err NoRoute) routed does = inl (ap (find name) (sessions_of old new does.1))
+    by (Err WrongMethod) routed does = inl (ap (find name) (sessions_of old new does.1))
     by (Err Memory) routed does = absurd does
-leaves_session law old new before now moment request said name (inr (inl h)) other = ap (λ (x : State). find name x.sessions) h.1.others
-leaves_session law old new before now moment request said name (inr (inr h)) other = ap (λ (x : State). find name x.sessions) h.3.others
+leaves_session law old new before now moment request said name (inr (inl h)) other = inl (ap (λ (x : State). find name x.sessions) h.1.others)
+leaves_session law old new before now moment request said name (inr (inr h)) other = inl (ap (λ (x : State). find name x.sessions) h.3.others)
 
 pub leaves_desk : (old new : State) (before now : Marks) (moment : ℕ) (request : Asked) (said name : List ℕ)
     → Answered old before moment request said now new → (IsOf (desk name) request → ⊥) → find name new.desks ≡ find name old.desks
@@ -133,12 +158,21 @@ plays_leave_desk old before (x ∷ xs) new now name plays others =
     plays_leave_desk x.state x.marks xs new now name plays.2 others.1
     ∙ leaves_desk old x.state before x.marks x.moment x.asked x.said name plays.1 others.0
 
-pub plays_leave_session : LeavesOthers → (old : State) (before : Marks) (xs : List Exchange) (new : State) (now : Marks) (name : List ℕ)
-    → Plays old before xs new now → AreOfOthers (session name) xs → find name new.sessions ≡ find name old.sessions
-plays_leave_session law old before [] new now name plays others = ap (find name) (sessions_of old new plays.0)
-plays_leave_session law old before (x ∷ xs) new now name plays others =
-    plays_leave_session law x.state x.marks xs new now name plays.2 others.1
-    ∙ leaves_session law old x.state before x.marks x.moment x.asked x.said name plays.1 others.0
+-- what is kept of the requests of a session stays too, whatever it holds
+keeps_kept : (old new : State) (request : Asked) (name : List ℕ) → LeavesIt old new request name → kept_of_session (find name new.sessions) ≡ kept_of_session (find name old.sessions)
+keeps_kept old new request name (inl e) = ap kept_of_session e
+keeps_kept old new request name (inr h) = ap kept_of_session h.1 ∙ still (find name old.sessions)
+  where
+    still : (o : Option SessionState) → kept_of_session (option_map (carried old.app.names new.app.names) o) ≡ kept_of_session o
+    still None = refl
+    still (Some s) = refl
+
+pub plays_keep_session : LeavesOthers → (old : State) (before : Marks) (xs : List Exchange) (new : State) (now : Marks) (name : List ℕ)
+    → Plays old before xs new now → AreOfOthers (session name) xs → kept_of_session (find name new.sessions) ≡ kept_of_session (find name old.sessions)
+plays_keep_session law old before [] new now name plays others = ap (λ (l : List (Named SessionState)). kept_of_session (find name l)) (sessions_of old new plays.0)
+plays_keep_session law old before (x ∷ xs) new now name plays others =
+    plays_keep_session law x.state x.marks xs new now name plays.2 others.1
+    ∙ keeps_kept old x.state x.asked name (leaves_session law old x.state before x.marks x.moment x.asked x.said name plays.1 others.0)
 
 -- ---- a caller's route
 

@@ -5,10 +5,12 @@ pub mod Isolation
 pub mod OneAnswer
 pub mod Plays
 pub mod Replies
+pub mod Rooms
 pub mod Settling
 pub mod Silence
 pub mod StepLemmas
 pub mod Taken
+pub mod Writing
 pub mod Desks
 pub mod Repeats
 pub use Rattle.session_requests.proofs.of_recalc

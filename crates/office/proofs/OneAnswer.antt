@@ -16,7 +16,7 @@ use Rattle.app_wire.specs.declared.route.RouteEnd.{RouteEnd}
 use Rattle.app_wire.specs.declared.route.RouteEnd.TheVariants.{NoRoute, WrongMethod, Memory}
 use Rattle.app_cells.specs.declared.app.App.{App}
 use Rattle.app_loader.specs.Verdicts.{IsSameApp}
-use Rattle.office.specs.DeskEdits.{IsSame}
+use Rattle.office.specs.DeskEdits.{Parts}
 use Rattle.office.specs.DeskEditLaws.{AreRefused, IsOneOutcome as IsOneEditOutcome}
 use Rattle.fx_trees.specs.declared.schema.TableShape.{TableShape}
 use Rattle.fx_trees.specs.declared.schema.Schema.{Schema}
@@ -43,7 +43,7 @@ use Rattle.request_checks.specs.Checks.{checks, session_of}
 use Rattle.office.specs.Ready.{IsSettled}
 use Rattle.office.specs.Sessions.{ShowsNamedTo}
 use Rattle.office.specs.State.{State, schema_of}
-use Rattle.office.specs.Step.{AreOne, Does, DoesAt, Step, alike, edited, refused}
+use Rattle.office.specs.Step.{AreOne, Does, DoesAt, Step, alike, edited, parts_of, refused}
 use Rattle.office.proofs.Directories.{found_fits}
 use Rattle.office.proofs.Isolation.{ReplyLaws, holds_found, is_known, shows_alike}
 use Rattle.office.proofs.StepLemmas.{still}
@@ -177,21 +177,21 @@ pub record AnswerLaws : Type 0 where
   pub replies : ReplyLaws
   pub edit : IsOneEditOutcome
 
--- where an edit leaves the app and the desks, all is as before
-unedited : (s : State) (app : App) (desks : List (Named Kept)) → IsSame s.app s.desks app desks → record s { app = app; desks = desks } ≡ s
-unedited s app desks same = ap (λ (a : App). record s { app = a; desks = desks }) same.app ∙ ap (λ (d : List (Named Kept)). record s { desks = d }) same.desks
+-- where an edit leaves its parts, all is as before
+unedited : (s : State) (p : Parts) → p ≡ parts_of s → record s { app = p.app; sessions = p.sessions; desks = p.desks } ≡ s
+unedited s p same = ap (λ (q : Parts). record s { app = q.app; sessions = q.sessions; desks = q.desks }) same
 
 -- edits of an app have one outcome
 edits_alike : (n : List ℕ) (request : Asked) (s new new' : State) (said said' : List ℕ) → Routing request.method request.path (Ok (Edit n))
-    → new ≡ record s { app = new.app; desks = new.desks } → new' ≡ record s { app = new'.app; desks = new'.desks }
-    → ((said ≡ said') × (new.desks ≡ new'.desks) × IsSameApp new.app new'.app) ⊎ AreRefused s.app s.desks said new.app new.desks said' new'.app new'.desks
+    → new ≡ record s { app = new.app; sessions = new.sessions; desks = new.desks } → new' ≡ record s { app = new'.app; sessions = new'.sessions; desks = new'.desks }
+    → ((said ≡ said') × (parts_of new' ≡ record (parts_of new) { app = new'.app }) × IsSameApp new.app new'.app) ⊎ AreRefused (parts_of s) said (parts_of new) said' (parts_of new')
     → AreOne request s new new' said said'
 edits_alike n request s new new' said said' routed h k (inl e) =
     edited (n, routed) e.2
-    (k ∙ ap (λ (d : List (Named Kept)). record s { app = new'.app; desks = d }) (sym e.1) ∙ sym (ap (λ (x : State). record x { app = new'.app }) h)) e.0
+    (k ∙ ap (λ (p : Parts). record s { app = p.app; sessions = p.sessions; desks = p.desks }) e.1 ∙ sym (ap (λ (x : State). record x { app = new'.app }) h)) e.0
 edits_alike n request s new new' said said' routed h k (inr e) =
     refused (n, routed) (record { breaks = e.breaks; breaks' = e.breaks'; same = e.same; first = e.first.0; second = e.second.0 })
-    (h ∙ unedited s new.app new.desks e.first.1) (k ∙ unedited s new'.app new'.desks e.second.1)
+    (h ∙ unedited s (parts_of new) e.first.1) (k ∙ unedited s (parts_of new') e.second.1)
 
 -- a route does one thing
 does_one : AnswerLaws → (p p' q q' : Marks) (moment : ℕ) (route : Route) (request : Asked) (s new new' : State) (said said' : List ℕ) (t u u' : Tables)
@@ -248,7 +248,7 @@ does_one laws p p' q q' moment (Rows n) request s new new' said said' t u u' rou
     same.reply_is
 does_one laws p p' q q' moment (Edit n) request s new new' said said' t u u' routed settled sound e f g h k =
     edits_alike n request s new new' said said' routed h.1 k.1
-    (laws.edit s.app new.app new'.app n request.body said said' s.desks new.desks new'.desks h.0 k.0)
+    (laws.edit n request.body said said' (parts_of s) (parts_of new) (parts_of new') h.0 k.0)
 does_one laws p p' q q' moment (Page table after) request s new new' said said' t u u' routed settled sound e f g h k =
     let shapes = (schema_of s.app).tables in
     let same = page_alike (IsLost p p') (IsLost q q') shapes table after t u u' said said'

@@ -12,8 +12,9 @@ use Rattle.request_checks.specs.declared.edit.Edit.{Edit}
 use Rattle.request_checks.proofs.Again.{comes_again}
 use Rattle.request_checks.proofs.Directories.{find_other, found_among}
 use Rattle.session_state.specs.Once.{Kept, nobody}
-use Rattle.office.specs.DeskEdits.{Ends, IsSame, MakesEdit, PostsChecked, PostsEdit, accepted_reply, answered, edit_checks}
-use Rattle.office.specs.DeskEditLaws.{ActsOnce, AreRefused, IsOneOutcome, LeavesOthers}
+use Rattle.fx_trees.specs.declared.names.Names.{Names}
+use Rattle.office.specs.DeskEdits.{Ends, MakesEdit, Parts, PostsChecked, PostsEdit, accepted_reply, all_carried, edit_checks, edited}
+use Rattle.office.specs.DeskEditLaws.{ActsOnce, AreRefused, CarriesSessions, IsOneOutcome, LeavesOthers}
 
 has_room : (name : List ℕ) (k : Kept) (desks : List (Named Kept)) → find name desks ≡ Some k → is_full name desks ≡ false
 has_room name k desks e = rw (found_among Kept name k desks e) refl
@@ -28,26 +29,43 @@ checks_again desks name k found last =
     ap (λ (c : Result Kept ℕ). checks edit_in (λ (e : Edit). e.seq) c k.body) (known name k desks found) ∙ comes_again Edit edit_in (λ (e : Edit). e.seq) k last
 
 pub acts_once : ActsOnce
-acts_once a a' name said k desks desks' found last h =
-    subst (λ r. PostsChecked a name k.body r desks said a' desks') (checks_again desks name k found last) h
+acts_once name said k p p' found last h =
+    subst (λ r. PostsChecked name k.body r p said p') (checks_again p.desks name k found last) h
 
-ends_leave : (name other body : List ℕ) (seq : ℕ) (v : Result App (List Broken)) (a a' : App) (desks desks' : List (Named Kept)) (said : List ℕ) → name ≢ other
-    → Ends name body seq v a desks said a' desks' → find other desks' ≡ find other desks
-ends_leave name other body seq (Ok b) a a' desks desks' said differ h =
-    ap (λ (d : List (Named Kept)). find other d) h.1.desks ∙ find_other Kept name other (record { last = seq; body = body; reply = accepted_reply seq }) desks differ
-ends_leave name other body seq (Err bs) a a' desks desks' said differ h = ap (λ (d : List (Named Kept)). find other d) h.1.desks
+ends_leave : (name other body : List ℕ) (seq : ℕ) (v : Result App (List Broken)) (p p' : Parts) (said : List ℕ) → name ≢ other
+    → Ends name body seq v p said p' → find other p'.desks ≡ find other p.desks
+ends_leave name other body seq (Ok b) p p' said differ h =
+    ap (λ (x : Parts). find other x.desks) h.1 ∙ find_other Kept name other (record { last = seq; body = body; reply = accepted_reply seq }) p.desks differ
+ends_leave name other body seq (Err bs) p p' said differ h = ap (λ (x : Parts). find other x.desks) h.1
 
-posts_leave : (a a' : App) (name other body said : List ℕ) (r : Result Edit (List ℕ)) (desks desks' : List (Named Kept)) → name ≢ other
-    → PostsChecked a name body r desks said a' desks' → find other desks' ≡ find other desks
-posts_leave a a' name other body said (Err words) desks desks' differ h = ap (λ (d : List (Named Kept)). find other d) h.1.desks
-posts_leave a a' name other body said (Ok e) desks desks' differ h = ends_leave name other body e.seq h.verdict a a' desks desks' said differ h.ends
+posts_leave : (name other body said : List ℕ) (r : Result Edit (List ℕ)) (p p' : Parts) → name ≢ other
+    → PostsChecked name body r p said p' → find other p'.desks ≡ find other p.desks
+posts_leave name other body said (Err words) p p' differ h = ap (λ (x : Parts). find other x.desks) h.1
+posts_leave name other body said (Ok e) p p' differ h = ends_leave name other body e.seq h.verdict p p' said differ h.ends
 
 pub leaves_others : LeavesOthers
-leaves_others a a' name other body said desks desks' differ h = posts_leave a a' name other body said (edit_checks desks name body) desks desks' differ h
+leaves_others name other body said p p' differ h = posts_leave name other body said (edit_checks p.desks name body) p p' differ h
+
+-- ---- the sessions
+
+abbrev Carries : Parts → Parts → Type 0
+Carries p p' = ((p'.app ≡ p.app) × (p'.sessions ≡ p.sessions)) ⊎ (p'.sessions ≡ all_carried p.app.names p'.app.names p.sessions)
+
+ends_carry : (name body : List ℕ) (seq : ℕ) (v : Result App (List Broken)) (p p' : Parts) (said : List ℕ) → Ends name body seq v p said p' → Carries p p'
+ends_carry name body seq (Ok b) p p' said h =
+    inr (ap (λ (x : Parts). x.sessions) h.1 ∙ ap (λ (x : App). all_carried p.app.names x.names p.sessions) (sym (ap (λ (x : Parts). x.app) h.1)))
+ends_carry name body seq (Err bs) p p' said h = inl (ap (λ (x : Parts). x.app) h.1, ap (λ (x : Parts). x.sessions) h.1)
+
+posts_carry : (name body said : List ℕ) (r : Result Edit (List ℕ)) (p p' : Parts) → PostsChecked name body r p said p' → Carries p p'
+posts_carry name body said (Err words) p p' h = inl (ap (λ (x : Parts). x.app) h.1, ap (λ (x : Parts). x.sessions) h.1)
+posts_carry name body said (Ok e) p p' h = ends_carry name body e.seq h.verdict p p' said h.ends
+
+pub carries_sessions : CarriesSessions
+carries_sessions name body said p p' h = posts_carry name body said (edit_checks p.desks name body) p p' h
 
 -- ---- outcomes
-abbrev IsOne : App → App → App → List ℕ → List ℕ → List (Named Kept) → List (Named Kept) → List (Named Kept) → Type 0
-IsOne a b c said said' desks desks' desks'' = ((said ≡ said') × (desks' ≡ desks'') × IsSameApp b c) ⊎ AreRefused a desks said b desks' said' c desks''
+abbrev IsOne : Parts → List ℕ → Parts → List ℕ → Parts → Type 0
+IsOne p said q said' q' = ((said ≡ said') × (q' ≡ record q { app = q'.app }) × IsSameApp q.app q'.app) ⊎ AreRefused p said q said' q'
 
 itself : (a : App) → IsSameApp a a
 itself a = record { cells = refl; names = refl; functions = refl; limit = refl }
@@ -55,21 +73,35 @@ itself a = record { cells = refl; names = refl; functions = refl; limit = refl }
 moved : (a b c d : App) → a ≡ c → b ≡ d → IsSameApp a b → IsSameApp c d
 moved a b c d e k h = subst (λ (x : App). IsSameApp x d) e (subst (λ (x : App). IsSameApp a x) k h)
 
-edits_one : IsOneEdit → IsOneEdited → IsOneEditRefusal → (a b c : App) (name body said said' : List ℕ) (e : Edit) (desks desks' desks'' : List (Named Kept))
-    → MakesEdit a name body e desks said b desks' → MakesEdit a name body e desks said' c desks'' → IsOne a b c said said' desks desks' desks''
-edits_one law one alike a b c name body said said' e desks desks' desks'' h k = by h.verdict k.verdict h.judged k.judged h.ends k.ends
-  where
-    by : (v w : Result App (List Broken)) → JudgedEdit a e.cell e.text v → JudgedEdit a e.cell e.text w
-        → Ends name body e.seq v a desks said b desks' → Ends name body e.seq w a desks said' c desks'' → IsOne a b c said said' desks desks' desks''
-    by (Ok x) (Ok y) p q f g = inl (f.0 ∙ sym g.0, f.1.desks ∙ sym g.1.desks, moved x y b c (sym f.1.app) (sym g.1.app) (one a x y e.cell e.text p q))
-    by (Ok x) (Err ys) p q f g = absurd (law a x e.cell e.text ys p q)
-    by (Err xs) (Ok y) p q f g = absurd (law a y e.cell e.text xs q p)
-    by (Err xs) (Err ys) p q f g = inr (record { breaks = xs; breaks' = ys; same = alike a e.cell e.text xs ys p q; first = f; second = g })
+-- sessions go over to two apps alike that mean the same
+same_parts : (name body : List ℕ) (seq : ℕ) (x y : App) (p q q' : Parts) → IsSameApp x y → q ≡ edited name body seq x p → q' ≡ edited name body seq y p → q' ≡ record q { app = q'.app }
+same_parts name body seq x y p q q' same e k =
+    let desks : q'.desks ≡ q.desks = ap (λ (r : Parts). r.desks) k ∙ sym (ap (λ (r : Parts). r.desks) e) in
+    let names : all_carried p.app.names y.names p.sessions ≡ all_carried p.app.names x.names p.sessions = ap (λ (n : Names). all_carried p.app.names n p.sessions) same.names in
+    let sessions : q'.sessions ≡ q.sessions = ap (λ (r : Parts). r.sessions) k ∙ names ∙ sym (ap (λ (r : Parts). r.sessions) e) in
+    λ i. record { app = q'.app; sessions = sessions i; desks = desks i }
 
-posts_one : IsOneEdit → IsOneEdited → IsOneEditRefusal → (a b c : App) (name body said said' : List ℕ) (r : Result Edit (List ℕ)) (desks desks' desks'' : List (Named Kept))
-    → PostsChecked a name body r desks said b desks' → PostsChecked a name body r desks said' c desks'' → IsOne a b c said said' desks desks' desks''
-posts_one law one alike a b c name body said said' (Err words) desks desks' desks'' h k = inl (h.0 ∙ sym k.0, h.1.desks ∙ sym k.1.desks, moved a a b c (sym h.1.app) (sym k.1.app) (itself a))
-posts_one law one alike a b c name body said said' (Ok e) desks desks' desks'' h k = edits_one law one alike a b c name body said said' e desks desks' desks'' h k
+alone : (p q q' : Parts) → q ≡ p → q' ≡ p → q' ≡ record q { app = q'.app }
+alone p q q' e k = k ∙ sym e ∙ ap (λ (a : App). record q { app = a }) (ap (λ (r : Parts). r.app) (e ∙ sym k))
+
+edits_one : IsOneEdit → IsOneEdited → IsOneEditRefusal → (name body said said' : List ℕ) (e : Edit) (p q q' : Parts)
+    → MakesEdit name body e p said q → MakesEdit name body e p said' q' → IsOne p said q said' q'
+edits_one law one alike name body said said' e p q q' h k = by h.verdict k.verdict h.judged k.judged h.ends k.ends
+  where
+    by : (v w : Result App (List Broken)) → JudgedEdit p.app e.cell e.text v → JudgedEdit p.app e.cell e.text w
+        → Ends name body e.seq v p said q → Ends name body e.seq w p said' q' → IsOne p said q said' q'
+    by (Ok x) (Ok y) i j f g =
+        let same = one p.app x y e.cell e.text i j in
+        inl (f.0 ∙ sym g.0, same_parts name body e.seq x y p q q' same f.1 g.1, moved x y q.app q'.app (sym (ap (λ (r : Parts). r.app) f.1)) (sym (ap (λ (r : Parts). r.app) g.1)) same)
+    by (Ok x) (Err ys) i j f g = absurd (law p.app x e.cell e.text ys i j)
+    by (Err xs) (Ok y) i j f g = absurd (law p.app y e.cell e.text xs j i)
+    by (Err xs) (Err ys) i j f g = inr (record { breaks = xs; breaks' = ys; same = alike p.app e.cell e.text xs ys i j; first = f; second = g })
+
+posts_one : IsOneEdit → IsOneEdited → IsOneEditRefusal → (name body said said' : List ℕ) (r : Result Edit (List ℕ)) (p q q' : Parts)
+    → PostsChecked name body r p said q → PostsChecked name body r p said' q' → IsOne p said q said' q'
+posts_one law one alike name body said said' (Err words) p q q' h k =
+    inl (h.0 ∙ sym k.0, alone p q q' h.1 k.1, moved p.app p.app q.app q'.app (sym (ap (λ (r : Parts). r.app) h.1)) (sym (ap (λ (r : Parts). r.app) k.1)) (itself p.app))
+posts_one law one alike name body said said' (Ok e) p q q' h k = edits_one law one alike name body said said' e p q q' h k
 
 pub one_outcome : IsOneEdit → IsOneEdited → IsOneEditRefusal → IsOneOutcome
-one_outcome law one alike a b c name body said said' desks desks' desks'' h k = posts_one law one alike a b c name body said said' (edit_checks desks name body) desks desks' desks'' h k
+one_outcome law one alike name body said said' p q q' h k = posts_one law one alike name body said said' (edit_checks p.desks name body) p q q' h k

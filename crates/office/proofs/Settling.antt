@@ -1,5 +1,5 @@
 -- Requests leave an office settled.
-use Rattle.std.proofs.Common.{◌≡◌, ℕ, inl, inr, Bool, true, false, cond, nat_le, List, [], ◌∷◌, length, Option, Result, Ok, Err, refl, ap, sym, ◌∙◌, subst}
+use Rattle.std.proofs.Common.{◌≡◌, ◌⊎◌, ℕ, inl, inr, Bool, true, false, cond, nat_le, List, [], ◌∷◌, length, Option, Result, Ok, Err, refl, ap, sym, ◌∙◌, subst}
 use Rattle.std.specs.Prelude.{IfOk}
 use Rattle.fx_base.specs.Silence.{IsLost, Marks}
 use Rattle.fx_data.specs.Values.{Data}
@@ -40,9 +40,11 @@ use Rattle.office.specs.Editing.{KeepsApp}
 use Rattle.office.specs.Ready.{AreFit, CanOpen, IsSettled}
 use Rattle.office.specs.Sessions.{begins, most_sessions, without}
 use Rattle.office.specs.State.{State, started}
-use Rattle.office.specs.Step.{Answered, Does, DoesAt}
+use Rattle.office.specs.Step.{Answered, Does, DoesAt, parts_of}
 use Rattle.office.proofs.Directories.{found_fits, put_all, without_all}
-use Rattle.office.proofs.Edits.{can_open, edit_fits}
+use Rattle.office.specs.DeskEdits.{PostsEdit, all_carried}
+use Rattle.office.proofs.Edits.{alike, can_open, carried_fit}
+use Rattle.office.proofs.Repeats.{carries_sessions}
 
 -- ---- the sessions
 
@@ -84,6 +86,16 @@ event_fits lost app moment name body said told told' xs ys lawful fit h = by (ch
         event_stays app.names name body e.seq k.0.session k.0.verdict xs said ys (found_fits app.names xs name k.0.session fit k.0.found)
         (λ t is. accepted_within app moment k.0.session (rows_told told') k.0.judged.values e (event_target app.names k.0.session k.0.judged.values e) k.0.verdict t lawful refl k.0.judged.is is) fit k.0.ends
 
+-- an edit leaves all, or the sessions go over to the edited app
+edit_fits : (name body said : List ℕ) (s new : State) → AreFit s.app.names s.sessions → PostsEdit name body (parts_of s) said (parts_of new) → KeepsApp s.app new.app → AreFit new.app.names new.sessions
+edit_fits name body said s new fit h keeps = by (carries_sessions name body said (parts_of s) (parts_of new) h)
+  where
+    by : ((new.app ≡ s.app) × (new.sessions ≡ s.sessions)) ⊎ (new.sessions ≡ all_carried s.app.names new.app.names s.sessions) → AreFit new.app.names new.sessions
+    by (inl e) = subst (λ (a : App). AreFit a.names new.sessions) (sym e.0) (subst (λ (l : List (Named SessionState)). AreFit s.app.names l) (sym e.1) fit)
+    by (inr e) =
+        subst (λ (l : List (Named SessionState)). AreFit new.app.names l) (sym e)
+        (carried_fit s.app.names new.app.names s.sessions (alike s.app new.app keeps.frame) keeps.tables fit)
+
 -- ---- the state
 
 -- sessions can be opened of the app, which is an accepted one and the same beside its formulas, and the sessions fit it
@@ -110,11 +122,11 @@ unchanged : (s new : State) → IsSettled s → CanOpen s.app.names → new ≡ 
 unchanged s new settled opens e = stays s new settled opens (ap (λ (x : State). x.app) e) (ap (λ (x : State). x.sessions) e)
 
 -- the app is edited
-edited : (s new : State) → IsSettled s → CanOpen s.app.names → new.sessions ≡ s.sessions → KeepsApp s.app new.app → Goes s new
-edited s new settled opens same keeps = record {
+edited : (s new : State) → IsSettled s → CanOpen s.app.names → AreFit new.app.names new.sessions → KeepsApp s.app new.app → Goes s new
+edited s new settled opens fit keeps = record {
   accepted = keeps.sound;
   opens = can_open s.app new.app opens keeps;
-  fit = subst (λ (l : List (Named SessionState)). AreFit new.app.names l) (sym same) (edit_fits s.app.names new.app.names s.sessions keeps.fit settled.fit);
+  fit = fit;
   frame = keeps.frame;
 }
 
@@ -134,7 +146,7 @@ does_goes lost moment (Event n) body s new said settled opens does =
 does_goes lost moment (Input n) body s new said settled opens does =
     fits s new settled opens (ap (λ (x : State). x.app) does.1) (input_fits lost s.app moment n body said s.tables new.tables s.sessions new.sessions settled.fit does.0)
 does_goes lost moment (Rows n) body s new said settled opens does = stays s new settled opens (ap (λ (x : State). x.app) does.1) (ap (λ (x : State). x.sessions) does.1)
-does_goes lost moment (Edit n) body s new said settled opens does = edited s new settled opens (ap (λ (x : State). x.sessions) does.1) does.2
+does_goes lost moment (Edit n) body s new said settled opens does = edited s new settled opens (edit_fits n body said s new settled.fit does.0 does.2) does.2
 does_goes lost moment (Page table after) body s new said settled opens does = stays s new settled opens (ap (λ (x : State). x.app) does.1) (ap (λ (x : State). x.sessions) does.1)
 does_goes lost moment Plan body s new said settled opens does = unchanged s new settled opens does.1
 does_goes lost moment Graph body s new said settled opens does = unchanged s new settled opens does.1

@@ -8,13 +8,16 @@ use Rattle.app_wire.specs.ReplyBytes.{reply}
 use Rattle.fx_data.specs.Words.{scalars_of}
 use Rattle.fx_trees.specs.BrokenText.{line_of}
 use Rattle.fx_trees.specs.declared.broken.Broken.{Broken}
+use Rattle.fx_trees.specs.declared.names.Names.{Names}
 use Rattle.request_checks.specs.Bodies.{edit_in}
 use Rattle.request_checks.specs.Checks.{checks, desk_of}
 use Rattle.request_checks.specs.Directory.{put}
 use Rattle.request_checks.specs.Replies.{refusal_reply}
 use Rattle.request_checks.specs.declared.directory.Named.{Named}
 use Rattle.request_checks.specs.declared.edit.Edit.{Edit}
+use Rattle.session_state.specs.Carrying.{carried}
 use Rattle.session_state.specs.Once.{Kept}
+use Rattle.session_state.specs.Sessions.{SessionState}
 use Rattle.view_text.specs.JsonText.{tagged}
 use Rattle.view_text.specs.declared.refused.Detail.TheVariants as detail
 use Rattle.view_text.specs.declared.refused.Refusal.{Refusal}
@@ -33,35 +36,48 @@ lines_of bs = map (λ (b : Broken). scalars_of (line_of b)) bs
 abbrev pub refusal_of : List Broken → Refusal
 refusal_of bs = record { code = 24; detail = detail.Lines (lines_of bs) }
 
--- the app and the desks stay
-pub record IsSame (a : App) (list : List (Named Kept)) (a' : App) (list' : List (Named Kept)) : Type 0 where
-  pub app : a' ≡ a
-  pub desks : list' ≡ list
+-- the parts of an office that an edit may change
+pub record Parts : Type 0 where
+  pub app : App
+  pub sessions : List (Named SessionState)
+  pub desks : List (Named Kept)
+
+-- a session goes over to an edited app
+abbrev pub one_carried : Names → Names → Named SessionState → Named SessionState
+one_carried old new s = record s { it = carried old new s.it }
+
+-- and so does each
+abbrev pub all_carried : Names → Names → List (Named SessionState) → List (Named SessionState)
+all_carried old new sessions = map (one_carried old new) sessions
 
 -- an accepted edit leaves its number, its body and its reply
 abbrev pub answered : List ℕ → List ℕ → ℕ → List (Named Kept) → List (Named Kept)
 answered name body seq desks = put name (record { last = seq; body = body; reply = accepted_reply seq }) desks
 
--- what is accepted becomes the app and is answered, and what is refused leaves all
-abbrev pub Ends : List ℕ → List ℕ → ℕ → Result App (List Broken) → App → List (Named Kept) → List ℕ → App → List (Named Kept) → Type 0
-Ends name body seq (Ok b) a desks said a' desks' = (said ≡ accepted_reply seq) × IsSame b (answered name body seq desks) a' desks'
-Ends name body seq (Err bs) a desks said a' desks' = (said ≡ refusal_reply (refusal_of bs)) × IsSame a desks a' desks'
+-- after an accepted edit: this app, the sessions that went over to it, and what is kept of the desk
+abbrev pub edited : List ℕ → List ℕ → ℕ → App → Parts → Parts
+edited name body seq b p = record { app = b; sessions = all_carried p.app.names b.names p.sessions; desks = answered name body seq p.desks }
+
+-- what is accepted changes the parts and is answered, and what is refused leaves all
+abbrev pub Ends : List ℕ → List ℕ → ℕ → Result App (List Broken) → Parts → List ℕ → Parts → Type 0
+Ends name body seq (Ok b) p said p' = (said ≡ accepted_reply seq) × (p' ≡ edited name body seq b p)
+Ends name body seq (Err bs) p said p' = (said ≡ refusal_reply (refusal_of bs)) × (p' ≡ p)
 
 -- an edit that passed the checks of numbered requests
-pub record MakesEdit (a : App) (name body : List ℕ) (e : Edit) (desks : List (Named Kept)) (said : List ℕ) (a' : App) (desks' : List (Named Kept)) : Type 0 where
+pub record MakesEdit (name body : List ℕ) (e : Edit) (p : Parts) (said : List ℕ) (p' : Parts) : Type 0 where
   pub verdict : Result App (List Broken)
-  pub judged : JudgedEdit a e.cell e.text verdict
-  pub ends : Ends name body e.seq verdict a desks said a' desks'
+  pub judged : JudgedEdit p.app e.cell e.text verdict
+  pub ends : Ends name body e.seq verdict p said p'
 
 -- after the checks: the first that breaks is the reply, and leaves all
-abbrev pub PostsChecked : App → List ℕ → List ℕ → Result Edit (List ℕ) → List (Named Kept) → List ℕ → App → List (Named Kept) → Type 0
-PostsChecked a name body (Err words) desks said a' desks' = (said ≡ words) × IsSame a desks a' desks'
-PostsChecked a name body (Ok e) desks said a' desks' = MakesEdit a name body e desks said a' desks'
+abbrev pub PostsChecked : List ℕ → List ℕ → Result Edit (List ℕ) → Parts → List ℕ → Parts → Type 0
+PostsChecked name body (Err words) p said p' = (said ≡ words) × (p' ≡ p)
+PostsChecked name body (Ok e) p said p' = MakesEdit name body e p said p'
 
 -- the checks of edits: JSON (9), its shape (10), a desk too many (12), and the number (13, 14, or the kept reply)
 abbrev pub edit_checks : List (Named Kept) → List ℕ → List ℕ → Result Edit (List ℕ)
 edit_checks desks name body = checks edit_in (λ (e : Edit). e.seq) (desk_of name desks) body
 
 -- THE route of edits
-abbrev pub PostsEdit : App → List ℕ → List ℕ → List (Named Kept) → List ℕ → App → List (Named Kept) → Type 0
-PostsEdit a name body desks said a' desks' = PostsChecked a name body (edit_checks desks name body) desks said a' desks'
+abbrev pub PostsEdit : List ℕ → List ℕ → Parts → List ℕ → Parts → Type 0
+PostsEdit name body p said p' = PostsChecked name body (edit_checks p.desks name body) p said p'

@@ -2,7 +2,6 @@
 use Rattle.std.specs.Prelude.{◌≡◌, ℕ, List, Ok}
 use Rattle.app_cells.specs.declared.app.App.{App}
 use Rattle.app_loader.specs.app_edits.Frames.{frame_of}
-use Rattle.app_loader.specs.Edits.{StillFit}
 use Rattle.app_loader.specs.Verdicts.{AreSameBreaks}
 use Rattle.app_loader.specs.app_semantics.Sound.{IsSound}
 use Rattle.app_wire.specs.Framing.{Asked}
@@ -13,12 +12,11 @@ use Rattle.fx_trees.specs.declared.broken.Broken.{Broken}
 use Rattle.request_checks.specs.Replies.{refusal_reply}
 use Rattle.session_state.specs.Changes.{HoldsTables}
 
--- What an edit keeps: the app is sound, it is the same beside its formulas, and each session that fits it still does.
+-- What an edit keeps: the app is sound, an empty table fits each of its collections, and it is the same beside its formulas.
 pub record KeepsApp (a b : App) : Type 0 where
   pub sound : IsSound b
   pub tables : HoldsTables b.names
   pub frame : frame_of b ≡ frame_of a
-  pub fit : StillFit a.names b.names
 
 -- the request is an edit, by its route
 abbrev pub IsEdit : Asked → Type 0

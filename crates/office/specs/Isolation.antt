@@ -10,9 +10,11 @@ use Rattle.app_wire.specs.declared.head.Method.TheVariants.{Post, Put}
 use Rattle.app_wire.specs.declared.route.Route.{Route}
 use Rattle.app_wire.specs.declared.route.Route.TheVariants.{Begin, End, View, Named, Items, Event, Input, Rows, Edit}
 use Rattle.request_checks.specs.Directory.{find}
+use Rattle.session_state.specs.Carrying.{carried}
 use Rattle.session_state.specs.Once.{Kept}
 use Rattle.session_state.specs.Sessions.{SessionState}
 use Rattle.office.specs.Answers.{Exchange, Plays}
+use Rattle.office.specs.Editing.{IsEdit}
 use Rattle.office.specs.Ready.{IsSettled}
 use Rattle.office.specs.State.{State}
 use Rattle.office.specs.Step.{Answered, Left, Step}
@@ -41,12 +43,16 @@ pub record IsOf (caller : Caller) (request : Asked) : Type 0 where
   pub routed : Routing request.method request.path (Ok route)
   pub caller_is : caller_of route ≡ Some caller
 
--- any request but those of a session leaves its record as it was
+-- after an edit: a session goes over to the edited app
+abbrev pub IsCarried : State → State → List ℕ → Type 0
+IsCarried old new name = find name new.sessions ≡ option_map (carried old.app.names new.app.names) (find name old.sessions)
+
+-- Any request but those of a session leaves its record as it was, but that it goes over to an app that a desk edits.
 abbrev pub LeavesSession : Type 0
 LeavesSession =
     (old new : State) (before now : Marks) (moment : ℕ) (request : Asked) (said name : List ℕ)
     → Answered old before moment request said now new → (IsOf (session name) request → ⊥)
-    → find name new.sessions ≡ find name old.sessions
+    → (find name new.sessions ≡ find name old.sessions) ⊎ (IsEdit request × IsCarried old new name)
 
 -- the same of a desk
 abbrev pub LeavesDesk : Type 0

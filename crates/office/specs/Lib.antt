@@ -11,3 +11,4 @@ pub use Rattle.app_loader.specs as app_loader
 pub mod DeskEdits
 pub mod DeskEditLaws
 pub use Rattle.app_loader.specs.app_semantics
+pub mod Rooms

@@ -14,7 +14,7 @@ use Rattle.app_wire.specs.declared.route.Route.{Route}
 use Rattle.app_wire.specs.declared.route.Route.TheVariants.{Begin, End, View, Named, Items, Event, Input, Rows, Edit, Page, Plan}
 use Rattle.app_wire.specs.declared.route.RouteEnd.{RouteEnd}
 use Rattle.app_wire.specs.declared.route.RouteEnd.TheVariants.{NoRoute, WrongMethod, Memory}
-use Rattle.office.specs.DeskEdits.{PostsEdit}
+use Rattle.office.specs.DeskEdits.{Parts, PostsEdit}
 use Rattle.view_text.specs.ReplyText.{ok_text}
 use Rattle.row_requests.specs.DeskRows.{PostsRows, ReachesRows}
 use Rattle.row_requests.specs.Page.{ReachesPage, ShowsPage}
@@ -24,6 +24,10 @@ use Rattle.office.specs.Editing.{AreSameRefusals, IsEdit, KeepsApp}
 use Rattle.office.specs.Ready.{IsSettled}
 use Rattle.office.specs.Sessions.{ReachesNamed, ShowsNamed, begins, without}
 use Rattle.office.specs.State.{State, schema_of}
+
+-- those that an edit may change
+abbrev pub parts_of : State → Parts
+parts_of s = record { app = s.app; sessions = s.sessions; desks = s.desks }
 
 -- THE step by a route, at a moment: what it says, and which parts of the state may change. All others stay. `lost` is why the
 -- keeper may have fallen silent. Routes that are not built yet are none (7).
@@ -48,7 +52,8 @@ Does lost moment (Rows name) body s said new =
     PostsRows lost (schema_of s.app).tables name body s.tables s.desks said new.tables new.desks
     × (new ≡ record s { tables = new.tables; desks = new.desks })
 Does lost moment (Edit name) body s said new =
-    PostsEdit s.app name body s.desks said new.app new.desks × (new ≡ record s { app = new.app; desks = new.desks }) × KeepsApp s.app new.app
+    PostsEdit name body (parts_of s) said (parts_of new) × (new ≡ record s { app = new.app; sessions = new.sessions; desks = new.desks })
+    × KeepsApp s.app new.app
 Does lost moment (Page table after) body s said new =
     ShowsPage lost (schema_of s.app).tables table after s.tables said new.tables × (new ≡ record s { tables = new.tables })
 Does lost moment Plan body s said new = (said ≡ reply 200 (plan_text s.app)) × (new ≡ s)

@@ -1,11 +1,16 @@
 //! Laws of edits.
-ghost use Rattle.office.specs.DeskEditLaws.{ActsOnce, IsOneOutcome, LeavesOthers};
+ghost use Rattle.office.specs.DeskEditLaws.{ActsOnce, CarriesSessions, IsOneOutcome, LeavesOthers};
 
 use app_loader::{one_edit, one_edit_refusal, one_edited};
 
 /// A law, and no work: an edit leaves what is kept of every other desk.
 pub fn leaves_others()
     ensures { LeavesOthers }
+{}
+
+/// A law, and no work: an edit leaves the app and the sessions, or the sessions go over to the edited app.
+pub fn carries_sessions()
+    ensures { CarriesSessions }
 {}
 
 /// A law, and no work: the last accepted edit of a desk, when it comes again, gets the kept reply and acts no more.

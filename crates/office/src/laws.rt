@@ -31,7 +31,7 @@ pub fn silent()
     ensures { IsSilent }
 {}
 
-/// Any request but those of a session leaves its record as it was.
+/// Any request but those of a session leaves its record as it was, but that it goes over to an app that a desk edits.
 pub fn leaves_session()
     ensures { LeavesSession }
 {

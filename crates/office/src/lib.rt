@@ -2,6 +2,7 @@
 #![tactic(auto)]
 
 mod accepting;
+mod carrying;
 pub mod converse;
 pub mod desk_edit_laws;
 pub mod laws;

@@ -241,6 +241,7 @@ impl<K: Keeper + Drop> Office<K> {
             Route::Edit(name) => match post_edit(
                 self.alloc,
                 &mut self.app,
+                &mut self.sessions,
                 &mut self.desks,
                 &name,
                 &request.body,

@@ -33,8 +33,8 @@ pub fn named_list<K: Keeper, L: Ledger>(
     requires holds { HoldsFitting app.now.names session.now }
     requires asks { CanAsk app.now (K.shaped keeper.old) }
     ensures list { IfOk result (λ rows. (tables : ToldRows) → IsHeardOf (K.told keeper.new) tables → IsNamedList (present app.now session.now tables moment) (map shown rows.items)) }
-    ensures read { HasRead (keeping (K.told keeper.old) (K.shaped keeper.old) (K.in_transaction keeper.old) (K.marks keeper.old) (K.loan keeper.old))
-        (keeping (K.told keeper.new) (K.shaped keeper.new) (K.in_transaction keeper.new) (K.marks keeper.new) (K.loan keeper.new)) }
+    ensures read { HasRead (keeping (K.told keeper.old) (K.began keeper.old) (K.shaped keeper.old) (K.in_transaction keeper.old) (K.marks keeper.old) (K.visited keeper.old) (K.loan keeper.old))
+        (keeping (K.told keeper.new) (K.began keeper.new) (K.shaped keeper.new) (K.in_transaction keeper.new) (K.marks keeper.new) (K.visited keeper.new) (K.loan keeper.new)) }
     ensures cause { HasCause (K.marks keeper.old) (K.marks keeper.new) result }
     ensures alone { ReadsNone app.now → keeper.new ≡ keeper.old }
     ensures reached { IsErrOf result Failed → ReadsNone app.now → ⊥ }
@@ -70,8 +70,8 @@ pub(crate) fn named_body<K: Keeper, L: Ledger>(
     requires holds { HoldsFitting app.now.names session.now }
     requires asks { CanAsk app.now (K.shaped keeper.old) }
     ensures body { IfOk result (λ s. (tables : ToldRows) → IsHeardOf (K.told keeper.new) tables → IsNamedBody (present app.now session.now tables moment) (string_bytes s)) }
-    ensures read { HasRead (keeping (K.told keeper.old) (K.shaped keeper.old) (K.in_transaction keeper.old) (K.marks keeper.old) (K.loan keeper.old))
-        (keeping (K.told keeper.new) (K.shaped keeper.new) (K.in_transaction keeper.new) (K.marks keeper.new) (K.loan keeper.new)) }
+    ensures read { HasRead (keeping (K.told keeper.old) (K.began keeper.old) (K.shaped keeper.old) (K.in_transaction keeper.old) (K.marks keeper.old) (K.visited keeper.old) (K.loan keeper.old))
+        (keeping (K.told keeper.new) (K.began keeper.new) (K.shaped keeper.new) (K.in_transaction keeper.new) (K.marks keeper.new) (K.visited keeper.new) (K.loan keeper.new)) }
     ensures cause { HasCause (K.marks keeper.old) (K.marks keeper.new) result }
 {
     let rows = named_list(alloc, app, session, keeper, moment, steps)?;

@@ -1,29 +1,33 @@
 //! A desk edits a formula.
 ghost use Rattle.std.specs.Prelude.{◌≡◌, IfOk, OnErr};
 ghost use Rattle.app_loader.specs.app_edits.Frames.{frame_of};
-ghost use Rattle.app_loader.specs.Edits.{IsLoaded, StillFit};
+ghost use Rattle.app_loader.specs.Edits.{IsLoaded};
 ghost use Rattle.app_loader.specs.app_semantics.Sound.{IsSound};
-ghost use Rattle.office.specs.DeskEdits.{IsSame, MakesEdit, PostsEdit};
+ghost use Rattle.office.specs.DeskEdits.{MakesEdit, PostsEdit};
+ghost use Rattle.office.specs.Ready.{AreFit};
+ghost use Rattle.request_checks.specs.Checked.{SessionsKeepReplies};
 ghost use Rattle.request_checks.specs.Replies.{IsReply, KeepReplies, said};
 ghost use Rattle.session_state.specs.Changes.{HoldsTables};
 
 use crate::accepting::{accept, keep, refuse};
+use crate::carrying::{carry, make_room};
 use app_cells::App;
 use app_loader::edit;
 use fx_base::Memory;
 use fx_data::Words;
 use fx_trees::AppEnd;
 use request_checks::{Checked, Edit, Named, Reply, check_desk};
-use session_state::Desk;
+use session_state::{Desk, Session};
 use std::alloc::Global;
 
 /// A desk edits a formula, under a number. The app becomes the edited one, and the reply is kept; or nothing changes and the
 /// reply is a refusal: no JSON (9), another shape (10), a desk too many (12), another number (13, 14), or the rules that the
-/// edited app breaks (24). The last request once more gets the kept reply. Nothing but the app's formulas and this desk's
-/// record can change, and each session that fits the app still does.
+/// edited app breaks (24). The last request once more gets the kept reply. Nothing but the app's formulas, this desk's record
+/// and what sessions hold can change: each session goes over to the edited app, for which all memory is taken before.
 pub fn post_edit(
     alloc: Global,
     app: &mut App,
+    sessions: &mut Vec<Named<Session>>,
     desks: &mut Vec<Named<Desk>>,
     name: &Words,
     body: &[u8],
@@ -31,20 +35,25 @@ pub fn post_edit(
     requires loaded { IsLoaded app.old }
     requires sound { IsSound app.old }
     requires tables { HoldsTables app.old.names }
+    requires fit { AreFit app.old.names sessions.old.items }
     requires kept { KeepReplies desks.old.items }
-    ensures done { IfOk result (λ r. PostsEdit app.old name.now body.now desks.old.items (said r) app.new desks.new.items) }
+    requires replies { SessionsKeepReplies sessions.old.items }
+    ensures done { IfOk result (λ r. PostsEdit name.now body.now (record { app = app.old; sessions = sessions.old.items; desks = desks.old.items }) (said r) (record { app = app.new; sessions = sessions.new.items; desks = desks.new.items })) }
     ensures whole { IfOk result IsReply }
-    ensures stopped { OnErr result (IsSame app.old desks.old.items app.new desks.new.items) }
+    ensures app { OnErr result (app.new ≡ app.old) }
+    ensures sessions { OnErr result (sessions.new.items ≡ sessions.old.items) }
+    ensures desks { OnErr result (desks.new.items ≡ desks.old.items) }
     ensures loaded { IsLoaded app.new }
     ensures sound { IsSound app.new }
     ensures tables { HoldsTables app.new.names }
     ensures frame { frame_of app.new ≡ frame_of app.old }
-    ensures fit { StillFit app.old.names app.new.names }
+    ensures fit { AreFit app.new.names sessions.new.items }
     ensures kept { KeepReplies desks.new.items }
+    ensures replies { SessionsKeepReplies sessions.new.items }
 {
     match check_desk::<Edit>(alloc, desks, name, body)? {
         Checked::Says(reply) => Ok(reply),
-        Checked::Acts(asked) => make_edit(alloc, app, desks, name, body, &asked),
+        Checked::Acts(asked) => make_edit(alloc, app, sessions, desks, name, body, &asked),
     }
 }
 
@@ -52,6 +61,7 @@ pub fn post_edit(
 fn make_edit(
     alloc: Global,
     app: &mut App,
+    sessions: &mut Vec<Named<Session>>,
     desks: &mut Vec<Named<Desk>>,
     name: &Words,
     body: &[u8],
@@ -60,21 +70,28 @@ fn make_edit(
     requires loaded { IsLoaded app.old }
     requires sound { IsSound app.old }
     requires tables { HoldsTables app.old.names }
+    requires fit { AreFit app.old.names sessions.old.items }
     requires kept { KeepReplies desks.old.items }
-    ensures done { IfOk result (λ r. MakesEdit app.old name.now body.now asked.now desks.old.items (said r) app.new desks.new.items) }
+    requires replies { SessionsKeepReplies sessions.old.items }
+    ensures done { IfOk result (λ r. MakesEdit name.now body.now asked.now (record { app = app.old; sessions = sessions.old.items; desks = desks.old.items }) (said r) (record { app = app.new; sessions = sessions.new.items; desks = desks.new.items })) }
     ensures whole { IfOk result IsReply }
-    ensures stopped { OnErr result (IsSame app.old desks.old.items app.new desks.new.items) }
+    ensures app { OnErr result (app.new ≡ app.old) }
+    ensures sessions { OnErr result (sessions.new.items ≡ sessions.old.items) }
+    ensures desks { OnErr result (desks.new.items ≡ desks.old.items) }
     ensures loaded { IsLoaded app.new }
     ensures sound { IsSound app.new }
     ensures tables { HoldsTables app.new.names }
     ensures frame { frame_of app.new ≡ frame_of app.old }
-    ensures fit { StillFit app.old.names app.new.names }
+    ensures fit { AreFit app.new.names sessions.new.items }
     ensures kept { KeepReplies desks.new.items }
+    ensures replies { SessionsKeepReplies sessions.new.items }
 {
     let accepted = accept(alloc, name, asked.seq, body)?;
     desks.reserve(1)?;
     match edit(alloc, app, asked.cell.as_str(), asked.text.as_str()) {
         Ok(edited) => {
+            make_room(sessions, &edited.names)?;
+            carry(sessions, &app.names, &edited.names);
             *app = edited;
             Ok(keep(alloc, desks, asked.seq, accepted))
         }

@@ -1,0 +1,30 @@
+-- What is left of sessions that were written through a slice of them.
+use Rattle.std.proofs.Common.{◌≡◌, ◌≤◌, ℕ, List, ◌++◌, drop, length, map, take, ap, ◌∙◌, arith}
+use Rattle.std.proofs.Math.Seq.{take-length}
+use Rattle.std.proofs.lemmas.List.{length-map, take-append-le}
+use Rattle.fx_trees.specs.declared.names.Names.{Names}
+use Rattle.request_checks.specs.declared.directory.Named.{Named}
+use Rattle.session_state.specs.Sessions.{SessionState}
+use Rattle.office.specs.DeskEdits.{all_carried, one_carried}
+use Rattle.office.specs.Rooms.{with_room}
+use Rattle.office.proofs.Rooms.{carried_same}
+
+-- a list that is written over one of the same length
+pub written : (n : ℕ) (xs ys : List (Named SessionState)) → n ≡ length xs → take n (xs ++ drop (length xs) ys) ≡ xs
+written n xs ys e = take-append-le n xs (drop (length xs) ys) (omega (arith, e)) ∙ ap (λ (k : ℕ). take k xs) e ∙ take-length xs
+
+-- room was made
+pub roomy : (n : ℕ) (m : Names) (items given made read : List (Named SessionState)) → n ≡ length items → given ≡ items → made ≡ map (with_room m) given
+    → read ≡ take n (made ++ drop (length made) items) → read ≡ map (with_room m) items
+roomy n m items given made read len is made_is read_is =
+    let all : made ≡ map (with_room m) items = made_is ∙ ap (map (with_room m)) is in
+    let same : n ≡ length made = omega (arith, len, ap length all, length-map items (with_room m)) in
+    read_is ∙ written n made items same ∙ all
+
+-- and they went over to the edited app
+pub carried_all : (n : ℕ) (old new : Names) (items read made over : List (Named SessionState)) → n ≡ length items → read ≡ map (with_room new) items → over ≡ all_carried old new read
+    → take n (over ++ drop (length over) made) ≡ all_carried old new items
+carried_all n old new items read made over len read_is over_is =
+    let all : over ≡ all_carried old new items = over_is ∙ ap (all_carried old new) read_is ∙ carried_same old new items in
+    let same : n ≡ length over = omega (arith, len, ap length all, length-map items (one_carried old new)) in
+    written n over made same ∙ all

@@ -1,0 +1,56 @@
+use Rattle.std.proofs.Common.{◌≡◌, ◌∙◌, ◌++◌, List, Ok, ap, drop, length, map, subst, sym, take}
+use Rattle.app_loader.specs.Edits.{JudgedEdit}
+use Rattle.fx_data.specs.Words.{scalars_of}
+use Rattle.request_checks.specs.Checked.{SessionsKeepReplies}
+use Rattle.request_checks.specs.Replies.{said}
+use Rattle.request_checks.specs.declared.directory.Named.{Named}
+use Rattle.session_state.specs.Sessions.{SessionState}
+use Rattle.office.specs.DeskEdits.{accepted_reply, all_carried}
+use Rattle.office.specs.Ready.{AreFit}
+use Rattle.office.specs.Rooms.{HaveNoRoom, HaveRoom, with_room}
+use Rattle.office.proofs.Desks.{kept_so}
+use Rattle.office.proofs.Edits.{alike, carried_fit, carried_keep}
+use Rattle.office.proofs.Rooms.{have_none, have_room}
+use Rattle.office.proofs.Writing.{carried_all, roomy}
+use Rattle.office.proofs.posting.make_edit.Goals as goal
+
+pub make_room-requires : goal.make_room-requires
+make_room-requires c =
+    subst (λ (l : List (Named SessionState)). HaveNoRoom l) (sym c.deref_mut.ensures.value) (have_none c.args.app.now.names c.args.sessions.now.items c.requires.fit)
+
+pub carry-requires : goal.carry-requires
+carry-requires c =
+    let read = roomy c.args.sessions.now.len c.in-Ok.edited.names c.args.sessions.now.items c.deref_mut.result.now c.make_room.new.sessions c.deref_mut-in-Ok.result.now
+    c.args.sessions.now.ok.0 c.deref_mut.ensures.value c.in_ok-make_room-in-Ok.ensures.made c.deref_mut-in-Ok.ensures.value in
+    subst (λ (l : List (Named SessionState)). HaveRoom c.in-Ok.edited.names l) (sym read) (have_room c.in-Ok.edited.names c.args.sessions.now.items)
+
+pub returns-in-Ok-clause-done : goal.returns-in-Ok-clause-done
+returns-in-Ok-clause-done c =
+    let read = roomy c.args.sessions.now.len c.in-Ok.edited.names c.args.sessions.now.items c.deref_mut.result.now c.make_room.new.sessions c.deref_mut-in-Ok.result.now
+    c.args.sessions.now.ok.0 c.deref_mut.ensures.value c.in_ok-make_room-in-Ok.ensures.made c.deref_mut-in-Ok.ensures.value in
+    let sessions = carried_all c.args.sessions.now.len c.args.app.now.names c.in-Ok.edited.names c.args.sessions.now.items c.deref_mut-in-Ok.result.now _ c.carry.new.sessions
+    c.args.sessions.now.ok.0 read c.carry.ensures in
+    let desks = kept_so c.args.name.now c.args.body.now c.in_ok-accepted.accepted.name c.in_ok-accepted.accepted.body.items c.in_ok-accepted.accepted.kept.items c.args.asked.now.seq c.args.desks.now.items _ c.keep.new.desks.items
+    c.in_ok-accepted.ensures.name c.in_ok-accepted.ensures.body c.in_ok-accepted.ensures.kept c.in_ok-reserve.ensures.items c.keep.ensures.kept in
+    record {
+      verdict = Ok c.in-Ok.edited;
+      judged = subst (λ cell. JudgedEdit c.args.app.now cell c.args.asked.now.text (Ok c.in-Ok.edited)) c.as_str.ensures.scalars (subst (λ text. JudgedEdit c.args.app.now (scalars_of c.as_str.result.now) text (Ok c.in-Ok.edited)) c.as_str-2.ensures.scalars c.in-Ok.ensures.app);
+      ends = (ap said c.keep.ensures.reply ∙ c.in_ok-accepted.ensures.reply, λ i. record { app = c.in-Ok.edited; sessions = sessions i; desks = desks i });
+    }
+
+pub returns-in-Ok-clause-fit : goal.returns-in-Ok-clause-fit
+returns-in-Ok-clause-fit c =
+    let read = roomy c.args.sessions.now.len c.in-Ok.edited.names c.args.sessions.now.items c.deref_mut.result.now c.make_room.new.sessions c.deref_mut-in-Ok.result.now
+    c.args.sessions.now.ok.0 c.deref_mut.ensures.value c.in_ok-make_room-in-Ok.ensures.made c.deref_mut-in-Ok.ensures.value in
+    let sessions = carried_all c.args.sessions.now.len c.args.app.now.names c.in-Ok.edited.names c.args.sessions.now.items c.deref_mut-in-Ok.result.now _ c.carry.new.sessions
+    c.args.sessions.now.ok.0 read c.carry.ensures in
+    subst (λ (l : List (Named SessionState)). AreFit c.in-Ok.edited.names l) (sym sessions)
+    (carried_fit c.args.app.now.names c.in-Ok.edited.names c.args.sessions.now.items (alike c.args.app.now c.in-Ok.edited c.in-Ok.ensures.frame) c.in-Ok.ensures.tables c.requires.fit)
+
+pub returns-in-Ok-clause-replies : goal.returns-in-Ok-clause-replies
+returns-in-Ok-clause-replies c =
+    let read = roomy c.args.sessions.now.len c.in-Ok.edited.names c.args.sessions.now.items c.deref_mut.result.now c.make_room.new.sessions c.deref_mut-in-Ok.result.now
+    c.args.sessions.now.ok.0 c.deref_mut.ensures.value c.in_ok-make_room-in-Ok.ensures.made c.deref_mut-in-Ok.ensures.value in
+    let sessions = carried_all c.args.sessions.now.len c.args.app.now.names c.in-Ok.edited.names c.args.sessions.now.items c.deref_mut-in-Ok.result.now _ c.carry.new.sessions
+    c.args.sessions.now.ok.0 read c.carry.ensures in
+    subst SessionsKeepReplies (sym sessions) (carried_keep c.args.app.now.names c.in-Ok.edited.names c.args.sessions.now.items c.requires.replies)
