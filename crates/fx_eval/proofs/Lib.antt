@@ -28,4 +28,5 @@ pub mod Averages
 pub mod Demanding
 pub mod Queried
 pub mod SketchSizes
+pub mod SettledTrees
 pub use Rattle.fx_plan.proofs as of_fx_plan

@@ -99,7 +99,7 @@ all_fit law types told s (t ∷ ts) (u ∷ us) h (d ∷ ds) k = (ready_fits law 
 all_fit law types told s [] (u ∷ us) h ds k = absurd h
 all_fit law types told s (t ∷ ts) [] h ds k = absurd h
 
-fit_many : (ds : List Data) (us : List Shape) → AreFit ds us → length ds ≡ length us
+pub fit_many : (ds : List Data) (us : List Shape) → AreFit ds us → length ds ≡ length us
 fit_many [] [] h = refl
 fit_many (d ∷ ds) (u ∷ us) h = ap suc (fit_many ds us h.1)
 fit_many [] (u ∷ us) h = absurd h
@@ -228,7 +228,7 @@ constants_ready fit plans types shapes s t (demand.Total f i) k lawful reads rea
 
 -- ---- answers
 
-abbrev setting_of : Types → Option (Source → Data) → Held → Setting
+abbrev pub setting_of : Types → Option (Source → Data) → Held → Setting
 setting_of types told s = record { types = types; told = told; rows = s.rows; item = s.item; caught = s.caught }
 
 told_there : (shapes : List TableShape) (told : Option (Source → Data)) (all_rows : Option (List (List Row))) (n : ℕ) (t : TableShape) (rows : List Row) →

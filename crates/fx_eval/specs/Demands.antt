@@ -1,5 +1,5 @@
 -- What a formula takes of the rows of a query expression, and what a query answers it.
-use Rattle.std.specs.Prelude.{◌≡◌, ℕ, ℤ, false, List, length, map, Option, None, Some, slice_get}
+use Rattle.std.specs.Prelude.{◌≡◌, ◌≤◌, ℕ, ℤ, false, List, length, map, Option, None, Some, slice_get}
 use Rattle.std.specs.List.{All, list_any}
 use Rattle.fx_builtins.specs.Folds.{IsGreatest, IsLeast, average_of}
 use Rattle.fx_data.specs.declared.aggregates.Totals.{Totals}
@@ -29,9 +29,10 @@ use Rattle.fx_trees.specs.declared.rows.Scalar.TheVariants.{Number}
 use Rattle.fx_trees.specs.declared.schema.TableShape.{TableShape}
 use Rattle.fx_trees.specs.declared.sources.Source.{Source}
 use Rattle.fx_trees.specs.Lawful.{IsLawfulTable}
-use Rattle.fx_trees.specs.Term.{Term, all, nil, cons}
+use Rattle.fx_trees.specs.Term.{Term, all, nil, cons, term_size}
 use Rattle.fx_plan.specs.Consumers.{over_query}
 use Rattle.fx_plan.specs.Limited.{first_rows}
+use Rattle.query_settling.specs.Settled.{call_settled, query_settled, search_settled}
 use Rattle.row_queries.specs.Answers.{IsCountAnswer, IsScanValue, IsTotalAnswer, OfRows}
 use Rattle.row_queries.specs.declared.queries.Query.{Query}
 use Rattle.row_queries.specs.declared.rows.Row.{Row}
@@ -88,6 +89,13 @@ CanTake shapes d s = Unit {0}
 abbrev pub CanMeet : List TableShape → Demand → Query → Type 0
 CanMeet shapes (demand.Total f i) q = CanTotal shapes q i
 CanMeet shapes d q = Unit {0}
+
+-- the tree with these values in the places of the constants of its query expression
+abbrev pub settled_in : Demand → ℕ → List Data → Term → Term
+settled_in demand.Rows k ds t = (query_settled k ds t).0
+settled_in demand.Found k ds t = search_settled k ds t
+settled_in demand.FoundIn k ds t = search_settled k ds t
+settled_in d k ds t = call_settled k ds t
 
 -- ---- what is answered
 
@@ -160,3 +168,21 @@ FoundAreReady =
     (types : Source → Option Shape) (shapes : List TableShape) (rows : Option (List (List Row))) (s : Held) (t : Term) (k : Sketch) (ds : List Data) (v : Data) → All IsLawfulTable shapes → AreRead types shapes →
     CanEvaluate types s t → IsDemand shapes (length s.rows) demand.FoundIn k t → AreValues (meanings (all k.constants)) (around types None (inner s blank)) ds → list_any is_fault ds ≡ false →
     IsAnswered shapes rows demand.FoundIn k ds v → (f : Term) → IsSearchBy t f → CanStand types s f v
+
+-- with the values of its constants in their places, errors included, the tree is ready
+unfoldable pub SettledAreReady : Type 0
+SettledAreReady =
+    (types : Source → Option Shape) (shapes : List TableShape) (s : Held) (t : Term) (d : Demand) (k : Sketch) (ds : List Data) → AreRead types shapes →
+    CanEvaluate types s t → IsDemand shapes (length s.rows) d k t → AreValues (meanings (all k.constants)) (around types None (inner s blank)) ds →
+    CanEvaluate types s (settled_in d (length s.rows) ds t)
+
+-- and what it is worth so, the tree is worth
+unfoldable pub SettledAreValues : Type 0
+SettledAreValues =
+    (types : Source → Option Shape) (shapes : List TableShape) (told : Option (Source → Data)) (s : Held) (t : Term) (d : Demand) (k : Sketch) (ds : List Data) (v : Data) →
+    IsDemand shapes (length s.rows) d k t → AreValues (meanings (all k.constants)) (around types told (inner s blank)) ds →
+    IsValue (around types told s) (settled_in d (length s.rows) ds t) v → IsValue (around types told s) t v
+
+-- it is no larger
+unfoldable pub SettledAreSmall : Type 0
+SettledAreSmall = (d : Demand) (k : ℕ) (ds : List Data) (t : Term) → term_size (settled_in d k ds t) ≤ term_size t

@@ -1,9 +1,9 @@
 //! What formulas take of query expressions.
-ghost use Rattle.std.specs.Prelude.{◌≡◌, ◌*◌, ℤ, List, length, pos, slice_get, true, IfOk, IfSome, MatchOption, None, Some};
+ghost use Rattle.std.specs.Prelude.{◌≡◌, ◌*◌, ℤ, List, length, map, pos, slice_get, true, IfOk, IfSome, MatchOption, None, Some};
 ghost use Rattle.fx_data.specs.ValueView.{view};
 ghost use Rattle.fx_data.specs.Values.{number};
 ghost use Rattle.fx_builtins.specs.Folds.{average_of};
-ghost use Rattle.fx_eval.specs.Demands.{IsDemand, IsFolded, IsNumberColumn, IsSearch, IsSearchBy, fun_of, most_of};
+ghost use Rattle.fx_eval.specs.Demands.{IsDemand, IsFolded, IsNumberColumn, IsSearch, IsSearchBy, fun_of, most_of, settled_in};
 ghost use Rattle.fx_number.specs.Decimal.{IsInRange};
 ghost use Rattle.fx_plan.specs.QueryExpressions.{sketch_of};
 ghost use Rattle.fx_semantics.specs.Rows.{rows_in};
@@ -24,6 +24,7 @@ use fx_plan::sketches::filtered;
 use fx_plan::{Sketch, sketch_under};
 use fx_tables::row_calls::first;
 use fx_trees::{Core, CoreNode, Fun, Scalar, Schema};
+use query_settling::{settled_call, settled_query, settled_search};
 use std::alloc::Global;
 use std::slice;
 
@@ -322,6 +323,25 @@ fn number_column(schema: &Schema, sketch: &Sketch, column: &Core, depth: u32) ->
 {
     let shape = schema.tables.get(sketch.table as usize)?;
     column_of(shape, column, Scalar::Number, depth)
+}
+
+/// A tree that takes this of a query expression, with these values in the places of the constants of that.
+pub(crate) fn settled(
+    alloc: Global,
+    demand: Demand,
+    core: &Core,
+    depth: u32,
+    constants: &[Value],
+) -> Result<Core, Memory>
+    ensures { IfOk result (λ t. t ≡ settled_in demand depth (map view constants.now) core.now) }
+{
+    match demand {
+        Demand::Rows => settled_query(alloc, core, depth, constants),
+        Demand::Found | Demand::FoundIn => settled_search(alloc, core, depth, constants),
+        Demand::FirstRows(_) | Demand::Count | Demand::First | Demand::Total(_, _) => {
+            settled_call(alloc, core, depth, constants)
+        }
+    }
 }
 
 /// A count as a value.

@@ -24,8 +24,8 @@ ghost use Rattle.fx_value.specs.Fits.{fits_in};
 use crate::courses::{Course, Turn};
 use crate::demands::{Asked, Demand, found_formula};
 use crate::environment::{Env, Stop};
-use crate::laws::queries_are_values;
-use crate::queries::{answer as answer_asked, asked_here};
+use crate::laws::{queries_are_values, settled_are_values};
+use crate::queries::{answer as answer_asked, asked_here, settled_here};
 use crate::scope::Scope;
 use crate::{Answers, Steps, is_formula, list, over, rows_of};
 use fx_base::Memory;
@@ -107,7 +107,8 @@ fn value_here<E: Env, L: Ledger>(
     }
 }
 
-// The value of a tree that takes a query expression. Where a constant is an error, its layers tell which error comes first.
+// The value of a tree that takes a query expression, each of whose constants is evaluated once. Where one is an error, the
+// layers tell which error comes first: with the values of the constants in their places.
 #[cycle(tree)]
 fn query<E: Env, L: Ledger>(
     alloc: Global,
@@ -130,7 +131,9 @@ fn query<E: Env, L: Ledger>(
     let constants = constant_values(alloc, env, scope, formulas, steps)?;
     let values = constants.as_slice();
     if has_error(values) {
-        node(alloc, env, scope, core, steps)
+        settled_are_values();
+        let settled = settled_here(alloc, scope, core, asked.demand, values)?;
+        node(alloc, env, scope, &settled, steps)
     } else {
         let value = answer_asked(alloc, env, asked, values)?;
         match asked.demand {

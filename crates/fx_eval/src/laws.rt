@@ -1,9 +1,10 @@
 // Laws of calls over tables.
 ghost use Rattle.fx_eval.specs.Laws.{ErrorIsWorth, MadeIsWorth, TypedCanMake};
-ghost use Rattle.fx_eval.specs.Demands.{AnswersAreValues, ConstantsAreReady, FoundAreReady};
+ghost use Rattle.fx_eval.specs.Demands.{AnswersAreValues, ConstantsAreReady, FoundAreReady, SettledAreReady, SettledAreSmall, SettledAreValues};
 
 use fx_plan::laws::{answers_are_values, sketches_can_plan};
 use fx_semantics::values_fit;
+use query_settling::{settled_are_no_more, settled_are_worth, settled_have_types};
 use row_queries::rows_fit;
 
 /// A law, and no work: what a function makes of the rows of a table, and of what its other parts give, is
@@ -31,4 +32,17 @@ pub fn queries_are_values()
     sketches_can_plan();
     answers_are_values();
     rows_fit();
+}
+
+/// A law, and no work: a tree that is ready is so with the values of the constants of its query expression in their
+/// places, what it is worth so it is worth, and it is no larger.
+pub fn settled_are_values()
+    ensures ready { SettledAreReady }
+    ensures worth { SettledAreValues }
+    ensures small { SettledAreSmall }
+{
+    values_fit();
+    settled_have_types();
+    settled_are_worth();
+    settled_are_no_more();
 }

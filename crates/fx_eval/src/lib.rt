@@ -20,7 +20,7 @@ pub use calls::over;
 pub use environment::{Env, Stop};
 pub use evaluate::eval;
 pub use fx_plan;
-pub use laws::{made_is_worth, queries_are_values, typed_can_make};
+pub use laws::{made_is_worth, queries_are_values, settled_are_values, typed_can_make};
 pub use lists::list;
 pub use scope::Scope;
 pub use steps::Steps;

@@ -1,17 +1,17 @@
 //! Query expressions, answered by queries.
-ghost use Rattle.std.specs.Prelude.{◌≡◌, ◌≤◌, false, map, IfOk, IfSome, IsErrOf};
+ghost use Rattle.std.specs.Prelude.{◌≡◌, ◌≤◌, false, length, map, IfOk, IfSome, IsErrOf};
 ghost use Rattle.std.specs.List.{list_any};
 ghost use Rattle.fx_base.specs.Faults.{Rose};
 ghost use Rattle.fx_base.specs.Silence.{Goes, IsLater, IsLost};
 ghost use Rattle.fx_base.specs.Telling.{Stays};
 ghost use Rattle.fx_data.specs.ValueView.{view};
-ghost use Rattle.fx_eval.specs.Demands.{CanMeet, CanTake, IsAnswered, IsAskedFor, IsMet, most_of};
+ghost use Rattle.fx_eval.specs.Demands.{CanMeet, CanTake, IsAnswered, IsAskedFor, IsMet, most_of, settled_in};
 ghost use Rattle.fx_eval.specs.Telling.{tables_told};
 ghost use Rattle.fx_plan.specs.Plans.{CanPlan, IsPlan, is_fault};
 ghost use Rattle.row_queries.specs.Queries.{IsQuery};
 ghost use Rattle.row_queries.specs.RowTests.{HasNoFaults};
 
-use crate::demands::{Asked, Demand, asked_under, count_value, first_in, fold_value};
+use crate::demands::{Asked, Demand, asked_under, count_value, first_in, fold_value, settled};
 use crate::environment::{Env, Stop};
 use crate::scope::Scope;
 use fx_base::Memory;
@@ -36,6 +36,22 @@ pub fn asked_here<E: Env>(
             Err(_) => Err(Memory),
         },
         None => Ok(None),
+    }
+}
+
+/// The tree where it stands, with these values in the places of the constants of its query expression.
+pub(crate) fn settled_here(
+    alloc: Global,
+    scope: &Scope,
+    core: &Core,
+    demand: Demand,
+    constants: &[Value],
+) -> Result<Core, Memory>
+    ensures { IfOk result (λ t. t ≡ settled_in demand (length scope.now.rows) (map view constants.now) core.now) }
+{
+    match u32::try_from(scope.rows.len()) {
+        Ok(depth) => settled(alloc, demand, core, depth, constants),
+        Err(_) => Err(Memory),
     }
 }
 

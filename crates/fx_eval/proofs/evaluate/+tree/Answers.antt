@@ -10,6 +10,7 @@ use Rattle.fx_eval.proofs.Passing.{as_before, heard_before, held_before, meant_b
 use Rattle.fx_eval.proofs.Queried.{answered_went, asked_worth, constants_smaller, constants_there, found_worth, heard_same, plain_worth, plan_there, search_smaller, search_there, stands_there, take_there}
 use Rattle.fx_eval.proofs.Ready.{formula_ready, ready_fits}
 use Rattle.fx_eval.proofs.Rows.{asked_there, each_step, given_step, inside_at, make_there, over_there, part_asked, table_can}
+use Rattle.fx_eval.proofs.SettledTrees.{settled_smaller, settled_there, settled_worth}
 use Rattle.fx_eval.proofs.Sizes.{field_is_smaller, fields_fall, one_falls, part_is_smaller, parts_fall, rest_falls, table_falls}
 use Rattle.fx_eval.proofs.Standings.{all_ready, any_ready, coalesce_ready, fields_ready, if_ready, recover_ready, switch_ready}
 use Rattle.fx_eval.proofs.EvalSteps.{beyond_then, branch_then, end_step, fallback_then, next_falls, next_step, some_there, then_step, turn_step}
@@ -43,8 +44,18 @@ query-constant_values-requires g t c κs within = (
 )
 
 pub query-node-requires : goal.query-node-requires
-query-node-requires g t c κs within =
-    (omega arith, (within.0, (within.1, as_before (λ types s. CanEvaluate types s c.args.core.now) _ _ c.constant_values.ensures.went c.requires.ready)))
+query-node-requires g t c κs within = (
+  let h = settled_smaller c.settled_are_values.ensures.small _ _ _ _ _ c.in_ok-settled.ensures in omega (arith, h),
+  (
+    within.0,
+    (
+      within.1,
+      as_before (λ types s. CanEvaluate types s c.in_ok-settled.settled) _ _ c.constant_values.ensures.went
+          (settled_there c.settled_are_values.ensures.ready _ _ _ _ _ _ _ _ _ _ _ c.constant_values.ensures.went.scope c.requires.ready c.requires.asked c.as_slice-formulas.ensures
+          (heard_same _ _ _ _ _ _ c.as_slice-values.ensures.value c.in_ok-constants.ensures.value) c.in_ok-settled.ensures),
+    ),
+  ),
+)
 
 pub query-answer-requires-clause-plan : goal.query-answer-requires-clause-plan
 query-answer-requires-clause-plan g t c =
@@ -77,7 +88,9 @@ query-of_found-requires g t c κs within = (
 pub query-returns-then-has_error-clause-value : goal.query-returns-then-has_error-clause-value
 query-returns-then-has_error-clause-value g t c =
     IfOk-weaker c.node.result _ _
-    (λ v k told h. meant_before told (meaning c.args.core.now) (λ s. s) _ _ c.constant_values.ensures.went (view v) (k told h))
+    (λ v k told h. settled_worth c.settled_are_values.ensures.worth _ _ _ _ _ _ _ _ _ _ _ (view v) told c.constant_values.ensures.went.scope c.requires.asked c.as_slice-formulas.ensures
+    (heard_same _ _ _ _ _ _ c.as_slice-values.ensures.value c.in_ok-constants.ensures.value) c.in_ok-settled.ensures (heard_before _ _ c.node.ensures.went told h)
+    (meant_before told (meaning c.in_ok-settled.settled) (λ s. s) _ _ c.constant_values.ensures.went (view v) (k told h)))
     c.node.ensures.value
 
 pub query-returns-in-FoundIn-clause-value : goal.query-returns-in-FoundIn-clause-value
