@@ -1,5 +1,5 @@
 -- The formulas of names in an accepted app.
-use Rattle.std.proofs.Common.{◌≡◌, ℕ, zero, suc, ◌+◌, ◌++◌, List, [], ◌∷◌, Bool, true, false, map, Option, Some, None, Ok, nat_eq, bytes_eq, codes, encode_utf8_all, refl, ap, sym, subst, ◌∙◌, slice_get, if◌then◌else◌, arith, rules}
+use Rattle.std.proofs.Common.{inl, inr, ◌⊎◌, ◌≡◌, ℕ, zero, suc, ◌+◌, ◌++◌, List, [], ◌∷◌, Bool, true, false, map, Option, Some, None, Ok, nat_eq, bytes_eq, codes, encode_utf8_all, refl, ap, sym, subst, ◌∙◌, slice_get, if◌then◌else◌, arith, rules}
 use Rattle.std.specs.Prelude.{◌&&◌, ◌||◌}
 use Rattle.std.specs.List.{AllZip}
 use Rattle.std.proofs.lemmas.Bool.{eq-eqb, eqb-true}
@@ -246,6 +246,36 @@ items_own p b e x h =
     let a = onward_ok (judge p (outermost b) e) (λ q. at_node (position e) (whole_of (Some (tables no_columns)) q)) x h in
     part_own e a.0 x (at_node_ok (position e) (whole_of (Some (tables no_columns)) a.0) x a.2)
     ∙ ap (λ r. tables (item_columns (type_or_blank (onward r (λ q. at_node (position e) (whole_of None q)))))) (sym a.1)
+
+-- what acts is no pure property
+abbrev pure_type : Control → List ℕ → Shape → Option Shape
+pure_type k n t = if is_items k n then Some t else property_type k n
+
+impure : (k : Control) (n name : List ℕ) (t : Shape) → bytes_eq n name ≡ true → pure_type k name t ≡ None → pure_type k n t ≡ None
+impure k n name t e h = subst (λ z. pure_type k z t ≡ None) (sym (bytes_same n name e)) h
+
+either_true : (a b : Bool) → (a || b) ≡ true → (a ≡ true) ⊎ (b ≡ true)
+either_true true b e = inl refl
+either_true false b e = inr e
+
+acts_impure : (k : Control) (n : List ℕ) (t : Shape) → is_behaviour k n ≡ true → pure_type k n t ≡ None
+acts_impure control.Label n t e = impure control.Label n (codes "OnSelect") t e refl
+acts_impure control.Button n t e = impure control.Button n (codes "OnSelect") t e refl
+acts_impure control.Gallery n t e = impure control.Gallery n (codes "OnSelect") t e refl
+acts_impure control.TextInput n t e = impure control.TextInput n (codes "OnChange") t e refl
+acts_impure control.Slider n t e = impure control.Slider n (codes "OnChange") t e refl
+acts_impure control.DatePicker n t e = impure control.DatePicker n (codes "OnChange") t e refl
+acts_impure control.Checkbox n t e = elim (either_true (bytes_eq n (codes "OnCheck")) (bytes_eq n (codes "OnUncheck")) e) [
+  | inl h ↦ impure control.Checkbox n (codes "OnCheck") t h refl
+  | inr h ↦ impure control.Checkbox n (codes "OnUncheck") t h refl
+]
+
+pub property_calm : (c : ControlName) (p : List ℕ) (t : Shape) → property_of p c ≡ Some t → is_behaviour c.kind (encode_utf8_all p) ≡ false
+property_calm c p t e = by (is_behaviour c.kind (encode_utf8_all p)) refl
+  where
+    by : (b : Bool) → is_behaviour c.kind (encode_utf8_all p) ≡ b → b ≡ false
+    by false k = refl
+    by true k = let none : Some t ≡ None = sym e ∙ acts_impure c.kind (encode_utf8_all p) (tables (item_columns (shape c.items))) k in absurd cc
 
 -- THE type of a pure property's formula is the one that names give it
 pub property_ok : (c : ControlName) (p : List ℕ) (t u : Shape) → property_of p c ≡ Some t → IsWanted (wanted_by c.kind (encode_utf8_all p)) u →

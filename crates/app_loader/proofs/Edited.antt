@@ -12,12 +12,11 @@ use Rattle.app_edits.specs.Frames.{frame_of, without_items}
 use Rattle.app_loader.specs.Accepted.{AreSingle}
 use Rattle.app_loader.specs.Cells.{AreShallow}
 use Rattle.app_loader.specs.JudgedFormulas.{Tells}
-use Rattle.app_loader.specs.Edits.{IsLoaded, JudgedEdit, StillFit}
+use Rattle.app_loader.specs.Edits.{IsLoaded, JudgedEdit}
 use Rattle.app_loader.specs.Judged.{JudgedFormulas}
 use Rattle.app_loader.proofs.FitToJudge.{left_shallow, left_single}
 use Rattle.app_loader.proofs.Framed.{framed, judged_parts, loaded, without_again}
 use Rattle.app_loader.proofs.Loads.{tells_this, tells_weaker}
-use Rattle.app_loader.proofs.Quiet.{has_none, still_fit}
 
 -- these formulas are left beside this frame
 pub record AreLeft (a : App) (address text : List ℕ) (f : Frame) (cells : List Cell) : Type 0 where
@@ -69,9 +68,6 @@ module _ (a : App) (address text : List ℕ) (f : Frame) (cells : List Cell) (h 
 
   pub frame_ok : (r : Result App AppEnd) → IfOk r Judges → IfOk r (λ b. frame_of b ≡ frame_of a)
   frame_ok = ok_weaker Judges (λ b. frame_of b ≡ frame_of a) same_frame
-
-  pub fit_ok : (r : Result App AppEnd) → IfOk r Judges → IfOk r (λ b. StillFit a.names b.names)
-  fit_ok = ok_weaker Judges (λ b. StillFit a.names b.names) (λ b j. still_fit a b (same_frame b j) (has_none f cells b (judged_parts j)))
 
   pub fit_to_judge : TreesAreNoDeeper → IsLoaded a → AreShallow cells
   fit_to_judge law old = left_shallow law a address text cells old.shallow h.edits

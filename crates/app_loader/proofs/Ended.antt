@@ -1,5 +1,5 @@
 -- What formulas are judged as, stage by stage.
-use Rattle.std.proofs.Common.{◌≡◌, ℕ, List, [], ◌∷◌, true, false, nat_eq, length, map, Result, Ok, Err, IfErr, IfOk, refl, ap, sym, subst, ◌∙◌}
+use Rattle.std.proofs.Common.{◌≡◌, ℕ, List, [], ◌∷◌, length, map, Result, Ok, Err, IfErr, IfOk, refl, ap, sym, subst, ◌∙◌}
 use Rattle.depend_graph.specs.Order.{IsClosedPath, IsOrder}
 use Rattle.fx_infer.specs.Limit.{IsRoundsLimit}
 use Rattle.fx_trees.specs.declared.app_end.AppEnd.{AppEnd}
@@ -15,7 +15,7 @@ use Rattle.app_cells.specs.Leaning.{edges_of}
 use Rattle.app_loader.specs.Admitted.{AreRefused}
 use Rattle.app_loader.specs.Cells.{cell_of}
 use Rattle.app_loader.specs.Cycles.{cycle_of, name_at}
-use Rattle.app_loader.specs.Infos.{AreElaborated, unbuilt_breaks}
+use Rattle.app_loader.specs.Infos.{AreElaborated}
 use Rattle.app_loader.specs.JudgedFormulas.{AreFit, AreSome, IsCyclic, IsOrdered, JudgedCells, Tells, unsettled}
 use Rattle.app_loader.specs.JudgedFormulas as judge
 use Rattle.app_loader.proofs.Below.{still_numbered}
@@ -66,27 +66,22 @@ module _ (first : Names) (limit : ℕ) (cells : List Cell) where
   pub refused_end : (m : Names) → IsFinal (map cell_of cells) first m → (e : AppEnd) → Tells (AreSome (AreRefused m cells)) e → Tells Refuses e
   refused_end m f = tells_weaker (AreSome (AreRefused m cells)) Refuses (λ bs h. subst Refuses (sym h.2) (judge.refused first limit cells m h.0 h.1 f (subst (AreRefused m cells) h.2 h.3)))
 
-  pub unbuilt_end : (m : Names) (is : List CellInfo) (bs : List Broken) → IsFinal (map cell_of cells) first m → AreElaborated m limit cells is → bs ≡ unbuilt_breaks is → nat_eq (length bs) 0 ≡ false → Refuses bs
-  unbuilt_end m is [] f h e k = let past : true ≡ false = k in absurd cc
-  unbuilt_end m is (b ∷ bs) f h e k = judge.unbuilt first limit cells m is b bs (record { final = f; elaborated = h }) (sym e)
+  pub cyclic_end : (m : Names) (is : List CellInfo) → IsFinal (map cell_of cells) first m → AreElaborated m limit cells is → (e : AppEnd) → Tells (IsCyclic m is) e → Tells Refuses e
+  cyclic_end m is f h = tells_weaker (IsCyclic m is) Refuses (λ bs k. subst Refuses (sym k.1) (judge.cyclic first limit cells m is k.0 (record { final = f; elaborated = h }) k.2))
 
-  pub cyclic_end : (m : Names) (is : List CellInfo) → IsFinal (map cell_of cells) first m → AreElaborated m limit cells is → unbuilt_breaks is ≡ [] → (e : AppEnd) → Tells (IsCyclic m is) e → Tells Refuses e
-  cyclic_end m is f h b = tells_weaker (IsCyclic m is) Refuses (λ bs k. subst Refuses (sym k.1) (judge.cyclic first limit cells m is k.0 (record { final = f; elaborated = h }) b k.2))
+  pub cyclic_err : (m : Names) (is : List CellInfo) → IsFinal (map cell_of cells) first m → AreElaborated m limit cells is → (r : Result App AppEnd) → IfErr r (Tells (IsCyclic m is)) → IfErr r (Tells Refuses)
+  cyclic_err m is f h (Ok a) k = tt
+  cyclic_err m is f h (Err e) k = cyclic_end m is f h e k
 
-  pub cyclic_err : (m : Names) (is : List CellInfo) → IsFinal (map cell_of cells) first m → AreElaborated m limit cells is → unbuilt_breaks is ≡ [] → (r : Result App AppEnd) → IfErr r (Tells (IsCyclic m is)) → IfErr r (Tells Refuses)
-  cyclic_err m is f h b (Ok a) k = tt
-  cyclic_err m is f h b (Err e) k = cyclic_end m is f h b e k
-
-  pub app_ok : (m : Names) (is : List CellInfo) → IsFinal (map cell_of cells) first m → AreElaborated m limit cells is → unbuilt_breaks is ≡ [] → (r : Result App AppEnd) → IfOk r (IsOrdered m limit is) → IfOk r (λ a. JudgedCells first limit cells (Ok a))
-  app_ok m is f h b (Err e) o = tt
-  app_ok m is f h b (Ok a) o =
+  pub app_ok : (m : Names) (is : List CellInfo) → IsFinal (map cell_of cells) first m → AreElaborated m limit cells is → (r : Result App AppEnd) → IfOk r (IsOrdered m limit is) → IfOk r (λ a. JudgedCells first limit cells (Ok a))
+  app_ok m is f h (Err e) o = tt
+  app_ok m is f h (Ok a) o =
       let both : ◌≡◌ {A = Names × List CellInfo} (m, is) (a.names, a.cells) = λ i. (sym o.names i, sym o.cells i) in
       judge.app first limit cells a (record {
         settled = record {
           final = subst (λ k. IsFinal (map cell_of cells) first k) (sym o.names) f;
           elaborated = subst (λ (z : Names × List CellInfo). AreElaborated z.0 limit cells z.1) both h;
         };
-        built = ap unbuilt_breaks o.cells ∙ b;
         order = subst (λ (z : Names × List CellInfo). IsOrder (length z.1) (edges_of z.0 z.1) a.order) both o.order;
         limit = o.limit;
       })

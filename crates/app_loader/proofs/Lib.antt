@@ -13,7 +13,6 @@ pub mod OneVerdict
 pub mod Told
 pub mod OneRefusal
 pub mod Framed
-pub mod Quiet
 pub mod OneEdit
 pub mod FitToJudge
 pub mod Loaded
@@ -28,5 +27,7 @@ pub mod Pure
 pub mod Contexts
 pub mod Cells
 pub mod Soundness
-pub mod Silence
-pub mod Silent
+pub mod Stands
+pub mod Declared
+pub mod Gathered
+pub mod Tables

@@ -23,7 +23,7 @@ use Rattle.app_names.specs.AppNames.{AreNames}
 use Rattle.app_names.specs.NameRules.{in_app, name_breaks}
 use Rattle.app_semantics.specs.Sound.{IsSound}
 use Rattle.app_loader.proofs.Soundness.{app_parts}
-use Rattle.app_loader.specs.Accepted.{AcceptedIsSilent, AcceptedIsSound, AreSingle, IsAccepted}
+use Rattle.app_loader.specs.Accepted.{AcceptedHoldsTables, AcceptedIsSound, AreSingle, IsAccepted}
 use Rattle.app_texts.specs.Texts.{IsNamedReading, IsReading, TellsBreaks}
 use Rattle.app_loader.proofs.Below.{final_same}
 use Rattle.app_loader.specs.Cells.{cell_of}
@@ -79,9 +79,9 @@ pub sound_ok : AcceptedIsSound → (f : Frame) (cells : List Cell) (n : Names) �
 sound_ok law f cells n are placed single (Ok a) judged types trees lawful = law f cells f.limit a (accepted f cells n a are placed single judged types trees lawful)
 sound_ok law f cells n are placed single (Err e) judged types trees lawful = tt
 
-pub tables_ok : AcceptedIsSilent → (f : Frame) (cells : List Cell) (n : Names) → AreNames f cells n → All (IsPlaced f) cells → AreSingle cells → (r : Result App AppEnd) → IfOk r (λ a. JudgedCells n f.limit cells (Ok a))
+pub tables_ok : AcceptedHoldsTables → (f : Frame) (cells : List Cell) (n : Names) → AreNames f cells n → All (IsPlaced f) cells → AreSingle cells → (r : Result App AppEnd) → IfOk r (λ a. JudgedCells n f.limit cells (Ok a))
     → IfOk r (λ a. AreLawfullyTyped a.names) → IfOk r (λ a. HaveLawfulTrees a.cells) → IfOk r (λ a. IsLawful a.names) → IfOk r (λ a. HoldsTables a.names)
-tables_ok law f cells n are placed single (Ok a) judged types trees lawful = (law f cells f.limit a (accepted f cells n a are placed single judged types trees lawful)).tables
+tables_ok law f cells n are placed single (Ok a) judged types trees lawful = law f cells f.limit a (accepted f cells n a are placed single judged types trees lawful)
 tables_ok law f cells n are placed single (Err e) judged types trees lawful = tt
 
 pub screens_ok : (f : Frame) (cells : List Cell) (n : Names) → AreNames f cells n → (r : Result App AppEnd) → IfOk r (λ a. JudgedCells n f.limit cells (Ok a)) → IfOk r (λ a. a.names.screens ≡ f.screens)

@@ -39,13 +39,12 @@ use Rattle.app_texts.specs.Files.{frame_of, texts_of}
 use Rattle.app_texts.specs.Texts.{AreFormulasOf, AreNamedAt, AreReadAt, IsNamedReading, IsReading, IsTold, bare, broken, formulas, in_text, named_broken, named_formulas}
 use Rattle.app_loader.specs.Admitted.{AreRefused, Breaks, in_cell}
 use Rattle.app_loader.specs.Cells.{cell_of, judged, place_of}
-use Rattle.app_loader.specs.Infos.{unbuilt_breaks}
-use Rattle.app_loader.specs.JudgedFormulas.{AreSettled, JudgedCells, app, cyclic, refused, unbuilt, unsettled, unsettling}
+use Rattle.app_loader.specs.JudgedFormulas.{AreSettled, JudgedCells, app, cyclic, refused, unsettled, unsettling}
 use Rattle.app_loader.specs.Judged as judge
 use Rattle.app_loader.specs.Judged.{Judged, JudgedApp, JudgedFile, JudgedFormulas, JudgedText, misnamed, named, no_text, text, too_long}
 use Rattle.app_loader.specs.Verdicts.{AreSameBreaks, IsOneRefusalOfAFile, IsOneRefusalOfAText, IsSameBreak, bad_part, circle, same, too_deep}
 use Rattle.app_loader.proofs.Functions.{breaks_alike}
-use Rattle.app_loader.proofs.OneInfos.{infos_one, judged_at, none_refused}
+use Rattle.app_loader.proofs.OneInfos.{judged_at, none_refused}
 use Rattle.app_loader.proofs.OneReading.{named_reading_one, not_both, not_both_named, reading_one}
 use Rattle.app_loader.proofs.OneText.{lexed_of}
 use Rattle.app_loader.proofs.OneVerdict.{held_same, not_held, not_read, read_same, some_broken}
@@ -241,28 +240,18 @@ module _ (f : Frame) (cells : List Cell) (n k : Names) (x : AreNames f cells n) 
   settled_first most m l is b bs s t q =
       let one = one_names m l s.final t in some_broken b bs (b ∷ bs) refl (none_refused m l one.0 one.1 most cells is (b ∷ bs) s.elaborated q)
 
-  same_infos : (most : ℕ) (m l : Names) (is js : List CellInfo) → AreSettled n most cells m is → AreSettled k most cells l js → is ≡ js
-  same_infos most m l is js s t = let one = one_names m l s.final t.final in infos_one m l one.0 one.1 most cells is js s.elaborated t.elaborated
-
 cells_same : {n k : Names} {limit : ℕ} {cells : List Cell} {v w : Result App (List Broken)} → JudgedCells n limit cells v → JudgedCells k limit cells w → (f : Frame) → AreNames f cells n → AreNames f cells k → SameRefusal v w
 cells_same (app n limit cells a p) q f x y = tt
 cells_same {v = v} p (app k _ _ a q) f x y = no_refusal v a
 cells_same (unsettling n limit cells p) (unsettling k _ _ q) f x y = all_same (unsettled ∷ [])
 cells_same (unsettling n limit cells p) (refused k _ _ l d ds t q) f x y = absurd (never_settles f cells n k x y l p t)
-cells_same (unsettling n limit cells p) (unbuilt k _ _ l js d ds t q) f x y = absurd (never_settles f cells n k x y l p t.final)
-cells_same (unsettling n limit cells p) (cyclic k _ _ l js d t u q) f x y = absurd (never_settles f cells n k x y l p t.final)
+cells_same (unsettling n limit cells p) (cyclic k _ _ l js d t q) f x y = absurd (never_settles f cells n k x y l p t.final)
 cells_same (refused n limit cells m b bs s p) (unsettling k _ _ q) f x y = absurd (never_settles f cells k n y x m q s)
 cells_same (refused n limit cells m b bs s p) (refused k _ _ l d ds t q) f x y = all_equal (b ∷ bs) (d ∷ ds) (both_refused f cells n k x y m l (b ∷ bs) (d ∷ ds) s t p q)
-cells_same (refused n limit cells m b bs s p) (unbuilt k _ _ l js d ds t q) f x y = absurd (settled_first f cells k n y x limit l m js b bs t s p)
-cells_same (refused n limit cells m b bs s p) (cyclic k _ _ l js d t u q) f x y = absurd (settled_first f cells k n y x limit l m js b bs t s p)
-cells_same (unbuilt n limit cells m is b bs s p) (unsettling k _ _ q) f x y = absurd (never_settles f cells k n y x m q s.final)
-cells_same (unbuilt n limit cells m is b bs s p) (refused k _ _ l d ds t q) f x y = absurd (settled_first f cells n k x y limit m l is d ds s t q)
-cells_same (unbuilt n limit cells m is b bs s p) (unbuilt k _ _ l js d ds t q) f x y = all_equal (b ∷ bs) (d ∷ ds) (sym p ∙ ap unbuilt_breaks (same_infos f cells n k x y limit m l is js s t) ∙ q)
-cells_same (unbuilt n limit cells m is b bs s p) (cyclic k _ _ l js d t u q) f x y = absurd (some_broken b bs (unbuilt_breaks is) p (ap unbuilt_breaks (same_infos f cells n k x y limit m l is js s t) ∙ u))
-cells_same (cyclic n limit cells m is b s o p) (unsettling k _ _ q) f x y = absurd (never_settles f cells k n y x m q s.final)
-cells_same (cyclic n limit cells m is b s o p) (refused k _ _ l d ds t q) f x y = absurd (settled_first f cells n k x y limit m l is d ds s t q)
-cells_same (cyclic n limit cells m is b s o p) (unbuilt k _ _ l js d ds t q) f x y = absurd (some_broken d ds (unbuilt_breaks js) q (ap unbuilt_breaks (sym (same_infos f cells n k x y limit m l is js s t)) ∙ o))
-cells_same (cyclic n limit cells m is b s o p) (cyclic k _ _ l js d t u q) f x y = (circle b d (ap (λ (z : Broken). z.rule) p.2) (ap (λ (z : Broken). z.rule) q.2), tt)
+cells_same (refused n limit cells m b bs s p) (cyclic k _ _ l js d t q) f x y = absurd (settled_first f cells k n y x limit l m js b bs t s p)
+cells_same (cyclic n limit cells m is b s p) (unsettling k _ _ q) f x y = absurd (never_settles f cells k n y x m q s.final)
+cells_same (cyclic n limit cells m is b s p) (refused k _ _ l d ds t q) f x y = absurd (settled_first f cells n k x y limit m l is d ds s t q)
+cells_same (cyclic n limit cells m is b s p) (cyclic k _ _ l js d t q) f x y = (circle b d (ap (λ (z : Broken). z.rule) p.2) (ap (λ (z : Broken). z.rule) q.2), tt)
 
 pub formulas_same : {f : Frame} {cells : List Cell} {v w : Result App (List Broken)} → JudgedFormulas f cells v → JudgedFormulas f cells w → SameRefusal v w
 formulas_same (misnamed f cells ss b bs e p) (misnamed _ _ rs d ds g q) = all_equal (b ∷ bs) (d ∷ ds) (sym p ∙ breaks_alike ss rs (e ∙ sym g) f cells ∙ q)

@@ -19,8 +19,7 @@ use Rattle.app_texts.specs.Texts.{AreFormulasOf, AreNamedAt, bare}
 use Rattle.app_loader.specs.Admitted.{AreRefused}
 use Rattle.app_loader.specs.Cells.{cell_of}
 use Rattle.app_loader.specs.Cycles.{IsCycle}
-use Rattle.app_loader.specs.Infos.{unbuilt_breaks}
-use Rattle.app_loader.specs.JudgedFormulas.{AreSettled, IsAppOf, JudgedCells, app, cyclic, refused, unbuilt, unsettling}
+use Rattle.app_loader.specs.JudgedFormulas.{AreSettled, IsAppOf, JudgedCells, app, cyclic, refused, unsettling}
 use Rattle.app_loader.specs.Judged as judge
 use Rattle.app_loader.specs.Judged.{AreNamed, Judged, JudgedApp, JudgedFile, JudgedFormulas, JudgedText, longest, misnamed, named, no_text, text, too_long}
 use Rattle.app_loader.specs.Verdicts.{IsOneApp, IsOneAppOfAFile, IsOneAppOfAText, IsOneVerdict, IsSameApp}
@@ -51,9 +50,6 @@ module _ (f : Frame) (cells : List Cell) (first : Names) (are : AreNames f cells
       let same = same_names n m is its s in
       infos_one a.names m same.0 same.1 most cells a.cells is h.settled.elaborated s.elaborated
 
-  not_unbuilt : (n m : Names) (is : List CellInfo) (b : Broken) (bs : List Broken) → AreNames f cells n → AreSettled n most cells m is → unbuilt_breaks is ≡ b ∷ bs → ⊥
-  not_unbuilt n m is b bs its s u = some_broken b bs (unbuilt_breaks is) u (ap unbuilt_breaks (sym (same_infos n m is its s)) ∙ h.built)
-
   not_cyclic : (n m : Names) (is : List CellInfo) (b : Broken) → AreNames f cells n → AreSettled n most cells m is → IsCycle m is b → ⊥
   not_cyclic n m is b its s k =
       let same = same_names n m is its s in
@@ -73,8 +69,7 @@ module _ (f : Frame) (cells : List Cell) (first : Names) (are : AreNames f cells
       let settled : IsFinal (map cell_of cells) n m = subst (λ (cs : List Cell). IsFinal (map cell_of cs) n m) e final in
       let same = final_names f (map cell_of cells) cells first n a.names m are its h.settled.final settled in
       some_broken b bs (b ∷ bs) refl (none_refused a.names m same.0 same.1 most cells a.cells (b ∷ bs) h.settled.elaborated (subst (λ (cs : List Cell). AreRefused m cs (b ∷ bs)) e r))
-  cells_agree (unbuilt n limit own m is b bs s u) e l its = not_unbuilt n m is b bs its (subst (λ q. AreSettled n q cells m is) l (subst (λ (cs : List Cell). AreSettled n limit cs m is) e s)) u
-  cells_agree (cyclic n limit own m is b s u k) e l its = not_cyclic n m is b its (subst (λ q. AreSettled n q cells m is) l (subst (λ (cs : List Cell). AreSettled n limit cs m is) e s)) k
+  cells_agree (cyclic n limit own m is b s k) e l its = not_cyclic n m is b its (subst (λ q. AreSettled n q cells m is) l (subst (λ (cs : List Cell). AreSettled n limit cs m is) e s)) k
 
 -- ---- formulas beside a frame
 record IsAccepted (f : Frame) (cells : List Cell) (a : App) : Type 0 where

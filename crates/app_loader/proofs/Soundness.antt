@@ -1,7 +1,8 @@
 -- An accepted app is sound.
-use Rattle.std.proofs.Common.{◌≡◌, ℕ, zero, suc, ◌+◌, if◌then◌else◌, List, [], ◌∷◌, Bool, true, false, map, Some, None, option_map, Result, Ok, Err, encode_utf8_all, refl, ap, sym, subst, ◌∙◌, slice_get, arith}
+use Rattle.std.proofs.Common.{◌≡◌, ℕ, zero, suc, ◌+◌, if◌then◌else◌, List, [], ◌∷◌, Bool, true, false, map, Option, Some, None, option_map, Result, Ok, Err, encode_utf8_all, refl, ap, sym, subst, ◌∙◌, slice_get, arith}
 use Rattle.fx_data.specs.TypeView.{shape}
 use Rattle.fx_data.specs.Types.{Shape, tables, no_columns}
+use Rattle.fx_trees.specs.Lawful.{IsLawful}
 use Rattle.fx_trees.specs.Controls.{is_behaviour, is_items, property_type}
 use Rattle.fx_trees.specs.SourceTypes.{item_columns, property_of}
 use Rattle.fx_trees.specs.declared.broken.Broken.{Broken}
@@ -9,10 +10,15 @@ use Rattle.fx_trees.specs.declared.names.ControlName.{ControlName}
 use Rattle.fx_trees.specs.declared.names.FormulaName.{FormulaName}
 use Rattle.fx_trees.specs.declared.names.Names.{Names}
 use Rattle.fx_trees.specs.declared.names.Property.{Property}
+use Rattle.fx_places.specs.Laws.{AdmittedIsPlaced}
+use Rattle.fx_places.specs.NamedTypes.{HasLawfulTypes}
 use Rattle.fx_typing.specs.Laws.{AdmittedIsTyped, AdmittedIsWanted, IsWanted, PureIsQuiet}
 use Rattle.fx_typing.specs.Rounds as rounds
-use Rattle.fx_typing.specs.Rounds.{SameNames, type_or_blank}
+use Rattle.fx_typing.specs.Rounds.{AllSame, SameControl, SameNames, type_or_blank}
 use Rattle.fx_typing.specs.Typing.{judge_whole}
+use Rattle.fx_typing.specs.WellTyped.{IsTyped}
+use Rattle.fx_trees.specs.Tree.{Tree}
+use Rattle.fx_trees.specs.Term.{Term}
 use Rattle.fx_plan.specs.Limited.{limited}
 use Rattle.app_cells.specs.declared.app.App.{App}
 use Rattle.app_cells.specs.declared.app.CellInfo.{CellInfo}
@@ -21,16 +27,17 @@ use Rattle.app_cells.specs.declared.cell.Spot.TheVariants as spot
 use Rattle.app_cells.specs.declared.frame.Frame.{Frame}
 use Rattle.app_cells.specs.Spots.{IsPlaced, acts, acts_in, item_in, item_of, wanted, wanted_by, wanted_in}
 use Rattle.app_names.specs.AppNames.{properties_from}
-use Rattle.app_semantics.specs.Sound.{IsCellOf, IsSound, IsSoundCell}
+use Rattle.app_semantics.specs.Sound.{IsCellOf, IsSound, IsSoundCell, context_at, frame_in}
 use Rattle.app_loader.specs.Cells.{cell_of, judged, place_of}
 use Rattle.app_loader.specs.Infos.{IsElaborated}
-use Rattle.app_loader.specs.JudgedFormulas.{IsAppOf, JudgedCells, app, cyclic, refused, unbuilt, unsettling}
-use Rattle.app_loader.specs.Types.{HasLawfulTypes, HaveLawfulTrees}
+use Rattle.app_loader.specs.JudgedFormulas.{IsAppOf, JudgedCells, app, cyclic, refused, unsettling}
+use Rattle.app_loader.specs.Types.{HaveLawfulTrees}
 use Rattle.app_loader.proofs.Below.{final_same}
 use Rattle.app_loader.specs.Accepted.{AcceptedIsSound, IsAccepted}
 use Rattle.app_loader.proofs.Contexts.{all_at, context_lawful_at}
-use Rattle.app_loader.proofs.Cells.{IsCellAt, control_before, formula_at, formula_before, items_at, items_found, items_own, is_gallery_items, map_at, map_get, property_at, property_ok, pure_item, zip_left, zip_right}
-use Rattle.app_loader.proofs.Pure.{IsPure, pure_at, tree_lawful}
+use Rattle.app_loader.proofs.Cells.{IsCellAt, control_before, formula_at, formula_before, items_at, items_found, items_own, is_gallery_items, map_at, map_get, property_at, property_calm, property_ok, pure_item, zip_left, zip_right}
+use Rattle.app_loader.proofs.Pure.{tree_lawful}
+use Rattle.app_loader.proofs.Stands.{stands_too}
 
 -- what formulas are that are judged as an app
 abbrev pub IfApp : Names → ℕ → List Cell → Result App (List Broken) → Type 0
@@ -41,23 +48,24 @@ pub app_parts : {n : Names} {most : ℕ} {cells : List Cell} {v : Result App (Li
 app_parts (app n most cells a h) = h
 app_parts (unsettling n most cells s) = tt
 app_parts (refused n most cells m b bs f r) = tt
-app_parts (unbuilt n most cells m is b bs s u) = tt
-app_parts (cyclic n most cells m is b s u k) = tt
+app_parts (cyclic n most cells m is b s k) = tt
 
 types_at : (is : List CellInfo) (k : ℕ) (i : CellInfo) → HaveLawfulTrees is → slice_get is k ≡ Some i → HasLawfulTypes i.core
 types_at [] k i h e = absurd cc
 types_at (j ∷ is) zero i h e = let same : j ≡ i = cc in subst (λ (z : CellInfo). HasLawfulTypes z.core) same h.0
 types_at (j ∷ is) (suc k) i h e = types_at is k i h.1 e
 
-module _ (typed : AdmittedIsTyped) (fits : AdmittedIsWanted) (quiet : PureIsQuiet) (f : Frame) (cells : List Cell) (most : ℕ) (a : App) (h : IsAccepted f cells most a) where
+-- where a formula may act or not, it stands in the same context
+typed_there : AdmittedIsTyped → (n : Names) (c : Cell) (b : Bool) (wanted : Option Shape) (e : Tree) (x : Term × Shape) → IsLawful n → judge_whole (place_of n c) b wanted e ≡ Ok x → IsTyped (context_at n c.item) x.0 x.1
+typed_there typed n c true wanted e x law h = typed (place_of n c) true wanted e x law h
+typed_there typed n c false wanted e x law h = typed (place_of n c) false wanted e x law h
+
+module _ (typed : AdmittedIsTyped) (fits : AdmittedIsWanted) (quiet : PureIsQuiet) (placed : AdmittedIsPlaced) (f : Frame) (cells : List Cell) (most : ℕ) (a : App) (h : IsAccepted f cells most a) where
   parts : IsAppOf h.first most cells a
   parts = app_parts h.judged
 
   same : SameNames h.first a.names
   same = final_same (map cell_of cells) h.first a.names parts.settled.final
-
-  is_pure : (k : ℕ) (c : CellInfo) → slice_get a.cells k ≡ Some c → IsPure c
-  is_pure k c e = pure_at a.cells k c parts.built e
 
   -- ---- each formula
   own_tree : (c : Cell) (i : CellInfo) → IsElaborated a.names most c i → judged a.names i.cell ≡ Ok (i.core, shape i.ty)
@@ -69,15 +77,18 @@ module _ (typed : AdmittedIsTyped) (fits : AdmittedIsWanted) (quiet : PureIsQuie
   sound_cell : (k : ℕ) (c : CellInfo) → slice_get a.cells k ≡ Some c → IsSoundCell a.names c
   sound_cell k c e =
       let w = zip_left (IsElaborated a.names most) cells a.cells k c parts.settled.elaborated e in
-      let p = is_pure k c e in
-      let t = pure_tree c p.quiet (own_tree w.0 c w.2) in
-      let q = quiet (place_of a.names c.cell) (option_map shape c.cell.wanted) c.cell.expr (c.core, shape c.ty) t in
+      let t = own_tree w.0 c w.2 in
+      let context = context_lawful_at a.names h.lawful h.types c.cell.item in
+      let types = types_at a.cells k c h.trees e in
       record {
-        typed = typed (place_of a.names c.cell) false (option_map shape c.cell.wanted) c.cell.expr (c.core, shape c.ty) h.lawful t;
-        calm = λ no. record {
-          context = context_lawful_at a.names h.lawful h.types c.cell.item;
-          lawful = tree_lawful c.core (types_at a.cells k c h.trees e) q;
-          quiet = q;
+        typed = typed_there typed a.names c.cell c.cell.acts (option_map shape c.cell.wanted) c.cell.expr (c.core, shape c.ty) h.lawful t;
+        calm = λ no.
+            let q = quiet (place_of a.names c.cell) (option_map shape c.cell.wanted) c.cell.expr (c.core, shape c.ty) (pure_tree c no t) in
+            record { context = context; lawful = tree_lawful c.core types q; quiet = q };
+        acting = λ yes. record {
+          context = context;
+          lawful = types;
+          placed = placed (place_of a.names c.cell) c.cell.acts (option_map shape c.cell.wanted) c.cell.expr (c.core, shape c.ty) t;
         };
         reads = w.2.reads;
       }
@@ -88,6 +99,17 @@ module _ (typed : AdmittedIsTyped) (fits : AdmittedIsWanted) (quiet : PureIsQuie
 
   placed_at : (k : ℕ) (c : Cell) → slice_get cells k ≡ Some c → IsPlaced f c
   placed_at k c e = all_at (IsPlaced f) cells k c h.placed e
+
+  screens_same : f.screens ≡ a.names.screens
+  screens_same = sym h.named.screens ∙ same.screens
+
+  controls_same : AllSame SameControl f.controls a.names.controls
+  controls_same = subst (λ (cs : List ControlName). AllSame SameControl cs a.names.controls) h.named.controls same.controls
+
+  stands : (k : ℕ) (c : CellInfo) → slice_get a.cells k ≡ Some c → IsPlaced (frame_in a) c.cell
+  stands k c e =
+      let w = zip_left (IsElaborated a.names most) cells a.cells k c parts.settled.elaborated e in
+      subst (IsPlaced (frame_in a)) (sym w.2.cell) (stands_too f (frame_in a) screens_same controls_same w.0 (placed_at k w.0 w.1))
 
   formula_ok : (i : ℕ) (g : FormulaName) → slice_get a.names.formulas i ≡ Some g → IsCellOf a.cells g.cell None (shape g.ty)
   formula_ok i g e =
@@ -107,7 +129,7 @@ module _ (typed : AdmittedIsTyped) (fits : AdmittedIsWanted) (quiet : PureIsQuie
       record {
         cell = w.0;
         there = ap (slice_get a.cells) number ∙ w.1;
-        quiet = (is_pure at.place w.0 w.1).quiet;
+        quiet = ap (λ (z : Cell). z.acts) w.2.cell ∙ p.acts ∙ ap (acts f) at.spot;
         item = ap (λ (z : Cell). z.item) w.2.cell ∙ p.item ∙ ap (item_of f) at.spot;
         ty = ap type_or_blank (sym tree) ∙ ap (rounds.cell_type a.names) (sym found) ∙ own;
       }
@@ -128,9 +150,8 @@ module _ (typed : AdmittedIsTyped) (fits : AdmittedIsWanted) (quiet : PureIsQuie
       let q = placed_at at.place at.cell at.there in
       let w = zip_right (IsElaborated a.names most) cells a.cells at.place at.cell parts.settled.elaborated at.there in
       let d = kind_at p.control c k in
-      let pure_one = is_pure at.place w.0 w.1 in
-      let still : at.cell.acts ≡ false = sym (ap (λ (z : Cell). z.acts) w.2.cell) ∙ pure_one.quiet in
-      let calm : is_behaviour d.0.kind (encode_utf8_all p.name) ≡ false = sym (q.acts ∙ ap (acts f) at.spot ∙ ap (acts_in p.name) d.1) ∙ still in
+      let calm : is_behaviour d.0.kind (encode_utf8_all p.name) ≡ false = ap (λ z. is_behaviour z (encode_utf8_all p.name)) d.2 ∙ property_calm c p.name t o in
+      let still : at.cell.acts ≡ false = q.acts ∙ ap (acts f) at.spot ∙ ap (acts_in p.name) d.1 ∙ calm in
       let want : option_map shape at.cell.wanted ≡ wanted_by c.kind (encode_utf8_all p.name) =
       q.wanted ∙ ap (wanted f) at.spot ∙ ap (wanted_in p.name) d.1 ∙ ap (λ z. wanted_by z (encode_utf8_all p.name)) d.2 in
       let fit : IsWanted (wanted_by c.kind (encode_utf8_all p.name)) (shape w.0.ty) =
@@ -138,7 +159,7 @@ module _ (typed : AdmittedIsTyped) (fits : AdmittedIsWanted) (quiet : PureIsQuie
       record {
         cell = w.0;
         there = ap (slice_get a.cells) number ∙ w.1;
-        quiet = pure_one.quiet;
+        quiet = ap (λ (z : Cell). z.acts) w.2.cell ∙ still;
         item = ap (λ (z : Cell). z.item) w.2.cell ∙ q.item ∙ ap (item_of f) at.spot ∙ ap (item_in p.control p.name) d.1 ∙ pure_item p.control p.name d.0 calm ∙ d.3;
         ty = property_ok c p.name t (shape w.0.ty) o fit (λ items. items_type i p c at w.0 e k from number (want ∙ any_table c p.name items) w.2.tree items);
       }
@@ -167,6 +188,7 @@ module _ (typed : AdmittedIsTyped) (fits : AdmittedIsWanted) (quiet : PureIsQuie
   pub sound : IsSound a
   sound = record {
     names = h.lawful;
+    placed = stands;
     cells = sound_cell;
     formulas = formula_ok;
     properties = property_fits;
@@ -176,5 +198,5 @@ module _ (typed : AdmittedIsTyped) (fits : AdmittedIsWanted) (quiet : PureIsQuie
     order = parts.order;
   }
 
-pub accepted_sound : AdmittedIsTyped → AdmittedIsWanted → PureIsQuiet → AcceptedIsSound
-accepted_sound typed fits quiet f cells most a h = sound typed fits quiet f cells most a h
+pub accepted_sound : AdmittedIsTyped → AdmittedIsWanted → PureIsQuiet → AdmittedIsPlaced → AcceptedIsSound
+accepted_sound typed fits quiet placed f cells most a h = sound typed fits quiet placed f cells most a h

@@ -1,5 +1,5 @@
 -- What holds of an app that is accepted.
-use Rattle.std.specs.Prelude.{◌≡◌, ℕ, List, [], All, Ok, Some, codes, slice_get}
+use Rattle.std.specs.Prelude.{◌≡◌, ℕ, List, All, Ok, Some, codes, slice_get}
 use Rattle.fx_trees.specs.Lawful.{IsLawful}
 use Rattle.fx_trees.specs.declared.names.Names.{Names}
 use Rattle.app_cells.specs.declared.app.App.{App}
@@ -35,11 +35,6 @@ pub record IsAccepted (f : Frame) (cells : List Cell) (most : ℕ) (a : App) : T
 abbrev pub AcceptedIsSound : Type 0
 AcceptedIsSound = (f : Frame) (cells : List Cell) (most : ℕ) (a : App) → IsAccepted f cells most a → IsSound a
 
--- it has no variable and no collection
-pub record IsSilent (n : Names) : Type 0 where
-  pub variables : n.variables ≡ []
-  pub collections : n.collections ≡ []
-  pub tables : HoldsTables n
-
-abbrev pub AcceptedIsSilent : Type 0
-AcceptedIsSilent = (f : Frame) (cells : List Cell) (most : ℕ) (a : App) → IsAccepted f cells most a → IsSilent a.names
+-- each of its collections has the type of a table
+abbrev pub AcceptedHoldsTables : Type 0
+AcceptedHoldsTables = (f : Frame) (cells : List Cell) (most : ℕ) (a : App) → IsAccepted f cells most a → HoldsTables a.names

@@ -1,9 +1,6 @@
 -- Edits of an app, judged: they make this app, or these are the breaks of the first stage that has any.
 use Rattle.std.specs.Prelude.{◌≤◌, ℕ, List, [], ◌∷◌, All, length, Result, Ok, Err}
-use Rattle.session_state.specs.Changes.{FitsNames}
-use Rattle.session_state.specs.Sessions.{SessionState}
 use Rattle.fx_trees.specs.declared.broken.Broken.{Broken}
-use Rattle.fx_trees.specs.declared.names.Names.{Names}
 use Rattle.app_cells.specs.declared.app.App.{App}
 use Rattle.app_cells.specs.declared.cell.Cell.{Cell}
 use Rattle.app_cells.specs.Spots.{IsFrame, IsPlaced}
@@ -43,7 +40,3 @@ IsOneEditRefusal =
 -- an app file that is accepted is loaded
 abbrev pub LoadedApp : Type 0
 LoadedApp = (file : List ℕ) (a : App) → JudgedApp file (Ok a) → IsLoaded a
-
--- each session that fits these names fits those
-abbrev pub StillFit : Names → Names → Type 0
-StillFit n m = (s : SessionState) → FitsNames n s → FitsNames m s

@@ -15,7 +15,7 @@ use Rattle.app_cells.specs.Leaning.{edges_of}
 use Rattle.app_loader.specs.Admitted.{AreRefused}
 use Rattle.app_loader.specs.Cells.{AreNumbered, AreShallow, cell_of}
 use Rattle.app_loader.specs.Cycles.{IsCycle}
-use Rattle.app_loader.specs.Infos.{AreElaborated, unbuilt_breaks}
+use Rattle.app_loader.specs.Infos.{AreElaborated}
 
 -- each of 256 rounds changes a type
 abbrev pub unsettled : Broken
@@ -37,23 +37,20 @@ pub record IsOrdered (m : Names) (most : ℕ) (is : List CellInfo) (a : App) : T
 abbrev pub IsCyclic : Names → List CellInfo → List Broken → Type 0
 IsCyclic m is bs = (b : Broken) × (bs ≡ b ∷ []) × IsCycle m is b
 
--- an app of formulas under names: all its forms are built, and each formula stands behind those that it leans on
+-- an app of formulas under names: each formula stands behind those that it leans on
 pub record IsAppOf (first : Names) (most : ℕ) (written : List Cell) (a : App) : Type 0 where
   pub settled : AreSettled first most written a.names a.cells
-  pub built : unbuilt_breaks a.cells ≡ []
   pub order : IsOrder (length a.cells) (edges_of a.names a.cells) a.order
   pub limit : a.limit ≡ most
 
--- WHAT FORMULAS ARE UNDER NAMES: their types don't settle; some aren't admitted; some have forms that aren't built yet;
--- some lean on one another in a circle; or they are an app.
+-- WHAT FORMULAS ARE UNDER NAMES: their types don't settle; some aren't admitted; some lean on one another in a circle; or
+-- they are an app.
 pub data JudgedCells : Names → ℕ → List Cell → Result App (List Broken) → Type 0 where
   unsettling : (n : Names) (limit : ℕ) (cells : List Cell) → StillChanges (map cell_of cells) n → JudgedCells n limit cells (Err (unsettled ∷ []))
   refused : (n : Names) (limit : ℕ) (cells : List Cell) (m : Names) (b : Broken) (bs : List Broken) → IsFinal (map cell_of cells) n m
       → AreRefused m cells (b ∷ bs) → JudgedCells n limit cells (Err (b ∷ bs))
-  unbuilt : (n : Names) (limit : ℕ) (cells : List Cell) (m : Names) (is : List CellInfo) (b : Broken) (bs : List Broken) → AreSettled n limit cells m is
-      → unbuilt_breaks is ≡ b ∷ bs → JudgedCells n limit cells (Err (b ∷ bs))
   cyclic : (n : Names) (limit : ℕ) (cells : List Cell) (m : Names) (is : List CellInfo) (b : Broken) → AreSettled n limit cells m is
-      → unbuilt_breaks is ≡ [] → IsCycle m is b → JudgedCells n limit cells (Err (b ∷ []))
+      → IsCycle m is b → JudgedCells n limit cells (Err (b ∷ []))
   app : (n : Names) (limit : ℕ) (cells : List Cell) (a : App) → IsAppOf n limit cells a → JudgedCells n limit cells (Ok a)
 
 -- formulas that are fit to be judged under names

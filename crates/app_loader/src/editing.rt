@@ -1,7 +1,7 @@
 //! From an app and an edit to the edited app.
 ghost use Rattle.std.specs.Prelude.{◌≡◌, Err, IfErr, IfOk, Ok};
 ghost use Rattle.app_edits.specs.Frames.{frame_of};
-ghost use Rattle.app_loader.specs.Edits.{IsLoaded, IsOneEdit, IsOneEdited, IsOneEditRefusal, JudgedEdit, LoadedApp, StillFit};
+ghost use Rattle.app_loader.specs.Edits.{IsLoaded, IsOneEdit, IsOneEdited, IsOneEditRefusal, JudgedEdit, LoadedApp};
 ghost use Rattle.app_semantics.specs.Sound.{IsSound};
 ghost use Rattle.app_loader.specs.JudgedFormulas.{Tells};
 ghost use Rattle.fx_data.specs.Words.{scalars_of};
@@ -30,7 +30,6 @@ pub fn edit(alloc: Global, app: &App, address: &str, text: &str) -> Result<App, 
     ensures loaded { IfOk result IsLoaded }
     ensures frame { IfOk result (λ a. frame_of a ≡ frame_of app.now) }
     ensures tables { IfOk result (λ a. HoldsTables a.names) }
-    ensures fit { IfOk result (λ a. StillFit app.now.names a.names) }
     ensures refused { IfErr result (Tells (λ bs. JudgedEdit app.now (scalars_of address.now) (scalars_of text.now) (Err bs))) }
 {
     no_deeper();

@@ -1,10 +1,9 @@
-//! Formulas with their typed trees, and what of them isn't built yet.
+//! Formulas with their typed trees.
 ghost use Rattle.std.specs.Prelude.{◌≡◌, ◌↔◌, IfOk, Ok, false, length};
 ghost use Rattle.app_loader.specs.Admitted.{AreTyped};
-ghost use Rattle.app_loader.specs.Infos as spec;
 ghost use Rattle.app_loader.specs.Infos.{AreElaborated, IsElaborated};
 ghost use Rattle.app_loader.specs.Cells.{judged};
-ghost use Rattle.app_loader.specs.Types.{HasLawfulTypes, HaveLawfulTrees};
+ghost use Rattle.app_loader.specs.Types.{HaveLawfulTrees};
 ghost use Rattle.fx_plan.specs.Limited.{limited};
 ghost use Rattle.fx_plan.specs.Sites.{sites_of};
 ghost use Rattle.fx_trees.specs.Lawful.{IsLawfulSchema};
@@ -15,11 +14,9 @@ ghost use Rattle.fx_typing.specs.TypedView.{typed};
 use crate::trees::look_at_tree;
 use app_cells::{Cell, CellInfo};
 use fx_base::{InOrder, Memory};
-use fx_data::words::Words;
 use fx_infer::Typed;
-use fx_infer::texts::word;
 use fx_plan::{Site, sites};
-use fx_trees::{Broken, Core, Names, Rule, Schema, Source};
+use fx_trees::{Core, Names, Schema, Source};
 use query_limits::limit_queries;
 use std::alloc::Global;
 
@@ -103,45 +100,11 @@ pub fn infos_of(
     Ok(all)
 }
 
-// The form of a formula that isn't built yet.
-fn unbuilt_form(alloc: Global, info: &CellInfo) -> Result<Option<Words>, Memory>
-    ensures form { IfOk result (λ o. o ≡ spec.unbuilt_form info.now) }
-    ensures types { IfOk result (λ o. HasLawfulTypes info.now.core) }
+/// Looks at the types that the trees of formulas name.
+pub fn look_at_infos(infos: &[CellInfo])
+    ensures { HaveLawfulTrees infos.now }
 {
-    look_at_tree(&info.core);
-    if info.cell.acts {
-        Ok(Some(word(alloc, "behaviour")?))
-    } else {
-        Ok(None)
-    }
-}
-
-// What is told of a formula that has a form which isn't built yet.
-fn unbuilt_break(alloc: Global, info: &CellInfo) -> Result<Option<Broken>, Memory>
-    ensures told { IfOk result (λ o. o ≡ spec.unbuilt_break info.now) }
-    ensures types { IfOk result (λ o. HasLawfulTypes info.now.core) }
-{
-    match unbuilt_form(alloc, info)? {
-        Some(form) => Ok(Some(Broken {
-            cell: info.cell.name.copy(alloc)?,
-            rule: Rule::NotBuilt,
-            at: 0,
-            detail: form,
-        })),
-        None => Ok(None),
-    }
-}
-
-/// What is told of formulas that have forms which aren't built yet, one break at most of each, in their order.
-pub fn unbuilt_breaks(alloc: Global, infos: &[CellInfo]) -> Result<Vec<Broken>, Memory>
-    ensures told { IfOk result (λ v. v.items ≡ spec.unbuilt_breaks infos.now) }
-    ensures types { IfOk result (λ v. HaveLawfulTrees infos.now) }
-{
-    let mut breaks = Vec::new(alloc);
     for info in infos {
-        if let Some(broken) = unbuilt_break(alloc, info)? {
-            breaks.push(broken)?;
-        }
+        look_at_tree(&info.core);
     }
-    Ok(breaks)
 }

@@ -13,7 +13,7 @@ ghost use Rattle.fx_typing.specs.Rounds.{IsFinal, StillChanges};
 use crate::admitting::typed_trees;
 use crate::cycles::cycle_break;
 use crate::edges::edges;
-use crate::infos::{in_order, infos_of, unbuilt_breaks};
+use crate::infos::{in_order, infos_of, look_at_infos};
 use crate::types::look_at_types;
 use crate::writing::written_cells;
 use app_cells::{App, Cell, CellInfo};
@@ -100,10 +100,7 @@ fn built_app(
     // The law is called for what it says of the trees: each source that they read has a type.
     admitted_is_typed();
     let infos = infos_of(alloc, &names, limit, cells, trees)?;
-    let breaks = unbuilt_breaks(alloc, infos.as_slice())?;
-    if !breaks.is_empty() {
-        return Err(AppEnd::Refused(breaks));
-    }
+    look_at_infos(infos.as_slice());
     ordered_app(alloc, names, limit, infos)
 }
 
@@ -123,8 +120,7 @@ fn typed_app(alloc: Global, names: Names, limit: u32, cells: Vec<Cell>) -> Resul
 }
 
 /// The app of formulas under names in which they have their numbers. It is refused with the breaks of the first stage that
-/// has any: the rounds of its types, its formulas, forms that aren't built yet, and circles in which formulas lean on one
-/// another.
+/// has any: the rounds of its types, its formulas, and circles in which formulas lean on one another.
 pub fn app_of(alloc: Global, first: Names, limit: u32, cells: Vec<Cell>) -> Result<App, AppEnd>
     requires { AreFit first cells.items }
     ensures app { IfOk result (λ a. JudgedCells first limit cells.items (Ok a)) }

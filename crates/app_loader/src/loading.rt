@@ -12,7 +12,7 @@ ghost use Rattle.fx_data.specs.Words.{scalars_of};
 ghost use Rattle.session_state.specs.Changes.{HoldsTables};
 
 use crate::judging::{app_of, only};
-use crate::laws::{accepted_is_silent, accepted_is_sound};
+use crate::laws::{accepted_holds_tables, accepted_is_sound};
 use app_cells::{App, Cell, Frame};
 use app_file::AppFile;
 use app_names::{broken, name_breaks, names_of};
@@ -111,7 +111,7 @@ pub(crate) fn load_formulas(alloc: Global, frame: Frame, cells: Vec<Cell>) -> Re
 {
     // The laws are called for what they say of the app.
     accepted_is_sound();
-    accepted_is_silent();
+    accepted_holds_tables();
     let functions = fx_sig::all();
     let breaks = name_breaks(alloc, functions, &frame, &cells)?;
     if !breaks.is_empty() {

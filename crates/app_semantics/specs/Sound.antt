@@ -1,8 +1,10 @@
 -- What holds of an accepted app.
-use Rattle.std.specs.Prelude.{◌≡◌, ◌↔◌, ℕ, List, [], length, false, Option, Some, None, slice_get}
+use Rattle.std.specs.Prelude.{◌≡◌, ◌↔◌, ℕ, List, [], length, true, false, Option, Some, None, slice_get}
 use Rattle.app_cells.specs.Leaning.{edges_of}
+use Rattle.app_cells.specs.Spots as spots
 use Rattle.app_cells.specs.declared.app.App.{App}
 use Rattle.app_cells.specs.declared.app.CellInfo.{CellInfo}
+use Rattle.app_cells.specs.declared.frame.Frame.{Frame}
 use Rattle.depend_graph.specs.Order.{IsOrder}
 use Rattle.fx_data.specs.TypeView.{shape}
 use Rattle.fx_data.specs.Types.{Shape}
@@ -16,6 +18,8 @@ use Rattle.fx_trees.specs.declared.names.Names.{Names}
 use Rattle.fx_trees.specs.declared.names.Property.{Property}
 use Rattle.fx_trees.specs.declared.schema.TableShape.{TableShape}
 use Rattle.fx_trees.specs.declared.sources.Source.{Source}
+use Rattle.fx_places.specs.NamedTypes.{HasLawfulTypes}
+use Rattle.fx_places.specs.Places.{IsPlaced}
 use Rattle.fx_typing.specs.Acts.{acts}
 use Rattle.fx_typing.specs.Typing.{item_of}
 use Rattle.fx_typing.specs.WellTyped.{Context, IsTyped}
@@ -31,10 +35,18 @@ pub record IsCalm (n : Names) (c : CellInfo) : Type 0 where
   pub lawful : IsLawfulTree c.core
   pub quiet : acts c.core ≡ false
 
+-- A formula that acts can be performed: it stands among lawful types, its tree names lawful types, and what acts in it acts in
+-- its place.
+pub record IsPerformable (n : Names) (c : CellInfo) : Type 0 where
+  pub context : IsLawfulContext (context_at n c.cell.item)
+  pub lawful : HasLawfulTypes c.core
+  pub placed : IsPlaced c.core
+
 -- A formula has its type where it stands. It reads what stands in its tree.
 pub record IsSoundCell (n : Names) (c : CellInfo) : Type 0 where
   pub typed : IsTyped (context_at n c.cell.item) c.core (shape c.ty)
   pub calm : c.cell.acts ≡ false → IsCalm n c
+  pub acting : c.cell.acts ≡ true → IsPerformable n c
   pub reads : (s : Source) → IsAmong s c.reads ↔ IsAmong s (sources_in c.core)
 
 -- the cell of this number has a formula that doesn't act, sees the item of this gallery, if any, and has this type
@@ -49,9 +61,15 @@ pub record IsCellOf (cells : List CellInfo) (k : ℕ) (gallery : Option ℕ) (t 
 abbrev pub IsTaken : List TableShape → ℕ → CellInfo → Type 0
 IsTaken ts most c = c.taken ≡ limited ts most 0 false c.core
 
--- AN ACCEPTED APP: its names are lawful and those of its cells, each formula has its type, and the order is one of leaning.
+-- what an app has beside its formulas
+abbrev pub frame_in : App → Frame
+frame_in a = record { schema = a.names.schema; limit = a.limit; screens = a.names.screens; controls = a.names.controls }
+
+-- AN ACCEPTED APP: its names are lawful and those of its cells, each formula stands where it says and has its type, and the
+-- order is one of leaning.
 pub record IsSound (a : App) : Type 0 where
   pub names : IsLawful a.names
+  pub placed : (k : ℕ) (c : CellInfo) → slice_get a.cells k ≡ Some c → spots.IsPlaced (frame_in a) c.cell
   pub cells : (k : ℕ) (c : CellInfo) → slice_get a.cells k ≡ Some c → IsSoundCell a.names c
   pub formulas : (i : ℕ) (f : FormulaName) → slice_get a.names.formulas i ≡ Some f → IsCellOf a.cells f.cell None (shape f.ty)
   pub properties : (i : ℕ) (p : Property) (c : ControlName) (t : Shape) →

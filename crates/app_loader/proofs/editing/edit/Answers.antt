@@ -1,5 +1,5 @@
 use Rattle.fx_data.specs.Words.{scalars_of}
-use Rattle.app_loader.proofs.Edited.{AreLeft, broken_end, edit_err, edit_ok, fit_ok, fit_to_judge, frame_ok, left_by, left_frame, left_placed, loaded_ok, one_items}
+use Rattle.app_loader.proofs.Edited.{AreLeft, broken_end, edit_err, edit_ok, fit_to_judge, frame_ok, left_by, left_frame, left_placed, loaded_ok, one_items}
 use Rattle.app_loader.proofs.editing.edit.Goals as goal
 
 pub load_formulas-requires-clause-frame : goal.load_formulas-requires-clause-frame
@@ -52,15 +52,6 @@ returns-in-Ok-clause-frame c =
     let left : AreLeft a x t c.in-Ok.frame c.in-Ok.cells.items =
     left_by a x t c.in_ok-address.address c.in_ok-text.text c.in-Ok.frame c.in-Ok.cells.items c.in_ok-address.ensures c.in_ok-text.ensures c.in-Ok.ensures.frame c.in-Ok.ensures.cells c.in-Ok.ensures.placed in
     frame_ok a x t c.in-Ok.frame c.in-Ok.cells.items left c.load_formulas.result c.load_formulas.ensures.app
-
-pub returns-in-Ok-clause-fit : goal.returns-in-Ok-clause-fit
-returns-in-Ok-clause-fit c =
-    let a = c.args.app.now in
-    let x = scalars_of c.args.address.now in
-    let t = scalars_of c.args.text.now in
-    let left : AreLeft a x t c.in-Ok.frame c.in-Ok.cells.items =
-    left_by a x t c.in_ok-address.address c.in_ok-text.text c.in-Ok.frame c.in-Ok.cells.items c.in_ok-address.ensures c.in_ok-text.ensures c.in-Ok.ensures.frame c.in-Ok.ensures.cells c.in-Ok.ensures.placed in
-    fit_ok a x t c.in-Ok.frame c.in-Ok.cells.items left c.load_formulas.result c.load_formulas.ensures.app
 
 pub returns-in-Ok-clause-refused : goal.returns-in-Ok-clause-refused
 returns-in-Ok-clause-refused c =

@@ -33,7 +33,7 @@ returns-clause-schema c = schema_ok c.args.frame c.args.cells.items c.in_ok-name
 
 pub returns-clause-tables : goal.returns-clause-tables
 returns-clause-tables c =
-    tables_ok c.accepted_is_silent.ensures c.args.frame c.args.cells.items c.in_ok-names.names (rw c.deref-2.ensures.value at c.in_ok-names.ensures.names) c.requires.placed c.requires.single c.app_of.result c.app_of.ensures.app
+    tables_ok c.accepted_holds_tables.ensures c.args.frame c.args.cells.items c.in_ok-names.names (rw c.deref-2.ensures.value at c.in_ok-names.ensures.names) c.requires.placed c.requires.single c.app_of.result c.app_of.ensures.app
     c.app_of.ensures.typed c.app_of.ensures.trees c.app_of.ensures.lawful
 
 pub returns-clause-refused : goal.returns-clause-refused
