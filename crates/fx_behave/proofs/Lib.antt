@@ -1,0 +1,14 @@
+pub mod Going
+pub mod Sequences
+pub mod Actables
+pub mod Heads
+pub mod DeedParts
+pub mod Acted
+pub mod Updated
+pub mod Nodes
+pub mod Eaches
+pub mod Purely
+pub mod Following
+pub mod WritesAll
+pub mod SingleTrees
+pub mod SingleAll

@@ -1,0 +1,3 @@
+pub mod Perform
+pub mod Actable
+pub mod Unique
