@@ -1,0 +1,57 @@
+-- What the behaviour formulas of an app are performed over, and what their sources then give.
+use Rattle.std.specs.Prelude.{◌≡◌, ℕ, List, Bool, true, false, Option, Some}
+use Rattle.fx_data.specs.Values.{Data}
+use Rattle.fx_deeds.specs.State.{Frame, Giving, Ground, State}
+use Rattle.fx_trees.specs.SourceTypes.{sources}
+use Rattle.fx_trees.specs.declared.sources.Source.{Source}
+use Rattle.fx_trees.specs.declared.sources.Source.TheVariants as source
+use Rattle.recalc.specs.app_semantics.Fresh.{IsFresh}
+use Rattle.recalc.specs.app_semantics.Present.{Gives, Present, present}
+use Rattle.recalc.specs.app_semantics.Sound.{IsSound}
+use Rattle.recalc.specs.app_cells.declared.app.App.{App}
+use Rattle.row_keeper.specs.Tables.{Tables, rows_of}
+use Rattle.row_requests.specs.Sound.{AreSound}
+use Rattle.session_state.specs.Changes.{FitsNames}
+use Rattle.session_state.specs.Sessions.{SessionState}
+
+-- what no change touches: the app, the moment, and the tables as the transaction began, where they are told
+pub record Grounds : Type 0 where
+  pub app : App
+  pub moment : ℕ
+  pub began : Option Tables
+
+abbrev pub grounds : App → ℕ → Option Tables → Grounds
+grounds a moment began = record { app = a; moment = moment; began = began }
+
+-- these tables and this session, where these sources were written
+abbrev pub state_on : Grounds → Tables → SessionState → List Source → State Grounds
+state_on g t s ws = record { app = g; tables = t; session = s; wrote = ws }
+
+-- what formulas are evaluated over in a state
+abbrev pub present_in : State Grounds → Present
+present_in s = present s.app.app s.session (Some (rows_of s.tables.states)) s.app.moment
+
+-- what a source gives may hang on the values of cells
+abbrev pub hangs_on_cells : Source → Bool
+hangs_on_cells (source.Cell k) = true
+hangs_on_cells (source.Input k) = true
+hangs_on_cells (source.Chosen k) = true
+hangs_on_cells x = false
+
+-- a state is one of an accepted app, which its session and its tables fit
+pub record IsFit (a : App) (s : SessionState) (t : Tables) : Type 0 where
+  pub accepted : IsSound a
+  pub session : FitsNames a.names s
+  pub tables : AreSound a.names.schema (Some t)
+
+-- WHAT A SOURCE GIVES in a state that fits: what it gives where the cells have fresh values. Where it hangs on no cell, their
+-- values are nothing to it.
+abbrev pub gives : Giving Grounds
+gives s x d = ∥ ((fit : IsFit s.app.app s.session s.tables) × (values : ℕ → Data) × (hangs_on_cells x ≡ true → IsFresh (present_in s) values) × Gives (present_in s) values x d) ∥₁
+
+-- the types of an app's sources, its tables and its row limit
+abbrev pub frame : App → Frame
+frame a = record { types = sources a.names; schema = a.names.schema; limit = a.limit }
+
+abbrev pub ground_of : App → Ground Grounds
+ground_of a = record { gives = gives; frame = frame a }
