@@ -1,0 +1,4 @@
+pub mod Chains
+pub mod Fitting
+pub mod Placed
+pub mod Single
