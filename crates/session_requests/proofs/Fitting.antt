@@ -1,25 +1,22 @@
 -- Sessions go on fitting an app, and keep replies.
-use Rattle.std.proofs.Common.{◌≡◌, ℕ, zero, suc, ◌<◌, List, [], ◌∷◌, ◌++◌, Option, Some, None, Result, Ok, Err, true, length, refl, ap, sym, subst}
-use Rattle.std.specs.Prelude.{IfSome, slice_get, slice_set, unwrap_or}
+use Rattle.std.proofs.Common.{◌≡◌, ℕ, zero, suc, ◌<◌, List, [], ◌∷◌, ◌++◌, Option, Some, None, length, refl, ap, sym, subst}
+use Rattle.std.specs.Prelude.{IfSome, option_map, slice_get, slice_set, unwrap_or}
 use Rattle.std.specs.List.{AllByRecursion, position}
 use Rattle.fx_data.specs.Values.{Data, blank, number, text, boolean, date, rec, tab, fault, FieldList, no_fields, field, field_list, RowList, no_rows, row, row_list}
 use Rattle.fx_data.specs.declared.values.Value.TheVariants as value
 use Rattle.recalc.specs.fx_semantics.Rows.{fields_of, rows_of}
-use Rattle.fx_value.specs.Fits.{fits_in}
 use Rattle.fx_trees.specs.declared.names.Names.{Names}
+use Rattle.session_events.proofs.Fitting.{fits_with}
 use Rattle.fx_trees.specs.declared.sources.Source.{Source}
 use Rattle.fx_trees.specs.declared.sources.Source.TheVariants as source
 use Rattle.request_checks.specs.Checked.{KeepsReply, SessionsKeepReplies}
-use Rattle.request_checks.specs.Directory.{is_named, put_at}
+use Rattle.request_checks.specs.Directory.{find, is_named, it_at, put, put_at}
 use Rattle.request_checks.specs.declared.directory.Named.{Named}
 use Rattle.session_state.specs.Changes.{FitsNames, FitsSource}
-use Rattle.session_state.specs.Once.{Kept}
-use Rattle.session_state.specs.Sessions.{Holds, SessionState, held}
+use Rattle.session_state.specs.Sessions.{SessionState}
 use Rattle.session_state.specs.declared.change.Change.TheVariants as change
 use Rattle.session_state.proofs.Fitting.{fits_made}
-use Rattle.view_text.specs.ViewText.{event_text}
-use Rattle.view_text.specs.declared.refused.Refusal.{Refusal}
-use Rattle.session_requests.specs.Acting.{Ends, accepted_reply, answered, with_input, with_item_chosen, with_target}
+use Rattle.session_requests.specs.Acting.{answered, with_input, with_item_chosen, with_target}
 use Rattle.session_requests.specs.Posting.{SessionsFit}
 use Rattle.session_requests.specs.Targets.{Given}
 use Rattle.session_requests.specs.declared.target.Item.{Item}
@@ -59,37 +56,15 @@ fits_chosen : (n : Names) (s : SessionState) (o : Option Item) → FitsNames n s
 fits_chosen n s None f g = f
 fits_chosen n s (Some i) f g = fits_made n (change.Choose i.gallery i.at i.id) s f g
 
+pub input_fits : (n : Names) (s : SessionState) (g : Given) → FitsNames n s → FitsSource n (source.Input g.0) (unwrap_or g.1 blank) → FitsNames n (with_input g s)
+input_fits n s g f h = fits_given n s g.0 g.1 f h
+
+pub target_fits : (n : Names) (s : SessionState) (t : Target) → FitsNames n s → IfSome t.item (λ (i : Item). i.gallery < length n.controls) → FitsNames n (with_target t s)
+target_fits n s t f h = fits_chosen n s t.item f h
+
 -- what is kept of its requests is no matter
-still_holds : (s : SessionState) (k : Kept) (x : Source) → Holds s x → Holds (record s { kept = k }) x
-still_holds s k (source.Global j) h = h
-still_holds s k (source.Context j) h = h
-still_holds s k (source.Gathered j) h = h
-still_holds s k (source.Input j) h = h
-still_holds s k (source.Cell j) h = h
-still_holds s k (source.Chosen j) h = h
-still_holds s k (source.Table j) h = h
-still_holds s k source.Today h = h
-
-still_held : (s : SessionState) (k : Kept) (x : Source) → held (record s { kept = k }) x ≡ held s x
-still_held s k (source.Global j) = refl
-still_held s k (source.Context j) = refl
-still_held s k (source.Gathered j) = refl
-still_held s k (source.Input j) = refl
-still_held s k (source.Cell j) = refl
-still_held s k (source.Chosen j) = refl
-still_held s k (source.Table j) = refl
-still_held s k source.Today = refl
-
-fits_answered : (n : Names) (s : SessionState) (seq : ℕ) (body : List ℕ) → FitsNames n s → FitsNames n (answered seq body s)
-fits_answered n s seq body f =
-    let k : Kept = record { last = seq; body = body; reply = accepted_reply seq } in
-    record {
-      screen = f.screen;
-      controls = f.controls;
-      sources_held = λ x t own e. still_holds s k x (f.sources_held x t own e);
-      values_fit = λ x t own e. subst (λ (d : Data). fits_in d t ≡ true) (sym (still_held s k x)) (f.values_fit x t own e);
-      spare = f.spare;
-    }
+pub fits_answered : (n : Names) (s : SessionState) (seq : ℕ) (body said : List ℕ) → FitsNames n s → FitsNames n (answered seq body said s)
+fits_answered n s seq body said f = fits_with n s.navigated (record { last = seq; body = body; reply = said }) s.notices s f
 
 -- ---- all of them
 
@@ -107,34 +82,29 @@ all_put P None x xs h p = all_more P xs x h p
 all_put P (Some k) x xs h p = all_set P xs k x h p
 
 -- after a request of one
-stay : (P : Named SessionState → Type 0) (T : Type 0) (change : T → SessionState → SessionState) (name body : List ℕ) (seq : ℕ) (s : SessionState) (v : Result T Refusal) (sessions : List (Named SessionState)) (said : List ℕ) (sessions' : List (Named SessionState))
-    → ((t : T) → v ≡ Ok t → P (record { name = name; it = answered seq body (change t s) })) → AllByRecursion P sessions → Ends change name body seq s v sessions said sessions' → AllByRecursion P sessions'
-stay P T change name body seq s (Err r) sessions said sessions' h all e = subst (AllByRecursion P) (sym e.1) all
-stay P T change name body seq s (Ok t) sessions said sessions' h all e =
-    subst (AllByRecursion P) (sym e.1) (all_put P (position (is_named name) sessions) (record { name = name; it = answered seq body (change t s) }) sessions all (h t refl))
+pub put_fits : (n : Names) (name : List ℕ) (s : SessionState) (sessions : List (Named SessionState)) → SessionsFit n sessions → FitsNames n s → SessionsFit n (put name s sessions)
+put_fits n name s sessions all f = all_put (λ (x : Named SessionState). FitsNames n x.it) (position (is_named name) sessions) (record { name = name; it = s }) sessions all f
 
-pub replies_stay : (T : Type 0) (change : T → SessionState → SessionState) (name body : List ℕ) (seq : ℕ) (s : SessionState) (v : Result T Refusal) (sessions : List (Named SessionState)) (said : List ℕ) (sessions' : List (Named SessionState))
-    → SessionsKeepReplies sessions → Ends change name body seq s v sessions said sessions' → SessionsKeepReplies sessions'
-replies_stay T change name body seq s v sessions said sessions' all e =
-    stay (λ (x : Named SessionState). KeepsReply x.it.kept) T change name body seq s v sessions said sessions' (λ t is counted. (event_text [] seq blank, refl)) all e
-
-pub input_stays : (n : Names) (name body : List ℕ) (seq : ℕ) (s : SessionState) (v : Result Given Refusal) (sessions : List (Named SessionState)) (said : List ℕ) (sessions' : List (Named SessionState))
-    → FitsNames n s → ((g : Given) → v ≡ Ok g → FitsSource n (source.Input g.0) (unwrap_or g.1 blank)) → SessionsFit n sessions → Ends with_input name body seq s v sessions said sessions' → SessionsFit n sessions'
-input_stays n name body seq s v sessions said sessions' f g all e =
-    stay (λ (x : Named SessionState). FitsNames n x.it) Given with_input name body seq s v sessions said sessions'
-    (λ t is. fits_answered n (with_input t s) seq body (fits_given n s t.0 t.1 f (g t is))) all e
-
-pub event_stays : (n : Names) (name body : List ℕ) (seq : ℕ) (s : SessionState) (v : Result Target Refusal) (sessions : List (Named SessionState)) (said : List ℕ) (sessions' : List (Named SessionState))
-    → FitsNames n s → ((t : Target) → v ≡ Ok t → IfSome t.item (λ (i : Item). i.gallery < length n.controls)) → SessionsFit n sessions → Ends with_target name body seq s v sessions said sessions' → SessionsFit n sessions'
-event_stays n name body seq s v sessions said sessions' f g all e =
-    stay (λ (x : Named SessionState). FitsNames n x.it) Target with_target name body seq s v sessions said sessions'
-    (λ t is. fits_answered n (with_target t s) seq body (fits_chosen n s t.item f (g t is))) all e
+pub put_keeps : (name : List ℕ) (s : SessionState) (sessions : List (Named SessionState)) → SessionsKeepReplies sessions → KeepsReply s.kept → SessionsKeepReplies (put name s sessions)
+put_keeps name s sessions all f = all_put (λ (x : Named SessionState). KeepsReply x.it.kept) (position (is_named name) sessions) (record { name = name; it = s }) sessions all f
 
 -- the session of a name is one of them
-pub fits_at_place : (n : Names) (xs : List (Named SessionState)) (k : ℕ) (x : Named SessionState) → SessionsFit n xs → slice_get xs k ≡ Some x → FitsNames n x.it
+fits_at_place : (n : Names) (xs : List (Named SessionState)) (k : ℕ) (x : Named SessionState) → SessionsFit n xs → slice_get xs k ≡ Some x → FitsNames n x.it
 fits_at_place n [] k x h e = absurd cc
 fits_at_place n (y ∷ ys) zero x h e = subst (λ (m : Named SessionState). FitsNames n m.it) (same e) h.0
   where
     same : Some y ≡ Some x → y ≡ x
     same e = cc
 fits_at_place n (y ∷ ys) (suc k) x h e = fits_at_place n ys k x h.1 e
+
+-- the session that is found fits
+pub found_fits : (n : Names) (name : List ℕ) (sessions : List (Named SessionState)) (s : SessionState) → SessionsFit n sessions → find name sessions ≡ Some s → FitsNames n s
+found_fits n name sessions s all e = by (position (is_named name) sessions) e
+  where
+    at_place : (k : ℕ) (o : Option (Named SessionState)) → slice_get sessions k ≡ o → option_map (λ (x : Named SessionState). x.it) o ≡ Some s → FitsNames n s
+    at_place k None f h = absurd cc
+    at_place k (Some x) f h = let same : x.it ≡ s = cc in subst (λ (z : SessionState). FitsNames n z) same (fits_at_place n sessions k x all f)
+
+    by : (o : Option ℕ) → it_at o sessions ≡ Some s → FitsNames n s
+    by None h = absurd cc
+    by (Some k) h = at_place k (slice_get sessions k) refl h

@@ -56,10 +56,10 @@ row_ok k g p (Some r) t e = (r, refl, moved_ok p.id (item_id r) (at_row k g p.at
 
 item_ok : (n : Names) (values : ℕ → Data) (k : ℕ) (c : ControlName) (given : Option Place) (gallery : Option ℕ) (t : Target)
     → gallery_of k c ≡ gallery → slice_get n.controls k ≡ Some c → with_item n values k given gallery ≡ Ok t → IsTarget n values t
-item_ok n values k c None None t own there e = let same : without_item k ≡ t = cc in subst (IsTarget n values) same (record { control = c; there = there; item = tt })
+item_ok n values k c None None t own there e = let same : without_item k ≡ t = cc in subst (IsTarget n values) same (record { control = c; there = there; item = tt; alone = λ e. own })
 item_ok n values k c (Some p) (Some g) t own there e =
     let row = row_ok k g p (row_at p.at (rows_in (items_of n values g))) t e in
-    subst (IsTarget n values) row.2 (record { control = c; there = there; item = record { gallery_is = own; row = row.0; there = row.1 } })
+    subst (IsTarget n values) row.2 (record { control = c; there = there; item = record { gallery_is = own; row = row.0; there = row.1 }; alone = λ e. absurd cc })
 item_ok n values k c None (Some g) t own there e = absurd cc
 item_ok n values k c (Some p) None t own there e = absurd cc
 

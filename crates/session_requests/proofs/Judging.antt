@@ -1,6 +1,6 @@
 -- What the checks of inputs let through fits.
 use Rattle.std.proofs.Common.{◌≡◌, ℕ, Bool, true, false, Option, Some, None, Result, Ok, Err, refl, ap, sym, ◌∙◌, subst, if◌then◌else◌}
-use Rattle.std.specs.Prelude.{ℤ, is_some, option_and_then, slice_get, unwrap_or}
+use Rattle.std.specs.Prelude.{ℤ, ◌&&◌, not, is_some, option_and_then, slice_get, unwrap_or}
 use Rattle.fx_data.specs.Types.{Shape, texts, numbers, booleans, dates}
 use Rattle.fx_data.specs.Values.{Data, blank, number, text, boolean, date, rec, tab, fault}
 use Rattle.fx_data.specs.declared.controls.Control.{Control}
@@ -16,7 +16,7 @@ use Rattle.session_state.specs.Changes.{FitsSource}
 use Rattle.session_state.specs.Sessions.{SessionState}
 use Rattle.view_text.specs.declared.refused.Refusal.{Refusal}
 use Rattle.session_requests.specs.Shown.{control_named, is_shown}
-use Rattle.session_requests.specs.Targets.{Given, given_to, greatest_of, input_at, input_by, input_named, input_target, is_blank, least_of, or_refused, takes}
+use Rattle.session_requests.specs.Targets.{Given, given_to, greatest_of, input_at, input_by, input_named, input_target, is_blank, least_of, or_refused, takes, takes_input}
 use Rattle.session_requests.specs.declared.input.Input.{Input}
 
 -- ---- a value that a control takes fits its type
@@ -99,14 +99,18 @@ has_type : (o : Option Shape) → is_some o ≡ true → (t : Shape) × (o ≡ S
 has_type None e = absurd cc
 has_type (Some t) e = (t, refl)
 
+both_true : (a b : Bool) → (a && b) ≡ true → (a ≡ true) × (b ≡ true)
+both_true true b e = (refl, e)
+both_true false b e = absurd cc
+
 at_fits : (n : Names) (s : SessionState) (values : ℕ → Data) (i : Input) (k : ℕ) (o : Option ControlName) (g : Given) → slice_get n.controls k ≡ o → input_at n s values i k o ≡ Ok g → FitsSource n (source.Input g.0) (unwrap_or g.1 blank)
 at_fits n s values i k None g there e = absurd cc
 at_fits n s values i k (Some c) g there e =
     let rest = given_to k (input_by c.kind (least_of n values k) (greatest_of n values k) i.value) in
-    let a = or_ok Given (is_some (input_type c.kind)) 16 (or_refused (is_shown n s values k c) 17 rest) g e in
+    let a = or_ok Given (takes_input c) 16 (or_refused (is_shown n s values k c) 17 rest) g e in
     let b = or_ok Given (is_shown n s values k c) 17 rest g a.1 in
     let d = given_ok k (input_by c.kind (least_of n values k) (greatest_of n values k) i.value) g b.1 in
-    let t = has_type (input_type c.kind) a.0 in
+    let t = has_type (input_type c.kind) (both_true (is_some (input_type c.kind)) (not (is_some c.gallery)) a.0).0 in
     (t.0, ap (λ (j : ℕ). sources n (source.Input j)) d.0 ∙ ap (option_and_then (λ (c : ControlName). input_type c.kind)) there ∙ t.1, input_fits c.kind (least_of n values k) (greatest_of n values k) i.value g.1 t.0 d.1 t.1)
 
 named_fits : (n : Names) (s : SessionState) (values : ℕ → Data) (i : Input) (o : Option ℕ) (g : Given) → input_named n s values i o ≡ Ok g → FitsSource n (source.Input g.0) (unwrap_or g.1 blank)
@@ -116,3 +120,32 @@ named_fits n s values i (Some k) g e = at_fits n s values i k (slice_get n.contr
 -- THE value that an input gives fits its control
 pub given_fits : (n : Names) (s : SessionState) (values : ℕ → Data) (i : Input) (g : Given) → input_target n s values i ≡ Ok g → FitsSource n (source.Input g.0) (unwrap_or g.1 blank)
 given_fits n s values i g e = named_fits n s values i (control_named i.control n) g e
+
+-- ---- who takes it
+
+-- a control, which stands in no gallery
+pub record IsTaker (n : Names) (k : ℕ) : Type 0 where
+  pub control : ControlName
+  pub there : slice_get n.controls k ≡ Some control
+  pub alone : control.gallery ≡ None
+
+is_alone : (o : Option ℕ) → not (is_some o) ≡ true → o ≡ None
+is_alone None e = refl
+is_alone (Some g) e = absurd cc
+
+at_taker : (n : Names) (s : SessionState) (values : ℕ → Data) (i : Input) (k : ℕ) (o : Option ControlName) (g : Given) → slice_get n.controls k ≡ o → input_at n s values i k o ≡ Ok g → IsTaker n g.0
+at_taker n s values i k None g there e = absurd cc
+at_taker n s values i k (Some c) g there e =
+    let rest = given_to k (input_by c.kind (least_of n values k) (greatest_of n values k) i.value) in
+    let a = or_ok Given (takes_input c) 16 (or_refused (is_shown n s values k c) 17 rest) g e in
+    let b = or_ok Given (is_shown n s values k c) 17 rest g a.1 in
+    let d = given_ok k (input_by c.kind (least_of n values k) (greatest_of n values k) i.value) g b.1 in
+    subst (IsTaker n) (sym d.0) (record { control = c; there = there; alone = is_alone c.gallery (both_true (is_some (input_type c.kind)) (not (is_some c.gallery)) a.0).1 })
+
+named_taker : (n : Names) (s : SessionState) (values : ℕ → Data) (i : Input) (o : Option ℕ) (g : Given) → input_named n s values i o ≡ Ok g → IsTaker n g.0
+named_taker n s values i None g e = absurd cc
+named_taker n s values i (Some k) g e = at_taker n s values i k (slice_get n.controls k) g refl e
+
+-- THE control that an input is of stands in no gallery
+pub taker_is : (n : Names) (s : SessionState) (values : ℕ → Data) (i : Input) (g : Given) → input_target n s values i ≡ Ok g → IsTaker n g.0
+taker_is n s values i g e = named_taker n s values i (control_named i.control n) g e

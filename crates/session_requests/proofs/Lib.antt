@@ -1,3 +1,4 @@
+pub mod Acted
 pub mod Endings
 pub mod Fitting
 pub mod ForItems
@@ -6,6 +7,5 @@ pub mod Judging
 pub mod Outcomes
 pub mod Passing
 pub mod Posted
-pub mod PostedEvents
 pub mod Sending
 pub use Rattle.recalc.proofs as of_recalc

@@ -1,9 +1,10 @@
 -- What a session sends has one outcome.
-use Rattle.std.proofs.Common.{◌≡◌, ℕ, Bool, true, List, [], Option, Some, None, Result, Ok, Err, ap, sym, ◌∙◌, subst}
+use Rattle.std.proofs.Common.{◌≡◌, ℕ, zero, suc, Bool, true, List, [], ◌∷◌, Option, Some, None, Result, Ok, Err, refl, ap, sym, ◌∙◌, subst}
 use Rattle.std.specs.Prelude.{codes}
+use Rattle.std.specs.List.{All}
 use Rattle.recalc.specs.app_cells.declared.app.App.{App}
 use Rattle.recalc.specs.app_semantics.Fresh.{AreKnown, IsFresh}
-use Rattle.recalc.specs.app_semantics.Holding.{HoldsFitting}
+use Rattle.recalc.specs.app_semantics.Holding.{FittingHolds, HoldRows, HoldsFitting}
 use Rattle.recalc.specs.app_semantics.Laws.{FreshFits, OneFresh}
 use Rattle.recalc.specs.app_semantics.Present.{Present, present}
 use Rattle.recalc.specs.app_semantics.Properties.{IsPropertyForItem, is_true}
@@ -12,28 +13,39 @@ use Rattle.fx_data.specs.Values.{Data, boolean}
 use Rattle.recalc.specs.fx_semantics.Around.{record_of}
 use Rattle.recalc.specs.fx_semantics.Unique.{OneValue}
 use Rattle.fx_value.specs.Columns.{Row}
-use Rattle.fx_base.specs.Silence.{IsLost}
+use Rattle.fx_base.specs.Silence.{Goes, IsLost}
+use Rattle.fx_base.specs.Telling.{Stays}
+use Rattle.fx_trees.specs.declared.schema.Schema.{Schema}
+use Rattle.row_keeper.specs.Tables.{AreStatesOf, TableState, Tables, rows_of, rows_told, state_at}
+use Rattle.row_queries.specs.TableRows.{IsRowOf, rows_at}
+use Rattle.row_queries.specs.declared.rows.Row.{Row as TableRow}
+use Rattle.row_requests.specs.Sound.{AreSound}
+use Rattle.row_requests.proofs.Soundness.{state_is}
+use Rattle.session_state.specs.Changes.{FitsNames}
 use Rattle.session_state.specs.Sessions.{SessionState}
 use Rattle.view_text.specs.declared.refused.Refusal.{Refusal}
 use Rattle.request_checks.specs.Checks.{checks, if_live, session_of}
 use Rattle.request_checks.specs.Directory.{find, put}
 use Rattle.request_checks.specs.declared.directory.Named.{Named}
-use Rattle.session_requests.specs.Acting.{Ends, answered, with_input, with_target}
+use Rattle.session_events.specs.Laws.{OneRunning}
+use Rattle.session_events.specs.Requests.{accepted_reply}
+use Rattle.session_events.specs.Scenes.{Scene, begun, quiet, scene}
+use Rattle.session_events.specs.declared.trigger.Trigger.{Trigger}
+use Rattle.session_events.specs.declared.trigger.Trigger.TheVariants.{OnSelect}
+use Rattle.session_requests.specs.Acting.{EndsEvent, EndsInput, TakesEffect, answered, input_trigger, item_seen, with_input, with_target}
 use Rattle.session_requests.specs.Bodies.{event_in, input_in}
 use Rattle.session_requests.specs.Laws.{IsOneOutcome}
 use Rattle.recalc.proofs.ForItems.{Ground, property_one}
-use Rattle.recalc.specs.Asking.{ToldRows}
-use Rattle.row_keeper.specs.Tables.{Tables, rows_told}
-use Rattle.session_requests.specs.Posting.{IsShownFor, IsVerdict, IsVisibleFor, JudgesEvent, JudgesInput, PostsEventChecked, PostsInputChecked, SendsEvent, SendsInput, gallery_around}
+use Rattle.session_requests.specs.Posting.{IsShownFor, IsVerdict, IsVisibleFor, PostsEventChecked, PostsInputChecked, SendsEvent, SendsInput, gallery_around}
 use Rattle.session_requests.specs.Targets.{Given, event_target, input_target, or_refused}
 use Rattle.session_requests.specs.declared.event.Event.{Event}
 use Rattle.session_requests.specs.declared.input.Input.{Input}
 use Rattle.session_requests.specs.declared.target.Item.{Item}
 use Rattle.session_requests.specs.declared.target.Target.{Target}
 
--- what is said is the same, and what becomes of the sessions where they were the same
-abbrev Alike : List ℕ → List ℕ → (a a' b b' : List (Named SessionState)) → Type 0
-Alike said said' a a' b b' = (said ≡ said') × (a ≡ b → a' ≡ b')
+-- what is said is the same, and the tables, and what becomes of the sessions where they were the same
+abbrev Alike : List ℕ → List ℕ → Tables → Tables → (a a' b b' : List (Named SessionState)) → Type 0
+Alike said said' u v a a' b b' = (said ≡ said') × (u ≡ v) × (a ≡ b → a' ≡ b')
 
 -- an app and a session of it of which the laws hold
 record IsGood (p : Present) : Type 0 where
@@ -66,65 +78,135 @@ one_verdict one fit p values (Err r) v w good fresh x y = x ∙ sym y
 one_verdict one fit p values (Ok t) v w good fresh x y =
     x.2 ∙ ap (λ (b : Bool). or_refused b 17 (Ok t)) (one_shown one fit p values t.control (gallery_around p.app t.control) t.item x.0 y.0 good fresh x.1 y.1) ∙ sym y.2
 
-one_event : OneValue → FreshFits → OneFresh → (app : App) (rows : ToldRows) (moment : ℕ) (s : SessionState) (e : Event) (v w : Result Target Refusal) → IsGood (present app s rows moment) → JudgesEvent app rows moment s e v → JudgesEvent app rows moment s e w → v ≡ w
-one_event one fit once app rows moment s e v w good x y =
-    let p : Present = present app s rows moment in
-    let same : y.values ≡ x.values = once p y.values x.values good.sound good.holds good.known y.fresh x.fresh in
-    one_verdict one fit p x.values (event_target app.names s x.values e) v w good x.fresh x.is
-    (subst (λ (values : ℕ → Data). IsVerdict p values (event_target app.names s values e) w) same y.is)
+-- ---- tables that are told
 
-one_input : OneFresh → (app : App) (rows : ToldRows) (moment : ℕ) (s : SessionState) (i : Input) (v w : Result Given Refusal) → IsGood (present app s rows moment) → JudgesInput app rows moment s i v → JudgesInput app rows moment s i w → v ≡ w
-one_input once app rows moment s i v w good x y =
-    let p : Present = present app s rows moment in
-    let same : x.values ≡ y.values = once p x.values y.values good.sound good.holds good.known x.fresh y.fresh in
-    x.is ∙ ap (λ (values : ℕ → Data). input_target app.names s values i) same ∙ sym y.is
+rows_are : (ss : List TableState) (k : ℕ) → (state_at ss k).rows ≡ rows_at (rows_of ss) k
+rows_are [] k = refl
+rows_are (s ∷ ss) zero = refl
+rows_are (s ∷ ss) (suc k) = rows_are ss k
+
+hold : (schema : Schema) (t : Tables) → AreStatesOf schema.tables t.states → HoldRows schema (rows_told (Some t))
+hold schema t are k shape e = subst (λ (rows : List TableRow). All (IsRowOf shape) rows) (rows_are t.states k) (state_is schema.tables t.states k shape are e).fit
+
+known_of : (app : App) (t : Tables) → AreSound app.names.schema (Some t) → AreKnown app (rows_told (Some t))
+known_of app t sound = record { told = λ k c f. refl; fit = hold app.names.schema t sound }
+
+-- what is told at the end was told as the checks were made, and is what was told at first
+seen_is : (lost : Type 0) (t u : Tables) (seen told' : Option Tables) → told' ≡ Some u → (seen ≡ None → told' ≡ None) → Goes lost Stays (Some t) seen → seen ≡ Some t
+seen_is lost t u (Some x) told' is quiet h = ap (λ (y : Tables). Some y) h
+seen_is lost t u None told' is quiet h = let none : Some u ≡ None = sym is ∙ quiet refl in absurd cc
+
+-- ---- one effect
+
+effect_quiet : (lost : Type 0) (app : App) (moment : ℕ) (trigger : Trigger) (item : Option Data) (name body : List ℕ) (seq : ℕ) (s : SessionState) (told told' : Option Tables) (sessions sessions' : List (Named SessionState)) (said : List ℕ)
+    → told ≡ None → TakesEffect lost app moment trigger item name body seq s told sessions said told' sessions' → told' ≡ None
+effect_quiet lost app moment trigger item name body seq s None told' sessions sessions' said e h = h.accepts.runs
+effect_quiet lost app moment trigger item name body seq s (Some t) told' sessions sessions' said e h = absurd cc
+
+effects_alike : OneRunning → (lost lost' : Type 0) (app : App) (moment : ℕ) (trigger : Trigger) (item : Option Data) (name body : List ℕ) (seq : ℕ) (s : SessionState) (t u v : Tables) (a a' b b' : List (Named SessionState)) (said said' : List ℕ)
+    → TakesEffect lost app moment trigger item name body seq s (Some t) a said (Some u) a' → TakesEffect lost' app moment trigger item name body seq s (Some t) b said' (Some v) b' → Alike said said' u v a a' b b'
+effects_alike one lost lost' app moment trigger item name body seq s t u v a a' b b' said said' x y =
+    let w = one app moment trigger item (scene t (begun s)) (scene u x.accepts.end) (scene v y.accepts.end) x.accepts.value y.accepts.value x.accepts.runs y.accepts.runs in
+    let ends : x.accepts.end ≡ y.accepts.end = ap (λ (e : Scene). e.session) w.1 in
+    let words : said ≡ said' = x.accepts.said_is ∙ (λ i. accepted_reply seq (w.0 i) (ends i)) ∙ sym y.accepts.said_is in
+    let left : x.end ≡ y.end = x.accepts.left ∙ ap quiet ends ∙ sym y.accepts.left in
+    (words, ap (λ (e : Scene). e.tables) w.1, λ e. x.kept ∙ (λ i. put name (answered seq body (words i) (left i)) (e i)) ∙ sym y.kept)
 
 -- ---- one outcome
-
-ends_alike : (T : Type 0) (change : T → SessionState → SessionState) (name body : List ℕ) (seq : ℕ) (s : SessionState) (v : Result T Refusal) (said said' : List ℕ) (a a' b b' : List (Named SessionState))
-    → Ends change name body seq s v a said a' → Ends change name body seq s v b said' b' → Alike said said' a a' b b'
-ends_alike T change name body seq s (Err r) said said' a a' b b' x y = (x.0 ∙ sym y.0, λ e. x.1 ∙ e ∙ sym y.1)
-ends_alike T change name body seq s (Ok t) said said' a a' b b' x y =
-    (x.0 ∙ sym y.0, λ e. x.1 ∙ ap (λ (l : List (Named SessionState)). put name (answered seq body (change t s)) l) e ∙ sym y.1)
-
--- the same of a session and a verdict that are the same
-ends_of : (T : Type 0) (change : T → SessionState → SessionState) (name body : List ℕ) (seq : ℕ) (s s' : SessionState) (v v' : Result T Refusal) (said said' : List ℕ) (a a' b b' : List (Named SessionState))
-    → s' ≡ s → v' ≡ v → Ends change name body seq s v a said a' → Ends change name body seq s' v' b said' b' → Alike said said' a a' b b'
-ends_of T change name body seq s s' v v' said said' a a' b b' e f x y =
-    ends_alike T change name body seq s v said said' a a' b b' x
-    (subst (λ (z : SessionState). Ends change name body seq z v b said' b') e (subst (λ (w : Result T Refusal). Ends change name body seq s' w b said' b') f y))
 
 one_session : (name : List ℕ) (a b : List (Named SessionState)) (s s' : SessionState) → find name a ≡ find name b → find name a ≡ Some s → find name b ≡ Some s' → s' ≡ s
 one_session name a b s s' same e f = let both : Some s' ≡ Some s = sym f ∙ sym same ∙ e in cc
 
-inputs_alike : OneFresh → (lost lost' : Type 0) (app : App) (moment : ℕ) (name body : List ℕ) (r : Result Input (List ℕ)) (said said' : List ℕ) (k l m n : Option Tables) (a a' b b' : List (Named SessionState))
-    → IsSound app → ((s : SessionState) → find name a ≡ Some s → HoldsFitting app.names s) → find name a ≡ find name b → AreKnown app (rows_told l) → rows_told l ≡ rows_told n
-    → PostsInputChecked lost app moment name body r k a said l a' → PostsInputChecked lost' app moment name body r m b said' n b' → Alike said said' a a' b b'
-inputs_alike once lost lost' app moment name body (Err words) said said' k l m n a a' b b' sound holds same known rows x y = (x.0 ∙ sym y.0, λ e. x.1 ∙ e ∙ sym y.1)
-inputs_alike once lost lost' app moment name body (Ok i) said said' k l m n a a' b b' sound holds same known rows x y =
-    let second : SendsInput app (rows_told l) moment name body i b said' b' = subst (λ (q : ToldRows). SendsInput app q moment name body i b said' b') (sym rows) y.0 in
-    let one : second.session ≡ x.0.session = one_session name a b x.0.session second.session same x.0.found second.found in
-    let good : IsGood (present app x.0.session (rows_told l) moment) = record { sound = sound; holds = holds x.0.session x.0.found; known = known } in
-    let verdict : second.verdict ≡ x.0.verdict =
-    one_input once app (rows_told l) moment x.0.session i second.verdict x.0.verdict good (subst (λ (s : SessionState). JudgesInput app (rows_told l) moment s i second.verdict) one second.judged) x.0.judged in
-    ends_of Given with_input name body i.seq x.0.session second.session x.0.verdict second.verdict said said' a a' b b' one verdict x.0.ends second.ends
+refused_alike : (t u v : Tables) (words words' said said' : List ℕ) (a a' b b' : List (Named SessionState)) → words ≡ words' → (said ≡ words) × (a' ≡ a) × (Some u ≡ Some t) → (said' ≡ words') × (b' ≡ b) × (Some v ≡ Some t) → Alike said said' u v a a' b b'
+refused_alike t u v words words' said said' a a' b b' same x y =
+    let both : Some u ≡ Some v = x.2 ∙ sym y.2 in
+    let tables : u ≡ v = cc in
+    (x.0 ∙ same ∙ sym y.0, tables, λ e. x.1 ∙ e ∙ sym y.1)
 
-events_alike : OneValue → FreshFits → OneFresh → (lost lost' : Type 0) (app : App) (moment : ℕ) (name body : List ℕ) (r : Result Event (List ℕ)) (said said' : List ℕ) (k l m n : Option Tables) (a a' b b' : List (Named SessionState))
-    → IsSound app → ((s : SessionState) → find name a ≡ Some s → HoldsFitting app.names s) → find name a ≡ find name b → AreKnown app (rows_told l) → rows_told l ≡ rows_told n
-    → PostsEventChecked lost app moment name body r k a said l a' → PostsEventChecked lost' app moment name body r m b said' n b' → Alike said said' a a' b b'
-events_alike value fit once lost lost' app moment name body (Err words) said said' k l m n a a' b b' sound holds same known rows x y = (x.0 ∙ sym y.0, λ e. x.1 ∙ e ∙ sym y.1)
-events_alike value fit once lost lost' app moment name body (Ok e) said said' k l m n a a' b b' sound holds same known rows x y =
-    let second : SendsEvent app (rows_told l) moment name body e b said' b' = subst (λ (q : ToldRows). SendsEvent app q moment name body e b said' b') (sym rows) y.0 in
-    let one : second.session ≡ x.0.session = one_session name a b x.0.session second.session same x.0.found second.found in
-    let good : IsGood (present app x.0.session (rows_told l) moment) = record { sound = sound; holds = holds x.0.session x.0.found; known = known } in
-    let verdict : second.verdict ≡ x.0.verdict =
-    one_event value fit once app (rows_told l) moment x.0.session e second.verdict x.0.verdict good (subst (λ (s : SessionState). JudgesEvent app (rows_told l) moment s e second.verdict) one second.judged) x.0.judged in
-    ends_of Target with_target name body e.seq x.0.session second.session x.0.verdict second.verdict said said' a a' b b' one verdict x.0.ends second.ends
+module _ (running : OneRunning) (lost lost' : Type 0) (app : App) (moment : ℕ) (name body : List ℕ) (seq : ℕ) (s : SessionState) (values : ℕ → Data) where
+  input_quiet : (v : Result Given Refusal) (seen told' : Option Tables) (sessions sessions' : List (Named SessionState)) (said : List ℕ) → EndsInput lost app moment name body seq s values v seen sessions said told' sessions' → seen ≡ None → told' ≡ None
+  input_quiet (Err r) seen told' sessions sessions' said h e = h.2 ∙ e
+  input_quiet (Ok g) seen told' sessions sessions' said h e =
+      effect_quiet lost app moment (input_trigger app.names (with_input g s) values g.0) None name body seq (with_input g s) seen told' sessions sessions' said e h
 
-pub one_outcome : OneValue → FreshFits → OneFresh → IsOneOutcome
-one_outcome value fit once before now before' now' app moment name body said said' k l m n a a' b b' sound holds same known rows = (
-  λ x y. inputs_alike once (IsLost before now) (IsLost before' now') app moment name body (checks input_in (λ (i : Input). i.seq) (session_of name a) body) said said' k l m n a a' b b' sound holds same known rows x
-      (subst (λ (o : Option SessionState). PostsInputChecked (IsLost before' now') app moment name body (checks input_in (λ (i : Input). i.seq) (if_live o) body) m b said' n b') (sym same) y),
-  λ x y. events_alike value fit once (IsLost before now) (IsLost before' now') app moment name body (checks event_in (λ (e : Event). e.seq) (session_of name a) body) said said' k l m n a a' b b' sound holds same known rows x
-      (subst (λ (o : Option SessionState). PostsEventChecked (IsLost before' now') app moment name body (checks event_in (λ (e : Event). e.seq) (if_live o) body) m b said' n b') (sym same) y),
+  event_quiet : (v : Result Target Refusal) (seen told' : Option Tables) (sessions sessions' : List (Named SessionState)) (said : List ℕ) → EndsEvent lost app moment name body seq s values v seen sessions said told' sessions' → seen ≡ None → told' ≡ None
+  event_quiet (Err r) seen told' sessions sessions' said h e = h.2 ∙ e
+  event_quiet (Ok t) seen told' sessions sessions' said h e =
+      effect_quiet lost app moment (OnSelect t.control) (item_seen app.names values t.item) name body seq (with_target t s) seen told' sessions sessions' said e h
+
+  input_ends : (r : Result Given Refusal) (t u v : Tables) (a a' b b' : List (Named SessionState)) (said said' : List ℕ)
+      → EndsInput lost app moment name body seq s values r (Some t) a said (Some u) a' → EndsInput lost' app moment name body seq s values r (Some t) b said' (Some v) b' → Alike said said' u v a a' b b'
+  input_ends (Err f) t u v a a' b b' said said' x y = refused_alike t u v _ _ said said' a a' b b' refl x y
+  input_ends (Ok g) t u v a a' b b' said said' x y =
+      effects_alike running lost lost' app moment (input_trigger app.names (with_input g s) values g.0) None name body seq (with_input g s) t u v a a' b b' said said' x y
+
+  event_ends : (r : Result Target Refusal) (t u v : Tables) (a a' b b' : List (Named SessionState)) (said said' : List ℕ)
+      → EndsEvent lost app moment name body seq s values r (Some t) a said (Some u) a' → EndsEvent lost' app moment name body seq s values r (Some t) b said' (Some v) b' → Alike said said' u v a a' b b'
+  event_ends (Err f) t u v a a' b b' said said' x y = refused_alike t u v _ _ said said' a a' b b' refl x y
+  event_ends (Ok o) t u v a a' b b' said said' x y =
+      effects_alike running lost lost' app moment (OnSelect o.control) (item_seen app.names values o.item) name body seq (with_target o s) t u v a a' b b' said said' x y
+
+-- the laws that are used
+pub record Uses : Type 1 where
+  pub value : OneValue
+  pub fit : FreshFits
+  pub fresh : OneFresh
+  pub holds : FittingHolds
+  pub running : OneRunning
+
+module _ (laws : Uses) (lost lost' : Type 0) (app : App) (moment : ℕ) (name body : List ℕ) (t u v : Tables) (a a' b b' : List (Named SessionState)) (said said' : List ℕ)
+    (sound : IsSound app) (fits : (s : SessionState) → find name a ≡ Some s → FitsNames app.names s) (same : find name a ≡ find name b) (rows : AreSound app.names.schema (Some t)) where
+  good : (s : SessionState) → find name a ≡ Some s → IsGood (present app s (rows_told (Some t)) moment)
+  good s found = record { sound = sound; holds = laws.holds app.names s (fits s found); known = known_of app t rows }
+
+  inputs_alike : (r : Result Input (List ℕ)) → PostsInputChecked lost app moment name body r (Some t) a said (Some u) a' → PostsInputChecked lost' app moment name body r (Some t) b said' (Some v) b' → Alike said said' u v a a' b b'
+  inputs_alike (Err words) x y = refused_alike t u v words words said said' a a' b b' refl x y
+  inputs_alike (Ok i) x y =
+      let p : Present = present app x.session (rows_told (Some t)) moment in
+      let first : x.seen ≡ Some t = seen_is lost t u x.seen (Some u) refl (input_quiet laws.running lost lost' app moment name body i.seq x.session x.values (input_target app.names x.session x.values i) x.seen (Some u) a a' said x.ends) x.stays in
+      let second : y.seen ≡ Some t = seen_is lost' t v y.seen (Some v) refl (input_quiet laws.running lost' lost app moment name body i.seq y.session y.values (input_target app.names y.session y.values i) y.seen (Some v) b b' said' y.ends) y.stays in
+      let one : y.session ≡ x.session = one_session name a b x.session y.session same x.found y.found in
+      let fresh : IsFresh p x.values = subst (λ (o : Option Tables). IsFresh (present app x.session (rows_told o) moment) x.values) first x.fresh in
+      let again : IsFresh p y.values =
+      subst (λ (s : SessionState). IsFresh (present app s (rows_told (Some t)) moment) y.values) one (subst (λ (o : Option Tables). IsFresh (present app y.session (rows_told o) moment) y.values) second y.fresh) in
+      let g = good x.session x.found in
+      let values : y.values ≡ x.values = laws.fresh p y.values x.values g.sound g.holds g.known again fresh in
+      input_ends laws.running lost lost' app moment name body i.seq x.session x.values (input_target app.names x.session x.values i) t u v a a' b b' said said'
+      (subst (λ (o : Option Tables). EndsInput lost app moment name body i.seq x.session x.values (input_target app.names x.session x.values i) o a said (Some u) a') first x.ends)
+      (subst (λ (w : ℕ → Data). EndsInput lost' app moment name body i.seq x.session w (input_target app.names x.session w i) (Some t) b said' (Some v) b') values
+      (subst (λ (s : SessionState). EndsInput lost' app moment name body i.seq s y.values (input_target app.names s y.values i) (Some t) b said' (Some v) b') one
+      (subst (λ (o : Option Tables). EndsInput lost' app moment name body i.seq y.session y.values (input_target app.names y.session y.values i) o b said' (Some v) b') second y.ends)))
+
+  events_alike : (r : Result Event (List ℕ)) → PostsEventChecked lost app moment name body r (Some t) a said (Some u) a' → PostsEventChecked lost' app moment name body r (Some t) b said' (Some v) b' → Alike said said' u v a a' b b'
+  events_alike (Err words) x y = refused_alike t u v words words said said' a a' b b' refl x y
+  events_alike (Ok e) x y =
+      let p : Present = present app x.session (rows_told (Some t)) moment in
+      let first : x.seen ≡ Some t = seen_is lost t u x.seen (Some u) refl (event_quiet laws.running lost lost' app moment name body e.seq x.session x.values x.verdict x.seen (Some u) a a' said x.ends) x.stays in
+      let second : y.seen ≡ Some t = seen_is lost' t v y.seen (Some v) refl (event_quiet laws.running lost' lost app moment name body e.seq y.session y.values y.verdict y.seen (Some v) b b' said' y.ends) y.stays in
+      let one : y.session ≡ x.session = one_session name a b x.session y.session same x.found y.found in
+      let fresh : IsFresh p x.values = subst (λ (o : Option Tables). IsFresh (present app x.session (rows_told o) moment) x.values) first x.fresh in
+      let again : IsFresh p y.values =
+      subst (λ (s : SessionState). IsFresh (present app s (rows_told (Some t)) moment) y.values) one (subst (λ (o : Option Tables). IsFresh (present app y.session (rows_told o) moment) y.values) second y.fresh) in
+      let g = good x.session x.found in
+      let values : y.values ≡ x.values = laws.fresh p y.values x.values g.sound g.holds g.known again fresh in
+      let judged : IsVerdict p x.values (event_target app.names x.session x.values e) x.verdict =
+      subst (λ (o : Option Tables). IsVerdict (present app x.session (rows_told o) moment) x.values (event_target app.names x.session x.values e) x.verdict) first x.judged in
+      let judged_again : IsVerdict p x.values (event_target app.names x.session x.values e) y.verdict =
+      subst (λ (w : ℕ → Data). IsVerdict p w (event_target app.names x.session w e) y.verdict) values
+      (subst (λ (s : SessionState). IsVerdict (present app s (rows_told (Some t)) moment) y.values (event_target app.names s y.values e) y.verdict) one
+      (subst (λ (o : Option Tables). IsVerdict (present app y.session (rows_told o) moment) y.values (event_target app.names y.session y.values e) y.verdict) second y.judged)) in
+      let verdict : y.verdict ≡ x.verdict = one_verdict laws.value laws.fit p x.values (event_target app.names x.session x.values e) y.verdict x.verdict g fresh judged_again judged in
+      event_ends laws.running lost lost' app moment name body e.seq x.session x.values x.verdict t u v a a' b b' said said'
+      (subst (λ (o : Option Tables). EndsEvent lost app moment name body e.seq x.session x.values x.verdict o a said (Some u) a') first x.ends)
+      (subst (λ (r : Result Target Refusal). EndsEvent lost' app moment name body e.seq x.session x.values r (Some t) b said' (Some v) b') verdict
+      (subst (λ (w : ℕ → Data). EndsEvent lost' app moment name body e.seq x.session w y.verdict (Some t) b said' (Some v) b') values
+      (subst (λ (s : SessionState). EndsEvent lost' app moment name body e.seq s y.values y.verdict (Some t) b said' (Some v) b') one
+      (subst (λ (o : Option Tables). EndsEvent lost' app moment name body e.seq y.session y.values y.verdict o b said' (Some v) b') second y.ends))))
+
+pub one_outcome : Uses → IsOneOutcome
+one_outcome laws before now before' now' app moment name body said said' t u v a b a' b' sound fits same rows = (
+  λ x y. inputs_alike laws (IsLost before now) (IsLost before' now') app moment name body t u v a b a' b' said said' sound fits same rows (checks input_in (λ (i : Input). i.seq) (session_of name a) body) x
+      (subst (λ (o : Option SessionState). PostsInputChecked (IsLost before' now') app moment name body (checks input_in (λ (i : Input). i.seq) (if_live o) body) (Some t) a' said' (Some v) b') (sym same) y),
+  λ x y. events_alike laws (IsLost before now) (IsLost before' now') app moment name body t u v a b a' b' said said' sound fits same rows (checks event_in (λ (e : Event). e.seq) (session_of name a) body) x
+      (subst (λ (o : Option SessionState). PostsEventChecked (IsLost before' now') app moment name body (checks event_in (λ (e : Event). e.seq) (if_live o) body) (Some t) a' said' (Some v) b') (sym same) y),
 )

@@ -1,85 +1,153 @@
--- An input from its checks to what it leaves.
-use Rattle.std.proofs.Common.{◌≡◌, ℕ, ◌<◌, List, Option, Some, None, Result, Ok, Err, refl, ap, sym, ◌∙◌, subst, length, map}
-use Rattle.std.specs.Prelude.{IfOk, OnErr, option_map, slice_get, unwrap_or}
-use Rattle.std.specs.List.{position}
-use Rattle.recalc.specs.app_cells.declared.app.App.{App}
-use Rattle.recalc.specs.app_semantics.Fresh.{IsFresh}
-use Rattle.recalc.specs.app_semantics.Present.{present}
-use Rattle.recalc.specs.Asking.{ToldRows}
+-- Inputs and events from their checks to what they leave.
+use Rattle.std.proofs.Common.{◌≡◌, ℕ, ◌<◌, Bool, true, false, List, Option, Some, None, Result, Ok, Err, refl, ap, sym, ◌∙◌, subst, length, map}
+use Rattle.std.specs.Prelude.{IfOk, IfSome, option_map, unwrap_or}
 use Rattle.fx_data.specs.ValueView.{view}
 use Rattle.fx_data.specs.Values.{Data, blank}
 use Rattle.fx_data.specs.declared.values.Value.{Value}
+use Rattle.fx_trees.specs.Lawful.{IsLawful}
 use Rattle.fx_trees.specs.declared.names.Names.{Names}
 use Rattle.fx_trees.specs.declared.sources.Source.TheVariants as source
+use Rattle.recalc.specs.app_cells.declared.app.App.{App}
+use Rattle.recalc.specs.app_semantics.Present.{Present}
 use Rattle.recalc.specs.Reading.{cell_value}
 use Rattle.recalc.specs.Values.{Values, value_of}
-use Rattle.request_checks.specs.Checked.{SessionsKeepReplies}
-use Rattle.request_checks.specs.Directory.{find, is_named, it_at}
-use Rattle.request_checks.specs.Replies.{said}
-use Rattle.request_checks.specs.declared.directory.Named.{Named}
-use Rattle.request_checks.specs.declared.reply.Reply.{Reply}
+use Rattle.row_keeper.specs.Tables.{Tables}
+use Rattle.row_requests.specs.Sound.{AreSound}
+use Rattle.fx_trees.specs.declared.schema.Schema.{Schema}
 use Rattle.session_state.specs.Changes.{FitsNames, FitsSource}
 use Rattle.session_state.specs.Sessions.{SessionState}
 use Rattle.view_text.specs.declared.refused.Refusal.{Refusal}
-use Rattle.session_requests.specs.Acting.{Ends, with_input}
-use Rattle.session_requests.specs.Posting.{JudgesInput, SendsInput, SessionsFit}
+use Rattle.fx_base.specs.Silence.{Goes, IsLater, IsLost, Marks}
+use Rattle.fx_base.specs.Telling.{Stays}
+use Rattle.fx_base.proofs.Silences.{lost_before, lost_more}
+use Rattle.request_checks.specs.Replies.{said}
+use Rattle.request_checks.specs.declared.directory.Named.{Named}
+use Rattle.request_checks.specs.declared.reply.Reply.{Reply}
+use Rattle.session_events.specs.Requests.{Accepts}
+use Rattle.session_events.specs.Running.{Runs}
+use Rattle.session_events.specs.Scenes.{begun, scene}
+use Rattle.session_events.specs.declared.trigger.Trigger.{Trigger}
+use Rattle.session_events.specs.declared.trigger.Trigger.TheVariants.{OnSelect}
+use Rattle.session_requests.specs.Acting.{EndsEvent, EndsInput, TakesEffect, input_trigger, item_seen, with_input, with_target}
+use Rattle.session_requests.specs.Posting.{IsShownFor, IsVerdict, gallery_around}
 use Rattle.session_requests.specs.Shown.{cell_values}
-use Rattle.session_requests.specs.Targets.{Given, input_target}
+use Rattle.session_requests.specs.Targets.{Given, IsTarget, event_target, input_target, or_refused}
+use Rattle.session_requests.specs.declared.event.Event.{Event}
 use Rattle.session_requests.specs.declared.input.Input.{Input}
-use Rattle.session_requests.proofs.Fitting.{fits_at_place, input_stays, replies_stay}
-use Rattle.session_requests.proofs.Judging.{given_fits}
+use Rattle.session_requests.specs.declared.target.Item.{Item}
+use Rattle.session_requests.specs.declared.target.Target.{Target}
+use Rattle.session_requests.proofs.Items.{item_within, target_is}
+use Rattle.session_requests.proofs.Judging.{IsTaker, given_fits, taker_is}
 
--- what is judged is judged over fresh values
-pub judged : (app : App) (rows : ToldRows) (moment : ℕ) (s : SessionState) (i : Input) (v : Result Given Refusal) (vs : List Value) (w : Values)
-    → IsFresh (present app s rows moment) (value_of w) → map view vs ≡ w.cells → v ≡ input_target app.names s (cell_values vs) i → JudgesInput app rows moment s i v
-judged app rows moment s i v vs w fresh same is =
-    record { values = value_of w; fresh = fresh; is = is ∙ ap (λ (ds : List Data). input_target app.names s (cell_value ds) i) same }
+-- ---- the values of cells are those that are lent
 
-abbrev pub Fitting : Names → Given → Type 0
-Fitting n g = FitsSource n (source.Input g.0) (unwrap_or g.1 blank)
+pub input_over : (n : Names) (s : SessionState) (i : Input) (vs : List Value) (w : Values) (r : Result Given Refusal) → map view vs ≡ w.cells → r ≡ input_target n s (cell_values vs) i → r ≡ input_target n s (value_of w) i
+input_over n s i vs w r same is = is ∙ ap (λ (ds : List Data). input_target n s (cell_value ds) i) same
 
-pub given_if : (n : Names) (s : SessionState) (values : ℕ → Data) (i : Input) (v : Result Given Refusal) → v ≡ input_target n s values i → IfOk v (Fitting n)
-given_if n s values i (Ok g) e = given_fits n s values i g (sym e)
-given_if n s values i (Err r) e = tt
+pub target_over : (n : Names) (s : SessionState) (e : Event) (vs : List Value) (w : Values) (r : Result Target Refusal) → map view vs ≡ w.cells → r ≡ event_target n s (cell_values vs) e → r ≡ event_target n s (value_of w) e
+target_over n s e vs w r same is = is ∙ ap (λ (ds : List Data). event_target n s (cell_value ds) e) same
 
--- the session that is found fits
-pub found_fits : (n : Names) (name : List ℕ) (sessions : List (Named SessionState)) (s : SessionState) → SessionsFit n sessions → find name sessions ≡ Some s → FitsNames n s
-found_fits n name sessions s all e = by (position (is_named name) sessions) e
+pub item_over : {E : Type 0} (n : Names) (vs : List Value) (w : Values) (i : Option Item) (r : Result (Option Value) E) → map view vs ≡ w.cells
+    → IfOk r (λ (o : Option Value). option_map view o ≡ item_seen n (cell_values vs) i) → IfOk r (λ (o : Option Value). option_map view o ≡ item_seen n (value_of w) i)
+item_over n vs w i r same h = subst (λ (ds : List Data). IfOk r (λ (o : Option Value). option_map view o ≡ item_seen n (cell_value ds) i)) same h
+
+-- what is let through
+pub of_ok : {T E : Type 0} (P : T → Type 0) (r : Result T E) (x : T) → IfOk r P → r ≡ Ok x → P x
+of_ok P r x h e = subst (λ q. IfOk q P) e h
+
+-- ---- what becomes of an event
+
+pub refused : (p : Present) (n : Names) (s : SessionState) (e : Event) (vs : List Value) (w : Values) (r : Result Target Refusal) (f : Refusal)
+    → map view vs ≡ w.cells → r ≡ event_target n s (cell_values vs) e → r ≡ Err f → IsVerdict p (value_of w) (event_target n s (value_of w) e) (Err f)
+refused p n s e vs w r f same is out = subst (λ (q : Result Target Refusal). IsVerdict p (value_of w) q (Err f)) (sym out ∙ target_over n s e vs w r same is) refl
+
+pub let_through : (p : Present) (n : Names) (s : SessionState) (e : Event) (vs : List Value) (w : Values) (r : Result Target Refusal) (t : Target) (b : Bool) (v : Result Target Refusal)
+    → map view vs ≡ w.cells → r ≡ event_target n s (cell_values vs) e → r ≡ Ok t → IsShownFor p (value_of w) t.control (gallery_around p.app t.control) t.item b → v ≡ or_refused b 17 (Ok t)
+    → IsVerdict p (value_of w) (event_target n s (value_of w) e) v
+let_through p n s e vs w r t b v same is out shown verdict =
+    subst (λ (q : Result Target Refusal). IsVerdict p (value_of w) q v) (sym out ∙ target_over n s e vs w r same is) (b, shown, verdict)
+
+pub is_target : (n : Names) (s : SessionState) (e : Event) (vs : List Value) (w : Values) (r : Result Target Refusal) (t : Target)
+    → map view vs ≡ w.cells → r ≡ event_target n s (cell_values vs) e → r ≡ Ok t → IsTarget n (value_of w) t
+is_target n s e vs w r t same is out = target_is n s (value_of w) e t (sym (target_over n s e vs w r same is) ∙ out)
+
+pub still_target : (n : Names) (w : Values) (t : Target) (b : Bool) (v : Result Target Refusal) → IsTarget n (value_of w) t → v ≡ or_refused b 17 (Ok t) → IfOk v (IsTarget n (value_of w))
+still_target n w t true v h e = subst (λ (q : Result Target Refusal). IfOk q (IsTarget n (value_of w))) (sym e) h
+still_target n w t false v h e = subst (λ (q : Result Target Refusal). IfOk q (IsTarget n (value_of w))) (sym e) tt
+
+-- ---- a session has a place for what is given and chosen
+
+-- an input was judged so
+abbrev pub IsJudged : Names → SessionState → (ℕ → Data) → Result Given Refusal → Type 0
+IsJudged n s values v = (i : Input) × (v ≡ input_target n s values i)
+
+pub given_of : (n : Names) (s : SessionState) (values : ℕ → Data) (v : Result Given Refusal) (g : Given) → IsJudged n s values v → v ≡ Ok g → FitsSource n (source.Input g.0) (unwrap_or g.1 blank)
+given_of n s values v g h e = given_fits n s values h.0 g (sym h.1 ∙ e)
+
+pub taker_of : (n : Names) (s : SessionState) (values : ℕ → Data) (v : Result Given Refusal) (g : Given) → IsJudged n s values v → v ≡ Ok g → IsTaker n g.0
+taker_of n s values v g h e = taker_is n s values h.0 g (sym h.1 ∙ e)
+
+pub has_input : (n : Names) (s : SessionState) (g : Given) → FitsNames n s → FitsSource n (source.Input g.0) (unwrap_or g.1 blank) → g.0 < length s.inputs
+has_input n s g f h = f.sources_held (source.Input g.0) h.0 tt h.1
+
+pub has_gallery : (n : Names) (values : ℕ → Data) (s : SessionState) (t : Target) → IsLawful n → FitsNames n s → IsTarget n values t → IfSome t.item (λ (i : Item). i.gallery < length s.chosen)
+has_gallery n values s t lawful f h = by t.item (item_within n values t lawful h)
   where
-    at_place : (k : ℕ) (o : Option (Named SessionState)) → slice_get sessions k ≡ o → option_map (λ (x : Named SessionState). x.it) o ≡ Some s → FitsNames n s
-    at_place k None f h = absurd cc
-    at_place k (Some x) f h = let same : x.it ≡ s = cc in subst (λ (z : SessionState). FitsNames n z) same (fits_at_place n sessions k x all f)
+    by : (o : Option Item) → IfSome o (λ (i : Item). i.gallery < length n.controls) → IfSome o (λ (i : Item). i.gallery < length s.chosen)
+    by None q = tt
+    by (Some i) q = subst (λ k. i.gallery < k) (sym f.controls) q
 
-    by : (o : Option ℕ) → it_at o sessions ≡ Some s → FitsNames n s
-    by None h = absurd cc
-    by (Some k) h = at_place k (slice_get sessions k) refl h
+-- ---- what takes effect, takes effect
 
--- so the control has a place for what is given
-pub has_place : (n : Names) (name : List ℕ) (sessions : List (Named SessionState)) (v : Result Given Refusal) → SessionsFit n sessions → IfOk v (Fitting n)
-    → IfOk v (λ (g : Given). (s : SessionState) → find name sessions ≡ Some s → g.0 < length s.inputs)
-has_place n name sessions (Ok g) all h = λ s found. (found_fits n name sessions s all found).sources_held (source.Input g.0) h.0 tt h.1
-has_place n name sessions (Err r) all h = tt
+-- what is lost later was lost
+lost_so : {A : Type 0} (lost lost' : Type 0) (P : A → A → Type 0) → (lost → lost') → (x y : Option A) → Goes lost P x y → Goes lost' P x y
+lost_so lost lost' P more None y h = h
+lost_so lost lost' P more (Some a) None h = more h
+lost_so lost lost' P more (Some a) (Some b) h = h
 
--- what a request of the session of this name leaves
-abbrev pub EndsSo : (T : Type 0) → (T → SessionState → SessionState) → List ℕ → List ℕ → ℕ → Result T Refusal → List (Named SessionState) → List (Named SessionState) → Reply → Type 0
-EndsSo T change name body seq v sessions sessions' y = (z : SessionState) → find name sessions ≡ Some z → Ends change name body seq z v sessions (said y) sessions'
+effect_lost : (k l m : Marks) (app : App) (moment : ℕ) (trigger : Trigger) (item : Option Data) (name body : List ℕ) (seq : ℕ) (s : SessionState) (told told' : Option Tables) (sessions sessions' : List (Named SessionState)) (said : List ℕ)
+    → IsLater k l → TakesEffect (IsLost l m) app moment trigger item name body seq s told sessions said told' sessions' → TakesEffect (IsLost k m) app moment trigger item name body seq s told sessions said told' sessions'
+effect_lost k l m app moment trigger item name body seq s told told' sessions sessions' said later h = record {
+  end = h.end;
+  accepts = record {
+    value = h.accepts.value;
+    end = h.accepts.end;
+    runs = lost_so (IsLost l m) (IsLost k m) (λ (t u : Tables). Runs app moment trigger item (scene t (begun s)) h.accepts.value (scene u h.accepts.end)) (lost_before k l m later) told told' h.accepts.runs;
+    said_is = h.accepts.said_is;
+    left = h.accepts.left;
+    fits = h.accepts.fits;
+  };
+  kept = h.kept;
+}
 
-pub sends : {E : Type 0} (app : App) (rows : ToldRows) (moment : ℕ) (name body : List ℕ) (i : Input) (sessions sessions' : List (Named SessionState)) (s : SessionState) (v : Result Given Refusal) (r : Result Reply E)
-    → find name sessions ≡ Some s → JudgesInput app rows moment s i v → IfOk r (EndsSo Given with_input name body i.seq v sessions sessions') → IfOk r (λ y. SendsInput app rows moment name body i sessions (said y) sessions')
-sends app rows moment name body i sessions sessions' s v (Ok y) found is h = record { session = s; found = found; verdict = v; judged = is; ends = h s found }
-sends app rows moment name body i sessions sessions' s v (Err m) found is h = tt
+pub input_lost : (k l m : Marks) (app : App) (moment : ℕ) (name body : List ℕ) (seq : ℕ) (s : SessionState) (values : ℕ → Data) (v : Result Given Refusal) (told told' : Option Tables) (sessions sessions' : List (Named SessionState)) (said : List ℕ)
+    → IsLater k l → EndsInput (IsLost l m) app moment name body seq s values v told sessions said told' sessions' → EndsInput (IsLost k m) app moment name body seq s values v told sessions said told' sessions'
+input_lost k l m app moment name body seq s values (Err r) told told' sessions sessions' said later h = h
+input_lost k l m app moment name body seq s values (Ok g) told told' sessions sessions' said later h =
+    effect_lost k l m app moment (input_trigger app.names (with_input g s) values g.0) None name body seq (with_input g s) told told' sessions sessions' said later h
 
-given_ok : (n : Names) (v : Result Given Refusal) (g : Given) → IfOk v (Fitting n) → v ≡ Ok g → Fitting n g
-given_ok n (Ok x) g h e = let same : x ≡ g = cc in subst (Fitting n) same h
-given_ok n (Err r) g h e = absurd cc
+pub event_lost : (k l m : Marks) (app : App) (moment : ℕ) (name body : List ℕ) (seq : ℕ) (s : SessionState) (values : ℕ → Data) (v : Result Target Refusal) (told told' : Option Tables) (sessions sessions' : List (Named SessionState)) (said : List ℕ)
+    → IsLater k l → EndsEvent (IsLost l m) app moment name body seq s values v told sessions said told' sessions' → EndsEvent (IsLost k m) app moment name body seq s values v told sessions said told' sessions'
+event_lost k l m app moment name body seq s values (Err r) told told' sessions sessions' said later h = h
+event_lost k l m app moment name body seq s values (Ok t) told told' sessions sessions' said later h =
+    effect_lost k l m app moment (OnSelect t.control) (item_seen app.names values t.item) name body seq (with_target t s) told told' sessions sessions' said later h
 
-pub still_fit : {E : Type 0} (n : Names) (name body : List ℕ) (seq : ℕ) (sessions sessions' : List (Named SessionState)) (s : SessionState) (v : Result Given Refusal) (r : Result Reply E)
-    → SessionsFit n sessions → find name sessions ≡ Some s → IfOk v (Fitting n) → IfOk r (EndsSo Given with_input name body seq v sessions sessions') → OnErr r (sessions' ≡ sessions) → SessionsFit n sessions'
-still_fit n name body seq sessions sessions' s v (Ok y) all found given h e =
-    input_stays n name body seq s v sessions (said y) sessions' (found_fits n name sessions s all found) (λ g is. given_ok n v g given is) all (h s found)
-still_fit n name body seq sessions sessions' s v (Err m) all found given h e = subst (λ (l : List (Named SessionState)). SessionsFit n l) (sym e) all
+-- an event that was let through takes effect
+pub event_ends : {E : Type 0} (lost : Type 0) (app : App) (moment : ℕ) (name body : List ℕ) (seq : ℕ) (s r : SessionState) (values : ℕ → Data) (v : Result Target Refusal) (t : Target) (item : Option Data) (told told' : Option Tables) (sessions sessions' : List (Named SessionState)) (result : Result Reply E)
+    → v ≡ Ok t → item ≡ item_seen app.names values t.item → r ≡ with_target t s
+    → IfOk result (λ (y : Reply). TakesEffect lost app moment (OnSelect t.control) item name body seq r told sessions (said y) told' sessions')
+    → IfOk result (λ (y : Reply). EndsEvent lost app moment name body seq s values v told sessions (said y) told' sessions')
+event_ends lost app moment name body seq s r values v t item told told' sessions sessions' result is sees chosen h =
+    subst (λ (q : Result Target Refusal). IfOk result (λ (y : Reply). EndsEvent lost app moment name body seq s values q told sessions (said y) told' sessions')) (sym is)
+    (subst (λ (o : Option Data). IfOk result (λ (y : Reply). TakesEffect lost app moment (OnSelect t.control) o name body seq (with_target t s) told sessions (said y) told' sessions')) sees
+    (subst (λ (q : SessionState). IfOk result (λ (y : Reply). TakesEffect lost app moment (OnSelect t.control) item name body seq q told sessions (said y) told' sessions')) chosen h))
 
-pub still_kept : {E : Type 0} (T : Type 0) (change : T → SessionState → SessionState) (name body : List ℕ) (seq : ℕ) (sessions sessions' : List (Named SessionState)) (s : SessionState) (v : Result T Refusal) (r : Result Reply E)
-    → SessionsKeepReplies sessions → find name sessions ≡ Some s → IfOk r (EndsSo T change name body seq v sessions sessions') → OnErr r (sessions' ≡ sessions) → SessionsKeepReplies sessions'
-still_kept T change name body seq sessions sessions' s v (Ok y) all found h e = replies_stay T change name body seq s v sessions (said y) sessions' all (h s found)
-still_kept T change name body seq sessions sessions' s v (Err m) all found h e = subst (λ (l : List (Named SessionState)). SessionsKeepReplies l) (sym e) all
+-- what is told stays told, where no more was lost
+pub stays_lost : (k l m : Marks) → IsLater l m → (x y : Option Tables) → Goes (IsLost k l) Stays x y → Goes (IsLost k m) Stays x y
+stays_lost k l m later x y h = lost_so (IsLost k l) (IsLost k m) Stays (lost_more k l m later) x y h
+
+-- tables that stay are sound
+pub still_sound : (schema : Schema) (lost : Type 0) (x y : Option Tables) → Goes lost Stays x y → AreSound schema x → AreSound schema y
+still_sound schema lost x None h f = tt
+still_sound schema lost None (Some t) h f = absurd cc
+still_sound schema lost (Some s) (Some t) h f = subst (λ (o : Tables). AreSound schema (Some o)) (sym h) f

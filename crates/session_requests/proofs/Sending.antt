@@ -1,5 +1,6 @@
 -- What is sent by a session, when it comes again and beside other sessions.
-use Rattle.std.proofs.Common.{◌≡◌, ◌≢◌, ℕ, List, Option, Some, Result, Ok, Err, ap, ◌∙◌, subst}
+use Rattle.std.proofs.Common.{◌≡◌, ◌≢◌, ℕ, List, Option, Some, None, Result, Ok, Err, ap, ◌∙◌, subst}
+use Rattle.fx_data.specs.Values.{Data}
 use Rattle.recalc.specs.app_cells.declared.app.App.{App}
 use Rattle.session_state.specs.Once.{Kept}
 use Rattle.session_state.specs.Sessions.{SessionState}
@@ -9,29 +10,46 @@ use Rattle.request_checks.specs.Directory.{find}
 use Rattle.request_checks.specs.declared.directory.Named.{Named}
 use Rattle.request_checks.proofs.Again.{comes_again}
 use Rattle.request_checks.proofs.Directories.{find_other}
-use Rattle.session_requests.specs.Acting.{Ends, answered, with_input, with_target}
+use Rattle.session_events.specs.declared.trigger.Trigger.{Trigger}
+use Rattle.session_events.specs.declared.trigger.Trigger.TheVariants.{OnSelect}
+use Rattle.session_requests.specs.Acting.{EndsEvent, EndsInput, TakesEffect, answered, input_trigger, item_seen, with_input, with_target}
 use Rattle.session_requests.specs.Bodies.{event_in, input_in}
 use Rattle.row_keeper.specs.Tables.{Tables}
 use Rattle.session_requests.specs.Laws.{Repeats}
 use Rattle.session_requests.specs.Posting.{PostsEvent, PostsEventChecked, PostsInput, PostsInputChecked}
+use Rattle.session_requests.specs.Targets.{Given, input_target}
 use Rattle.session_requests.specs.declared.event.Event.{Event}
 use Rattle.session_requests.specs.declared.input.Input.{Input}
+use Rattle.session_requests.specs.declared.target.Target.{Target}
 
-ends_leave : (T : Type 0) (change : T → SessionState → SessionState) (name other body : List ℕ) (seq : ℕ) (s : SessionState) (v : Result T Refusal) (sessions : List (Named SessionState)) (said : List ℕ) (sessions' : List (Named SessionState))
-    → name ≢ other → Ends change name body seq s v sessions said sessions' → find other sessions' ≡ find other sessions
-ends_leave T change name other body seq s (Err r) sessions said sessions' differ h = ap (λ (l : List (Named SessionState)). find other l) h.1
-ends_leave T change name other body seq s (Ok t) sessions said sessions' differ h =
-    ap (λ (l : List (Named SessionState)). find other l) h.1 ∙ find_other SessionState name other (answered seq body (change t s)) sessions differ
+effect_leaves : (lost : Type 0) (app : App) (moment : ℕ) (trigger : Trigger) (item : Option Data) (name other body : List ℕ) (seq : ℕ) (s : SessionState) (told : Option Tables) (sessions : List (Named SessionState)) (said : List ℕ) (told' : Option Tables) (sessions' : List (Named SessionState))
+    → name ≢ other → TakesEffect lost app moment trigger item name body seq s told sessions said told' sessions' → find other sessions' ≡ find other sessions
+effect_leaves lost app moment trigger item name other body seq s told sessions said told' sessions' differ h =
+    ap (λ (l : List (Named SessionState)). find other l) h.kept ∙ find_other SessionState name other (answered seq body said h.end) sessions differ
+
+input_ends : (lost : Type 0) (app : App) (moment : ℕ) (name other body : List ℕ) (seq : ℕ) (s : SessionState) (values : ℕ → Data) (v : Result Given Refusal) (told : Option Tables) (sessions : List (Named SessionState)) (said : List ℕ) (told' : Option Tables) (sessions' : List (Named SessionState))
+    → name ≢ other → EndsInput lost app moment name body seq s values v told sessions said told' sessions' → find other sessions' ≡ find other sessions
+input_ends lost app moment name other body seq s values (Err r) told sessions said told' sessions' differ h = ap (λ (l : List (Named SessionState)). find other l) h.1
+input_ends lost app moment name other body seq s values (Ok g) told sessions said told' sessions' differ h =
+    effect_leaves lost app moment (input_trigger app.names (with_input g s) values g.0) None name other body seq (with_input g s) told sessions said told' sessions' differ h
+
+event_ends : (lost : Type 0) (app : App) (moment : ℕ) (name other body : List ℕ) (seq : ℕ) (s : SessionState) (values : ℕ → Data) (v : Result Target Refusal) (told : Option Tables) (sessions : List (Named SessionState)) (said : List ℕ) (told' : Option Tables) (sessions' : List (Named SessionState))
+    → name ≢ other → EndsEvent lost app moment name body seq s values v told sessions said told' sessions' → find other sessions' ≡ find other sessions
+event_ends lost app moment name other body seq s values (Err r) told sessions said told' sessions' differ h = ap (λ (l : List (Named SessionState)). find other l) h.1
+event_ends lost app moment name other body seq s values (Ok t) told sessions said told' sessions' differ h =
+    effect_leaves lost app moment (OnSelect t.control) (item_seen app.names values t.item) name other body seq (with_target t s) told sessions said told' sessions' differ h
 
 input_leaves : (lost : Type 0) (app : App) (moment : ℕ) (name other body : List ℕ) (r : Result Input (List ℕ)) (told : Option Tables) (sessions : List (Named SessionState)) (said : List ℕ) (told' : Option Tables) (sessions' : List (Named SessionState))
     → name ≢ other → PostsInputChecked lost app moment name body r told sessions said told' sessions' → find other sessions' ≡ find other sessions
 input_leaves lost app moment name other body (Err words) told sessions said told' sessions' differ h = ap (λ (l : List (Named SessionState)). find other l) h.1
-input_leaves lost app moment name other body (Ok i) told sessions said told' sessions' differ h = ends_leave _ with_input name other body i.seq h.0.session h.0.verdict sessions said sessions' differ h.0.ends
+input_leaves lost app moment name other body (Ok i) told sessions said told' sessions' differ h =
+    input_ends lost app moment name other body i.seq h.session h.values (input_target app.names h.session h.values i) h.seen sessions said told' sessions' differ h.ends
 
 event_leaves : (lost : Type 0) (app : App) (moment : ℕ) (name other body : List ℕ) (r : Result Event (List ℕ)) (told : Option Tables) (sessions : List (Named SessionState)) (said : List ℕ) (told' : Option Tables) (sessions' : List (Named SessionState))
     → name ≢ other → PostsEventChecked lost app moment name body r told sessions said told' sessions' → find other sessions' ≡ find other sessions
 event_leaves lost app moment name other body (Err words) told sessions said told' sessions' differ h = ap (λ (l : List (Named SessionState)). find other l) h.1
-event_leaves lost app moment name other body (Ok e) told sessions said told' sessions' differ h = ends_leave _ with_target name other body e.seq h.0.session h.0.verdict sessions said sessions' differ h.0.ends
+event_leaves lost app moment name other body (Ok e) told sessions said told' sessions' differ h =
+    event_ends lost app moment name other body e.seq h.session h.values h.verdict h.seen sessions said told' sessions' differ h.ends
 
 pub others_left : (lost : Type 0) (app : App) (moment : ℕ) (name other body said : List ℕ) (told told' : Option Tables) (sessions sessions' : List (Named SessionState)) → name ≢ other
     → (PostsInput lost app moment name body told sessions said told' sessions' → find other sessions' ≡ find other sessions)

@@ -1,29 +1,77 @@
--- What an event or an input that passed the checks of numbered requests does to its session.
-use Rattle.std.specs.Prelude.{◌≡◌, ◌<◌, ℕ, List, [], length, slice_set, Option, Some, None, Result, Ok, Err}
+-- What an event or an input that passed its checks does to its session and to tables.
+use Rattle.std.specs.Prelude.{◌≡◌, ◌<◌, ℕ, Bool, true, false, List, length, slice_get, slice_set, Option, Some, None, Result, Ok, Err, option_and_then, option_map}
 use Rattle.std.specs.List.{position}
-use Rattle.app_wire.specs.ReplyBytes.{reply}
-use Rattle.fx_data.specs.Values.{blank}
+use Rattle.fx_data.specs.Values.{Data}
+use Rattle.fx_data.specs.declared.controls.Control.{Control}
+use Rattle.fx_data.specs.declared.controls.Control.TheVariants as control
+use Rattle.fx_trees.specs.declared.names.ControlName.{ControlName}
+use Rattle.fx_trees.specs.declared.names.Names.{Names}
+use Rattle.recalc.specs.app_cells.declared.app.App.{App}
+use Rattle.recalc.specs.app_semantics.Chosen.{row_at}
+use Rattle.recalc.specs.app_semantics.Present.{input_of, items_of}
+use Rattle.recalc.specs.app_semantics.Properties.{is_true}
+use Rattle.recalc.specs.fx_semantics.Around.{record_of}
+use Rattle.recalc.specs.fx_semantics.Rows.{rows_in}
 use Rattle.request_checks.specs.Directory.{is_named, put}
 use Rattle.request_checks.specs.Replies.{refusal_reply}
 use Rattle.request_checks.specs.declared.directory.Named.{Named}
+use Rattle.row_keeper.specs.Tables.{Tables}
+use Rattle.session_events.specs.Requests.{Accepts}
+use Rattle.session_events.specs.declared.trigger.Trigger.{Trigger}
+use Rattle.session_events.specs.declared.trigger.Trigger.TheVariants.{OnChange, OnCheck, OnSelect, OnUncheck}
 use Rattle.session_state.specs.Sessions.{SessionState}
-use Rattle.view_text.specs.ViewText.{event_text}
 use Rattle.view_text.specs.declared.refused.Refusal.{Refusal}
 use Rattle.session_requests.specs.Targets.{Given}
 use Rattle.session_requests.specs.declared.target.Item.{Item}
 use Rattle.session_requests.specs.declared.target.Target.{Target}
 
--- No behaviour formula is built yet: nothing is notified, and no value is told.
-abbrev pub accepted_reply : ℕ → List ℕ
-accepted_reply seq = reply 200 (event_text [] seq blank)
-
 -- an accepted request leaves its number, its body and its reply
-abbrev pub answered : ℕ → List ℕ → SessionState → SessionState
-answered seq body s = record s { kept = record { last = seq; body = body; reply = accepted_reply seq } }
+abbrev pub answered : ℕ → List ℕ → List ℕ → SessionState → SessionState
+answered seq body said s = record s { kept = record { last = seq; body = body; reply = said } }
+
+-- the session of a name stands at this place
+pub record IsAt (place : ℕ) (name : List ℕ) (sessions : List (Named SessionState)) : Type 0 where
+  pub first : position (is_named name) sessions ≡ Some place
+  pub within : place < length sessions
+
+-- WHAT IS ACCEPTED takes effect: its session, in which what is given or chosen stands already, acts and is answered, and is kept
+-- with its number, its body and its reply. No other session changes.
+pub record TakesEffect (lost : Type 0) (app : App) (moment : ℕ) (trigger : Trigger) (item : Option Data) (name body : List ℕ) (seq : ℕ) (s : SessionState) (told : Option Tables) (sessions : List (Named SessionState)) (said : List ℕ) (told' : Option Tables) (sessions' : List (Named SessionState)) : Type 0 where
+  pub end : SessionState
+  pub accepts : Accepts lost app moment trigger item seq s told said told' end
+  pub kept : sessions' ≡ put name (answered seq body said end) sessions
+
+-- what is refused leaves all
+abbrev pub IsRefused : Refusal → Option Tables → List (Named SessionState) → List ℕ → Option Tables → List (Named SessionState) → Type 0
+IsRefused r told sessions said told' sessions' = (said ≡ refusal_reply r) × (sessions' ≡ sessions) × (told' ≡ told)
+
+-- ---- inputs
 
 -- a user gives a value, or takes it away
 abbrev pub with_input : Given → SessionState → SessionState
 with_input g s = record s { inputs = slice_set s.inputs g.0 g.1 }
+
+-- what acts as a user's input is accepted: of a box whether it is then checked decides
+abbrev pub trigger_of : Control → ℕ → Bool → Trigger
+trigger_of control.Checkbox k true = OnCheck k
+trigger_of control.Checkbox k false = OnUncheck k
+trigger_of kind k checked = OnChange k
+
+abbrev pub trigger_at : Option ControlName → ℕ → Bool → Trigger
+trigger_at (Some c) k checked = trigger_of c.kind k checked
+trigger_at None k checked = OnChange k
+
+-- the same for a session in which the input stands, where cells have these values
+abbrev pub input_trigger : Names → SessionState → (ℕ → Data) → ℕ → Trigger
+input_trigger n s values k = trigger_at (slice_get n.controls k) k (is_true (input_of n s values k))
+
+-- an input ends: by its `OnChange`, `OnCheck` or `OnUncheck`, or refused
+abbrev pub EndsInput : Type 0 → App → ℕ → List ℕ → List ℕ → ℕ → SessionState → (ℕ → Data) → Result Given Refusal → Option Tables → List (Named SessionState) → List ℕ → Option Tables → List (Named SessionState) → Type 0
+EndsInput lost app moment name body seq s values (Err r) told sessions said told' sessions' = IsRefused r told sessions said told' sessions'
+EndsInput lost app moment name body seq s values (Ok g) told sessions said told' sessions' =
+    TakesEffect lost app moment (input_trigger app.names (with_input g s) values g.0) None name body seq (with_input g s) told sessions said told' sessions'
+
+-- ---- events
 
 -- an item becomes the chosen one of its gallery
 abbrev pub with_item_chosen : Option Item → SessionState → SessionState
@@ -33,12 +81,12 @@ with_item_chosen (Some i) s = record s { chosen = slice_set s.chosen i.gallery (
 abbrev pub with_target : Target → SessionState → SessionState
 with_target t s = with_item_chosen t.item s
 
--- the session of a name stands at this place
-pub record IsAt (place : ℕ) (name : List ℕ) (sessions : List (Named SessionState)) : Type 0 where
-  pub first : position (is_named name) sessions ≡ Some place
-  pub within : place < length sessions
+-- the row of an item, as a record
+abbrev pub item_seen : Names → (ℕ → Data) → Option Item → Option Data
+item_seen n values o = option_and_then (λ (i : Item). option_map record_of (row_at i.at (rows_in (items_of n values i.gallery)))) o
 
--- What is accepted changes the session of this name and no other, and is answered; what is refused leaves all.
-abbrev pub Ends : {T : Type 0} → (T → SessionState → SessionState) → List ℕ → List ℕ → ℕ → SessionState → Result T Refusal → List (Named SessionState) → List ℕ → List (Named SessionState) → Type 0
-Ends change name body seq s (Err r) sessions said sessions' = (said ≡ refusal_reply r) × (sessions' ≡ sessions)
-Ends change name body seq s (Ok t) sessions said sessions' = (said ≡ accepted_reply seq) × (sessions' ≡ put name (answered seq body (change t s)) sessions)
+-- an event ends: by the `OnSelect` of its control, which sees the item, or refused
+abbrev pub EndsEvent : Type 0 → App → ℕ → List ℕ → List ℕ → ℕ → SessionState → (ℕ → Data) → Result Target Refusal → Option Tables → List (Named SessionState) → List ℕ → Option Tables → List (Named SessionState) → Type 0
+EndsEvent lost app moment name body seq s values (Err r) told sessions said told' sessions' = IsRefused r told sessions said told' sessions'
+EndsEvent lost app moment name body seq s values (Ok t) told sessions said told' sessions' =
+    TakesEffect lost app moment (OnSelect t.control) (item_seen app.names values t.item) name body seq (with_target t s) told sessions said told' sessions'

@@ -1,14 +1,14 @@
 -- Sessions' requests that come again, and other sessions.
 use Rattle.std.specs.Prelude.{◌≡◌, ◌≢◌, ℕ, List, Option, Some}
 use Rattle.recalc.specs.app_cells.declared.app.App.{App}
-use Rattle.recalc.specs.app_semantics.Fresh.{AreKnown}
-use Rattle.recalc.specs.app_semantics.Holding.{HoldsFitting}
 use Rattle.recalc.specs.app_semantics.Sound.{IsSound}
 use Rattle.fx_base.specs.Silence.{IsLost, Marks}
 use Rattle.request_checks.specs.Checks.{IsLastAsked}
 use Rattle.request_checks.specs.Directory.{find}
 use Rattle.request_checks.specs.declared.directory.Named.{Named}
-use Rattle.row_keeper.specs.Tables.{Tables, rows_told}
+use Rattle.row_keeper.specs.Tables.{Tables}
+use Rattle.row_requests.specs.Sound.{AreSound}
+use Rattle.session_state.specs.Changes.{FitsNames}
 use Rattle.session_state.specs.Once.{Kept}
 use Rattle.session_state.specs.Sessions.{SessionState}
 use Rattle.session_requests.specs.Bodies.{event_in, input_in}
@@ -34,12 +34,13 @@ ActsOnce =
     → (IsLastAsked Input input_in (λ (i : Input). i.seq) s.kept → PostsInput (IsLost before now) app moment name s.kept.body told sessions said told' sessions' → Repeats s.kept said told told' sessions sessions')
     × (IsLastAsked Event event_in (λ (e : Event). e.seq) s.kept → PostsEvent (IsLost before now) app moment name s.kept.body told sessions said told' sessions' → Repeats s.kept said told told' sessions sessions')
 
--- What a session sends has one outcome: the app, the moment, the body, the session's own record and what is told of rows
--- determine the reply, and with the other sessions what becomes of them all.
+-- What a session sends has one outcome, where tables are told: the app, the moment, the body, the session's own record and the
+-- tables determine the reply and what becomes of tables, and with the other sessions what becomes of them all.
 abbrev pub IsOneOutcome : Type 0
 IsOneOutcome =
-    (before now before' now' : Marks) (app : App) (moment : ℕ) (name body said said' : List ℕ) (s t u v : Option Tables) (sessions sessions' others others' : List (Named SessionState))
-    → IsSound app → ((s : SessionState) → find name sessions ≡ Some s → HoldsFitting app.names s) → find name sessions ≡ find name others
-    → AreKnown app (rows_told t) → rows_told t ≡ rows_told v
-    → (PostsInput (IsLost before now) app moment name body s sessions said t sessions' → PostsInput (IsLost before' now') app moment name body u others said' v others' → (said ≡ said') × (sessions ≡ others → sessions' ≡ others'))
-    × (PostsEvent (IsLost before now) app moment name body s sessions said t sessions' → PostsEvent (IsLost before' now') app moment name body u others said' v others' → (said ≡ said') × (sessions ≡ others → sessions' ≡ others'))
+    (before now before' now' : Marks) (app : App) (moment : ℕ) (name body said said' : List ℕ) (t u v : Tables) (sessions sessions' others others' : List (Named SessionState))
+    → IsSound app → ((s : SessionState) → find name sessions ≡ Some s → FitsNames app.names s) → find name sessions ≡ find name others → AreSound app.names.schema (Some t)
+    → (PostsInput (IsLost before now) app moment name body (Some t) sessions said (Some u) sessions' → PostsInput (IsLost before' now') app moment name body (Some t) others said' (Some v) others'
+    → (said ≡ said') × (u ≡ v) × (sessions ≡ others → sessions' ≡ others'))
+    × (PostsEvent (IsLost before now) app moment name body (Some t) sessions said (Some u) sessions' → PostsEvent (IsLost before' now') app moment name body (Some t) others said' (Some v) others'
+    → (said ≡ said') × (u ≡ v) × (sessions ≡ others → sessions' ≡ others'))

@@ -18,13 +18,12 @@ use Rattle.request_checks.specs.declared.directory.Named.{Named}
 use Rattle.fx_base.specs.Silence.{Goes}
 use Rattle.fx_base.specs.Telling.{Stays}
 use Rattle.row_keeper.specs.Tables.{Tables, rows_told}
-use Rattle.row_queries.specs.declared.rows.Row.{Row}
 use Rattle.session_state.specs.Changes.{FitsNames}
 use Rattle.session_state.specs.Sessions.{SessionState}
 use Rattle.view_text.specs.declared.refused.Refusal.{Refusal}
-use Rattle.session_requests.specs.Acting.{Ends, with_input, with_target}
+use Rattle.session_requests.specs.Acting.{EndsEvent, EndsInput}
 use Rattle.session_requests.specs.Bodies.{event_in, input_in}
-use Rattle.session_requests.specs.Targets.{Given, event_target, input_target, or_refused}
+use Rattle.session_requests.specs.Targets.{event_target, input_target, or_refused}
 use Rattle.session_requests.specs.declared.event.Event.{Event}
 use Rattle.session_requests.specs.declared.input.Input.{Input}
 use Rattle.session_requests.specs.declared.target.Item.{Item}
@@ -36,26 +35,22 @@ SessionsFit n sessions = AllByRecursion (λ (x : Named SessionState). FitsNames 
 
 -- ---- inputs
 
--- what becomes of an input of a session whose formulas have fresh values
-pub record JudgesInput (app : App) (rows : Option (List (List Row))) (moment : ℕ) (s : SessionState) (i : Input) (v : Result Given Refusal) : Type 0 where
-  pub values : ℕ → Data
-  pub fresh : IsFresh (present app s rows moment) values
-  pub is : v ≡ input_target app.names s values i
-
--- an input that passed the checks of numbered requests: its session is live
-pub record SendsInput (app : App) (rows : Option (List (List Row))) (moment : ℕ) (name body : List ℕ) (i : Input) (sessions : List (Named SessionState)) (said : List ℕ) (sessions' : List (Named SessionState)) : Type 0 where
+-- An input that passed the checks of numbered requests: its session is live. `seen` is told as the other checks are made, in which
+-- formulas have fresh values.
+pub record SendsInput (lost : Type 0) (app : App) (moment : ℕ) (name body : List ℕ) (i : Input) (told : Option Tables) (sessions : List (Named SessionState)) (said : List ℕ) (told' : Option Tables) (sessions' : List (Named SessionState)) : Type 0 where
   pub session : SessionState
   pub found : find name sessions ≡ Some session
-  pub verdict : Result Given Refusal
-  pub judged : JudgesInput app rows moment session i verdict
-  pub ends : Ends with_input name body i.seq session verdict sessions said sessions'
+  pub seen : Option Tables
+  pub stays : Goes lost Stays told seen
+  pub values : ℕ → Data
+  pub fresh : IsFresh (present app session (rows_told seen) moment) values
+  pub ends : EndsInput lost app moment name body i.seq session values (input_target app.names session values i) seen sessions said told' sessions'
 
 abbrev pub PostsInputChecked : Type 0 → App → ℕ → List ℕ → List ℕ → Result Input (List ℕ) → Option Tables → List (Named SessionState) → List ℕ → Option Tables → List (Named SessionState) → Type 0
 PostsInputChecked lost app moment name body (Err words) told sessions said told' sessions' = (said ≡ words) × (sessions' ≡ sessions) × (told' ≡ told)
-PostsInputChecked lost app moment name body (Ok i) told sessions said told' sessions' =
-    SendsInput app (rows_told told') moment name body i sessions said sessions' × Goes lost Stays told told'
+PostsInputChecked lost app moment name body (Ok i) told sessions said told' sessions' = SendsInput lost app moment name body i told sessions said told' sessions'
 
--- THE route of inputs, which leaves the rows of tables
+-- THE route of inputs
 abbrev pub PostsInput : Type 0 → App → ℕ → List ℕ → List ℕ → Option Tables → List (Named SessionState) → List ℕ → Option Tables → List (Named SessionState) → Type 0
 PostsInput lost app moment name body told sessions said told' sessions' =
     PostsInputChecked lost app moment name body (checks input_in (λ (i : Input). i.seq) (session_of name sessions) body) told sessions said told' sessions'
@@ -89,26 +84,23 @@ abbrev pub IsVerdict : Present → (ℕ → Data) → Result Target Refusal → 
 IsVerdict p values (Err r) v = v ≡ Err r
 IsVerdict p values (Ok t) v = (b : Bool) × IsShownFor p values t.control (gallery_around p.app t.control) t.item b × (v ≡ or_refused b 17 (Ok t))
 
--- what becomes of an event of a session whose formulas have fresh values
-pub record JudgesEvent (app : App) (rows : Option (List (List Row))) (moment : ℕ) (s : SessionState) (e : Event) (v : Result Target Refusal) : Type 0 where
-  pub values : ℕ → Data
-  pub fresh : IsFresh (present app s rows moment) values
-  pub is : IsVerdict (present app s rows moment) values (event_target app.names s values e) v
-
 -- an event that passed the checks of numbered requests
-pub record SendsEvent (app : App) (rows : Option (List (List Row))) (moment : ℕ) (name body : List ℕ) (e : Event) (sessions : List (Named SessionState)) (said : List ℕ) (sessions' : List (Named SessionState)) : Type 0 where
+pub record SendsEvent (lost : Type 0) (app : App) (moment : ℕ) (name body : List ℕ) (e : Event) (told : Option Tables) (sessions : List (Named SessionState)) (said : List ℕ) (told' : Option Tables) (sessions' : List (Named SessionState)) : Type 0 where
   pub session : SessionState
   pub found : find name sessions ≡ Some session
+  pub seen : Option Tables
+  pub stays : Goes lost Stays told seen
+  pub values : ℕ → Data
+  pub fresh : IsFresh (present app session (rows_told seen) moment) values
   pub verdict : Result Target Refusal
-  pub judged : JudgesEvent app rows moment session e verdict
-  pub ends : Ends with_target name body e.seq session verdict sessions said sessions'
+  pub judged : IsVerdict (present app session (rows_told seen) moment) values (event_target app.names session values e) verdict
+  pub ends : EndsEvent lost app moment name body e.seq session values verdict seen sessions said told' sessions'
 
 abbrev pub PostsEventChecked : Type 0 → App → ℕ → List ℕ → List ℕ → Result Event (List ℕ) → Option Tables → List (Named SessionState) → List ℕ → Option Tables → List (Named SessionState) → Type 0
 PostsEventChecked lost app moment name body (Err words) told sessions said told' sessions' = (said ≡ words) × (sessions' ≡ sessions) × (told' ≡ told)
-PostsEventChecked lost app moment name body (Ok e) told sessions said told' sessions' =
-    SendsEvent app (rows_told told') moment name body e sessions said sessions' × Goes lost Stays told told'
+PostsEventChecked lost app moment name body (Ok e) told sessions said told' sessions' = SendsEvent lost app moment name body e told sessions said told' sessions'
 
--- THE route of events, which leaves the rows of tables
+-- THE route of events
 abbrev pub PostsEvent : Type 0 → App → ℕ → List ℕ → List ℕ → Option Tables → List (Named SessionState) → List ℕ → Option Tables → List (Named SessionState) → Type 0
 PostsEvent lost app moment name body told sessions said told' sessions' =
     PostsEventChecked lost app moment name body (checks event_in (λ (e : Event). e.seq) (session_of name sessions) body) told sessions said told' sessions'

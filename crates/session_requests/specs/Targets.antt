@@ -1,5 +1,5 @@
 -- What events and inputs act on, and which of them are refused.
-use Rattle.std.specs.Prelude.{◌≡◌, ℕ, ◌==◌, ◌&&◌, ℤ, pos, int_le, nat_le, Bool, true, false, is_some, bytes_eq, List, length, codes, encode_utf8_all, Option, Some, None, Result, Ok, Err, slice_get, IfSome, if◌then◌else◌}
+use Rattle.std.specs.Prelude.{◌≡◌, ℕ, ◌==◌, ◌&&◌, ℤ, pos, int_le, nat_le, Bool, true, false, not, is_some, bytes_eq, List, length, codes, encode_utf8_all, Option, Some, None, Result, Ok, Err, slice_get, IfSome, if◌then◌else◌}
 use Rattle.recalc.specs.app_cells.Spots.{item_or}
 use Rattle.recalc.specs.app_semantics.Chosen.{item_id, row_at}
 use Rattle.recalc.specs.app_semantics.Present.{items_of}
@@ -68,11 +68,12 @@ pub record IsItemOf (n : Names) (values : ℕ → Data) (gallery : Option ℕ) (
   pub row : Row
   pub there : row_at i.at (rows_in (items_of n values i.gallery)) ≡ Some row
 
--- a control of the app, and an item of its gallery where there is one
+-- a control of the app, and an item of its gallery, if it has one
 pub record IsTarget (n : Names) (values : ℕ → Data) (t : Target) : Type 0 where
   pub control : ControlName
   pub there : slice_get n.controls t.control ≡ Some control
   pub item : IfSome t.item (IsItemOf n values (gallery_of t.control control))
+  pub alone : t.item ≡ None → gallery_of t.control control ≡ None
 
 -- ---- events
 
@@ -137,10 +138,14 @@ least_of n values k = bound_of (property_value n values k (codes "Min") (number 
 abbrev pub greatest_of : Names → (ℕ → Data) → ℕ → Option ℤ
 greatest_of n values k = bound_of (property_value n values k (codes "Max") (number (pos 1000000)))
 
+-- a control takes input where its kind does, and what stands in a gallery takes none
+abbrev pub takes_input : ControlName → Bool
+takes_input c = is_some (input_type c.kind) && not (is_some c.gallery)
+
 abbrev pub input_at : Names → SessionState → (ℕ → Data) → Input → ℕ → Option ControlName → Result Given Refusal
 input_at n s values i k None = Err (plain 15)
 input_at n s values i k (Some c) =
-    or_refused (is_some (input_type c.kind)) 16 (or_refused (is_shown n s values k c) 17 (given_to k (input_by c.kind (least_of n values k) (greatest_of n values k) i.value)))
+    or_refused (takes_input c) 16 (or_refused (is_shown n s values k c) 17 (given_to k (input_by c.kind (least_of n values k) (greatest_of n values k) i.value)))
 
 abbrev pub input_named : Names → SessionState → (ℕ → Data) → Input → Option ℕ → Result Given Refusal
 input_named n s values i None = Err (plain 15)

@@ -1,49 +1,41 @@
-//! What an event or an input does to its session.
-ghost use Rattle.std.specs.Prelude.{◌≡◌, ◌<◌, IfErr, IfOk, IfSome, OnErr, Some, length, vec_capacity, vec_len};
-ghost use Rattle.request_checks.specs.Directory.{find, put as put_into};
+//! What an event or an input that passed its checks does.
+ghost use Rattle.std.specs.Prelude.{◌≡◌, ◌<◌, IfErr, IfOk, IfSome, OnErr, Some, false, length, option_map, vec_capacity, vec_len};
+ghost use Rattle.fx_base.specs.Silence.{Goes, IsLost};
+ghost use Rattle.fx_base.specs.Telling.{Stays};
+ghost use Rattle.fx_data.specs.ValueView.{view};
+ghost use Rattle.fx_trees.specs.declared.sources.Source.TheVariants as source;
+ghost use Rattle.recalc.specs.app_semantics.Sound.{IsSound};
+ghost use Rattle.recalc.specs.Values.{CellsFit, value_of};
+ghost use Rattle.request_checks.specs.Checked.{SessionsKeepReplies};
+ghost use Rattle.request_checks.specs.Directory.{put as put_into};
 ghost use Rattle.request_checks.specs.Replies.{IsReply, said};
-ghost use Rattle.session_state.specs.Sessions.{SessionState};
+ghost use Rattle.row_keeper.specs.Causes.{HasCause};
+ghost use Rattle.row_requests.specs.Sound.{AreSound};
+ghost use Rattle.session_events.specs.Triggers.{ItemFits};
+ghost use Rattle.session_state.specs.Changes.{FitsNames};
+ghost use Rattle.session_state.specs.Sessions.{Holds};
+ghost use Rattle.session_requests.specs.Acting.{EndsEvent, EndsInput, TakesEffect, answered, input_trigger as input_trigger_of, item_seen as item_seen_of, trigger_of as trigger_of_kind, with_input, with_target};
+ghost use Rattle.session_requests.specs.Posting.{SessionsFit};
+ghost use Rattle.session_requests.specs.Shown.{cell_values};
+ghost use Rattle.session_requests.specs.Targets.{IsTarget, input_target};
+ghost use Rattle.session_requests.specs.declared.input.Input.{Input as Asked};
 ghost use Rattle.view_text.specs.RefusalText.{Fits};
-ghost use Rattle.session_requests.specs.Acting.{Ends, IsAt, accepted_reply as accepted_bytes, with_input, with_target};
 
+use crate::app_cells::App;
 use crate::input::Given;
-use crate::target::Target;
+use crate::shown::item_row;
+use crate::target::{Item, Target};
 use fx_base::Memory;
-use fx_data::{Value, Words};
+use fx_data::{Control, Value, Words};
+use fx_trees::Names;
+use recalc::{Steps, Valued, is_true};
 use request_checks::{Named, Reply, put};
+use row_keeper::{Keeper, KeeperEnd};
+use session_events::{Accepted, Trigger, accept_request};
 use session_state::{Change, Session};
 use std::alloc::Global;
-use view_text::{Refusal, event_json};
-
-/// An accepted request: its reply, with a copy of it and of the body to keep.
-#[derive(Drop)]
-struct Accepted {
-    reply: Reply,
-    kept: Vec<u8>,
-    body: Vec<u8>,
-    name: Words,
-}
-
-/// Takes all memory that an accepted request needs, before anything changes.
-fn accept(alloc: Global, name: &Words, seq: u32, body: &[u8]) -> Result<Accepted, Memory>
-    ensures reply { IfOk result (λ a. said a.reply ≡ accepted_bytes seq) }
-    ensures whole { IfOk result (λ a. IsReply a.reply) }
-    ensures kept { IfOk result (λ a. a.kept.items ≡ accepted_bytes seq) }
-    ensures body { IfOk result (λ a. a.body.items ≡ body.now) }
-    ensures name { IfOk result (λ a. a.name ≡ name.now) }
-{
-    let text = event_json(alloc, &[], seq, &Value::Blank)?;
-    let reply = Reply::accept(alloc, &text)?;
-    let kept = Vec::from_slice(alloc, reply.whole())?;
-    let body = Vec::from_slice(alloc, body)?;
-    let name = name.copy(alloc)?;
-    Ok(Accepted {
-        reply,
-        kept,
-        body,
-        name,
-    })
-}
+use std::sync::ledger::Ledger;
+use view_text::Refusal;
 
 /// Gives a session what its user gave to a control, or takes it away.
 fn give(session: &mut Session, control: u32, given: Given)
@@ -69,82 +61,232 @@ fn choose(session: &mut Session, target: Target)
     }
 }
 
-/// Ends an input of the session at a place: what is accepted changes it and is answered, and what is refused leaves all.
-pub(crate) fn end_input(
-    alloc: Global,
-    sessions: &mut Vec<Named<Session>>,
-    place: usize,
-    name: &Words,
-    body: &[u8],
-    seq: u32,
-    verdict: Result<(u32, Given), Refusal>,
-) -> Result<Reply, Memory>
-    requires there { IsAt place name.now sessions.old.items }
-    requires number { IfOk verdict (λ g. (s : SessionState) → find name.now sessions.old.items ≡ Some s → g.0 < length s.inputs) }
-    requires detail { IfErr verdict (λ r. Fits r.code r.detail) }
-    ensures done { IfOk result (λ r. (s : SessionState) → find name.now sessions.old.items ≡ Some s
-        → Ends with_input name.now body.now seq s verdict sessions.old.items (said r) sessions.new.items) }
-    ensures whole { IfOk result IsReply }
-    ensures stopped { OnErr result (sessions.new.items ≡ sessions.old.items) }
+/// What acts as something is given to a control of a kind.
+fn trigger_of(kind: Control, control: u32, checked: bool) -> Trigger
+    ensures { result ≡ trigger_of_kind kind control checked }
 {
-    match verdict {
-        Ok((control, given)) => {
-            let accepted = accept(alloc, name, seq, body)?;
-            let mut session = sessions[place].it.copy()?;
-            sessions.reserve(1)?;
-            give(&mut session, control, given);
-            Ok(keep(sessions, session, seq, accepted))
-        }
-        Err(refusal) => Reply::refuse(alloc, &refusal),
+    match (kind, checked) {
+        (Control::Checkbox, true) => Trigger::OnCheck(control),
+        (Control::Checkbox, false) => Trigger::OnUncheck(control),
+        _ => Trigger::OnChange(control),
     }
 }
 
-/// Ends an event of the session at a place: what is accepted changes it and is answered, and what is refused leaves all.
-pub(crate) fn end_event(
+/// What acts as an input of a control is accepted, which stands in the session already.
+fn input_trigger(
     alloc: Global,
+    names: &Names,
+    session: &Session,
+    valued: &Valued,
+    control: u32,
+) -> Result<Trigger, Memory>
+    requires { Holds session.now (source.Input control) }
+    ensures { IfOk result (λ t. t ≡ input_trigger_of names.now session.now (value_of valued.now) control) }
+{
+    let value = valued.input(alloc, names, session, control)?;
+    let checked = is_true(Some(&value));
+    match names.controls.get(control as usize) {
+        Some(found) => Ok(trigger_of(found.kind, control, checked)),
+        None => Ok(Trigger::OnChange(control)),
+    }
+}
+
+/// The row of an item, as a record, where cells have these values.
+fn row_of(
+    alloc: Global,
+    names: &Names,
+    values: &[Value],
+    item: Option<Item>,
+) -> Result<Option<Value>, Memory>
+    ensures { IfOk result (λ o. option_map view o ≡ item_seen_of names.now (cell_values values.now) item) }
+{
+    let Some(item) = item else {
+        return Ok(None);
+    };
+    match item_row(names, values, item.gallery, item.at) {
+        Some(row) => {
+            let fields = row.copy(alloc)?;
+            Ok(Some(Value::Rec(fields)))
+        }
+        None => Ok(None),
+    }
+}
+
+/// The item that the formula of an event sees.
+fn item_seen(
+    alloc: Global,
+    names: &Names,
+    valued: &Valued,
+    item: Option<Item>,
+) -> Result<Option<Value>, Memory>
+    ensures { IfOk result (λ o. option_map view o ≡ item_seen_of names.now (value_of valued.now) item) }
+{
+    row_of(alloc, names, valued.as_slice(), item)
+}
+
+/// Ends an input of a session whose formulas have these values: what is accepted acts, and what is refused leaves all.
+pub(crate) fn end_input<K: Keeper, L: Ledger>(
+    alloc: Global,
+    app: &App,
     sessions: &mut Vec<Named<Session>>,
-    place: usize,
+    keeper: &mut K,
     name: &Words,
     body: &[u8],
     seq: u32,
-    verdict: Result<Target, Refusal>,
-) -> Result<Reply, Memory>
-    requires there { IsAt place name.now sessions.old.items }
-    requires number { IfOk verdict (λ t. (s : SessionState) → find name.now sessions.old.items ≡ Some s → IfSome t.item (λ i. i.gallery < length s.chosen)) }
+    mut session: Session,
+    valued: &Valued,
+    verdict: Result<(u32, Given), Refusal>,
+    moment: u64,
+    steps: &mut Steps<L>,
+) -> Result<Reply, KeeperEnd>
+    requires sound { IsSound app.now }
+    requires fits { FitsNames app.now.names session }
+    requires verdict { (i : Asked) × (verdict ≡ input_target app.now.names session (value_of valued.now) i) }
     requires detail { IfErr verdict (λ r. Fits r.code r.detail) }
-    ensures done { IfOk result (λ r. (s : SessionState) → find name.now sessions.old.items ≡ Some s
-        → Ends with_target name.now body.now seq s verdict sessions.old.items (said r) sessions.new.items) }
+    requires fit { SessionsFit app.now.names sessions.old.items }
+    requires kept { SessionsKeepReplies sessions.old.items }
+    requires shaped { K.shaped keeper.old ≡ Some app.now.names.schema }
+    requires rows { AreSound app.now.names.schema (K.told keeper.old) }
+    requires idle { K.in_transaction keeper.old ≡ false }
+    ensures done { IfOk result (λ r. EndsInput (IsLost (K.marks keeper.old) (K.marks keeper.new)) app.now moment name.now body.now seq session (value_of valued.now) verdict (K.told keeper.old) sessions.old.items (said r) (K.told keeper.new) sessions.new.items) }
     ensures whole { IfOk result IsReply }
     ensures stopped { OnErr result (sessions.new.items ≡ sessions.old.items) }
+    ensures left { OnErr result (Goes (IsLost (K.marks keeper.old) (K.marks keeper.new)) Stays (K.told keeper.old) (K.told keeper.new)) }
+    ensures fit { SessionsFit app.now.names sessions.new.items }
+    ensures kept { SessionsKeepReplies sessions.new.items }
+    ensures rows { AreSound app.now.names.schema (K.told keeper.new) }
+    ensures shaped { K.shaped keeper.new ≡ Some app.now.names.schema }
+    ensures idle { K.in_transaction keeper.new ≡ false }
+    ensures cause { HasCause (K.marks keeper.old) (K.marks keeper.new) result }
+    ensures loan { K.loan keeper.new ≡ K.loan keeper.old }
+{
+    match verdict {
+        Ok((control, given)) => {
+            give(&mut session, control, given);
+            let trigger = input_trigger(alloc, &app.names, &session, valued, control)?;
+            take_effect(
+                alloc, app, sessions, keeper, name, body, seq, session, moment, trigger, None,
+                steps,
+            )
+        }
+        Err(refusal) => Ok(Reply::refuse(alloc, &refusal)?),
+    }
+}
+
+/// Ends an event of a session whose formulas have these values: what is accepted acts, and what is refused leaves all.
+pub(crate) fn end_event<K: Keeper, L: Ledger>(
+    alloc: Global,
+    app: &App,
+    sessions: &mut Vec<Named<Session>>,
+    keeper: &mut K,
+    name: &Words,
+    body: &[u8],
+    seq: u32,
+    mut session: Session,
+    valued: &Valued,
+    verdict: Result<Target, Refusal>,
+    moment: u64,
+    steps: &mut Steps<L>,
+) -> Result<Reply, KeeperEnd>
+    requires sound { IsSound app.now }
+    requires fits { FitsNames app.now.names session }
+    requires cells { CellsFit app.now (value_of valued.now) }
+    requires verdict { IfOk verdict (λ t. IsTarget app.now.names (value_of valued.now) t) }
+    requires detail { IfErr verdict (λ r. Fits r.code r.detail) }
+    requires fit { SessionsFit app.now.names sessions.old.items }
+    requires kept { SessionsKeepReplies sessions.old.items }
+    requires shaped { K.shaped keeper.old ≡ Some app.now.names.schema }
+    requires rows { AreSound app.now.names.schema (K.told keeper.old) }
+    requires idle { K.in_transaction keeper.old ≡ false }
+    ensures done { IfOk result (λ r. EndsEvent (IsLost (K.marks keeper.old) (K.marks keeper.new)) app.now moment name.now body.now seq session (value_of valued.now) verdict (K.told keeper.old) sessions.old.items (said r) (K.told keeper.new) sessions.new.items) }
+    ensures whole { IfOk result IsReply }
+    ensures stopped { OnErr result (sessions.new.items ≡ sessions.old.items) }
+    ensures left { OnErr result (Goes (IsLost (K.marks keeper.old) (K.marks keeper.new)) Stays (K.told keeper.old) (K.told keeper.new)) }
+    ensures fit { SessionsFit app.now.names sessions.new.items }
+    ensures kept { SessionsKeepReplies sessions.new.items }
+    ensures rows { AreSound app.now.names.schema (K.told keeper.new) }
+    ensures shaped { K.shaped keeper.new ≡ Some app.now.names.schema }
+    ensures idle { K.in_transaction keeper.new ≡ false }
+    ensures cause { HasCause (K.marks keeper.old) (K.marks keeper.new) result }
+    ensures loan { K.loan keeper.new ≡ K.loan keeper.old }
 {
     match verdict {
         Ok(target) => {
-            let accepted = accept(alloc, name, seq, body)?;
-            let mut session = sessions[place].it.copy()?;
-            sessions.reserve(1)?;
+            let item = item_seen(alloc, &app.names, valued, target.item)?;
             choose(&mut session, target);
-            Ok(keep(sessions, session, seq, accepted))
+            let trigger = Trigger::OnSelect(target.control);
+            take_effect(
+                alloc, app, sessions, keeper, name, body, seq, session, moment, trigger, item,
+                steps,
+            )
         }
-        Err(refusal) => Reply::refuse(alloc, &refusal),
+        Err(refusal) => Ok(Reply::refuse(alloc, &refusal)?),
+    }
+}
+
+/// Does what an accepted request does to its session, in which what is given or chosen stands already: it acts, is answered and
+/// is kept. What stops leaves the sessions and the tables.
+fn take_effect<K: Keeper, L: Ledger>(
+    alloc: Global,
+    app: &App,
+    sessions: &mut Vec<Named<Session>>,
+    keeper: &mut K,
+    name: &Words,
+    body: &[u8],
+    seq: u32,
+    session: Session,
+    moment: u64,
+    trigger: Trigger,
+    item: Option<Value>,
+    steps: &mut Steps<L>,
+) -> Result<Reply, KeeperEnd>
+    requires sound { IsSound app.now }
+    requires fits { FitsNames app.now.names session }
+    requires item { ItemFits app.now trigger (option_map view item) }
+    requires fit { SessionsFit app.now.names sessions.old.items }
+    requires kept { SessionsKeepReplies sessions.old.items }
+    requires shaped { K.shaped keeper.old ≡ Some app.now.names.schema }
+    requires rows { AreSound app.now.names.schema (K.told keeper.old) }
+    requires idle { K.in_transaction keeper.old ≡ false }
+    ensures done { IfOk result (λ r. TakesEffect (IsLost (K.marks keeper.old) (K.marks keeper.new)) app.now moment trigger (option_map view item) name.now body.now seq session (K.told keeper.old) sessions.old.items (said r) (K.told keeper.new) sessions.new.items) }
+    ensures whole { IfOk result IsReply }
+    ensures stopped { OnErr result (sessions.new.items ≡ sessions.old.items) }
+    ensures left { OnErr result (Goes (IsLost (K.marks keeper.old) (K.marks keeper.new)) Stays (K.told keeper.old) (K.told keeper.new)) }
+    ensures fit { SessionsFit app.now.names sessions.new.items }
+    ensures kept { SessionsKeepReplies sessions.new.items }
+    ensures rows { AreSound app.now.names.schema (K.told keeper.new) }
+    ensures shaped { K.shaped keeper.new ≡ Some app.now.names.schema }
+    ensures idle { K.in_transaction keeper.new ≡ false }
+    ensures cause { HasCause (K.marks keeper.old) (K.marks keeper.new) result }
+    ensures loan { K.loan keeper.new ≡ K.loan keeper.old }
+{
+    let body = Vec::from_slice(alloc, body)?;
+    let name = name.copy(alloc)?;
+    sessions.reserve(1)?;
+    match accept_request(
+        alloc, app, session, keeper, moment, trigger, item, seq, steps,
+    ) {
+        Ok(accepted) => Ok(keep(sessions, name, seq, body, accepted)),
+        Err(end) => Err(end),
     }
 }
 
 /// Keeps what an accepted request leaves of its session, and gives the reply. It takes no memory.
 fn keep(
     sessions: &mut Vec<Named<Session>>,
-    mut session: Session,
+    name: Words,
     seq: u32,
+    body: Vec<u8>,
     accepted: Accepted,
 ) -> Reply
     requires room { vec_len sessions.old < vec_capacity sessions.old }
     ensures reply { result ≡ accepted.reply }
-    ensures kept { sessions.new.items ≡ put_into accepted.name (record session { kept = record { last = seq; body = accepted.body.items; reply = accepted.kept.items } }) sessions.old.items }
+    ensures kept { sessions.new.items ≡ put_into name (answered seq body.items accepted.kept.items accepted.session) sessions.old.items }
 {
     let Accepted {
+        mut session,
         reply,
         kept,
-        body,
-        name,
     } = accepted;
     session.keep(seq, body, kept);
     put(sessions, name, session);

@@ -7,7 +7,7 @@ ghost use Rattle.request_checks.specs.Replies.{is_plain, plain as plain_of};
 ghost use Rattle.view_text.specs.RefusalText.{Fits};
 ghost use Rattle.session_requests.specs.Shown.{cell_values};
 ghost use Rattle.session_requests.specs.declared.input.Input.{Input as InputBody};
-ghost use Rattle.session_requests.specs.Targets.{event_at, event_target as event_target_of, gallery_of as gallery_of_control, has_event as has_event_of, input_at, input_by as input_by_kind, input_target as input_target_of, is_within as is_within_bounds, takes as takes_of, unless_moved as unless_moved_of, with_item as with_item_of};
+ghost use Rattle.session_requests.specs.Targets.{event_at, event_target as event_target_of, gallery_of as gallery_of_control, has_event as has_event_of, input_at, input_by as input_by_kind, input_target as input_target_of, is_within as is_within_bounds, takes as takes_of, takes_input as takes_input_of, unless_moved as unless_moved_of, with_item as with_item_of};
 
 use crate::event::{Event, Place};
 use crate::input::{Given, Input};
@@ -192,6 +192,13 @@ fn input_by(
     }
 }
 
+/// Whether a control takes input. What stands in a gallery takes none.
+fn takes_input(control: &ControlName) -> bool
+    ensures { result ≡ takes_input_of control.now }
+{
+    input_ty(control.kind).is_some() && control.gallery.is_none()
+}
+
 /// What the user of a control gives.
 fn given_at(
     names: &Names,
@@ -204,7 +211,7 @@ fn given_at(
     ensures is { (s : SessionState) (i : InputBody) → s.screen ≡ screen → i.value ≡ given → result ≡ input_at names.now s (cell_values values.now) i number (Some control.now) }
     ensures detail { IfErr result (λ r. Fits r.code r.detail) }
 {
-    if input_ty(control.kind).is_none() {
+    if !takes_input(control) {
         return Err(plain(16));
     }
     if !is_shown(names, screen, values, number, control) {

@@ -1,8 +1,9 @@
 //! Laws of sessions' requests.
 ghost use Rattle.session_requests.specs.Laws.{ActsOnce, IsOneOutcome, LeavesOthers};
 
-use crate::app_semantics::{fresh_fits, one_fresh};
+use crate::app_semantics::{fitting_holds, fresh_fits, one_fresh};
 use crate::fx_semantics::one_value;
+use session_events::one_running;
 
 /// A law, and no work: what is sent by a session leaves every other as it was.
 pub fn leaves_others()
@@ -14,11 +15,13 @@ pub fn acts_once()
     ensures { ActsOnce }
 {}
 
-/// A law, and no work: what a session sends has one outcome, and the reply hangs on no other session.
+/// A law, and no work: what a session sends has one outcome where tables are told, and the reply hangs on no other session.
 pub fn one_outcome()
     ensures { IsOneOutcome }
 {
+    fitting_holds();
     fresh_fits();
     one_fresh();
     one_value();
+    one_running();
 }

@@ -1,19 +1,40 @@
-use Rattle.std.proofs.Common.{◌<◌, ◌∙◌, length, subst, sym, ap}
-use Rattle.session_state.specs.Sessions.{SessionState}
-use Rattle.request_checks.specs.Replies.{said}
-use Rattle.session_requests.specs.Acting.{with_input}
+use Rattle.std.proofs.Common.{◌≡◌, None, subst, sym}
+use Rattle.recalc.specs.app_semantics.Present.{input_of}
+use Rattle.recalc.specs.app_semantics.Properties.{is_true}
+use Rattle.recalc.specs.Values.{value_of}
+use Rattle.session_events.specs.Triggers.{ItemFits}
+use Rattle.session_events.specs.declared.trigger.Trigger.{Trigger}
+use Rattle.session_state.specs.Changes.{FitsNames}
 use Rattle.session_requests.specs.Targets.{Given}
-use Rattle.session_requests.proofs.Endings.{ended, find_at, session_is}
+use Rattle.session_requests.proofs.Acted.{input_item}
+use Rattle.session_requests.proofs.Fitting.{input_fits}
+use Rattle.session_requests.proofs.Posted.{given_of, has_input, taker_of}
 use Rattle.session_requests.proofs.acting.end_input.Goals as goal
 
 pub give-requires : goal.give-requires
-give-requires c =
-    let number = rw c.in-Ok.is at c.requires.number in
-    subst (λ (s : SessionState). c.in-Ok.control < length s.inputs) (sym c.in_ok-session-in-Ok.ensures)
-    (number c.index.result.now.it (find_at c.args.place c.args.name.now c.args.sessions.now.items c.index.result.now c.requires.there c.index.ensures))
+give-requires g c =
+    let given : Given = (c.in-Ok.control, c.in-Ok.given) in
+    has_input c.args.app.now.names c.args.session given c.requires.fits (given_of c.args.app.now.names c.args.session (value_of c.args.valued.now) c.args.verdict given c.requires.verdict c.in-Ok.is)
 
-pub returns-in_ok-reserve-in-Ok-clause-done : goal.returns-in_ok-reserve-in-Ok-clause-done
-returns-in_ok-reserve-in-Ok-clause-done c = λ s found.
-    ended Given with_input c.args.name.now c.in_ok-accepted-in-Ok.accepted.name c.args.body.now c.in_ok-accepted-in-Ok.accepted.body.items c.in_ok-accepted-in-Ok.accepted.kept.items (said c.keep.result) c.args.seq (c.in-Ok.control, c.in-Ok.given) c.args.verdict s c.in_ok-session-in-Ok.session c.give.new.session c.args.sessions.now.items c.reserve.new.self.items c.keep.new.sessions.items
-    c.in-Ok.is (c.in_ok-session-in-Ok.ensures ∙ session_is c.args.place c.args.name.now c.args.sessions.now.items c.index.result.now s c.requires.there c.index.ensures found) c.give.ensures
-    c.in_ok-accepted-in-Ok.ensures.name c.in_ok-accepted-in-Ok.ensures.body c.in_ok-accepted-in-Ok.ensures.kept (ap said c.keep.ensures.reply ∙ c.in_ok-accepted-in-Ok.ensures.reply) c.in_ok-reserve-in-Ok.ensures.items c.keep.ensures.kept
+pub input_trigger-requires : goal.input_trigger-requires
+input_trigger-requires g c =
+    let names = c.args.app.now.names in
+    let given : Given = (c.in-Ok.control, c.in-Ok.given) in
+    let fits = given_of names c.args.session (value_of c.args.valued.now) c.args.verdict given c.requires.verdict c.in-Ok.is in
+    has_input names c.give.new.session given (subst (FitsNames names) (sym c.give.ensures) (input_fits names c.args.session given c.requires.fits fits)) fits
+
+pub take_effect-requires-clause-fits : goal.take_effect-requires-clause-fits
+take_effect-requires-clause-fits g c =
+    let names = c.args.app.now.names in
+    let given : Given = (c.in-Ok.control, c.in-Ok.given) in
+    subst (FitsNames names) (sym c.give.ensures)
+    (input_fits names c.args.session given c.requires.fits (given_of names c.args.session (value_of c.args.valued.now) c.args.verdict given c.requires.verdict c.in-Ok.is))
+
+pub take_effect-requires-clause-item : goal.take_effect-requires-clause-item
+take_effect-requires-clause-item g c =
+    let names = c.args.app.now.names in
+    let values = value_of c.args.valued.now in
+    let given : Given = (c.in-Ok.control, c.in-Ok.given) in
+    subst (λ (t : Trigger). ItemFits c.args.app.now t None) (sym c.in_ok-trigger-in-Ok.ensures)
+    (input_item c.args.app.now c.in-Ok.control (is_true (input_of names c.give.new.session values c.in-Ok.control))
+    (taker_of names c.args.session values c.args.verdict given c.requires.verdict c.in-Ok.is))

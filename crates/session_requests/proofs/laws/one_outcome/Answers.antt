@@ -2,4 +2,10 @@ use Rattle.session_requests.proofs.Outcomes.{one_outcome}
 use Rattle.session_requests.proofs.laws.one_outcome.Goals as goal
 
 pub returns : goal.returns
-returns c = one_outcome c.one_value.ensures c.fresh_fits.ensures c.one_fresh.ensures
+returns c = one_outcome (record {
+  value = c.one_value.ensures;
+  fit = c.fresh_fits.ensures;
+  fresh = c.one_fresh.ensures;
+  holds = c.fitting_holds.ensures;
+  running = c.one_running.ensures;
+})
