@@ -9,16 +9,21 @@ use Rattle.app_wire.specs.ReplyBytes.{refusal}
 use Rattle.app_wire.specs.Routing.{IsOneRoute, method_of}
 use Rattle.app_wire.specs.declared.head.Method.TheVariants.{Post}
 use Rattle.app_cells.specs.declared.app.App.{App}
+use Rattle.fx_data.specs.Values.{Data}
+use Rattle.session_events.specs.declared.trigger.Trigger.{Trigger}
+use Rattle.session_events.specs.declared.trigger.Trigger.TheVariants.{OnSelect}
 use Rattle.app_wire.specs.declared.route.Route.{Route}
 use Rattle.app_wire.specs.declared.route.Route.TheVariants.{Begin, End, View, Named as Shown, Items, Event, Input, Rows, Edit, Page, Plan, Graph}
 use Rattle.session_state.specs.Once.{Kept}
 use Rattle.row_requests.specs.Bodies.{posted_in}
 use Rattle.request_checks.specs.Checks.{IsLastAsked, checks, desk_of, if_live, session_of}
 use Rattle.session_state.specs.Sessions.{SessionState}
-use Rattle.session_requests.specs.Acting.{Ends, answered, with_input, with_target}
+use Rattle.session_requests.specs.Acting.{EndsEvent, EndsInput, TakesEffect, answered, input_trigger, item_seen, with_input, with_target}
 use Rattle.session_requests.specs.Bodies.{event_in, input_in}
 use Rattle.session_requests.specs.Laws as laws
 use Rattle.session_requests.specs.Posting.{PostsEvent, PostsEventChecked, PostsInput, PostsInputChecked}
+use Rattle.session_requests.specs.Targets.{Given as Value, input_target}
+use Rattle.session_requests.specs.declared.target.Target.{Target}
 use Rattle.session_requests.specs.declared.event.Event.{Event as Sent}
 use Rattle.session_requests.specs.declared.input.Input.{Input as Given}
 use Rattle.office.specs.DeskEdits.{Ends as Edited, Parts, PostsChecked as EditChecked, PostsEdit, accepted_reply as edit_reply, edit_checks}
@@ -90,35 +95,43 @@ same_kept : (name : List ℕ) (xs ys : List (Named SessionState)) → xs ≡ ys 
 same_kept name xs ys e = ap (λ (l : List (Named SessionState)). kept_of_session (find name l)) e
 
 -- an accepted request is kept
-ends_kept : (T U : Type 0) (asked : json.Data → Option T) (number : T → ℕ) (change : U → SessionState → SessionState) (name body said : List ℕ) (it : T) (s : SessionState)
-    (r : Result U Refusal) (sessions sessions' : List (Named SessionState)) → Asks T asked body it → Ends change name body (number it) s r sessions said sessions'
-    → kept_of_session (find name sessions') ≢ kept_of_session (find name sessions) → IsKeptOf T asked number sessions' name body said
-ends_kept T U asked number change name body said it s (Err r) sessions sessions' asks h differ = absurd (differ (same_kept name sessions' sessions h.1))
-ends_kept T U asked number change name body said it s (Ok u) sessions sessions' asks h differ = record {
-  state = answered (number it) body (change u s);
-  found = ap (find name) h.1 ∙ find_put SessionState name (answered (number it) body (change u s)) sessions;
+effect_kept : (lost : Type 0) (T : Type 0) (asked : json.Data → Option T) (number : T → ℕ) (app : App) (moment : ℕ) (trigger : Trigger) (item : Option Data) (name body said : List ℕ) (it : T) (s : SessionState)
+    (told told' : Option Tables) (xs ys : List (Named SessionState)) → Asks T asked body it → TakesEffect lost app moment trigger item name body (number it) s told xs said told' ys → IsKeptOf T asked number ys name body said
+effect_kept lost T asked number app moment trigger item name body said it s told told' xs ys asks h = record {
+  state = answered (number it) body said h.end;
+  found = ap (find name) h.kept ∙ find_put SessionState name (answered (number it) body said h.end) xs;
   last = record { value = asks.value; is_json = asks.is_json; it = it; shape = asks.shape; last = refl };
   body_is = refl;
-  reply_is = sym h.0;
+  reply_is = refl;
 }
 
 event_kept : (lost : Type 0) (app : App) (moment : ℕ) (name body said : List ℕ) (told told' : Option Tables) (xs ys : List (Named SessionState)) → PostsEvent lost app moment name body told xs said told' ys
     → kept_of_session (find name ys) ≢ kept_of_session (find name xs) → IsKeptOf Sent event_in event_number ys name body said
 event_kept lost app moment name body said told told' xs ys h differ = by (checks event_in event_number (session_of name xs) body) refl h
   where
+    ended : (it : Sent) → Asks Sent event_in body it → (s : SessionState) (values : ℕ → Data) (v : Result Target Refusal) (seen : Option Tables) → EndsEvent lost app moment name body it.seq s values v seen xs said told' ys
+        → IsKeptOf Sent event_in event_number ys name body said
+    ended it asks s values (Err r) seen k = absurd (differ (same_kept name ys xs k.1))
+    ended it asks s values (Ok t) seen k =
+        effect_kept lost Sent event_in event_number app moment (OnSelect t.control) (item_seen app.names values t.item) name body said it (with_target t s) seen told' xs ys asks k
+
     by : (r : Result Sent (List ℕ)) → checks event_in event_number (session_of name xs) body ≡ r → PostsEventChecked lost app moment name body r told xs said told' ys → IsKeptOf Sent event_in event_number ys name body said
     by (Err words) e k = absurd (differ (same_kept name ys xs k.1))
-    by (Ok it) e k =
-        ends_kept Sent _ event_in event_number with_target name body said it k.0.session k.0.verdict xs ys (passed Sent event_in event_number (session_of name xs) body it e) k.0.ends differ
+    by (Ok it) e k = ended it (passed Sent event_in event_number (session_of name xs) body it e) k.session k.values k.verdict k.seen k.ends
 
 input_kept : (lost : Type 0) (app : App) (moment : ℕ) (name body said : List ℕ) (told told' : Option Tables) (xs ys : List (Named SessionState)) → PostsInput lost app moment name body told xs said told' ys
     → kept_of_session (find name ys) ≢ kept_of_session (find name xs) → IsKeptOf Given input_in input_number ys name body said
 input_kept lost app moment name body said told told' xs ys h differ = by (checks input_in input_number (session_of name xs) body) refl h
   where
+    ended : (it : Given) → Asks Given input_in body it → (s : SessionState) (values : ℕ → Data) (v : Result Value Refusal) (seen : Option Tables) → EndsInput lost app moment name body it.seq s values v seen xs said told' ys
+        → IsKeptOf Given input_in input_number ys name body said
+    ended it asks s values (Err r) seen k = absurd (differ (same_kept name ys xs k.1))
+    ended it asks s values (Ok g) seen k =
+        effect_kept lost Given input_in input_number app moment (input_trigger app.names (with_input g s) values g.0) None name body said it (with_input g s) seen told' xs ys asks k
+
     by : (r : Result Given (List ℕ)) → checks input_in input_number (session_of name xs) body ≡ r → PostsInputChecked lost app moment name body r told xs said told' ys → IsKeptOf Given input_in input_number ys name body said
     by (Err words) e k = absurd (differ (same_kept name ys xs k.1))
-    by (Ok it) e k =
-        ends_kept Given _ input_in input_number with_input name body said it k.0.session _ xs ys (passed Given input_in input_number (session_of name xs) body it e) k.0.ends differ
+    by (Ok it) e k = ended it (passed Given input_in input_number (session_of name xs) body it e) k.session k.values (input_target app.names k.session k.values it) k.seen k.ends
 
 -- ---- edits
 

@@ -1,10 +1,8 @@
 -- What is left of a desk's edit.
-use Rattle.std.proofs.Common.{◌≡◌, ℕ, zero, suc, List, [], ◌∷◌, ◌++◌, Option, Some, None, Result, Ok, Err, refl, ap, sym, ◌∙◌, subst}
+use Rattle.std.proofs.Common.{◌≡◌, ℕ, zero, suc, List, [], ◌∷◌, ◌++◌, Option, Some, None, refl, ◌∙◌}
 use Rattle.std.specs.Prelude.{slice_set}
 use Rattle.std.specs.List.{AllByRecursion, position}
 use Rattle.serde_json.specs.Written.{compact_text}
-use Rattle.app_cells.specs.declared.app.App.{App}
-use Rattle.fx_trees.specs.declared.broken.Broken.{Broken}
 use Rattle.request_checks.specs.Directory.{is_named, put, put_at}
 use Rattle.request_checks.specs.Replies.{IsAccepted, KeepReplies}
 use Rattle.request_checks.specs.declared.directory.Named.{Named}

@@ -2,11 +2,13 @@
 use Rattle.std.proofs.Common.{◌≡◌, ◌≢◌, ℕ, zero, suc, Bool, true, false, List, [], ◌∷◌, ◌++◌, Option, Some, None, refl, ap, sym, ◌∙◌, subst, arith}
 use Rattle.std.specs.Prelude.{option_map, slice_set}
 use Rattle.std.proofs.lemmas.Grind.{common_steps}
+use Rattle.request_checks.specs.Checked.{KeepsReply, SessionsKeepReplies}
 use Rattle.request_checks.specs.Directory.{find, is_named, put, put_at}
 use Rattle.request_checks.specs.declared.directory.Named.{Named}
 use Rattle.request_checks.proofs.Directories.{find_here, find_past, same_bytes}
 use Rattle.std.specs.List.{AllByRecursion, position}
 use Rattle.fx_trees.specs.declared.names.Names.{Names}
+use Rattle.session_events.specs.Scenes.{quiet, unasked}
 use Rattle.session_state.specs.Carrying.{carried}
 use Rattle.session_state.specs.Changes.{FitsNames}
 use Rattle.session_state.specs.Sessions.{SessionState}
@@ -88,3 +90,11 @@ all_at T P (Some k) x xs h p = all_set T P xs k x h p
 
 pub put_all : (T : Type 0) (P : Named T → Type 0) (name : List ℕ) (it : T) (list : List (Named T)) → AllByRecursion P list → P (record { name = name; it = it }) → AllByRecursion P (put name it list)
 put_all T P name it list all is = all_at T P (position (is_named name) list) (record { name = name; it = it }) list all is
+
+-- a session that was just opened keeps no reply yet
+pub begun_keep : (name : List ℕ) (s end : SessionState) (xs ys zs : List (Named SessionState)) → s ≡ unasked (quiet end) → SessionsKeepReplies xs → ys ≡ xs → zs ≡ put name s ys → SessionsKeepReplies zs
+begun_keep name s end xs ys zs left keep same h =
+    let none : s.kept.last ≡ 0 = ap (λ (x : SessionState). x.kept.last) left in
+    subst (λ (l : List (Named SessionState)). SessionsKeepReplies l) (sym h)
+    (put_all SessionState (λ (n : Named SessionState). KeepsReply n.it.kept) name s ys (subst (λ (l : List (Named SessionState)). SessionsKeepReplies l) (sym same) keep)
+    (λ one. absurd (omega (arith, one, none))))

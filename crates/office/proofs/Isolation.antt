@@ -1,5 +1,5 @@
 -- What callers have to do with one another.
-use Rattle.std.proofs.Common.{◌≡◌, ◌≢◌, ◌⊎◌, ℕ, inl, inr, Bool, true, false, cond, nat_le, List, [], ◌∷◌, length, Option, None, Some, Result, Ok, Err, refl, ap, sym, ◌∙◌, subst}
+use Rattle.std.proofs.Common.{◌≡◌, ◌≢◌, ◌⊎◌, ℕ, inl, inr, List, [], ◌∷◌, Option, None, Some, Result, Ok, Err, refl, ap, sym, ◌∙◌, subst}
 use Rattle.std.specs.Prelude.{option_map}
 use Rattle.fx_base.specs.Silence.{IsLost, Marks}
 use Rattle.app_cells.specs.declared.app.App.{App}
@@ -11,32 +11,29 @@ use Rattle.app_loader.specs.app_semantics.Sound.{IsSound}
 use Rattle.app_views.specs.Laws.{OneItemsReply, OneViewReply}
 use Rattle.app_views.specs.Shows.{ShowsItemsTo, ShowsViewTo}
 use Rattle.app_wire.specs.Framing.{Asked}
-use Rattle.app_wire.specs.ReplyBytes.{refusal, reply}
+use Rattle.app_wire.specs.ReplyBytes.{reply}
 use Rattle.app_wire.specs.Routing.{IsOneRoute, Routing, method_of}
-use Rattle.app_wire.specs.declared.head.Method.TheVariants.{Put}
+use Rattle.app_wire.specs.declared.head.Method.TheVariants.{Get}
 use Rattle.app_wire.specs.declared.route.Route.{Route}
 use Rattle.app_wire.specs.declared.route.Route.TheVariants.{Begin, End, View, Named as Shown, Items, Event, Input, Rows, Edit, Page, Plan, Graph}
 use Rattle.app_wire.specs.declared.route.RouteEnd.{RouteEnd}
 use Rattle.app_wire.specs.declared.route.RouteEnd.TheVariants.{NoRoute, WrongMethod, Memory}
-use Rattle.fx_trees.specs.declared.names.Names.{Names}
 use Rattle.row_keeper.specs.Tables.{Tables, rows_told}
 use Rattle.row_queries.specs.declared.rows.Row.{Row}
 use Rattle.session_state.specs.Carrying.{carried}
 use Rattle.session_state.specs.Changes.{FitsNames}
-use Rattle.session_state.specs.Sessions.{SessionState, opened}
-use Rattle.view_text.specs.ReplyText.{ok_text}
+use Rattle.session_state.specs.Sessions.{SessionState}
 use Rattle.row_requests.specs.DeskRows.{desk_checks}
-use Rattle.request_checks.specs.Directory.{find, is_among, put}
+use Rattle.request_checks.specs.Directory.{find}
 use Rattle.request_checks.specs.declared.directory.Named.{Named}
 use Rattle.office.specs.Answers.{Exchange, Plays}
 use Rattle.office.specs.DeskEdits.{PostsEdit, all_carried}
 use Rattle.office.specs.Editing.{IsEdit}
 use Rattle.office.specs.Isolation.{AreOfOthers, Caller, IsCarried, IsOf, caller_of, desk, kept_of_session, session}
-use Rattle.session_requests.specs.Posting.{PostsEvent, PostsInput}
-use Rattle.session_requests.specs.Laws.{IsOneOutcome, LeavesOthers}
+use Rattle.session_requests.specs.Laws.{LeavesOthers}
 use Rattle.office.specs.NamedReply.{IsNamedBody}
 use Rattle.office.specs.Ready.{IsSettled}
-use Rattle.office.specs.Sessions.{ShowsNamedTo, begins, most_sessions}
+use Rattle.office.specs.Sessions.{BeginsChecked, BeginsSession, ShowsNamedTo, begin_checks}
 use Rattle.office.specs.State.{State, schema_of}
 use Rattle.office.specs.Step.{Answered, Does, DoesAt, Step, parts_of}
 use Rattle.office.proofs.Repeats.{carries_sessions, leaves_others as edits_leave}
@@ -47,13 +44,13 @@ use Rattle.office.proofs.Replies.{one_body}
 
 -- ---- the records of others
 
-begins_others : (names : Names) (name other : List ℕ) (sessions : List (Named SessionState)) → name ≢ other → find other (begins names name sessions).0 ≡ find other sessions
-begins_others names name other sessions differ = by (is_among name sessions) (nat_le most_sessions (length sessions))
+begins_others : (lost : Type 0) (app : App) (moment : ℕ) (name other said : List ℕ) (told told' : Option Tables) (xs ys : List (Named SessionState)) → name ≢ other
+    → BeginsSession lost app moment name told xs said told' ys → find other ys ≡ find other xs
+begins_others lost app moment name other said told told' xs ys differ h = by (begin_checks name xs) h
   where
-    by : (v w : Bool) → find other (cond {A = List (Named SessionState) × List ℕ} v (sessions, reply 200 ok_text) (cond w (sessions, refusal 12) (put name (opened names) sessions, reply 200 ok_text))).0 ≡ find other sessions
-    by true w = refl
-    by false true = refl
-    by false false = find_other SessionState name other (opened names) sessions differ
+    by : (o : Option (List ℕ)) → BeginsChecked lost app moment name o told xs said told' ys → find other ys ≡ find other xs
+    by (Some words) k = ap (find other) k.2
+    by None k = ap (find other) k.keeps ∙ find_other SessionState name other k.session xs differ
 
 sessions_of : (s new : State) → new ≡ s → new.sessions ≡ s.sessions
 sessions_of s new e = ap (λ (x : State). x.sessions) e
@@ -80,8 +77,8 @@ edit_leaves n body s new said name h = by (carries_sessions n body said (parts_o
 pub does_session : LeavesOthers → (before now : Marks) (moment : ℕ) (route : Route) (body : List ℕ) (s new : State) (said name : List ℕ)
     → Does (IsLost before now) moment route body s said new → caller_of route ≢ Some (session name) → IsLeft route s new name
 unfolding Does
-does_session others before now moment (Begin n) body s new said name does other = inl (ap (λ (p : List (Named SessionState) × List ℕ). find name p.0) does.0
-    ∙ begins_others s.app.names n name s.sessions (λ e. other (ap (λ (m : List ℕ). Some (session m)) e)))
+does_session others before now moment (Begin n) body s new said name does other =
+    inl (begins_others (IsLost before now) s.app moment n name said s.tables new.tables s.sessions new.sessions (λ e. other (ap (λ (m : List ℕ). Some (session m)) e)) does.0)
 does_session others before now moment (End n) body s new said name does other = inl (ap (λ (x : State). find name x.sessions) does.1 ∙ find_without SessionState n name s.sessions (λ e. other (ap (λ (m : List ℕ). Some (session m)) e)))
 does_session others before now moment (View n) body s new said name does other = inl (ap (λ (x : State). find name x.sessions) does.1)
 does_session others before now moment (Shown n) body s new said name does other = inl (ap (λ (x : State). find name x.sessions) does.1)
@@ -212,11 +209,10 @@ shows_alike once holds lost lost' moment a (Some s) k l m n said said' sound fit
 pub holds_found : FittingHolds → (a : State) (name : List ℕ) → IsSettled a → (s : SessionState) → find name a.sessions ≡ Some s → HoldsFitting a.app.names s
 holds_found holds a name settled s found = holds a.app.names s (found_fits a.app.names a.sessions name s settled.fit found)
 
--- what is known of replies to sessions
+-- what is known of what is shown to sessions
 pub record ReplyLaws : Type 0 where
   pub fresh : OneFresh
   pub holds : FittingHolds
-  pub outcome : IsOneOutcome
   pub view : OneViewReply
   pub items : OneItemsReply
 
@@ -224,42 +220,37 @@ pub record ReplyLaws : Type 0 where
 said_with : (Says : App → Option SessionState → Type 0) (app app' : App) (o o' : Option SessionState) → app ≡ app' → o ≡ o' → Says app' o' → Says app o
 said_with Says app app' o o' e f h = subst (λ (x : Option SessionState). Says app x) (sym f) (subst (λ (x : App). Says x o') (sym e) h)
 
-does_alike : ReplyLaws → (p p' q q' : Marks) (moment : ℕ) (route : Route) (body : List ℕ) (a b new new' : State) (said said' name : List ℕ)
-    → caller_of route ≡ Some (session name) → method_of route ≢ Put → IsSettled a → a.app ≡ b.app → find name a.sessions ≡ find name b.sessions → AreKnown a.app (rows_told new.tables) → rows_told new.tables ≡ rows_told new'.tables
+-- a route by which something is shown to a session
+pub shows_one : ReplyLaws → (p p' q q' : Marks) (moment : ℕ) (route : Route) (body : List ℕ) (a b new new' : State) (said said' name : List ℕ)
+    → caller_of route ≡ Some (session name) → method_of route ≡ Get → IsSettled a → a.app ≡ b.app → find name a.sessions ≡ find name b.sessions → AreKnown a.app (rows_told new.tables) → rows_told new.tables ≡ rows_told new'.tables
     → Does (IsLost p p') moment route body a said new → Does (IsLost q q') moment route body b said' new' → said ≡ said'
 unfolding Does
-does_alike laws p p' q q' moment (Begin n) body a b new new' said said' name is other settled app same known rows h k = absurd (other refl)
-does_alike laws p p' q q' moment (End n) body a b new new' said said' name is other settled app same known rows h k = h.0 ∙ sym k.0
-does_alike laws p p' q q' moment (View n) body a b new new' said said' name is other settled app same known rows h k =
+shows_one laws p p' q q' moment (Begin n) body a b new new' said said' name is reads settled app same known rows h k = absurd cc
+shows_one laws p p' q q' moment (End n) body a b new new' said said' name is reads settled app same known rows h k = absurd cc
+shows_one laws p p' q q' moment (View n) body a b new new' said said' name is reads settled app same known rows h k =
     let named : name ≡ n = cc in
     laws.view p p' q q' a.app moment (find n a.sessions) a.tables new.tables b.tables new'.tables said said' settled.app (holds_found laws.holds a n settled) known rows h.0
     (said_with (λ x o. ShowsViewTo (IsLost q q') x moment o b.tables said' new'.tables) a.app b.app (find n a.sessions) (find n b.sessions) app (subst (λ m. find m a.sessions ≡ find m b.sessions) named same) k.0)
-does_alike laws p p' q q' moment (Shown n) body a b new new' said said' name is other settled app same known rows h k =
+shows_one laws p p' q q' moment (Shown n) body a b new new' said said' name is reads settled app same known rows h k =
     let named : name ≡ n = cc in
     shows_alike laws.fresh laws.holds (IsLost p p') (IsLost q q') moment a.app (find n a.sessions) a.tables new.tables b.tables new'.tables said said' settled.app
     (λ s e. found_fits a.app.names a.sessions n s settled.fit e) known rows h.0
     (said_with (λ x o. ShowsNamedTo (IsLost q q') x moment o b.tables said' new'.tables) a.app b.app (find n a.sessions) (find n b.sessions) app (subst (λ m. find m a.sessions ≡ find m b.sessions) named same) k.0)
-does_alike laws p p' q q' moment (Items n gallery from) body a b new new' said said' name is other settled app same known rows h k =
+shows_one laws p p' q q' moment (Items n gallery from) body a b new new' said said' name is reads settled app same known rows h k =
     let named : name ≡ n = cc in
     laws.items p p' q q' a.app moment gallery from (find n a.sessions) a.tables new.tables b.tables new'.tables said said' settled.app (holds_found laws.holds a n settled) known rows h.0
     (said_with (λ x o. ShowsItemsTo (IsLost q q') x moment gallery from o b.tables said' new'.tables) a.app b.app (find n a.sessions) (find n b.sessions) app (subst (λ m. find m a.sessions ≡ find m b.sessions) named same) k.0)
-does_alike laws p p' q q' moment (Event n) body a b new new' said said' name is other settled app same known rows h k =
-    let named : name ≡ n = cc in
-    ((laws.outcome p p' q q' a.app moment n body said said' a.tables new.tables b.tables new'.tables a.sessions new.sessions b.sessions new'.sessions settled.app (holds_found laws.holds a n settled)
-    (subst (λ m. find m a.sessions ≡ find m b.sessions) named same) known rows).1 h.0 (subst (λ (x : App). PostsEvent (IsLost q q') x moment n body b.tables b.sessions said' new'.tables new'.sessions) (sym app) k.0)).0
-does_alike laws p p' q q' moment (Input n) body a b new new' said said' name is other settled app same known rows h k =
-    let named : name ≡ n = cc in
-    ((laws.outcome p p' q q' a.app moment n body said said' a.tables new.tables b.tables new'.tables a.sessions new.sessions b.sessions new'.sessions settled.app (holds_found laws.holds a n settled)
-    (subst (λ m. find m a.sessions ≡ find m b.sessions) named same) known rows).0 h.0 (subst (λ (x : App). PostsInput (IsLost q q') x moment n body b.tables b.sessions said' new'.tables new'.sessions) (sym app) k.0)).0
-does_alike laws p p' q q' moment (Rows n) body a b new new' said said' name is other settled app same known rows h k = cc
-does_alike laws p p' q q' moment (Edit n) body a b new new' said said' name is other settled app same known rows h k = cc
-does_alike laws p p' q q' moment (Page table after) body a b new new' said said' name is other settled app same known rows h k = cc
-does_alike laws p p' q q' moment Plan body a b new new' said said' name is other settled app same known rows h k = cc
-does_alike laws p p' q q' moment Graph body a b new new' said said' name is other settled app same known rows h k = cc
+shows_one laws p p' q q' moment (Event n) body a b new new' said said' name is reads settled app same known rows h k = absurd cc
+shows_one laws p p' q q' moment (Input n) body a b new new' said said' name is reads settled app same known rows h k = absurd cc
+shows_one laws p p' q q' moment (Rows n) body a b new new' said said' name is reads settled app same known rows h k = cc
+shows_one laws p p' q q' moment (Edit n) body a b new new' said said' name is reads settled app same known rows h k = cc
+shows_one laws p p' q q' moment (Page table after) body a b new new' said said' name is reads settled app same known rows h k = cc
+shows_one laws p p' q q' moment Plan body a b new new' said said' name is reads settled app same known rows h k = cc
+shows_one laws p p' q q' moment Graph body a b new new' said said' name is reads settled app same known rows h k = cc
 
-pub is_alone : ReplyLaws → IsOneRoute → (k l m n : Marks) (a b new new' : State) (moment : ℕ) (request : Asked) (said said' name : List ℕ)
-    → IsOf (session name) request → request.method ≢ Put → IsSettled a → a.app ≡ b.app → find name a.sessions ≡ find name b.sessions → AreKnown a.app (rows_told new.tables) → rows_told new.tables ≡ rows_told new'.tables
+pub reads_alone : ReplyLaws → IsOneRoute → (k l m n : Marks) (a b new new' : State) (moment : ℕ) (request : Asked) (said said' name : List ℕ)
+    → IsOf (session name) request → request.method ≡ Get → IsSettled a → a.app ≡ b.app → find name a.sessions ≡ find name b.sessions → AreKnown a.app (rows_told new.tables) → rows_told new.tables ≡ rows_told new'.tables
     → Step (IsLost k l) a moment request said new → Step (IsLost m n) b moment request said' new' → said ≡ said'
-is_alone laws one k l m n a b new new' moment request said said' name of other settled app same known rows first second =
-    does_alike laws k l m n moment of.route request.body a b new new' said said' name of.caller_is (λ e. other (sym of.routed.1 ∙ e)) settled app same known rows
+reads_alone laws one k l m n a b new new' moment request said said' name of reads settled app same known rows first second =
+    shows_one laws k l m n moment of.route request.body a b new new' said said' name of.caller_is (of.routed.1 ∙ reads) settled app same known rows
     (does_of one (IsLost k l) (session name) a new moment request said of first) (does_of one (IsLost m n) (session name) b new' moment request said' of second)

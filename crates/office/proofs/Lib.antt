@@ -1,4 +1,5 @@
 pub mod Again
+pub mod Alone
 pub mod Directories
 pub mod Edits
 pub mod Isolation

@@ -24,24 +24,23 @@ use Rattle.row_keeper.specs.Tables.{AreStatesOf, TableState, Tables, rows_of, ro
 use Rattle.row_queries.specs.TableRows.{IsRowOf, rows_at}
 use Rattle.row_queries.specs.declared.rows.Row.{Row}
 use Rattle.session_state.specs.Once.{Kept}
-use Rattle.session_state.specs.Sessions.{SessionState}
+use Rattle.session_state.specs.Sessions.{SessionState, opened}
 use Rattle.view_text.specs.declared.refused.Refusal.{Refusal}
 use Rattle.row_requests.specs.Changes.{perform, place_of}
 use Rattle.row_requests.specs.DeskRows.{Acts, Outcome, PostsChecked, PostsRows, desk_checks, desks_after, outcome_reply}
 use Rattle.row_requests.specs.Page.{ShowsPage, ShowsTable}
 use Rattle.row_requests.specs.declared.bodies.Change.{Change}
 use Rattle.row_requests.specs.declared.bodies.Posted.{Posted}
-use Rattle.request_checks.specs.Directory.{find}
+use Rattle.request_checks.specs.Directory.{find, put}
 use Rattle.request_checks.specs.declared.directory.Named.{Named}
 use Rattle.row_requests.specs.Sound.{AreSound}
 use Rattle.row_requests.proofs.Soundness.{state_is}
-use Rattle.session_requests.specs.Bodies.{event_in, input_in}
-use Rattle.session_requests.specs.Posting.{PostsEvent, PostsEventChecked, PostsInput, PostsInputChecked}
-use Rattle.session_requests.specs.declared.event.Event.{Event as Sent}
-use Rattle.session_requests.specs.declared.input.Input.{Input as Given}
-use Rattle.request_checks.specs.Checks.{checks, session_of}
+use Rattle.session_events.specs.Laws.{OneOpening}
+use Rattle.session_events.specs.Scenes.{Scene, quiet, scene, unasked}
+use Rattle.session_requests.specs.Laws.{IsOneOutcome}
+use Rattle.session_requests.specs.Posting.{PostsEvent, PostsInput}
 use Rattle.office.specs.Ready.{IsSettled}
-use Rattle.office.specs.Sessions.{ShowsNamedTo}
+use Rattle.office.specs.Sessions.{BeginsChecked, BeginsSession, ShowsNamedTo, begin_checks}
 use Rattle.office.specs.State.{State, schema_of}
 use Rattle.office.specs.Step.{AreOne, Does, DoesAt, Step, alike, edited, parts_of, refused}
 use Rattle.office.proofs.Directories.{found_fits}
@@ -104,7 +103,7 @@ page_alike lost lost' shapes name after t u u' said said' = by (place_of name sh
 -- ---- rows that are read
 
 -- where tables are told before and after a read, they are the same
-told_same : (lost : Type 0) (x y : Option Tables) (t u : Tables) → x ≡ Some t → y ≡ Some u → Goes lost Stays x y → y ≡ x
+pub told_same : (lost : Type 0) (x y : Option Tables) (t u : Tables) → x ≡ Some t → y ≡ Some u → Goes lost Stays x y → y ≡ x
 told_same lost None y t u e f g = absurd cc
 told_same lost (Some a) None t u e f g = absurd cc
 told_same lost (Some a) (Some b) t u e f g = ap (λ (x : Tables). Some x) g
@@ -126,20 +125,6 @@ items_go lost app moment gallery from (Some s) x y said h = by (gallery_named ga
     by None h = still lost x y h.1
     by (Some g) h = h.1
 
-pub event_goes : (lost : Type 0) (app : App) (moment : ℕ) (name body said : List ℕ) (x y : Option Tables) (xs ys : List (Named SessionState)) → PostsEvent lost app moment name body x xs said y ys → Goes lost Stays x y
-event_goes lost app moment name body said x y xs ys = by (checks event_in (λ (e : Sent). e.seq) (session_of name xs) body)
-  where
-    by : (r : Result Sent (List ℕ)) → PostsEventChecked lost app moment name body r x xs said y ys → Goes lost Stays x y
-    by (Err words) h = still lost x y h.2
-    by (Ok e) h = h.1
-
-pub input_goes : (lost : Type 0) (app : App) (moment : ℕ) (name body said : List ℕ) (x y : Option Tables) (xs ys : List (Named SessionState)) → PostsInput lost app moment name body x xs said y ys → Goes lost Stays x y
-input_goes lost app moment name body said x y xs ys = by (checks input_in (λ (i : Given). i.seq) (session_of name xs) body)
-  where
-    by : (r : Result Given (List ℕ)) → PostsInputChecked lost app moment name body r x xs said y ys → Goes lost Stays x y
-    by (Err words) h = still lost x y h.2
-    by (Ok i) h = h.1
-
 -- ---- rows that are told
 
 rows_are : (ss : List TableState) (k : ℕ) → (state_at ss k).rows ≡ rows_at (rows_of ss) k
@@ -158,7 +143,7 @@ known_of app x t e sound = subst (λ (o : Option Tables). AreKnown app (rows_tol
 })
 
 -- over the same tables
-known_after : (app : App) (x y : Option Tables) (t : Tables) → x ≡ Some t → AreSound (schema_of app) x → y ≡ x → AreKnown app (rows_told y)
+pub known_after : (app : App) (x y : Option Tables) (t : Tables) → x ≡ Some t → AreSound (schema_of app) x → y ≡ x → AreKnown app (rows_told y)
 known_after app x y t e sound same = subst (λ (o : Option Tables). AreKnown app (rows_told o)) (sym same) (known_of app x t e sound)
 
 -- states that a read left are the same
@@ -172,9 +157,45 @@ alike_with s new new' h k e f =
     h ∙ ap (λ (o : Option Tables). record s { tables = o; sessions = new.sessions }) e
     ∙ ap (λ (x : List (Named SessionState)). record s { tables = new'.tables; sessions = x }) f ∙ sym k
 
--- what is known of replies to sessions and of edits
+-- ---- sessions that begin, and what they send
+
+-- one is opened in one way, over tables that are told
+begins_alike : OneOpening → (lost lost' : Type 0) (app : App) (moment : ℕ) (name said said' : List ℕ) (t u u' : Tables) (xs ys ys' : List (Named SessionState))
+    → BeginsSession lost app moment name (Some t) xs said (Some u) ys → BeginsSession lost' app moment name (Some t) xs said' (Some u') ys' → (said ≡ said') × (u ≡ u') × (ys ≡ ys')
+begins_alike opening lost lost' app moment name said said' t u u' xs ys ys' = by (begin_checks name xs)
+  where
+    by : (o : Option (List ℕ)) → BeginsChecked lost app moment name o (Some t) xs said (Some u) ys → BeginsChecked lost' app moment name o (Some t) xs said' (Some u') ys' → (said ≡ said') × (u ≡ u') × (ys ≡ ys')
+    by (Some words) h k = let both : Some u ≡ Some u' = h.1 ∙ sym k.1 in (h.0 ∙ sym k.0, cc, h.2 ∙ sym k.2)
+    by None h k =
+        let one : scene u h.opens.end ≡ scene u' k.opens.end = opening app moment (scene t (opened app.names)) (scene u h.opens.end) (scene u' k.opens.end) h.opens.opens k.opens.opens in
+        let session : h.session ≡ k.session = h.opens.left ∙ ap (λ (z : Scene). unasked (quiet z.session)) one ∙ sym k.opens.left in
+        (h.replied ∙ sym k.replied, ap (λ (z : Scene). z.tables) one, h.keeps ∙ ap (λ (s : SessionState). put name s xs) session ∙ sym k.keeps)
+
+-- tables that are told
+pub told_begin : (lost : Type 0) (app : App) (moment : ℕ) (name said : List ℕ) (x y : Option Tables) (t u : Tables) (xs ys : List (Named SessionState)) → x ≡ Some t → y ≡ Some u
+    → BeginsSession lost app moment name x xs said y ys → BeginsSession lost app moment name (Some t) xs said (Some u) ys
+told_begin lost app moment name said x y t u xs ys e f h =
+    subst (λ (o : Option Tables). BeginsSession lost app moment name o xs said (Some u) ys) e (subst (λ (o : Option Tables). BeginsSession lost app moment name x xs said o ys) f h)
+
+pub told_event : (lost : Type 0) (app : App) (moment : ℕ) (name body said : List ℕ) (x y : Option Tables) (t u : Tables) (xs ys : List (Named SessionState)) → x ≡ Some t → y ≡ Some u
+    → PostsEvent lost app moment name body x xs said y ys → PostsEvent lost app moment name body (Some t) xs said (Some u) ys
+told_event lost app moment name body said x y t u xs ys e f h =
+    subst (λ (o : Option Tables). PostsEvent lost app moment name body o xs said (Some u) ys) e (subst (λ (o : Option Tables). PostsEvent lost app moment name body x xs said o ys) f h)
+
+pub told_input : (lost : Type 0) (app : App) (moment : ℕ) (name body said : List ℕ) (x y : Option Tables) (t u : Tables) (xs ys : List (Named SessionState)) → x ≡ Some t → y ≡ Some u
+    → PostsInput lost app moment name body x xs said y ys → PostsInput lost app moment name body (Some t) xs said (Some u) ys
+told_input lost app moment name body said x y t u xs ys e f h =
+    subst (λ (o : Option Tables). PostsInput lost app moment name body o xs said (Some u) ys) e (subst (λ (o : Option Tables). PostsInput lost app moment name body x xs said o ys) f h)
+
+-- tables that are told are those that are left where a request has one outcome
+told_both : (x y : Option Tables) (u v : Tables) → x ≡ Some u → y ≡ Some v → u ≡ v → x ≡ y
+told_both x y u v e f same = e ∙ ap (λ (z : Tables). Some z) same ∙ sym f
+
+-- what is known of replies to sessions, of what they send, and of edits
 pub record AnswerLaws : Type 0 where
   pub replies : ReplyLaws
+  pub opening : OneOpening
+  pub outcome : IsOneOutcome
   pub edit : IsOneEditOutcome
 
 -- where an edit leaves its parts, all is as before
@@ -199,8 +220,11 @@ does_one : AnswerLaws → (p p' q q' : Marks) (moment : ℕ) (route : Route) (re
     → Does (IsLost p p') moment route request.body s said new → Does (IsLost q q') moment route request.body s said' new' → AreOne request s new new' said said'
 unfolding Does
 does_one laws p p' q q' moment (Begin n) request s new new' said said' t u u' routed settled sound e f g h k =
-    let same : (new.sessions, said) ≡ (new'.sessions, said') = h.0 ∙ sym k.0 in
-    alike (h.1 ∙ ap (λ (p : List (Named SessionState) × List ℕ). record s { sessions = p.0 }) same ∙ sym k.1) (ap (λ (p : List (Named SessionState) × List ℕ). p.1) same)
+    let same =
+    begins_alike laws.opening (IsLost p p') (IsLost q q') s.app moment n said said' t u u' s.sessions new.sessions new'.sessions
+    (told_begin (IsLost p p') s.app moment n said s.tables new.tables t u s.sessions new.sessions e f h.0)
+    (told_begin (IsLost q q') s.app moment n said' s.tables new'.tables t u' s.sessions new'.sessions e g k.0) in
+    alike (alike_with s new new' h.1 k.1 (told_both new.tables new'.tables u u' f g same.1) same.2) same.0
 does_one laws p p' q q' moment (End n) request s new new' said said' t u u' routed settled sound e f g h k = alike (h.1 ∙ sym k.1) (h.0 ∙ sym k.0)
 does_one laws p p' q q' moment (View n) request s new new' said said' t u u' routed settled sound e f g h k =
     let o = find n s.sessions in
@@ -224,19 +248,19 @@ does_one laws p p' q q' moment (Items n gallery from) request s new new' said sa
     (laws.replies.items p p' q q' s.app moment gallery from o s.tables new.tables s.tables new'.tables said said' settled.app (holds_found laws.replies.holds s n settled)
     (known_after s.app s.tables new.tables t e sound x) (ap rows_told (x ∙ sym y)) h.0 k.0)
 does_one laws p p' q q' moment (Event n) request s new new' said said' t u u' routed settled sound e f g h k =
-    let x = told_same (IsLost p p') s.tables new.tables t u e f (event_goes (IsLost p p') s.app moment n request.body said s.tables new.tables s.sessions new.sessions h.0) in
-    let y = told_same (IsLost q q') s.tables new'.tables t u' e g (event_goes (IsLost q q') s.app moment n request.body said' s.tables new'.tables s.sessions new'.sessions k.0) in
     let same =
-    (laws.replies.outcome p p' q q' s.app moment n request.body said said' s.tables new.tables s.tables new'.tables s.sessions new.sessions s.sessions new'.sessions settled.app
-    (holds_found laws.replies.holds s n settled) refl (known_after s.app s.tables new.tables t e sound x) (ap rows_told (x ∙ sym y))).1 h.0 k.0 in
-    alike (alike_with s new new' h.1 k.1 (x ∙ sym y) (same.1 refl)) same.0
+    (laws.outcome p p' q q' s.app moment n request.body said said' t u u' s.sessions new.sessions s.sessions new'.sessions settled.app (λ x is. found_fits s.app.names s.sessions n x settled.fit is) refl
+    (subst (λ (o : Option Tables). AreSound (schema_of s.app) o) e sound)).1
+    (told_event (IsLost p p') s.app moment n request.body said s.tables new.tables t u s.sessions new.sessions e f h.0)
+    (told_event (IsLost q q') s.app moment n request.body said' s.tables new'.tables t u' s.sessions new'.sessions e g k.0) in
+    alike (alike_with s new new' h.1 k.1 (told_both new.tables new'.tables u u' f g same.1) (same.2 refl)) same.0
 does_one laws p p' q q' moment (Input n) request s new new' said said' t u u' routed settled sound e f g h k =
-    let x = told_same (IsLost p p') s.tables new.tables t u e f (input_goes (IsLost p p') s.app moment n request.body said s.tables new.tables s.sessions new.sessions h.0) in
-    let y = told_same (IsLost q q') s.tables new'.tables t u' e g (input_goes (IsLost q q') s.app moment n request.body said' s.tables new'.tables s.sessions new'.sessions k.0) in
     let same =
-    (laws.replies.outcome p p' q q' s.app moment n request.body said said' s.tables new.tables s.tables new'.tables s.sessions new.sessions s.sessions new'.sessions settled.app
-    (holds_found laws.replies.holds s n settled) refl (known_after s.app s.tables new.tables t e sound x) (ap rows_told (x ∙ sym y))).0 h.0 k.0 in
-    alike (alike_with s new new' h.1 k.1 (x ∙ sym y) (same.1 refl)) same.0
+    (laws.outcome p p' q q' s.app moment n request.body said said' t u u' s.sessions new.sessions s.sessions new'.sessions settled.app (λ x is. found_fits s.app.names s.sessions n x settled.fit is) refl
+    (subst (λ (o : Option Tables). AreSound (schema_of s.app) o) e sound)).0
+    (told_input (IsLost p p') s.app moment n request.body said s.tables new.tables t u s.sessions new.sessions e f h.0)
+    (told_input (IsLost q q') s.app moment n request.body said' s.tables new'.tables t u' s.sessions new'.sessions e g k.0) in
+    alike (alike_with s new new' h.1 k.1 (told_both new.tables new'.tables u u' f g same.1) (same.2 refl)) same.0
 does_one laws p p' q q' moment (Rows n) request s new new' said said' t u u' routed settled sound e f g h k =
     let shapes = (schema_of s.app).tables in
     let same = posts_alike (IsLost p p') (IsLost q q') shapes n request.body t u u' s.desks new.desks new'.desks said said'

@@ -13,7 +13,7 @@ use Rattle.request_checks.proofs.Again.{comes_again}
 use Rattle.request_checks.proofs.Directories.{find_other, found_among}
 use Rattle.session_state.specs.Once.{Kept, nobody}
 use Rattle.fx_trees.specs.declared.names.Names.{Names}
-use Rattle.office.specs.DeskEdits.{Ends, MakesEdit, Parts, PostsChecked, PostsEdit, accepted_reply, all_carried, edit_checks, edited}
+use Rattle.office.specs.DeskEdits.{Ends, MakesEdit, Parts, PostsChecked, accepted_reply, all_carried, edit_checks, edited}
 use Rattle.office.specs.DeskEditLaws.{ActsOnce, AreRefused, CarriesSessions, IsOneOutcome, LeavesOthers}
 
 has_room : (name : List ℕ) (k : Kept) (desks : List (Named Kept)) → find name desks ≡ Some k → is_full name desks ≡ false

@@ -1,7 +1,5 @@
 -- Room beside sessions.
-use Rattle.std.proofs.Common.{◌≡◌, ℕ, zero, suc, ◌≤◌, List, [], ◌∷◌, ◌++◌, drop, length, map, get_or, set, take, refl, ap, sym, arith}
-use Rattle.std.specs.Prelude.{max}
-use Rattle.std.specs.List.{AllByRecursion}
+use Rattle.std.proofs.Common.{◌≡◌, ℕ, zero, suc, List, [], ◌∷◌, ◌++◌, drop, map, get_or, set, take, refl, ap, sym, arith}
 use Rattle.fx_trees.specs.declared.names.Names.{Names}
 use Rattle.session_state.specs.Sessions.{HasRoom, Room, SessionState, room_with}
 use Rattle.request_checks.specs.declared.directory.Named.{Named}

@@ -10,13 +10,12 @@ use Rattle.app_wire.specs.ReplyBytes.{refusal}
 use Rattle.app_wire.specs.Routing.{Routing}
 use Rattle.app_wire.specs.declared.route.Route.{Route}
 use Rattle.app_views.specs.Shows.{ReachesItems, ReachesView}
-use Rattle.app_wire.specs.declared.route.Route.TheVariants.{Event, Input, Items, Named, Page, View}
+use Rattle.app_wire.specs.declared.route.Route.TheVariants.{Begin, Event, Input, Items, Named, Page, View}
 use Rattle.app_wire.specs.declared.route.RouteEnd.TheVariants.{NoRoute, WrongMethod}
 use Rattle.app_cells.specs.declared.app.App.{App}
 use Rattle.fx_trees.specs.declared.schema.Schema.{Schema}
 use Rattle.session_requests.specs.recalc.Asking.{HasRead, Keeping}
 use Rattle.session_requests.proofs.of_recalc.Asked.{read_none}
-use Rattle.request_checks.specs.Checked.{SessionsKeepReplies}
 use Rattle.request_checks.specs.declared.directory.Named.{Named as Caller}
 use Rattle.request_checks.specs.declared.reply.Reply.{Reply}
 use Rattle.row_requests.specs.Page.{ReachesPage}
@@ -24,8 +23,8 @@ use Rattle.row_requests.proofs.Soundness.{sound_stays}
 use Rattle.session_state.specs.Once.{Kept}
 use Rattle.session_state.specs.Sessions.{SessionState}
 use Rattle.session_requests.specs.Posting.{ReachesEvent, ReachesInput}
-use Rattle.office.specs.Ready.{AreFit, IsReady}
-use Rattle.office.specs.Sessions.{ReachesNamed}
+use Rattle.office.specs.Ready.{IsReady}
+use Rattle.office.specs.Sessions.{ReachesBegin, ReachesNamed}
 use Rattle.office.specs.State.{Seen, State, schema_of}
 use Rattle.office.specs.Step.{Does, DoesAt, Left, Reaches, Step}
 
@@ -65,6 +64,11 @@ pub reaches_page : (s : State) (app : App) (body : List ℕ) (route : Route) (ta
 unfolding Reaches
 reaches_page s app body route table after schema is same of reaches =
     subst (λ r. Reaches r body s) (sym is) (subst (λ (a : App). ReachesPage (schema_of a).tables table) (sym of) (subst (λ (x : Schema). ReachesPage x.tables table) same reaches))
+
+-- so it is as a session is opened
+pub reaches_begin : (s : State) (xs : List (Caller SessionState)) (body : List ℕ) (route : Route) (name : List ℕ) → route ≡ Begin name → s.sessions ≡ xs → ReachesBegin name xs → Reaches route body s
+unfolding Reaches
+reaches_begin s xs body route name is of reaches = subst (λ r. Reaches r body s) (sym is) (subst (λ (l : List (Caller SessionState)). ReachesBegin name l) (sym of) reaches)
 
 -- so are those that formulas read
 pub reaches_view : (s : State) (xs : List (Caller SessionState)) (body : List ℕ) (route : Route) (name : List ℕ) → route ≡ View name → s.sessions ≡ xs → ReachesView name xs → Reaches route body s
@@ -108,21 +112,6 @@ still_ready app a b sessions desks read ready = record {
   opens = ready.opens;
   fit = ready.fit;
   replies = ready.replies;
-}
-
--- with other sessions too
-pub still_ready_with : (app : App) (a b : Keeping) (sessions sessions' : List (Caller SessionState)) (desks : List (Caller Kept)) → HasRead a b → AreFit app.names sessions' → SessionsKeepReplies sessions'
-    → IsReady app a.in_transaction a.shaped a.told sessions desks → IsReady app b.in_transaction b.shaped b.told sessions' desks
-still_ready_with app a b sessions sessions' desks read fit replies ready = record {
-  idle = read.mode ∙ ready.idle;
-  shaped = read.shaped ∙ ready.shaped;
-  sound = sound_stays (schema_of app) (IsLost a.marks b.marks) a.told b.told ready.sound read.told;
-  kept = ready.kept;
-  accepted = ready.accepted;
-  loaded = ready.loaded;
-  opens = ready.opens;
-  fit = fit;
-  replies = replies;
 }
 
 -- a keeper whose rows were read is left, with all beside it

@@ -2,11 +2,12 @@
 use Rattle.std.specs.Prelude.{◌≡◌, ◌≢◌, ◌⊎◌, ℕ, List, [], ◌∷◌, Option, Some, None, option_map, Ok}
 use Rattle.app_loader.specs.app_semantics.Fresh.{AreKnown}
 use Rattle.fx_base.specs.Silence.{IsLost, Marks}
-use Rattle.row_keeper.specs.Tables.{rows_told}
+use Rattle.row_keeper.specs.Tables.{Tables, rows_told}
+use Rattle.row_requests.specs.Sound.{AreSound}
 use Rattle.app_wire.specs.Framing.{Asked}
 use Rattle.app_wire.specs.ReplyBytes.{refusal}
 use Rattle.app_wire.specs.Routing.{Routing}
-use Rattle.app_wire.specs.declared.head.Method.TheVariants.{Post, Put}
+use Rattle.app_wire.specs.declared.head.Method.TheVariants.{Get, Post, Put}
 use Rattle.app_wire.specs.declared.route.Route.{Route}
 use Rattle.app_wire.specs.declared.route.Route.TheVariants.{Begin, End, View, Named, Items, Event, Input, Rows, Edit}
 use Rattle.request_checks.specs.Directory.{find}
@@ -16,7 +17,7 @@ use Rattle.session_state.specs.Sessions.{SessionState}
 use Rattle.office.specs.Answers.{Exchange, Plays}
 use Rattle.office.specs.Editing.{IsEdit}
 use Rattle.office.specs.Ready.{IsSettled}
-use Rattle.office.specs.State.{State}
+use Rattle.office.specs.State.{State, schema_of}
 use Rattle.office.specs.Step.{Answered, Left, Step}
 
 -- who sends requests: a session or a desk, of a name
@@ -61,12 +62,22 @@ LeavesDesk =
     → Answered old before moment request said now new → (IsOf (desk name) request → ⊥)
     → find name new.desks ≡ find name old.desks
 
--- Offices with the same app, and with the same record of a session or with none, of whose rows the same is told, which is all
--- that the app's formulas read, answer its requests alike at one moment, PUT aside, which counts sessions.
+-- Offices with the same app, with the same tables and with the same record of a session or with none, whose keepers tell their
+-- tables, answer its requests alike at one moment, PUT aside, which counts sessions.
 abbrev pub IsAlone : Type 0
 IsAlone =
-    (k l m n : Marks) (a b new new' : State) (moment : ℕ) (request : Asked) (said said' name : List ℕ)
+    (k l m n : Marks) (a b new new' : State) (moment : ℕ) (request : Asked) (said said' name : List ℕ) (t u u' : Tables)
     → IsOf (session name) request → request.method ≢ Put
+    → IsSettled a → AreSound (schema_of a.app) a.tables → a.app ≡ b.app → find name a.sessions ≡ find name b.sessions
+    → a.tables ≡ Some t → b.tables ≡ Some t → new.tables ≡ Some u → new'.tables ≡ Some u'
+    → Step (IsLost k l) a moment request said new → Step (IsLost m n) b moment request said' new' → said ≡ said'
+
+-- So do offices of whose rows the same is told, which is all that the app's formulas read, where a session asks to be shown
+-- something.
+abbrev pub ReadsAlone : Type 0
+ReadsAlone =
+    (k l m n : Marks) (a b new new' : State) (moment : ℕ) (request : Asked) (said said' name : List ℕ)
+    → IsOf (session name) request → request.method ≡ Get
     → IsSettled a → a.app ≡ b.app → find name a.sessions ≡ find name b.sessions → AreKnown a.app (rows_told new.tables) → rows_told new.tables ≡ rows_told new'.tables
     → Step (IsLost k l) a moment request said new → Step (IsLost m n) b moment request said' new' → said ≡ said'
 

@@ -1,5 +1,5 @@
 -- What is true of an office between two requests.
-use Rattle.std.specs.Prelude.{◌≡◌, ◌<◌, length, Bool, false, List, Option, Some}
+use Rattle.std.specs.Prelude.{◌≡◌, Bool, false, List, Option, Some}
 use Rattle.std.specs.List.{AllByRecursion}
 use Rattle.app_cells.specs.declared.app.App.{App}
 use Rattle.app_loader.specs.Edits.{IsLoaded}
@@ -7,7 +7,8 @@ use Rattle.app_loader.specs.app_semantics.Sound.{IsSound}
 use Rattle.fx_trees.specs.declared.names.Names.{Names}
 use Rattle.fx_trees.specs.declared.schema.Schema.{Schema}
 use Rattle.row_keeper.specs.Tables.{Tables}
-use Rattle.session_state.specs.Changes.{FitsNames, HoldsTables}
+use Rattle.session_events.specs.Opening.{CanOpen}
+use Rattle.session_state.specs.Changes.{FitsNames}
 use Rattle.session_state.specs.Once.{Kept}
 use Rattle.session_state.specs.Sessions.{SessionState}
 use Rattle.request_checks.specs.Checked.{SessionsKeepReplies}
@@ -20,15 +21,11 @@ use Rattle.office.specs.State.{State, schema_of}
 abbrev pub AreFit : Names → List (Named SessionState) → Type 0
 AreFit n sessions = AllByRecursion (λ (s : Named SessionState). FitsNames n s.it) sessions
 
--- an office between two requests serves an accepted app, which its sessions fit
+-- an office between two requests serves an accepted app, of which sessions can be opened, and which its sessions fit
 pub record IsSettled (s : State) : Type 0 where
   pub app : IsSound s.app
+  pub opens : CanOpen s.app.names
   pub fit : AreFit s.app.names s.sessions
-
--- a session can be opened: there is a screen, and an empty table fits each collection
-pub record CanOpen (n : Names) : Type 0 where
-  pub screen : 0 < length n.screens
-  pub tables : HoldsTables n
 
 -- No transaction is begun, the keeper is shaped by the app's schema, its tables, where they are told, are those of the schema,
 -- what is kept of desks are replies, the app is an accepted one that can be edited, and its sessions fit it.

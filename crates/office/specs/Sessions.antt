@@ -6,9 +6,9 @@ use Rattle.app_loader.specs.app_semantics.Present.{present}
 use Rattle.app_wire.specs.ReplyBytes.{refusal, reply}
 use Rattle.fx_base.specs.Silence.{Goes}
 use Rattle.fx_base.specs.Telling.{Stays}
-use Rattle.fx_trees.specs.declared.names.Names.{Names}
 use Rattle.row_keeper.specs.Tables.{Tables, rows_told}
-use Rattle.session_state.specs.Sessions.{SessionState, opened}
+use Rattle.session_events.specs.Opening.{OpensNew}
+use Rattle.session_state.specs.Sessions.{SessionState}
 use Rattle.view_text.specs.ReplyText.{ok_text}
 use Rattle.request_checks.specs.Directory.{find, is_among, is_named, put}
 use Rattle.request_checks.specs.declared.directory.Named.{Named}
@@ -18,12 +18,34 @@ use Rattle.office.specs.NamedReply.{IsNamedBody}
 abbrev pub most_sessions : ℕ
 most_sessions = 256
 
--- A session is opened. One that is live stays as it is, and a new one is refused (12) where as many live as may.
-abbrev pub begins : Names → List ℕ → List (Named SessionState) → List (Named SessionState) × List ℕ
-begins names name sessions =
-    if is_among name sessions then (sessions, reply 200 ok_text)
-    else (if nat_le most_sessions (length sessions) then (sessions, refusal 12)
-    else (put name (opened names) sessions, reply 200 ok_text))
+-- The checks before a session is opened, which call no keeper: one that is live stays as it is, and a new one is refused (12)
+-- where as many live as may. Where there is no reply it is opened.
+abbrev pub begin_checks : List ℕ → List (Named SessionState) → Option (List ℕ)
+begin_checks name sessions =
+    if is_among name sessions then Some (reply 200 ok_text)
+    else (if nat_le most_sessions (length sessions) then Some (refusal 12)
+    else None)
+
+-- a new session is opened, in one transaction
+pub record OpensSession (lost : Type 0) (app : App) (moment : ℕ) (name : List ℕ) (tables : Option Tables) (sessions : List (Named SessionState)) (said : List ℕ) (tables' : Option Tables) (sessions' : List (Named SessionState)) : Type 0 where
+  pub session : SessionState
+  pub opens : OpensNew lost app moment tables tables' session
+  pub replied : said ≡ reply 200 ok_text
+  pub keeps : sessions' ≡ put name session sessions
+
+-- after the checks: the first that breaks is the reply, and leaves all
+abbrev pub BeginsChecked : Type 0 → App → ℕ → List ℕ → Option (List ℕ) → Option Tables → List (Named SessionState) → List ℕ → Option Tables → List (Named SessionState) → Type 0
+BeginsChecked lost app moment name (Some words) tables sessions said tables' sessions' = (said ≡ words) × (tables' ≡ tables) × (sessions' ≡ sessions)
+BeginsChecked lost app moment name None tables sessions said tables' sessions' = OpensSession lost app moment name tables sessions said tables' sessions'
+
+-- THE route of sessions that begin
+abbrev pub BeginsSession : Type 0 → App → ℕ → List ℕ → Option Tables → List (Named SessionState) → List ℕ → Option Tables → List (Named SessionState) → Type 0
+BeginsSession lost app moment name tables sessions said tables' sessions' =
+    BeginsChecked lost app moment name (begin_checks name sessions) tables sessions said tables' sessions'
+
+-- the checks that call no keeper are passed: the session is new, and may live
+abbrev pub ReachesBegin : List ℕ → List (Named SessionState) → Type 0
+ReachesBegin name sessions = begin_checks name sessions ≡ None
 
 -- the sessions but the one of this name
 abbrev pub without : {T : Type 0} → List ℕ → List (Named T) → List (Named T)

@@ -22,7 +22,7 @@ use Rattle.row_requests.specs.Sound.{AreSound}
 use Rattle.session_requests.specs.Posting.{PostsEvent, PostsInput, ReachesEvent, ReachesInput}
 use Rattle.office.specs.Editing.{AreSameRefusals, IsEdit, KeepsApp}
 use Rattle.office.specs.Ready.{IsSettled}
-use Rattle.office.specs.Sessions.{ReachesNamed, ShowsNamed, begins, without}
+use Rattle.office.specs.Sessions.{BeginsSession, ReachesBegin, ReachesNamed, ShowsNamed, without}
 use Rattle.office.specs.State.{State, schema_of}
 
 -- those that an edit may change
@@ -33,7 +33,8 @@ parts_of s = record { app = s.app; sessions = s.sessions; desks = s.desks }
 -- keeper may have fallen silent. Routes that are not built yet are none (7).
 unfoldable pub Does : Type 0 → ℕ → Route → List ℕ → State → List ℕ → State → Type 0
 Does lost moment (Begin name) body s said new =
-    ((new.sessions, said) ≡ begins s.app.names name s.sessions) × (new ≡ record s { sessions = new.sessions })
+    BeginsSession lost s.app moment name s.tables s.sessions said new.tables new.sessions
+    × (new ≡ record s { tables = new.tables; sessions = new.sessions })
 Does lost moment (End name) body s said new =
     (said ≡ reply 200 ok_text) × (new ≡ record s { sessions = without name s.sessions })
 Does lost moment (View name) body s said new =
@@ -74,6 +75,7 @@ pub record Step (lost : Type 0) (old : State) (moment : ℕ) (request : Asked) (
 
 -- the checks that call no keeper are passed
 unfoldable pub Reaches : Route → List ℕ → State → Type 0
+Reaches (Begin name) body s = ReachesBegin name s.sessions
 Reaches (View name) body s = ReachesView name s.sessions
 Reaches (Named name) body s = ReachesNamed name s.sessions
 Reaches (Items name gallery from) body s = ReachesItems s.app name gallery s.sessions

@@ -1,6 +1,6 @@
 //! Laws of the office.
 ghost use Rattle.office.specs.Answers.{IsSilent};
-ghost use Rattle.office.specs.Isolation.{ActsOnce, IsAlone, LeavesDesk, LeavesSession};
+ghost use Rattle.office.specs.Isolation.{ActsOnce, IsAlone, LeavesDesk, LeavesSession, ReadsAlone};
 ghost use Rattle.office.specs.Settled.{StartsSettled, StaysSettled};
 ghost use Rattle.office.specs.Step.{IsOneAnswer};
 
@@ -8,6 +8,7 @@ use crate::app_semantics::{fitting_holds, one_fresh};
 use crate::desk_edit_laws::one_outcome as one_edit_outcome;
 use app_views::{one_items_reply, one_view_reply};
 use app_wire::route::one_route;
+use session_events::one_opening;
 use session_requests::laws as requests;
 
 /// A request has one answer where the tables are told: the state before it, its moment and its bytes determine the state
@@ -19,6 +20,7 @@ pub fn one_answer()
 {
     one_fresh();
     fitting_holds();
+    one_opening();
     requests::one_outcome();
     one_edit_outcome();
     one_view_reply();
@@ -43,13 +45,26 @@ pub fn leaves_desk()
     ensures { LeavesDesk }
 {}
 
-/// What is said to a session depends on the app, on the moment and on its own record, and on no other session.
+/// What is said to a session depends on the app, on the tables, on the moment and on its own record, and on no other session.
 pub fn is_alone()
     ensures { IsAlone }
 {
     one_fresh();
     fitting_holds();
+    one_opening();
     requests::one_outcome();
+    one_edit_outcome();
+    one_view_reply();
+    one_items_reply();
+    one_route();
+}
+
+/// What is shown to a session depends on no other session, also where the keeper tells no more than the rows that formulas read.
+pub fn reads_alone()
+    ensures { ReadsAlone }
+{
+    one_fresh();
+    fitting_holds();
     one_view_reply();
     one_items_reply();
     one_route();

@@ -8,6 +8,7 @@ pub mod desk_edit_laws;
 pub mod laws;
 pub mod machine;
 pub mod named;
+pub mod parts;
 mod plans;
 pub mod posting;
 pub mod sessions;

@@ -9,7 +9,7 @@ ghost use Rattle.app_wire.specs.Framing.{asked};
 ghost use Rattle.app_wire.specs.declared.route.RouteEnd.TheVariants.{Memory as NoMemory};
 ghost use Rattle.request_checks.specs.Replies.{IsReply, said};
 ghost use Rattle.row_requests.specs.Sound.{AreSound};
-ghost use Rattle.office.specs.Ready.{CanOpen};
+ghost use Rattle.session_events.specs.Opening.{CanOpen};
 ghost use Rattle.office.specs.State.{schema_of, started};
 ghost use Rattle.office.specs.Step.{Answered, Does, Left, Reaches, ReachesKeeper, Step};
 
@@ -37,10 +37,10 @@ use std::sync::ledger::Ledger;
 #[derive(Drop)]
 pub struct Office<K: Keeper + Drop> {
     pub(crate) alloc: Global,
-    app: App,
+    pub(crate) app: App,
     routes: Routes,
-    keeper: K,
-    sessions: Vec<Named<Session>>,
+    pub(crate) keeper: K,
+    pub(crate) sessions: Vec<Named<Session>>,
     desks: Vec<Named<Desk>>,
 }
 
@@ -132,8 +132,8 @@ impl<K: Keeper + Drop> Office<K> {
         }
     }
 
-    /// Does what the request asks for, or stops and leaves the office as it was.
-    fn carry_out<L: Ledger>(
+    /// Does what the request asks for, or stops and leaves the office as it was: `answer` says a stop as a refusal.
+    pub fn carry_out<L: Ledger>(
         &mut self,
         request: &Request,
         moment: u64,
@@ -171,12 +171,15 @@ impl<K: Keeper + Drop> Office<K> {
         ensures loan { self.new.loan ≡ self.old.loan }
     {
         match route {
-            Route::Begin(name) => {
-                match begin(self.alloc, &self.app.names, &mut self.sessions, name) {
-                    Ok(reply) => Ok(reply),
-                    Err(Memory) => Err(KeeperEnd::Memory),
-                }
-            }
+            Route::Begin(name) => begin(
+                self.alloc,
+                &self.app,
+                &mut self.sessions,
+                &mut self.keeper,
+                name,
+                moment,
+                steps,
+            ),
             Route::End(name) => match end(self.alloc, &mut self.sessions, &name) {
                 Ok(reply) => Ok(reply),
                 Err(Memory) => Err(KeeperEnd::Memory),

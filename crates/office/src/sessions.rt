@@ -1,17 +1,20 @@
 //! Sessions: they begin, end, and are shown the named formulas.
-ghost use Rattle.std.specs.Prelude.{◌≡◌, IfOk, IsErrOf, OnErr, Some};
+ghost use Rattle.std.specs.Prelude.{◌≡◌, false, IfOk, IsErrOf, OnErr, Some};
 ghost use Rattle.app_wire.specs.ReplyBytes.{reply};
 ghost use Rattle.request_checks.specs.Checked.{SessionsKeepReplies};
 ghost use Rattle.request_checks.specs.Replies.{IsReply, said};
 ghost use Rattle.view_text.specs.ReplyText.{ok_text};
 ghost use Rattle.app_loader.specs.app_semantics.Sound.{IsSound};
 ghost use Rattle.fx_trees.specs.declared.names.Names.{Names as Known};
-ghost use Rattle.office.specs.Ready.{AreFit, CanOpen};
-ghost use Rattle.fx_base.specs.Silence.{IsLost};
+ghost use Rattle.office.specs.Ready.{AreFit};
+ghost use Rattle.fx_base.specs.Silence.{Goes, IsLost};
+ghost use Rattle.fx_base.specs.Telling.{Stays};
+ghost use Rattle.row_requests.specs.Sound.{AreSound};
+ghost use Rattle.session_events.specs.Opening.{CanOpen};
 ghost use Rattle.session_requests.specs.recalc.Asking.{HasRead, keeping};
 ghost use Rattle.row_keeper.specs.Causes.{HasCause};
 ghost use Rattle.row_keeper.specs.declared.keeper.KeeperEnd.TheVariants.{Failed};
-ghost use Rattle.office.specs.Sessions.{ReachesNamed, ShowsNamed, begins, without};
+ghost use Rattle.office.specs.Sessions.{BeginsSession, ReachesBegin, ReachesNamed, ShowsNamed, without};
 
 use crate::app_semantics::fitting_holds;
 use crate::named::named_body;
@@ -19,9 +22,9 @@ use crate::recalc::Steps;
 use app_cells::App;
 use fx_base::Memory;
 use fx_data::words::Words;
-use fx_trees::Names;
 use request_checks::{Named, Reply, is_among, place_of, put};
 use row_keeper::{Keeper, KeeperEnd};
+use session_events::open_session;
 use session_state::Session;
 use std::alloc::Global;
 use std::sync::ledger::Ledger;
@@ -30,32 +33,47 @@ use view_text::ok_json;
 /// The most sessions that live at a time.
 pub const MOST_SESSIONS: usize = 256;
 
-/// Opens a session, if it isn't live.
-pub(crate) fn begin(
+/// Opens a session, if it isn't live: the formulas act that an app has for this, in one transaction of the keeper. What stops
+/// leaves the sessions and the tables. `Failed` only where the keeper counted a fault.
+pub(crate) fn begin<K: Keeper, L: Ledger>(
     alloc: Global,
-    names: &Names,
+    app: &App,
     sessions: &mut Vec<Named<Session>>,
+    keeper: &mut K,
     name: Words,
-) -> Result<Reply, Memory>
-    requires opens { CanOpen names.now }
-    requires fit { AreFit names.now sessions.old.items }
+    moment: u64,
+    steps: &mut Steps<L>,
+) -> Result<Reply, KeeperEnd>
+    requires sound { IsSound app.now }
+    requires opens { CanOpen app.now.names }
+    requires fit { AreFit app.now.names sessions.old.items }
     requires replies { SessionsKeepReplies sessions.old.items }
-    ensures done { IfOk result (λ r. (sessions.new.items, said r) ≡ begins names.now name sessions.old.items) }
-    ensures fit { AreFit names.now sessions.new.items }
-    ensures replies { SessionsKeepReplies sessions.new.items }
+    requires shaped { K.shaped keeper.old ≡ Some app.now.names.schema }
+    requires rows { AreSound app.now.names.schema (K.told keeper.old) }
+    requires idle { K.in_transaction keeper.old ≡ false }
+    ensures done { IfOk result (λ r. BeginsSession (IsLost (K.marks keeper.old) (K.marks keeper.new)) app.now moment name (K.told keeper.old) sessions.old.items (said r) (K.told keeper.new) sessions.new.items) }
     ensures whole { IfOk result IsReply }
+    ensures reached { IsErrOf result Failed → ReachesBegin name sessions.old.items }
     ensures stopped { OnErr result (sessions.new.items ≡ sessions.old.items) }
+    ensures left { OnErr result (Goes (IsLost (K.marks keeper.old) (K.marks keeper.new)) Stays (K.told keeper.old) (K.told keeper.new)) }
+    ensures fit { AreFit app.now.names sessions.new.items }
+    ensures replies { SessionsKeepReplies sessions.new.items }
+    ensures rows { AreSound app.now.names.schema (K.told keeper.new) }
+    ensures shaped { K.shaped keeper.new ≡ Some app.now.names.schema }
+    ensures idle { K.in_transaction keeper.new ≡ false }
+    ensures cause { HasCause (K.marks keeper.old) (K.marks keeper.new) result }
+    ensures loan { K.loan keeper.new ≡ K.loan keeper.old }
 {
     if is_among(sessions, &name) {
-        return Reply::accept(alloc, ok_json());
+        return Ok(Reply::accept(alloc, ok_json())?);
     }
     if sessions.len() >= MOST_SESSIONS {
-        return Reply::refuse_plain(alloc, 12);
+        return Ok(Reply::refuse_plain(alloc, 12)?);
     }
-    // All memory is taken before the session is kept, so that want of it opens none.
+    // All memory is taken before the transaction ends, so that want of it opens none.
     let reply = Reply::accept(alloc, ok_json())?;
-    let session = Session::new(alloc, names)?;
     sessions.reserve(1)?;
+    let session = open_session(alloc, app, keeper, moment, steps)?;
     put(sessions, name, session);
     Ok(reply)
 }

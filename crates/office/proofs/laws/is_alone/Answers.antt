@@ -1,13 +1,15 @@
-use Rattle.office.proofs.Isolation.{ReplyLaws, is_alone}
+use Rattle.office.proofs.Alone.{is_alone}
+use Rattle.office.proofs.Isolation.{ReplyLaws}
+use Rattle.office.proofs.OneAnswer.{AnswerLaws}
 use Rattle.office.proofs.laws.is_alone.Goals as goal
 
 pub returns : goal.returns
 returns c =
-    let laws : ReplyLaws = record {
+    let replies : ReplyLaws = record {
       fresh = c.one_fresh.ensures;
       holds = c.fitting_holds.ensures;
-      outcome = c.one_outcome.ensures;
       view = c.one_view_reply.ensures;
       items = c.one_items_reply.ensures;
     } in
+    let laws : AnswerLaws = record { replies = replies; opening = c.one_opening.ensures; outcome = c.one_outcome.ensures; edit = c.one_outcome-2.ensures } in
     is_alone laws c.one_route.ensures

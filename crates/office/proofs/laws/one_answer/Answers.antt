@@ -7,9 +7,8 @@ returns c =
     let replies : ReplyLaws = record {
       fresh = c.one_fresh.ensures;
       holds = c.fitting_holds.ensures;
-      outcome = c.one_outcome.ensures;
       view = c.one_view_reply.ensures;
       items = c.one_items_reply.ensures;
     } in
-    let laws : AnswerLaws = record { replies = replies; edit = c.one_outcome-2.ensures } in
+    let laws : AnswerLaws = record { replies = replies; opening = c.one_opening.ensures; outcome = c.one_outcome.ensures; edit = c.one_outcome-2.ensures } in
     one_answer laws c.one_route.ensures

@@ -1,13 +1,12 @@
-use Rattle.std.proofs.Common.{◌≡◌, ◌∙◌, ◌++◌, List, Ok, ap, drop, length, map, subst, sym, take}
+use Rattle.std.proofs.Common.{◌∙◌, List, Ok, ap, subst, sym}
 use Rattle.app_loader.specs.Edits.{JudgedEdit}
 use Rattle.fx_data.specs.Words.{scalars_of}
 use Rattle.request_checks.specs.Checked.{SessionsKeepReplies}
 use Rattle.request_checks.specs.Replies.{said}
 use Rattle.request_checks.specs.declared.directory.Named.{Named}
 use Rattle.session_state.specs.Sessions.{SessionState}
-use Rattle.office.specs.DeskEdits.{accepted_reply, all_carried}
 use Rattle.office.specs.Ready.{AreFit}
-use Rattle.office.specs.Rooms.{HaveNoRoom, HaveRoom, with_room}
+use Rattle.office.specs.Rooms.{HaveNoRoom, HaveRoom}
 use Rattle.office.proofs.Desks.{kept_so}
 use Rattle.office.proofs.Edits.{alike, carried_fit, carried_keep}
 use Rattle.office.proofs.Rooms.{have_none, have_room}

@@ -1,6 +1,6 @@
 use Rattle.std.proofs.Common.{ap, sym, ◌∙◌}
 use Rattle.office.specs.State.{Seen}
-use Rattle.office.proofs.StepLemmas.{left_read, reaches_event, reaches_input, reaches_items, reaches_named, reaches_page, reaches_view, still_ready, still_ready_with, stopped}
+use Rattle.office.proofs.StepLemmas.{left_read, reaches_event, reaches_input, reaches_items, reaches_named, reaches_page, reaches_view, still_ready, stopped}
 use Rattle.office.proofs.machine.Office.take.Goals as goal
 
 pub returns-in-Page-clause-reached : goal.returns-in-Page-clause-reached
@@ -8,8 +8,8 @@ returns-in-Page-clause-reached g c failed =
     reaches_page c.args.self.now.state c.self.inside.app c.args.request.now.body.items c.args.route c.in-Page.table c.in-Page.after c.schema_of-in-Page.result.now
     c.in-Page.is c.schema_of-in-Page.ensures (sym (ap (λ (s : Seen). s.state.app) c.self.view_is)) (c.show_page.ensures.reached failed)
 
-pub invariant_of-self-in-Ok-end : goal.invariant_of-self-in-Ok-end
-invariant_of-self-in-Ok-end g c = record {
+pub invariant_of-self-in-Ok : goal.invariant_of-self-in-Ok
+invariant_of-self-in-Ok g c = record {
   idle = c.self.invariant.idle;
   shaped = c.self.invariant.shaped;
   sound = c.self.invariant.sound;
@@ -66,13 +66,3 @@ returns-in-Items-clause-stopped g c =
 
 pub invariant_of-self-in-Items : goal.invariant_of-self-in-Items
 invariant_of-self-in-Items g c = still_ready c.self.inside.app _ _ c.self.inside.sessions.items c.self.inside.desks.items c.show_items.ensures.read c.self.invariant
-
-pub invariant_of-self-in-Event : goal.invariant_of-self-in-Event
-invariant_of-self-in-Event g c =
-    still_ready_with c.self.inside.app _ _ c.self.inside.sessions.items c.post_event.new.sessions.items c.self.inside.desks.items c.post_event.ensures.read
-    c.post_event.ensures.fit c.post_event.ensures.kept c.self.invariant
-
-pub invariant_of-self-in-Input : goal.invariant_of-self-in-Input
-invariant_of-self-in-Input g c =
-    still_ready_with c.self.inside.app _ _ c.self.inside.sessions.items c.post_input.new.sessions.items c.self.inside.desks.items c.post_input.ensures.read
-    c.post_input.ensures.fit c.post_input.ensures.kept c.self.invariant
