@@ -1,5 +1,5 @@
 -- What the words ask for.
-use Rattle.std.specs.Prelude.{ℕ, ◌&&◌, nat_le, Bool, List, [], ◌∷◌, length, Option, Some, None, is_some, String, string_bytes, bytes_eq, codes, if◌then◌else◌}
+use Rattle.std.specs.Prelude.{ℕ, ◌&&◌, nat_le, Bool, true, false, List, [], ◌∷◌, length, Option, Some, None, is_some, String, string_bytes, bytes_eq, codes, if◌then◌else◌}
 use Rattle.std.specs.Str.{all_ascii_digits}
 use Rattle.std.specs.Str.Parse.{digits_value}
 use Rattle.std.specs.declared.alloc.Global.{Global}
@@ -49,6 +49,25 @@ wanted (command ∷ app ∷ store ∷ port ∷ []) =
 wanted (command ∷ app ∷ store ∷ port ∷ count ∷ []) =
     app_if (is_word (codes "serve") command && (is_some (port_of (string_bytes port)) && is_some (count_of (string_bytes count)))) (string_bytes app)
 wanted (command ∷ app ∷ store ∷ port ∷ count ∷ other ∷ words) = None
+
+-- plain digits that write a number of at most 1,000,000
+abbrev pub is_sample_number : List ℕ → Bool
+is_sample_number text = (nat_le 1 (length text) && all_ascii_digits text) && nat_le (digits_value 10 text) 1000000
+
+-- the number that they write
+abbrev pub sample_number : List ℕ → Option ℕ
+sample_number text = if is_sample_number text then Some (digits_value 10 text) else None
+
+-- the number of the sample load of `gen N`
+abbrev pub sample_if : Bool → List ℕ → Option ℕ
+sample_if true text = sample_number text
+sample_if false text = None
+
+abbrev pub sample : List (String Global) → Option ℕ
+sample [] = None
+sample (command ∷ []) = None
+sample (command ∷ number ∷ []) = sample_if (is_word (codes "gen") command) (string_bytes number)
+sample (command ∷ number ∷ other ∷ words) = None
 
 -- the count, or else the usual one
 abbrev pub or_usual : Option ℕ → ℕ

@@ -4,7 +4,7 @@ ghost use Rattle.fx_base.specs.Faults.{Rose};
 ghost use Rattle.fx_base.specs.Silence.{IsLater};
 ghost use Rattle.office.specs.app_loader.Edits.{IsLoaded};
 ghost use Rattle.office.specs.app_semantics.Sound.{IsSound};
-ghost use Rattle.office.specs.Ready.{CanOpen};
+ghost use Rattle.office.specs.session_events.Opening.{CanOpen};
 ghost use Rattle.office.specs.State.{State, schema_of, started};
 ghost use Rattle.row_requests.specs.Sound.{AreSound};
 ghost use Rattle.session_state.specs.Changes.{HoldsTables};
@@ -35,7 +35,7 @@ use std::sync::ledger::Ledger;
 /// What a run says. It is made whole before any of it is written.
 #[derive(Drop)]
 pub enum Report {
-    /// The lines of a file's formulas.
+    /// The lines of a file's formulas, or what is told of a sample load.
     Shown(String),
     /// The lines of an app: what it has, and where its formulas take rows.
     Checked(String),
@@ -375,7 +375,7 @@ fn serve_over<D: Doors, K: Keeper, C: Clock, L: Ledger>(
 }
 
 /// What breaks rules in a file.
-fn refuse(alloc: Global, end: AppEnd) -> Report
+pub(crate) fn refuse(alloc: Global, end: AppEnd) -> Report
     ensures { IsRefusal end result }
 {
     match end {

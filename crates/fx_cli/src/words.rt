@@ -1,6 +1,6 @@
 //! The words that a run is given.
-ghost use Rattle.std.specs.Prelude.{◌≡◌, ◌≤◌, ◌∷◌, [], IfSome, is_some, option_map, string_bytes};
-ghost use Rattle.fx_cli.specs.Words.{app_if, count_of, is_word, number_to, or_usual, port_of, service, wanted};
+ghost use Rattle.std.specs.Prelude.{◌≡◌, ◌≤◌, ◌∷◌, [], IfSome, IsSome, None, is_some, option_map, string_bytes};
+ghost use Rattle.fx_cli.specs.Words.{app_if, count_of, is_word, number_to, or_usual, port_of, sample, sample_number, service, wanted};
 
 /// The most conversations that are taken where the words give no count.
 const USUAL_COUNT: u32 = 1_000_000;
@@ -10,6 +10,9 @@ const MOST_COUNT: u64 = 1_000_000_000;
 
 /// The last port.
 const LAST_PORT: u64 = 65_535;
+
+/// The greatest number of a sample load.
+const MOST_SAMPLE: u64 = 1_000_000;
 
 /// What a run can be asked for.
 #[derive(Clone, Copy, Debug, PartialEq, Eq)]
@@ -76,6 +79,30 @@ fn is_word(word: &String, text: &str) -> bool
     ensures { result ≡ is_word text.now word.now }
 {
     word.as_str() == text
+}
+
+/// The number of the sample load that the words ask for, if they do: `gen N`.
+pub fn sample_of(words: &[String]) -> Option<u32>
+    ensures number { result ≡ sample words.now }
+    ensures few { IfSome result (λ n. n ≤ 1000000) }
+    ensures alone { IsSome result → wanted words.now ≡ None }
+{
+    match words {
+        [command, number] => pair_sample(command, number),
+        _ => None,
+    }
+}
+
+/// The number of the sample load that two words ask for.
+fn pair_sample(command: &String, number: &String) -> Option<u32>
+    ensures number { result ≡ sample (command.now ∷ number.now ∷ []) }
+    ensures few { IfSome result (λ n. n ≤ 1000000) }
+    ensures alone { IsSome result → wanted (command.now ∷ number.now ∷ []) ≡ None }
+{
+    if !is_word(command, "gen") {
+        return None;
+    }
+    sample_number_in(number.as_str())
 }
 
 /// How an app is served that the words name.
@@ -150,6 +177,21 @@ fn number_to(most: u64, text: &str) -> Option<u64>
     }
     match text.parse::<u64>() {
         Ok(number) if 1 <= number && number <= most => Some(number),
+        _ => None,
+    }
+}
+
+/// The number that plain digits write, where it is at most 1,000,000.
+fn sample_number_in(text: &str) -> Option<u32>
+    ensures number { result ≡ sample_number text.now }
+    ensures few { IfSome result (λ n. n ≤ 1000000) }
+{
+    // A number that is read may have a sign, and plain digits have none.
+    if text.starts_with('+') {
+        return None;
+    }
+    match text.parse::<u64>() {
+        Ok(number) if number <= MOST_SAMPLE => Some(number as u32),
         _ => None,
     }
 }

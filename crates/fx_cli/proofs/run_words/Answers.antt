@@ -7,7 +7,7 @@ use Rattle.fx_cli.specs.declared.replay.ReplayEnd.TheVariants.{Done}
 use Rattle.fx_cli.proofs.Opened.{stopped_rose}
 use Rattle.fx_cli.proofs.Reported.{built_at, checked_at, refused_at, replayed_at}
 use Rattle.fx_cli.proofs.Said.{differing_at, is_done, is_fault, is_keeper_fault, is_other_schema, or_fault, or_fault_replayed, replay_at, said_with, unopened_at}
-use Rattle.fx_cli.proofs.run.Goals as goal
+use Rattle.fx_cli.proofs.run_words.Goals as goal
 
 pub returns-clause-headline : goal.returns-clause-headline
 returns-clause-headline g c = λ e form.

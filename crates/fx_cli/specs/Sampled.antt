@@ -1,0 +1,90 @@
+-- What comes of a sample load.
+use Rattle.std.specs.Prelude.{◌≡◌, ℕ, List, [], ◌∷◌, length, map, flat_map, Option, Some, None, Result, Ok, Err, String, string_bytes}
+use Rattle.std.specs.declared.alloc.Global.{Global}
+use Rattle.fx_base.specs.Faults.{Rose}
+use Rattle.fx_base.specs.Silence.{Goes, IsLater, IsLost, Marks}
+use Rattle.fx_base.specs.Telling.{Tells}
+use Rattle.app_cells.specs.declared.app.App.{App}
+use Rattle.app_wire.specs.Framing.{Asked}
+use Rattle.fx_trees.specs.BrokenText.{ended_line}
+use Rattle.fx_trees.specs.declared.broken.Broken.{Broken as Break}
+use Rattle.fx_trees.specs.declared.schema.Schema.{Schema}
+use Rattle.office.specs.Answers.{Exchange}
+use Rattle.office.specs.State.{State, schema_of}
+use Rattle.office.specs.Step.{Step}
+use Rattle.office.specs.app_loader.Judged.{JudgedApp}
+use Rattle.row_keeper.specs.Tables.{Tables}
+use Rattle.row_keeper.specs.declared.keeper.KeeperEnd.{KeeperEnd}
+use Rattle.row_keeper.specs.declared.keeper.KeeperEnd.TheVariants.{Failed, Memory}
+use Rattle.sample_load.specs.Counts.{HasRows}
+use Rattle.sample_load.specs.Sample.{app_text, requests}
+use Rattle.sample_load.specs.Summary.{summary}
+use Rattle.fx_cli.specs.Held.{Standing}
+use Rattle.fx_cli.specs.Opening.{IsAsked, IsServed}
+use Rattle.fx_cli.specs.Telling.{Grows}
+use Rattle.fx_cli.specs.declared.report.Report.{Report}
+use Rattle.fx_cli.specs.declared.report.Report.TheVariants.{Shown, Checked, Broken, Usage, OutOfMemory, Unread, KeeperFault, OtherSchema, Replayed}
+
+-- the moment of all requests: 2024-01-01 in UTC
+abbrev pub sample_moment : ℕ
+sample_moment = 1704067200
+
+-- From old the office answers these, one after another, each by its step at this moment, and is new then: none by want of memory
+-- or by a fault.
+abbrev pub Performs : ℕ → State → Marks → List Exchange → State → Marks → Type 0
+Performs moment old before [] new now = (new ≡ old) × (now ≡ before)
+Performs moment old before (x ∷ xs) new now =
+    (x.moment ≡ moment) × IsLater before x.marks × Step (IsLost before x.marks) old moment x.asked x.said x.state × Performs moment x.state x.marks xs new now
+
+-- these requests were answered so, at the moment of the sample, with these replies
+pub record IsPlayed (asked : List Asked) (replies : List (List ℕ)) (old new : Standing) : Type 0 where
+  pub exchanges : List Exchange
+  pub asked_are : map (λ (x : Exchange). x.asked) exchanges ≡ asked
+  pub replies_are : map (λ (x : Exchange). x.said) exchanges ≡ replies
+  pub performed : Performs sample_moment old.state old.marks exchanges new.state new.marks
+
+-- These requests were answered so, the rows were counted then, and this is told of it.
+pub record IsSampled (asked : List Asked) (old new : Standing) (text : List ℕ) : Type 0 where
+  pub replies : List (List ℕ)
+  pub between : Standing
+  pub played : IsPlayed asked replies old between
+  pub rows : ℕ
+  pub counted : Goes (IsLost between.marks new.marks) (HasRows rows) between.state.tables new.state.tables
+  pub others : new.state ≡ record between.state { tables = new.state.tables }
+  pub later : IsLater between.marks new.marks
+  pub told : text ≡ summary rows (length between.state.sessions) replies
+
+-- when putting an app to the requests comes to each report, over a keeper that is opened with the store of the empty name
+abbrev pub EndsSample : {K : Type 0} (n : ℕ) (told : K → Option Tables) (attached : K → Option (Option (List ℕ))) (marks : K → Marks) (attaches : K → List ℕ → K → Type 0) (old new : K) → App → Report → Type 0
+EndsSample n told attached marks attaches old new app (Shown text) = IsServed [] told attached marks attaches old new app (λ a b. IsSampled (requests n) a b (string_bytes text))
+EndsSample n told attached marks attaches old new app KeeperFault = Rose (marks old).faults (marks new).faults
+EndsSample n told attached marks attaches old new app OtherSchema = (other : Schema) × IsAsked [] told attached marks attaches (schema_of app) (Some other) old new
+EndsSample n told attached marks attaches old new app OutOfMemory = Unit {0}
+EndsSample n told attached marks attaches old new app r = ⊥
+
+-- the text of the sample is an app, and putting it to the requests came to this
+pub record IsSample (ended : App → Type 0) : Type 0 where
+  pub app : App
+  pub judged : JudgedApp app_text (Ok app)
+  pub ends : ended app
+
+-- when a run comes to each report that wants the sample load of a number
+abbrev pub ReportsSample : {K : Type 0} (n : ℕ) (told : K → Option Tables) (attached : K → Option (Option (List ℕ))) (marks : K → Marks) (attaches : K → List ℕ → K → Type 0) (old new : K) → Report → Type 0
+ReportsSample n told attached marks attaches old new (Shown text) = IsSample (λ app. EndsSample n told attached marks attaches old new app (Shown text))
+ReportsSample n told attached marks attaches old new (Broken text) = (bs : List Break) × JudgedApp app_text (Err bs) × (string_bytes text ≡ flat_map ended_line bs)
+ReportsSample n told attached marks attaches old new OutOfMemory = Unit {0}
+ReportsSample n told attached marks attaches old new KeeperFault = IsSample (λ app. EndsSample n told attached marks attaches old new app KeeperFault)
+ReportsSample n told attached marks attaches old new OtherSchema = IsSample (λ app. EndsSample n told attached marks attaches old new app OtherSchema)
+ReportsSample n told attached marks attaches old new r = ⊥
+
+-- The sample was put to its requests, over a keeper that was opened for it, and what is told of that was written.
+pub record IsGenerated {K : Type 0} (n : ℕ) (told : K → Option Tables) (attached : K → Option (Option (List ℕ))) (marks : K → Marks) (attaches : K → List ℕ → K → Type 0) (old new : K) (out out_now : Option (List ℕ)) : Type 0 where
+  pub text : List ℕ
+  pub sample : IsSample (λ app. IsServed [] told attached marks attaches old new app (λ a b. IsSampled (requests n) a b text))
+  pub written : Tells (Grows text) out out_now
+
+-- the report of what is told, or of what stopped the requests
+abbrev pub IsTold : Result (String Global) KeeperEnd → Report → Type 0
+IsTold (Ok text) r = r ≡ Shown text
+IsTold (Err Memory) r = r ≡ OutOfMemory
+IsTold (Err Failed) r = r ≡ KeeperFault
