@@ -1,36 +1,74 @@
 #!/usr/bin/env python3
 """Refuses one allocation of a replay at a time, and tells what the replies were.
 
-    bench/memory.py [PFX]
+    bench/memory.py [PFX [EACH]]
 
-PFX is the built program, out/pfx where none is given. A session is opened and a desk's changes of rows are sent, each request
-twice; after each the rows are shown, and to the session its view and the named formulas, which read the rows. The run is made
-once for each allocation, which alone gets no memory (by a library that stands before the C library's, so a C compiler is
-needed). The replies must be those of a model in which a request that wants for memory changes nothing: no change of rows
-without its reply, and the same request again acts once. Where memory is refused before a request is whole, the conversation
-ends behind that reply; where the app isn't loaded yet, there is none.
+PFX is the built program, out/pfx where none is given; each EACH-th allocation is refused, every one where none is said. A session is opened, a desk's changes of rows are sent, then events and
+inputs of the session whose formulas act, and an edit, each request twice; after each the rows are shown, and to the session its
+view and the named formulas. The run is made once for each such allocation, which alone gets no memory (by a library that stands
+before the C library's, so a C compiler is needed). The replies must be those of a model in which a request that wants for memory
+changes nothing: no change of rows, variables, inputs or formulas without its reply, and the same request again acts once. Where
+memory is refused before a request is whole, the conversation ends behind that reply; where the app isn't loaded yet, there is
+none.
 """
+import itertools
 import json
 import os
 import subprocess
 import sys
 import tempfile
 
+from behaviour_model import Office, body_of
+
 TOP = os.path.dirname(os.path.dirname(os.path.abspath(__file__)))
 PROGRAM = sys.argv[1] if len(sys.argv) > 1 else f"{TOP}/out/pfx"
+EACH = int(sys.argv[2]) if len(sys.argv) > 2 else 1
 COLUMNS = [{"name": "Name", "type": "Text", "required": True, "unique": True}, {"name": "Qty", "type": "Number", "indexed": True}]
-FORMULAS = "Low = CountRows(Filter(Stock, Qty < 3)); One = First(Stock).Name; All = Sort(Stock, Qty); Bad = Filter(Stock, Qty = 1/0);"
+FORMULAS = "Low = CountRows(Filter(Stock, Qty < 3)); One = First(Stock).Name; All = Sort(Stock, Qty); Bad = Filter(Stock, Qty = 1/0); Held = held;"
+ADD_ROW = 'Set(n, n + 1); Patch(Stock, Defaults(Stock), {Name: "Item " & n, Qty: n})'
+MANY = ('Collect(held, {A: n}, {A: n + 1}); UpdateContext({x: n, y: "y"}); ForAll(Stock, Patch(Stock, ThisRecord, {Qty: Qty + 1})); UpdateIf(Stock, Qty > 1, {Name: Name & "!"}); '
+        'RemoveIf(held, A = 9); Patch(held, First(held), {A: 7}); Remove(held, Last(held)); IfError(Patch(Stock, {ID: 99}, {Qty: 1}), Notify(FirstError.Kind)); Notify("done " & n); Navigate(Other)')
 CONTROLS = [
-    {"name": "Sign", "kind": "Label", "properties": {"Text": 'Low & " of " & CountRows(Stock)'}},
-    {"name": "List", "kind": "Gallery", "properties": {"Items": "Filter(Stock, Qty > 1)"}},
+    {"name": "Sign", "kind": "Label", "properties": {"Text": 'Low & " of " & CountRows(Stock) & x & y'}},
+    {"name": "Add", "kind": "Button", "properties": {"OnSelect": ADD_ROW}},
+    {"name": "Many", "kind": "Button", "properties": {"OnSelect": MANY}},
+    {"name": "Size", "kind": "Slider", "properties": {"OnChange": "Set(n, Size.Value); Reset(Size)"}},
+    {"name": "List", "kind": "Gallery", "properties": {"Items": "Filter(Stock, Qty > 1)", "OnSelect": "ClearCollect(held, {A: ThisItem.Qty})"}},
     {"name": "Line", "kind": "Label", "in": "List", "properties": {"Text": "ThisItem.Name & CountRows(Stock)"}},
+    {"name": "Out", "kind": "Button", "in": "List", "properties": {"OnSelect": "Remove(Stock, ThisItem)"}},
 ]
-APP = {"format": "pfx-1", "tables": [{"name": "Stock", "columns": COLUMNS}], "formulas": FORMULAS, "screens": [{"name": "Home", "controls": CONTROLS}]}
+OTHER = {"name": "Other", "onVisible": "Set(n, n + 10)", "controls": [{"name": "Back", "kind": "Button", "properties": {"OnSelect": "Navigate(Home)"}}]}
+APP = {"format": "pfx-1", "tables": [{"name": "Stock", "columns": COLUMNS}], "formulas": FORMULAS, "onStart": "Set(n, 0)",
+       "screens": [{"name": "Home", "onVisible": 'Notify("home"); Set(n, n + 1)', "controls": CONTROLS}, OTHER]}
 ADD = {"op": "add", "table": "Stock", "row": {"Name": "Nut", "Qty": {"n": "2.5"}}}
 CHANGES = [(1, [ADD]), (3, [ADD]), (2, [{"op": "remove", "table": "Stock", "id": 9}]), (2, [ADD]), (2, [{"op": "remove", "table": "Stock", "id": 1}, ADD])]
-OPEN, VIEW, NAMED, PAGE = "PUT /s/a", "GET /s/a/view", "GET /s/a/named", "GET /rows/Stock/0"
+OPEN, VIEW, NAMED, PAGE = (("PUT", "/s/a", None), ("GET", "/s/a/view", None), ("GET", "/s/a/named", None), ("GET", "/rows/Stock/0", None))
 SHOWN = [PAGE, VIEW, NAMED]
-REQUESTS = [OPEN, *SHOWN, *(it for change in CHANGES for it in (change, *SHOWN, change, *SHOWN)), OPEN]
+
+
+def compact(value):
+    """Returns a value as JSON without spaces."""
+    return json.dumps(value, separators=(",", ":"), ensure_ascii=False)
+
+
+def rows_of(seq, changes):
+    return "POST", "/desk/d/rows", compact({"seq": seq, "changes": changes})
+
+
+def event(seq, control, item=None):
+    return "POST", "/s/a/event", compact({"seq": seq, "control": control, "event": "OnSelect", **({"item": {"at": item}} if item else {})})
+
+
+def given(seq, control, value):
+    return "POST", "/s/a/input", compact({"seq": seq, "control": control, "value": value})
+
+
+def edit(seq, cell, text):
+    return "POST", "/desk/e/edit", compact({"seq": seq, "cell": cell, "text": text})
+
+
+ACTS = [event(1, "Add"), event(2, "Add"), event(3, "Many"), event(4, "Back"), given(5, "Size", 4), event(6, "List", 1), event(7, "Out", 2), event(8, "Add"), edit(1, "Add.OnSelect", 'Set(held_, [n]); Set(n, n - 1)'), event(9, "Add")]
+REQUESTS = [OPEN, *SHOWN, *(it for change in CHANGES for it in (rows_of(*change), *SHOWN, rows_of(*change), *SHOWN)), *(it for act in ACTS for it in (act, *SHOWN, act, *SHOWN)), OPEN]
 WANTS = b'{"refused":{"code":26,"detail":null,"name":"WantOfMemory"}}'
 
 # `memory` refuses the call of this number, counted from 1, and leaves a file that says so.
@@ -53,85 +91,19 @@ void *aligned_alloc(size_t a, size_t n) { return refuses() ? 0 : __libc_memalign
 """
 
 
-def compact(value):
-    """Returns a value as JSON without spaces."""
-    return json.dumps(value, separators=(",", ":"))
-
-
-def refusal(code, name, detail=None):
-    """Returns the body of a refusal."""
-    return compact({"refused": {"code": code, "detail": detail, "name": name}})
-
-
 def sent(request):
     """Returns the bytes of a request."""
-    if isinstance(request, str):
-        return f"{request} HTTP/1.1\r\n\r\n".encode()
-    seq, changes = request
-    body = compact({"seq": seq, "changes": changes})
-    return f"POST /desk/d/rows HTTP/1.1\r\nContent-Length: {len(body)}\r\n\r\n{body}".encode()
-
-
-class Model:
-    """Whether the session is open, the rows, the last number that was given, and what the desk last had answered."""
-
-    def __init__(self):
-        self.open, self.rows, self.given, self.seq, self.body, self.reply = False, {}, 0, 0, None, None
-
-    def answer(self, request):
-        """Returns the body that a request is answered by, and does what it asks for."""
-        rows = [{"ID": it, **row} for it, row in sorted(self.rows.items())]
-        if request == OPEN:
-            self.open = True
-            return compact({"ok": True})
-        if request == PAGE:
-            return compact({"more": False, "rows": rows})
-        if request in (VIEW, NAMED):
-            return refusal(11, "NoSession") if not self.open else self.view(rows) if request == VIEW else self.named(rows)
-        return self.change(*request)
-
-    def view(self, rows):
-        """Returns the view over these rows, each of which is low and has more than 1."""
-        count = len(rows)
-        lines = [{"kind": "Label", "name": "Line", "values": {"Text": f"{row['Name']}{count}"}} for row in rows]
-        items = [{"at": at, "controls": [line], "id": row["ID"]} for at, (line, row) in enumerate(zip(lines, rows), 1)]
-        sign = {"kind": "Label", "name": "Sign", "values": {"Text": f"{count} of {count}"}}
-        return compact({"controls": [sign, {"items": items, "kind": "Gallery", "name": "List", "total": count}], "screen": "Home"})
-
-    def named(self, rows):
-        """Returns the named formulas over these rows. A condition's error is seen where there is a row."""
-        bad = {"e": {"kind": "Div0", "message": ""}} if rows else []
-        values = {"Low": len(rows), "One": rows[0]["Name"] if rows else None, "All": rows, "Bad": bad}
-        return compact({"named": [{"name": name, "value": value} for name, value in values.items()]})
-
-    def change(self, seq, changes):
-        """Returns the reply to a desk's changes of rows, and makes them."""
-        if seq == self.seq:
-            return self.reply if changes == self.body else refusal(14, "SeqReused")
-        if seq != self.seq + 1:
-            return refusal(13, "OutOfStep", self.seq)
-        rows, given, ids = dict(self.rows), self.given, []
-        for place, change in enumerate(changes):
-            if change["op"] == "remove":
-                if rows.pop(change["id"], None) is None:
-                    return refusal(22, "NoRow")
-                ids.append(change["id"])
-            elif any(it["Name"] == change["row"]["Name"] for it in rows.values()):
-                return refusal(23, "RowRefused", {"at": place, "column": "Name", "rule": "unique"})
-            else:
-                given += 1
-                rows[given] = change["row"]
-                ids.append(given)
-        self.rows, self.given, self.seq, self.body = rows, given, seq, changes
-        self.reply = compact({"ids": ids, "seq": seq})
-        return self.reply
+    method, path, body = request
+    if body is None:
+        return f"{method} {path} HTTP/1.1\r\n\r\n".encode()
+    return f"{method} {path} HTTP/1.1\r\nContent-Length: {len(body.encode())}\r\n\r\n{body}".encode()
 
 
 def is_right(replies):
     """Whether the replies are those of the model, where what wants for memory changes nothing."""
-    model = Model()
+    model = Office(APP)
     for request, reply in zip(REQUESTS, replies):
-        if reply != WANTS and reply != model.answer(request).encode():
+        if reply != WANTS and reply != body_of(model.answer(*request)[1]).encode():
             return False
     return len(replies) == len(REQUESTS) or not replies or replies[-1] == WANTS
 
@@ -153,17 +125,17 @@ def main():
         with open(app, "w") as file:
             json.dump(APP, file)
         subprocess.run(["cc", "-shared", "-fPIC", "-O1", "-o", refuser, "-x", "c", "-"], input=REFUSER.encode(), check=True)
-        calls, ends = 0, {}
-        while True:
-            status, replies, was = replay(app, refuser, mark, calls + 1)
+        runs, ends = 0, {}
+        for call in itertools.count(1, EACH):
+            status, replies, was = replay(app, refuser, mark, call)
             if not is_right(replies) or (not was and (status or WANTS in replies)):
-                sys.exit(f"call {calls + 1}: status {status}, {replies}")
+                sys.exit(f"call {call}: status {status}, {replies}")
             if not was:
                 break
-            calls += 1
+            runs += 1
             end = (status, len(replies), replies.count(WANTS))
             ends[end] = ends.get(end, 0) + 1
-    print(f"{calls} allocations, each refused in a run of its own, over {len(REQUESTS)} requests; all replies were right")
+    print(f"{runs} allocations, each refused in a run of its own, over {len(REQUESTS)} requests; all replies were right")
     for (status, replies, wants), count in sorted(ends.items()):
         print(f"  {count:5} runs: status {status}, {replies} replies, {wants} for want of memory")
 

@@ -22,17 +22,18 @@ STEPS = [
     ("2", "Numbers, values and types", ["fx_number", "fx_data", "fx_value"], "Numbers are whole counts of ten-thousandths. Values and types are seen as plain data."),
     ("3", "Tokens, trees and the grammar", ["fx_lexer", "fx_trees/specs/Tree", "fx_trees/src/expr", "fx_grammar", "fx_printer", "fx_parser"], "From bytes to tokens, and from tokens to trees. `Grammar` has one case for each line of the grammar in `docs/LANGUAGE.md`."),
     ("4", "Functions, typed trees and names", ["fx_trees", "fx_sig"], "The table of functions, what each takes and answers, and typed trees. `Rows`, `Entries` and `functions.rt` are tables; hold them against `docs/LANGUAGE.md`."),
-    ("5", "Typing", ["fx_typing", "fx_scopes", "fx_operators", "fx_nodes", "fx_row_changes", "fx_calls", "fx_details", "fx_infer"], "Which formulas are admitted, as which typed trees, and what is said of the others. `Details` is only about the words behind a broken rule. Acting calls are judged here too, though no formula may act yet."),
+    ("5", "Typing", ["fx_typing", "fx_scopes", "fx_operators", "fx_nodes", "fx_row_changes", "fx_calls", "fx_details", "fx_infer"], "Which formulas are admitted, as which typed trees, and what is said of the others. `Details` is only about the words behind a broken rule. Acting calls are judged here too."),
     ("6", "What functions answer", ["fx_builtins", "fx_scalar", "fx_tables"], "Each function of values and of tables, as a function or a relation on plain data."),
     ("7", "What typed trees are worth", ["fx_semantics", "fx_eval"], "The value of a typed tree by recursion on it."),
     ("8", "Rows and keepers", ["row_queries", "row_keeper", "fx_plan"], "What a query asks of rows, the rules of rows, and what a keeper tells and what each of its calls may do. `keeper.rt` is the trait `Keeper` with its clauses, which are a premise of `run`."),
     ("9", "App files", ["app_file"], "The form of an app file, its limits, and what is read of it. Hold `FormOfApp` against `docs/APP_FILE.md`."),
     ("10", "Formulas of an app", ["app_cells", "app_texts", "app_names", "depend_graph", "app_edits", "app_loader", "app_plans"], "From what a file holds to an app or to what is broken, stage by stage: `Judged` of `app_loader` goes through them in their order; the app in which one formula is replaced; and what is told of where formulas take rows."),
     ("11", "What the formulas of an app are worth", ["session_state", "app_semantics", "recalc", "app_views"], "What a session keeps, and the values of an app's formulas over it, whatever their order."),
-    ("12", "Requests and replies", ["app_wire", "view_text", "request_checks"], "From bytes to requests, from requests to routes, from replies to bytes, and the checks of numbered requests."),
-    ("13", "Requests of rows and of sessions", ["row_requests", "session_requests", "office/specs/DeskEdits"], "The bodies of posted requests, what a desk's changes do to tables and its edits to the app, pages of rows, and what a session's inputs and events do."),
-    ("14", "The office", ["office"], "What one request does, and what a whole conversation is."),
-    ("15", "The run", ["fx_cli"], "All of this together. With it the clauses of `run` can be read again, each name of which is now known."),
+    ("12", "What formulas do that act", ["fx_places", "fx_deeds", "fx_behave", "app_world", "session_events"], "What each function that acts makes of tables and a session, what a formula does by recursion on its tree, and what runs in one request."),
+    ("13", "Requests and replies", ["app_wire", "view_text", "request_checks"], "From bytes to requests, from requests to routes, from replies to bytes, and the checks of numbered requests."),
+    ("14", "Requests of rows and of sessions", ["row_requests", "session_requests", "office/specs/DeskEdits"], "The bodies of posted requests, what a desk's changes do to tables and its edits to the app, pages of rows, and what a session's inputs and events do."),
+    ("15", "The office", ["office"], "What one request does, and what a whole conversation is."),
+    ("16", "The run", ["sample_load", "fx_cli"], "All of this together. With it the clauses of `run` can be read again, each name of which is now known."),
 ]
 
 

@@ -99,4 +99,5 @@ def main():
     print(f"pages of {len(Plain.page)} bytes: {looks:.0f} a second, http.server {plain:.0f}; rows posted: {posts:.0f} a second")
 
 
-main()
+if __name__ == "__main__":
+    main()
