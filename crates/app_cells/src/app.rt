@@ -3,8 +3,7 @@
 use crate::cell::Cell;
 use fx_base::InOrder;
 use fx_data::types::Ty;
-use fx_plan::Site;
-use fx_trees::{Core, Names, Sources};
+use fx_trees::{Core, Names, Site, Sources};
 
 /// Where a formula takes rows of tables.
 pub type SiteList = InOrder<Site>;

@@ -7,7 +7,7 @@ use Rattle.serde_json.specs.Written.{has_float, items_have_float}
 use Rattle.app_cells.specs.declared.app.App.{App}
 use Rattle.app_cells.specs.declared.app.CellInfo.{CellInfo}
 use Rattle.app_plans.specs.Plans.{cell_data, plan_data, site_data}
-use Rattle.fx_plan.specs.declared.site_list.Site.{Site}
+use Rattle.fx_trees.specs.declared.sites.Site.{Site}
 use Rattle.fx_trees.specs.declared.schema.TableShape.{TableShape}
 
 both_false : (a b : Bool) → a ≡ false → b ≡ false → (a || b) ≡ false

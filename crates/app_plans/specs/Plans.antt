@@ -7,7 +7,7 @@ use Rattle.serde_json.specs.View.{items_of}
 use Rattle.serde_json.specs.Written.{compact_text}
 use Rattle.app_cells.specs.declared.app.App.{App}
 use Rattle.app_cells.specs.declared.app.CellInfo.{CellInfo}
-use Rattle.fx_plan.specs.declared.site_list.Site.{Site}
+use Rattle.fx_trees.specs.declared.sites.Site.{Site}
 use Rattle.fx_trees.specs.declared.schema.TableShape.{TableShape}
 
 -- the name of a table by its number

@@ -42,9 +42,9 @@ use Rattle.fx_value.specs.Fits.{fits_in}
 use Rattle.app_semantics.specs.Holding.{HoldRows, HoldsFitting}
 use Rattle.fx_trees.specs.declared.schema.TableShape.{TableShape}
 use Rattle.fx_trees.specs.Term.{Term}
-use Rattle.app_cells.proofs.of_fx_plan.Retyped.{types_limited}
-use Rattle.app_cells.specs.fx_plan.Constants.{ReadsTables}
-use Rattle.app_cells.specs.fx_plan.Limited.{limited}
+use Rattle.fx_plan.proofs.Retyped.{types_limited}
+use Rattle.fx_plan.specs.Constants.{ReadsTables}
+use Rattle.fx_plan.specs.Limited.{limited}
 use Rattle.row_queries.specs.declared.rows.Row.{Row}
 use Rattle.fx_semantics.specs.Fresh.{IsValue}
 

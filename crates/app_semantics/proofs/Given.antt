@@ -32,7 +32,7 @@ use Rattle.fx_value.specs.Fits.{fits_in}
 use Rattle.app_semantics.specs.Holding.{HoldRows, HoldsFitting}
 use Rattle.fx_trees.specs.declared.schema.TableShape.{TableShape}
 use Rattle.fx_trees.specs.Lawful.{IsLawful, IsLawfulTable}
-use Rattle.app_cells.proofs.of_fx_plan.Placing.{lawful_at}
+use Rattle.fx_plan.proofs.Placing.{lawful_at}
 use Rattle.row_queries.proofs.Fitting.{all_fit}
 use Rattle.row_queries.specs.declared.rows.Row.{Row as RowOfTable}
 use Rattle.row_queries.specs.TableRows.{rows_at, table_of}

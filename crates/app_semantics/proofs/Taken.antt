@@ -2,13 +2,13 @@
 use Rattle.std.proofs.Common.{ℕ, suc, List, [], Bool, true, false, not, inl, inr}
 use Rattle.std.specs.Prelude.{◌&&◌, if◌then◌else◌}
 use Rattle.app_semantics.proofs.Typings.{among_either, among_left, among_right}
-use Rattle.app_cells.specs.fx_plan.Sites.{count_of, deeper, is_first, is_query, opens}
+use Rattle.fx_plan.specs.Sites.{count_of, deeper, is_first, is_query, opens}
 use Rattle.fx_semantics.specs.Sound.{AreLawfulTrees, IsLawfulTree}
 use Rattle.fx_trees.specs.Reads.{IsAmong, read_by, sources_among, sources_in}
 use Rattle.fx_trees.specs.Term.{Term, Terms, of, nil, cons, Top}
 use Rattle.fx_trees.specs.declared.schema.TableShape.{TableShape}
 use Rattle.fx_trees.specs.declared.sources.Source.{Source}
-use Rattle.app_cells.specs.fx_plan.Limited.{first_rows, limited, parts_limited, takes_first_whole}
+use Rattle.fx_plan.specs.Limited.{first_rows, limited, parts_limited, takes_first_whole}
 
 capped_reads : (b : Bool) (n : ℕ) (t : Term) (x : Source) → IsAmong x (sources_in (if b then first_rows n t else t)) → IsAmong x (sources_in t)
 capped_reads true n t x a = elim (among_either x (sources_in t) [] a) [ inl h ↦ h | inr h ↦ absurd h ]

@@ -12,7 +12,7 @@ use Rattle.fx_trees.specs.declared.sources.Source.{Source}
 use Rattle.fx_trees.specs.declared.sources.Source.TheVariants as source
 use Rattle.fx_data.specs.TypeView.{shape}
 use Rattle.fx_value.specs.Fits.{fits_in}
-use Rattle.app_cells.specs.fx_plan.Limited.{IsTakenValue}
+use Rattle.fx_plan.specs.Limited.{IsTakenValue}
 use Rattle.row_queries.specs.declared.rows.Row.{Row}
 
 -- a formula may read tables, and of all other sources these

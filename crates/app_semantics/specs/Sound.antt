@@ -23,7 +23,7 @@ use Rattle.fx_places.specs.Places.{IsPlaced}
 use Rattle.fx_typing.specs.Acts.{acts}
 use Rattle.fx_typing.specs.Typing.{item_of}
 use Rattle.fx_typing.specs.WellTyped.{Context, IsTyped}
-use Rattle.app_cells.specs.fx_plan.Limited.{limited}
+use Rattle.fx_plan.specs.Limited.{limited}
 
 -- where the tree of a formula stands: among the names of the app, and perhaps in a gallery
 abbrev pub context_at : Names → Option ℕ → Context

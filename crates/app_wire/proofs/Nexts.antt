@@ -1,7 +1,7 @@
 -- From what the framer found of the bytes that came to what the whole rest of the conversation begins with.
 use Rattle.std.proofs.Common.{◌≡◌, ℕ, ◌<◌, ◌≤◌, ◌⊎◌, inl, inr, false, true, List, [], ◌∷◌, ◌++◌, Some, None, Result, Ok, Err, IfOk, OnErr, length, refl, ap, sym, ◌∙◌, subst, append_assoc, arith}
 use Rattle.std.proofs.lemmas.List.{append-nil, append_cancel_left, length-append}
-use Rattle.fx_base.specs.declared.Memory.{Memory}
+use Rattle.fx_number.specs.declared.memory.Memory.{Memory}
 use Rattle.app_wire.specs.Doorway.{Doorway, Reads, Takes}
 use Rattle.app_wire.specs.Framing.{Refuses, Feeds, Framing, IsOpen, refused}
 use Rattle.app_wire.specs.NextRequest.{Begins, found_in, FindsNext, HasCode, Keeps, ReadsLittle}

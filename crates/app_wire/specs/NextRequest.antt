@@ -1,6 +1,6 @@
 -- The next request of a conversation over doors.
 use Rattle.std.specs.Prelude.{◌≡◌, ◌⊎◌, ◌<◌, ◌≤◌, ℕ, true, List, [], ◌++◌, length, drop, Option, Some, None, Result, Ok, Err}
-use Rattle.fx_base.specs.declared.Memory.{Memory}
+use Rattle.fx_number.specs.declared.memory.Memory.{Memory}
 use Rattle.app_wire.specs.Doorway.{Doorway, Takes}
 use Rattle.app_wire.specs.Framing.{asked, nothing, refused, whole, Framing, IsOpen}
 use Rattle.app_wire.specs.declared.framer.Fed.{Fed}

@@ -2,7 +2,7 @@
 ghost use Rattle.std.specs.Prelude.{◌≡◌, ℕ, ◌<◌, ◌≤◌, length, slice_index, EachIndex, IfOk};
 ghost use Rattle.depend_graph.specs.Turning.{turned_at, TurnsToLeast};
 
-use fx_base::Memory;
+use fx_number::Memory;
 use std::alloc::Global;
 
 /// A place of the least number.

@@ -1,6 +1,6 @@
 //! Why there is no order.
 
-use fx_base::Memory;
+use fx_number::Memory;
 use std::alloc::{AllocError, AllocFailed};
 
 /// Why there is no order.

@@ -3,7 +3,7 @@ ghost use Rattle.std.specs.Prelude.{◌≡◌, ◌⊎◌, ℕ, ◌<◌, ◌≤�
 ghost use Rattle.depend_graph.specs.Order.{AreBelow};
 ghost use Rattle.depend_graph.specs.Lists.{at, lists_of, AddsEach, AreReaders, AreTurned, HoldBelow};
 
-use fx_base::Memory;
+use fx_number::Memory;
 use std::alloc::Global;
 
 /// As many lists without an item.

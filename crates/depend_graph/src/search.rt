@@ -8,7 +8,7 @@ ghost use Rattle.depend_graph.specs.Turning.{TurnsToLeast};
 use crate::closed_path::close_from_least;
 use crate::end::OrderEnd;
 use crate::state::State;
-use fx_base::Memory;
+use fx_number::Memory;
 use std::alloc::Global;
 
 /// How far a search has come.

@@ -7,7 +7,7 @@ use Rattle.fx_data.specs.Types.{Shape, ColumnList, blanks, numbers, texts, boole
 use Rattle.fx_data.specs.Values.{Data}
 use Rattle.fx_eval.proofs.Places.{at_most}
 use Rattle.fx_eval.specs.Parts.{caught_in, inner}
-use Rattle.fx_eval.specs.Scopes.{Held, IsReady, Suits}
+use Rattle.fx_env.specs.Scopes.{Held, IsReady, Suits}
 use Rattle.fx_semantics.proofs.Branches.{differs}
 use Rattle.fx_semantics.proofs.Forms.{chosen_take, each_take}
 use Rattle.fx_semantics.proofs.Parts.{rows_more}
@@ -23,7 +23,7 @@ use Rattle.fx_trees.specs.declared.rows.Takes.TheVariants as takes
 use Rattle.fx_trees.specs.Rows.{form_row, inner_at, row_of, takes_at, takes_count}
 use Rattle.fx_trees.specs.Term.{Term, Terms, of, nil, cons, all, Top, chain, form as form_head, over, within}
 use Rattle.fx_typing.specs.Acts.{acts}
-use Rattle.fx_typing.specs.Columns.{row_columns}
+use Rattle.fx_trees.specs.ColumnLists.{row_columns}
 use Rattle.fx_typing.specs.WellTyped.{Context, AreTyped, AllStand, IsRuled, IsTyped, Stands, Standing, catching, context_for, first_type, last_type, parts_count, plain, row_type, standing_at, standing_of}
 use Rattle.fx_typing.specs.Ways.{is_comparable}
 use Rattle.fx_value.specs.Columns.{Row}

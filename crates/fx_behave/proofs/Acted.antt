@@ -6,10 +6,10 @@ use Rattle.std.specs.Prelude.{IfOk}
 use Rattle.fx_data.specs.declared.faults.Kind.{Kind}
 use Rattle.fx_data.specs.declared.values.Value.{Value}
 use Rattle.fx_data.specs.ValueView.{view}
-use Rattle.fx_eval.specs.declared.environment.Stop.{Stop}
+use Rattle.fx_env.specs.declared.environment.Stop.{Stop}
 use Rattle.fx_data.specs.Types.{Shape}
 use Rattle.fx_data.specs.Values.{Data, fault}
-use Rattle.fx_eval.specs.Scopes.{Held}
+use Rattle.fx_env.specs.Scopes.{Held}
 use Rattle.fx_scalar.specs.LazyForms.{IsNoError}
 use Rattle.fx_semantics.specs.Rows.{rows_in}
 use Rattle.fx_value.specs.Columns.{Row}

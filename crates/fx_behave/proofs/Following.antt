@@ -5,7 +5,7 @@ use Rattle.fx_data.specs.Types.{Shape}
 use Rattle.fx_data.specs.Values.{Data, blank, number, text, boolean, date, rec, tab, fault}
 use Rattle.fx_eval.proofs.Matching.{can_match}
 use Rattle.fx_eval.specs.Parts.{IsMatched, inner}
-use Rattle.fx_eval.specs.Scopes.{Held}
+use Rattle.fx_env.specs.Scopes.{Held}
 use Rattle.fx_scalar.specs.LazyForms.{CanMatch, IsNoError}
 use Rattle.fx_semantics.specs.Around.{record_of}
 use Rattle.fx_semantics.specs.Sound.{AreFit}

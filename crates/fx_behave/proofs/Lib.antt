@@ -10,5 +10,4 @@ pub mod Eaches
 pub mod Purely
 pub mod Following
 pub mod WritesAll
-pub mod SingleTrees
 pub mod SingleAll

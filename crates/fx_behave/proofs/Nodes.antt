@@ -4,7 +4,7 @@ use Rattle.fx_base.specs.Silence.{Goes}
 use Rattle.fx_data.specs.Types.{Shape, tables}
 use Rattle.fx_data.specs.Values.{Data}
 use Rattle.fx_eval.proofs.Sizes.{table_falls}
-use Rattle.fx_eval.specs.Scopes.{Held}
+use Rattle.fx_env.specs.Scopes.{Held}
 use Rattle.fx_semantics.proofs.Coerced.{all_of_one, list_fits}
 use Rattle.fx_semantics.proofs.Fields.{dot_fits}
 use Rattle.fx_semantics.proofs.Whole.{lawful_here}
@@ -16,7 +16,7 @@ use Rattle.fx_trees.specs.declared.functions.Fun.TheVariants as fun
 use Rattle.fx_trees.specs.Term.{Term, Terms, of, nil, cons, all, Top, term_size, terms_size}
 use Rattle.fx_trees.specs.Term as top
 use Rattle.fx_typing.specs.Acts.{acts}
-use Rattle.fx_typing.specs.Columns.{row_columns}
+use Rattle.fx_trees.specs.ColumnLists.{row_columns}
 use Rattle.fx_typing.specs.LawfulTypes.{IsLawfulType}
 use Rattle.fx_value.specs.Coercion.{IsCoerced}
 use Rattle.fx_value.specs.Fits.{fits_in}

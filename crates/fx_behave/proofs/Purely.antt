@@ -8,8 +8,8 @@ use Rattle.fx_data.specs.Types.{Shape, tables}
 use Rattle.fx_data.specs.Values.{Data}
 use Rattle.fx_semantics.proofs.Wider.{stays_read}
 use Rattle.fx_semantics.specs.Sources.{FitsIn, Gives}
-use Rattle.fx_eval.specs.Scopes.{CanEvaluate, Fixed, Held, IsReady, around}
-use Rattle.fx_eval.specs.Telling.{Told, values_told}
+use Rattle.fx_env.specs.Scopes.{CanEvaluate, Fixed, Held, IsReady, around}
+use Rattle.fx_env.specs.Telling.{Told, values_told}
 use Rattle.fx_semantics.specs.Fresh.{IsValue}
 use Rattle.fx_semantics.specs.Sound.{AreFit}
 use Rattle.fx_trees.specs.declared.names.Names.{Names}

@@ -11,9 +11,9 @@ use Rattle.fx_data.specs.declared.faults.Kind.{Kind}
 use Rattle.fx_data.specs.declared.values.Value.{Value}
 use Rattle.fx_data.specs.Values.{Data, blank, number, text, boolean, date, rec, tab, fault}
 use Rattle.fx_data.specs.ValueView.{view}
-use Rattle.fx_eval.specs.declared.environment.Stop.{Stop}
+use Rattle.fx_env.specs.declared.environment.Stop.{Stop}
 use Rattle.fx_eval.specs.Parts.{caught_in, inner}
-use Rattle.fx_eval.specs.Scopes.{Fixed, Held}
+use Rattle.fx_env.specs.Scopes.{Fixed, Held}
 use Rattle.fx_scalar.specs.declared.lazy_forms.Decision.{Decision}
 use Rattle.fx_scalar.specs.declared.lazy_forms.Decision.TheVariants.{Met, Unmet, Error}
 use Rattle.fx_scalar.specs.LazyForms.{CaughtOr, IsNoError}

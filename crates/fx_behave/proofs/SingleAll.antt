@@ -4,7 +4,7 @@ use Rattle.fx_data.specs.declared.faults.Kind.{Kind}
 use Rattle.fx_data.specs.Types.{Shape, tables}
 use Rattle.fx_data.specs.Values.{Data, blank, number, text, boolean, date, rec, tab, fault}
 use Rattle.fx_eval.specs.Parts.{caught_in, inner}
-use Rattle.fx_eval.specs.Scopes.{Held}
+use Rattle.fx_env.specs.Scopes.{Held}
 use Rattle.fx_scalar.proofs.Single.{AtMostOne}
 use Rattle.fx_scalar.specs.LazyForms.{CaughtOr, decision_of, none_left}
 use Rattle.fx_scalar.specs.declared.lazy_forms.Decision.{Decision}
@@ -25,7 +25,7 @@ use Rattle.fx_trees.specs.declared.functions.Form.TheVariants as form
 use Rattle.fx_trees.specs.Term.{Term, Terms, of, nil, cons, Top}
 use Rattle.fx_trees.specs.Term as top
 use Rattle.fx_typing.specs.Acts.{acts}
-use Rattle.fx_typing.specs.Columns.{row_columns}
+use Rattle.fx_trees.specs.ColumnLists.{row_columns}
 use Rattle.fx_plan.specs.Limited.{limited}
 use Rattle.fx_places.specs.Places.{is_for_all}
 use Rattle.fx_deeds.proofs.Single.{Outcome, Same, answers_one, deed_once, or_error_one, two_one, update_one}
@@ -34,7 +34,7 @@ use Rattle.fx_deeds.specs.Done.{IsDeed, IsUpdate}
 use Rattle.fx_deeds.specs.State.{Ground, State}
 use Rattle.fx_behave.specs.Perform.{AreEach, ArePerformed, Decides, Doing, IsAct, IsActing, IsBranched, IsChain, IsDone, IsForAll, IsListed, IsOverAll, IsRecovered, IsSwitched, IsUpdateIf, IsWithin, OfOne, matching, performing, performings, taken}
 use Rattle.fx_behave.specs.Unique.{GivesOne}
-use Rattle.fx_behave.proofs.SingleTrees.{coerced_one, single}
+use Rattle.fx_semantics.proofs.SingleWhole.{coerced_one, single}
 
 -- what a formula does is one thing at most
 abbrev DoesOne : {A : Type 0} → Doing A → Type 0

@@ -2,7 +2,7 @@
 use Rattle.std.proofs.Common.{◌≡◌, ◌+◌, ◌≤◌, List, [], ◌∷◌, ◌++◌, true, Some, ap, sym, subst, ◌∙◌, arith}
 use Rattle.fx_data.specs.Types.{Shape, ColumnList, booleans, tables}
 use Rattle.fx_data.specs.Values.{Data}
-use Rattle.fx_eval.specs.Scopes.{Held}
+use Rattle.fx_env.specs.Scopes.{Held}
 use Rattle.fx_semantics.proofs.Tables.{RowsFit, rows_in_fit, table_fits}
 use Rattle.fx_semantics.proofs.Whole.{lawful_here}
 use Rattle.fx_semantics.specs.Rows.{rows_in, table_of}

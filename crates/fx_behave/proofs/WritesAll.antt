@@ -3,7 +3,7 @@ use Rattle.std.proofs.Common.{◌≡◌, ℕ, List, [], ◌∷◌, Bool, true, f
 use Rattle.fx_data.specs.declared.faults.Kind.{Kind}
 use Rattle.fx_data.specs.Values.{Data, blank, number, text, boolean, date, rec, tab, fault}
 use Rattle.fx_eval.specs.Parts.{caught_in, inner}
-use Rattle.fx_eval.specs.Scopes.{Held}
+use Rattle.fx_env.specs.Scopes.{Held}
 use Rattle.fx_scalar.specs.declared.lazy_forms.Decision.{Decision}
 use Rattle.fx_scalar.specs.declared.lazy_forms.Decision.TheVariants.{Met, Unmet, Error}
 use Rattle.fx_scalar.specs.LazyForms.{CaughtOr, decision_of, none_left}

@@ -4,7 +4,7 @@ use Rattle.fx_data.specs.declared.faults.Kind.{Kind}
 use Rattle.fx_data.specs.Types.{Shape}
 use Rattle.fx_data.specs.Values.{Data}
 use Rattle.fx_eval.specs.Parts.{IsMatched, caught_in, inner}
-use Rattle.fx_eval.specs.Scopes.{Held, Suits}
+use Rattle.fx_env.specs.Scopes.{Held, Suits}
 use Rattle.fx_semantics.specs.Around.{record_of}
 use Rattle.fx_semantics.specs.Sound.{IsLawfulTyping}
 use Rattle.fx_value.specs.Columns.{Row}

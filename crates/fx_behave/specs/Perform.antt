@@ -3,7 +3,7 @@ use Rattle.std.specs.Prelude.{◌≡◌, List, [], ◌∷◌, Bool, true, false}
 use Rattle.fx_data.specs.Types.{Shape, tables}
 use Rattle.fx_data.specs.Values.{Data, blank, fault}
 use Rattle.fx_eval.specs.Parts.{caught_in, inner}
-use Rattle.fx_eval.specs.Scopes.{Held}
+use Rattle.fx_env.specs.Scopes.{Held}
 use Rattle.fx_scalar.specs.declared.lazy_forms.Decision.{Decision}
 use Rattle.fx_scalar.specs.declared.lazy_forms.Decision.TheVariants.{Met, Unmet, Error}
 use Rattle.fx_scalar.specs.LazyForms.{CaughtOr, decision_of, equality, none_left}
@@ -20,7 +20,7 @@ use Rattle.fx_trees.specs.declared.functions.Form.TheVariants as form
 use Rattle.fx_trees.specs.Term.{Term, Terms, of, nil, cons, Top}
 use Rattle.fx_trees.specs.Term as top
 use Rattle.fx_typing.specs.Acts.{acts}
-use Rattle.fx_typing.specs.Columns.{row_columns}
+use Rattle.fx_trees.specs.ColumnLists.{row_columns}
 use Rattle.fx_value.specs.Coercion.{IsCoerced}
 use Rattle.fx_plan.specs.Limited.{IsTakenValue}
 use Rattle.fx_places.specs.Places.{is_for_all}

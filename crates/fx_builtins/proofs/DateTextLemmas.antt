@@ -4,10 +4,10 @@ use Rattle.std.specs.Option.{ok_or}
 use Rattle.jiff_core.specs.Calendar.{days_from_civil}
 use Rattle.fx_data.specs.Days.{IsDay}
 use Rattle.fx_data.specs.declared.faults.Kind.TheVariants.{InvalidArgument}
-use Rattle.fx_value.specs.Civil.{civil_of, IsCalendarDate}
-use Rattle.fx_value.specs.DateText.{two_digits, civil_text, date_text}
-use Rattle.fx_value.specs.declared.civil.CivilDate.{CivilDate}
-use Rattle.fx_value.proofs.CivilDays.{civil_is_date}
+use Rattle.fx_data.specs.Civil.{civil_of, IsCalendarDate}
+use Rattle.fx_data.specs.DateText.{two_digits, civil_text, date_text}
+use Rattle.fx_data.specs.declared.civil.CivilDate.{CivilDate}
+use Rattle.fx_data.proofs.CivilDays.{civil_is_date}
 
 -- a list of ten is its elements
 ten : (t : List ℕ) → length t ≡ 10 → t ≡ get_or t 0 0 ∷ get_or t 1 0 ∷ get_or t 2 0 ∷ get_or t 3 0 ∷ get_or t 4 0 ∷ get_or t 5 0 ∷ get_or t 6 0 ∷ get_or t 7 0 ∷ get_or t 8 0 ∷ get_or t 9 0 ∷ []

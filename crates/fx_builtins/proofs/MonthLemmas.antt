@@ -10,8 +10,8 @@ use Rattle.jiff_core.proofs.CalendarLemmas.{day_count-epoch, days_from_civil-day
 use Rattle.std.proofs.lemmas.Bool.{le-ltb}
 use Rattle.jiff_core.proofs.DateLemmas.{days_from_civil-day}
 use Rattle.fx_data.specs.Days.{IsDay}
-use Rattle.fx_value.specs.Civil.{civil_of}
-use Rattle.fx_value.proofs.CivilDays.{civil_is_date}
+use Rattle.fx_data.specs.Civil.{civil_of}
+use Rattle.fx_data.proofs.CivilDays.{civil_is_date}
 use Rattle.fx_builtins.specs.Dates.{full_year, number_of_parts}
 use Rattle.fx_builtins.specs.Months.{year_of, month_of, days_of_years, days_of_earlier_years, year_begin, first_of}
 

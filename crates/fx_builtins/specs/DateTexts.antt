@@ -1,9 +1,9 @@
 -- The formats of dates.
 use Rattle.std.specs.Prelude.{ℕ, ℤ, List, ◌∷◌, ◌++◌}
-use Rattle.fx_value.specs.Civil.{civil_of}
-use Rattle.fx_value.specs.DateText.{two_digits, four_digits, date_text}
-use Rattle.fx_trees.specs.declared.literals.DateFormat.{DateFormat}
-use Rattle.fx_trees.specs.declared.literals.DateFormat.TheVariants.{YearMonthDay, DayMonthYear, MonthDayYear}
+use Rattle.fx_data.specs.Civil.{civil_of}
+use Rattle.fx_data.specs.DateText.{two_digits, four_digits, date_text}
+use Rattle.fx_data.specs.declared.formats.DateFormat.{DateFormat}
+use Rattle.fx_data.specs.declared.formats.DateFormat.TheVariants.{YearMonthDay, DayMonthYear, MonthDayYear}
 
 -- two numbers below 100 and one below 10000, with slashes between
 abbrev pub slashed : ℕ → ℕ → ℕ → List ℕ

@@ -5,11 +5,11 @@ use Rattle.jiff_core.specs.Calendar.{days_in_month, IsBetween}
 use Rattle.fx_data.specs.Days.{IsDay}
 use Rattle.fx_data.specs.declared.faults.Kind.{Kind}
 use Rattle.fx_data.specs.declared.faults.Kind.TheVariants.{InvalidArgument}
-use Rattle.fx_value.specs.Civil.{civil_of}
-use Rattle.fx_value.specs.declared.civil.CivilDate.{CivilDate}
+use Rattle.fx_data.specs.Civil.{civil_of}
+use Rattle.fx_data.specs.declared.civil.CivilDate.{CivilDate}
 use Rattle.fx_builtins.specs.Months.{year_of, month_of, month_number, first_of}
-use Rattle.fx_trees.specs.declared.literals.TimeUnit.{TimeUnit}
-use Rattle.fx_trees.specs.declared.literals.TimeUnit.TheVariants.{Days, Months, Quarters, Years}
+use Rattle.fx_data.specs.declared.formats.TimeUnit.{TimeUnit}
+use Rattle.fx_data.specs.declared.formats.TimeUnit.TheVariants.{Days, Months, Quarters, Years}
 
 -- the day of this number, or InvalidArgument where it is the number of none
 abbrev pub IsDayOrInvalid : ℤ → Result ℤ Kind → Type 0

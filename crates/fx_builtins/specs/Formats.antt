@@ -2,8 +2,8 @@
 use Rattle.std.specs.Prelude.{ℕ, zero, suc, ℤ, pos, negsuc, ◌+◌, ◌-◌, ◌/◌, ◌%◌, ◌^◌, ◌==◌, ◌&&◌, nat_lt, Bool, true, false, if◌then◌else◌, List, [], ◌∷◌, ◌++◌, length, decimal}
 use Rattle.fx_number.specs.Decimal.{nearest}
 use Rattle.fx_number.specs.Spelling.{point_and}
-use Rattle.fx_trees.specs.declared.literals.NumberFormat.{NumberFormat}
-use Rattle.fx_trees.specs.declared.literals.NumberFormat.TheVariants.{Whole, TwoDecimals, FourDecimals, Grouped, GroupedTwoDecimals}
+use Rattle.fx_data.specs.declared.formats.NumberFormat.{NumberFormat}
+use Rattle.fx_data.specs.declared.formats.NumberFormat.TheVariants.{Whole, TwoDecimals, FourDecimals, Grouped, GroupedTwoDecimals}
 
 -- how many decimals a format has
 abbrev pub decimals_of : NumberFormat → ℕ

@@ -2,7 +2,7 @@
 use Rattle.std.specs.Prelude.{ℕ, zero, suc, ◌+◌, ◌-◌, ◌*◌, ℤ, pos, negsuc, neg_ℤ, ◌+ℤ◌, ◌-ℤ◌, unsigned_abs}
 use Rattle.std.specs.Int.{int_div_euclid, int_rem_euclid}
 use Rattle.jiff_core.specs.Calendar.{days_in_year, days_of_months}
-use Rattle.fx_value.specs.declared.civil.CivilDate.{CivilDate}
+use Rattle.fx_data.specs.declared.civil.CivilDate.{CivilDate}
 
 -- the year of a month, and its place in that year, from 1
 abbrev pub year_of : ℤ → ℤ

@@ -2,12 +2,11 @@
 ghost use Rattle.std.specs.Prelude.{◌≡◌, ℤ, ◌/◌, ◌^◌, ◌+ℤ◌, ◌-ℤ◌, ◌*ℤ◌, pos};
 ghost use Rattle.jiff_core.specs.Calendar.{IsWithin};
 ghost use Rattle.fx_data.specs.Days.{IsDay};
-ghost use Rattle.fx_value.specs.Civil.{civil_of};
+ghost use Rattle.fx_data.specs.Civil.{civil_of};
 ghost use Rattle.fx_builtins.specs.Dates.{IsDayOrInvalid, number_of_parts, full_year as full_year_of, weekday_of};
 
 use crate::months::{day_of_number, first_day};
-use fx_data::{Day, Kind};
-use fx_value::{civil_date, plain_date};
+use fx_data::{Day, Kind, civil_date, plain_date};
 
 const DAY_SECONDS: u64 = 86_400;
 

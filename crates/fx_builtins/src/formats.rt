@@ -5,9 +5,8 @@ ghost use Rattle.fx_number.specs.Spelling.{point_and};
 ghost use Rattle.fx_builtins.specs.Formats.{comma_before, decimals_of, format_of, is_grouped as is_grouped_format, last_digits, units_of, units_text, whole_text, with_commas};
 
 use fx_base::Memory;
-use fx_data::Words;
+use fx_data::{NumberFormat, Words};
 use fx_number::Num;
-use fx_trees::NumberFormat;
 use std::alloc::Global;
 
 /// The text of a number by a format, rounded half away from zero. A rounding to 0 has no sign.

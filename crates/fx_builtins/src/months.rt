@@ -2,12 +2,11 @@
 ghost use Rattle.std.specs.Prelude.{◌≡◌, ◌+ℤ◌, ◌+◌, ◌/◌, ◌%◌, ◌^◌, ◌<◌, ◌≤◌, ◌*ℤ◌, pos, MatchOption};
 ghost use Rattle.std.specs.Int.{IsInRange};
 ghost use Rattle.jiff_core.specs.Calendar.{IsBetween, IsEpochDay, IsWithin, days_from_civil};
-ghost use Rattle.fx_value.specs.Civil.{IsCalendarDate};
+ghost use Rattle.fx_data.specs.Civil.{IsCalendarDate};
 ghost use Rattle.fx_builtins.specs.Dates.{IsDayOrInvalid, IsInMonthOrInvalid, IsMonthsLater};
 ghost use Rattle.fx_builtins.specs.Months.{first_of, month_number as number_of_month, month_of, year_of};
 
-use fx_data::{Day, Kind};
-use fx_value::{CivilDate, civil_date, day_of_plain};
+use fx_data::{CivilDate, Day, Kind, civil_date, day_of_plain};
 use jiff_core::civil::Date;
 
 // The months in the 400 years after which the calendar repeats, and their days.

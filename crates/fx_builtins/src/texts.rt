@@ -1,15 +1,13 @@
 // Dates as texts.
 ghost use Rattle.std.specs.Prelude.{◌≡◌, ℕ, ℤ, ◌+◌, ◌<◌, ◌++◌, ◌∷◌, [], ◌↔◌, MatchOption, IfErr, IfOk, OnOk, string_bytes};
 ghost use Rattle.fx_data.specs.Days.{IsDay};
-ghost use Rattle.fx_value.specs.Civil.{IsCalendarDate};
-ghost use Rattle.fx_value.specs.DateText.{civil_text, date_text as date_text_of, two_digits as two_digits_of};
-ghost use Rattle.fx_value.specs.declared.civil.CivilDate.{CivilDate as CivilDateValue};
+ghost use Rattle.fx_data.specs.Civil.{IsCalendarDate};
+ghost use Rattle.fx_data.specs.DateText.{civil_text, date_text as date_text_of, two_digits as two_digits_of};
+ghost use Rattle.fx_data.specs.declared.civil.CivilDate.{CivilDate as CivilDateValue};
 ghost use Rattle.fx_builtins.specs.DateTexts.{slashed as slashed_text, text_in};
 
 use fx_base::Memory;
-use fx_data::{Day, Kind};
-use fx_trees::DateFormat;
-use fx_value::{CivilDate, civil_date, date_text, day_of_date};
+use fx_data::{CivilDate, DateFormat, Day, Kind, civil_date, date_text, day_of_date};
 use std::alloc::Global;
 
 /// The text of a day in a format.

@@ -1,12 +1,10 @@
 // Dates so many units later, and how many units lie between dates.
 ghost use Rattle.std.specs.Prelude.{◌≡◌, pos};
-ghost use Rattle.fx_value.specs.Civil.{IsCalendarDate};
+ghost use Rattle.fx_data.specs.Civil.{IsCalendarDate};
 ghost use Rattle.fx_builtins.specs.Dates.{IsLater, difference, quarter_number as number_of_quarter};
 
 use crate::months::{day_of_number, month_number, months_later};
-use fx_data::{Day, Kind};
-use fx_trees::TimeUnit;
-use fx_value::{CivilDate, civil_date};
+use fx_data::{CivilDate, Day, Kind, TimeUnit, civil_date};
 
 /// The day so many units later, a quarter being three months and a year twelve. Months, quarters and
 /// years keep the day of the month, or take the month's last day where it is shorter. `InvalidArgument` exactly where the day is not from 1900-01-01

@@ -1,7 +1,7 @@
 -- New names of columns, one pair of parts after another.
 use Rattle.std.proofs.Common.{◌≡◌, ℕ, ◌-◌, ◌≤◌, List, [], ◌∷◌, length, map, take, drop, get_or, Bool, true, false, Option, Some, None, refl, sym, ap, ◌∙◌, arith, if◌then◌else◌}
 use Rattle.std.proofs.lemmas.List.{take_all}
-use Rattle.fx_typing.specs.Columns.{is_one_of}
+use Rattle.fx_trees.specs.ColumnLists.{is_one_of}
 use Rattle.fx_typing.specs.Breaks.{name_of, taken_or, with_name, with_renamed, taken_added, taken_renamed}
 use Rattle.fx_typing.specs.Parts.{Part}
 

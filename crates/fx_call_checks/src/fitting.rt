@@ -7,7 +7,8 @@ ghost use Rattle.fx_trees.specs.declared.functions.Fun.TheVariants as fun;
 ghost use Rattle.fx_typing.specs.Breaks as breaks;
 ghost use Rattle.fx_typing.specs.Parts as parts;
 ghost use Rattle.fx_trees.specs.Lawful.{IsLawful};
-ghost use Rattle.fx_typing.specs.Columns.{field_in, is_told_or_missing};
+ghost use Rattle.fx_typing.specs.Columns.{is_told_or_missing};
+ghost use Rattle.fx_trees.specs.ColumnLists.{field_in};
 ghost use Rattle.fx_typing.specs.Ways.{is_open, way};
 ghost use Rattle.fx_scopes.specs.PartView.{part};
 

@@ -2,7 +2,7 @@
 ghost use Rattle.std.specs.Prelude.{◌≡◌, IfOk, None, bytes_eq, if◌then◌else◌, map, option_map};
 ghost use Rattle.fx_data.specs.Types.{column_list};
 ghost use Rattle.fx_typing.specs.Breaks as breaks;
-ghost use Rattle.fx_typing.specs.Columns as typing;
+ghost use Rattle.fx_trees.specs.ColumnLists as lists;
 ghost use Rattle.fx_scopes.specs.PartView.{part};
 
 use fx_base::Memory;
@@ -50,7 +50,7 @@ fn names_in<'p>(alloc: Global, one: &'p Part) -> Result<Vec<&'p Words>, Memory>
 
 // Whether a name is one of these.
 fn is_one_of(name: &Words, names: &[&Words]) -> bool
-    ensures { result ≡ typing.is_one_of name.now (map (λ w. w.now) names.now) }
+    ensures { result ≡ lists.is_one_of name.now (map (λ w. w.now) names.now) }
 {
     for other in names {
         if other.is(name) {

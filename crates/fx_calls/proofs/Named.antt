@@ -2,7 +2,7 @@
 use Rattle.std.proofs.Common.{◌≡◌, ℕ, List, Result, Ok}
 use Rattle.fx_data.specs.Types.{Shape}
 use Rattle.fx_trees.specs.Term.{Term}
-use Rattle.fx_typing.specs.Columns.{and_then}
+use Rattle.fx_trees.specs.ColumnLists.{and_then}
 use Rattle.fx_typing.specs.Deeds.{by_name}
 use Rattle.fx_typing.specs.Parts.{Part}
 use Rattle.fx_typing.specs.Answers.{Answers, Wrong}

@@ -2,7 +2,7 @@
 use Rattle.std.proofs.Common.{◌≡◌, ℕ, List, [], ◌∷◌, Some, None, Result, refl}
 use Rattle.fx_data.specs.Types.{Shape}
 use Rattle.fx_trees.specs.Term.{Term}
-use Rattle.fx_typing.specs.Columns.{and_then}
+use Rattle.fx_trees.specs.ColumnLists.{and_then}
 use Rattle.fx_typing.specs.Deeds.{by_name}
 use Rattle.fx_typing.specs.Parts.{Part, piece, meant, target, assigned}
 use Rattle.fx_nodes.specs.Lists.{named_first}

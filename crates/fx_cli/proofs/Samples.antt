@@ -11,7 +11,7 @@ use Rattle.fx_trees.specs.declared.app_end.AppEnd.{AppEnd}
 use Rattle.fx_trees.specs.declared.app_end.AppEnd.TheVariants as end
 use Rattle.fx_trees.specs.declared.broken.Broken.{Broken as Break}
 use Rattle.office.specs.Answers.{Exchange}
-use Rattle.office.specs.session_events.Opening.{CanOpen}
+use Rattle.office.specs.session_requests.Opening.{CanOpen}
 use Rattle.office.specs.State.{State, schema_of, started}
 use Rattle.office.specs.Step.{Step}
 use Rattle.office.specs.app_loader.Judged.{JudgedApp}

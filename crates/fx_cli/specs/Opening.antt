@@ -8,7 +8,7 @@ use Rattle.row_keeper.specs.Changes.{Shapes}
 use Rattle.row_keeper.specs.Tables.{Tables}
 use Rattle.app_cells.specs.declared.app.App.{App}
 use Rattle.office.specs.app_semantics.Sound.{IsSound}
-use Rattle.office.specs.session_events.Opening.{CanOpen}
+use Rattle.office.specs.session_requests.Opening.{CanOpen}
 use Rattle.office.specs.State.{State, schema_of, started}
 use Rattle.fx_cli.specs.Held.{Standing}
 

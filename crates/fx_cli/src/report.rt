@@ -4,7 +4,7 @@ ghost use Rattle.fx_base.specs.Faults.{Rose};
 ghost use Rattle.fx_base.specs.Silence.{IsLater};
 ghost use Rattle.office.specs.app_loader.Edits.{IsLoaded};
 ghost use Rattle.office.specs.app_semantics.Sound.{IsSound};
-ghost use Rattle.office.specs.session_events.Opening.{CanOpen};
+ghost use Rattle.office.specs.session_requests.Opening.{CanOpen};
 ghost use Rattle.office.specs.State.{State, schema_of, started};
 ghost use Rattle.row_requests.specs.Sound.{AreSound};
 ghost use Rattle.session_state.specs.Changes.{HoldsTables};

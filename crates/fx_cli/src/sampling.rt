@@ -5,7 +5,7 @@ ghost use Rattle.app_wire.specs.Framing.{asked};
 ghost use Rattle.fx_base.specs.Faults.{Rose};
 ghost use Rattle.fx_base.specs.Silence.{Goes, IsLater, IsLost};
 ghost use Rattle.fx_trees.specs.declared.broken.Broken.{Broken};
-ghost use Rattle.office.specs.session_events.Opening.{CanOpen};
+ghost use Rattle.office.specs.session_requests.Opening.{CanOpen};
 ghost use Rattle.office.specs.State.{State, schema_of, started};
 ghost use Rattle.office.specs.app_loader.Edits.{IsLoaded};
 ghost use Rattle.office.specs.app_loader.Judged.{JudgedApp};

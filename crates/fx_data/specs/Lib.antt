@@ -11,3 +11,5 @@ pub mod ValueFalls
 pub mod ValueView
 pub mod Values
 pub mod Words
+pub mod Civil
+pub mod DateText

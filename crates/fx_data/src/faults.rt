@@ -3,7 +3,7 @@ ghost use Rattle.std.specs.Prelude.{◌≡◌, IfOk};
 ghost use Rattle.fx_data.specs.Faults.{kind_name};
 
 use crate::words::Words;
-use fx_base::Memory;
+use fx_number::Memory;
 use std::alloc::Global;
 
 /// The kind of an error, as `FirstError.Kind` names it.

@@ -5,7 +5,7 @@ ghost use Rattle.fx_data.specs.Rising.{AreRising};
 ghost use Rattle.fx_data.specs.TypeView.{shape, columns_view};
 
 use crate::words::Words;
-use fx_base::Memory;
+use fx_number::Memory;
 use std::alloc::Global;
 use std::marker::Model;
 

@@ -7,8 +7,7 @@ ghost use Rattle.fx_data.specs.ValueView.{fields_view, view};
 use crate::days::Day;
 use crate::faults::Fault;
 use crate::words::Words;
-use fx_base::Memory;
-use fx_number::Num;
+use fx_number::{Memory, Num};
 use std::alloc::Global;
 use std::marker::Model;
 

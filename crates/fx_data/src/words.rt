@@ -5,7 +5,7 @@ ghost use Rattle.std.specs.Ordering.{nat_cmp};
 ghost use Rattle.std.specs.Str.{all_scalars};
 ghost use Rattle.fx_data.specs.Words.{scalars_of};
 
-use fx_base::Memory;
+use fx_number::Memory;
 use std::alloc::Global;
 use std::cmp::Ordering;
 use std::marker::Model;

@@ -3,7 +3,7 @@ use Rattle.std.proofs.Common.{◌≡◌, ℕ, List, [], ◌∷◌, ◌++◌, tru
 use Rattle.std.specs.List.{find}
 use Rattle.fx_data.specs.Types.{Shape, ColumnList, records, tables}
 use Rattle.fx_data.specs.Values.{Data, blank, number, text, boolean, date, rec, tab, fault}
-use Rattle.fx_eval.specs.Scopes.{Fixed}
+use Rattle.fx_env.specs.Scopes.{Fixed}
 use Rattle.fx_semantics.proofs.Tables.{RowsFit, fit_table, rows_in_fit, table_fits}
 use Rattle.fx_semantics.specs.Around.{record_of}
 use Rattle.fx_semantics.specs.Rows.{table_of}

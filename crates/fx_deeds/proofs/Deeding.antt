@@ -9,7 +9,7 @@ use Rattle.fx_data.specs.declared.values.Value.TheVariants as value
 use Rattle.fx_data.specs.Types.{ColumnList, tables}
 use Rattle.fx_data.specs.Values.{Data}
 use Rattle.fx_data.specs.ValueView.{view}
-use Rattle.fx_eval.specs.Scopes.{Fixed}
+use Rattle.fx_env.specs.Scopes.{Fixed}
 use Rattle.fx_value.specs.Columns.{Row}
 use Rattle.fx_tables.specs.Unions.{is_fault}
 use Rattle.fx_trees.specs.declared.deeds.Deed.{Deed}

@@ -2,7 +2,7 @@
 use Rattle.std.proofs.Common.{◌≡◌, ℕ, zero, suc, ◌≤◌, arith, length, List, [], ◌∷◌, Some, None, refl, ap, sym, ◌∙◌}
 use Rattle.std.specs.Prelude.{slice_get}
 use Rattle.fx_data.specs.Values.{Data}
-use Rattle.fx_eval.proofs.Turns.{rows_back}
+use Rattle.fx_semantics.proofs.RowsBack.{rows_back}
 use Rattle.fx_semantics.specs.Around.{record_of}
 use Rattle.fx_semantics.specs.Rows.{rows_in, table_of}
 use Rattle.fx_trees.specs.declared.schema.Column.{Column}

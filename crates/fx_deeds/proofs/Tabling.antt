@@ -10,8 +10,8 @@ use Rattle.fx_data.specs.declared.values.Value.{Value}
 use Rattle.fx_data.specs.declared.values.Value.TheVariants as value
 use Rattle.fx_data.specs.Values.{Data, blank}
 use Rattle.fx_data.specs.ValueView.{view}
-use Rattle.fx_eval.proofs.Turns.{rows_back}
-use Rattle.fx_eval.specs.Telling.{Told, tables_told}
+use Rattle.fx_semantics.proofs.RowsBack.{rows_back}
+use Rattle.fx_env.specs.Telling.{Told, tables_told}
 use Rattle.fx_semantics.specs.Around.{record_of}
 use Rattle.fx_semantics.specs.Rows.{rows_in}
 use Rattle.fx_tables.specs.Unions.{is_fault}

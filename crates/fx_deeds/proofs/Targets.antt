@@ -6,7 +6,7 @@ use Rattle.fx_data.specs.declared.values.Value.{Value}
 use Rattle.fx_data.specs.Types.{Shape, ColumnList, records, tables}
 use Rattle.fx_data.specs.Values.{Data}
 use Rattle.fx_data.specs.ValueView.{view}
-use Rattle.fx_eval.specs.Scopes.{Fixed}
+use Rattle.fx_env.specs.Scopes.{Fixed}
 use Rattle.fx_tables.specs.Unions.{is_fault}
 use Rattle.fx_trees.specs.declared.deeds.Deed.TheVariants as deed
 use Rattle.fx_trees.specs.declared.deeds.Target.TheVariants as target

@@ -4,7 +4,7 @@ use Rattle.fx_base.specs.Silence.{Goes}
 use Rattle.fx_base.specs.Telling.{Stays}
 use Rattle.fx_data.specs.Types.{Shape, ColumnList, tables}
 use Rattle.fx_data.specs.Values.{Data}
-use Rattle.fx_eval.specs.Telling.{Told, values_told}
+use Rattle.fx_env.specs.Telling.{Told, values_told}
 use Rattle.fx_semantics.specs.Rows.{rows_in, table_of}
 use Rattle.fx_semantics.specs.Sources.{FitsIn, Gives}
 use Rattle.fx_semantics.proofs.Tables.{rows_in_fit, table_fits}

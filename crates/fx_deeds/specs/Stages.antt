@@ -1,7 +1,7 @@
 -- What a performing finds and leaves.
 use Rattle.std.specs.Prelude.{◌≡◌, ℕ, ◌≤◌, Option}
 use Rattle.fx_base.specs.Silence.{Goes, IsLater, IsLost, Marks}
-use Rattle.fx_eval.specs.Scopes.{Fixed}
+use Rattle.fx_env.specs.Scopes.{Fixed}
 use Rattle.fx_deeds.specs.State.{State}
 use Rattle.fx_deeds.specs.Within.{Within}
 

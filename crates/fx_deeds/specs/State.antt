@@ -5,7 +5,7 @@ use Rattle.fx_data.specs.Values.{Data}
 use Rattle.fx_trees.specs.Reads.{IsAmong}
 use Rattle.fx_trees.specs.declared.schema.Schema.{Schema}
 use Rattle.fx_trees.specs.declared.sources.Source.{Source}
-use Rattle.fx_eval.specs.Scopes.{Fixed, Held}
+use Rattle.fx_env.specs.Scopes.{Fixed, Held}
 use Rattle.fx_semantics.specs.Around.{Around}
 use Rattle.row_keeper.specs.Tables.{Tables}
 use Rattle.session_state.specs.Sessions.{SessionState}

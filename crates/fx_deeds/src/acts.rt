@@ -14,7 +14,7 @@ use crate::deeds::{patch, remove, remove_if};
 use crate::session::{clear, clear_collect, collect, navigate, notify, reset, set, set_all};
 use crate::world::World;
 use fx_data::Value;
-use fx_eval::{Steps, Stop};
+use fx_env::{Steps, Stop};
 use fx_trees::Deed;
 use std::alloc::Global;
 use std::sync::ledger::Ledger;

@@ -16,7 +16,7 @@ ghost use Rattle.fx_deeds.specs.Stages.{Passed, stage};
 use crate::answers::taken_or;
 use crate::world::World;
 use fx_data::Value;
-use fx_eval::Stop;
+use fx_env::Stop;
 use row_keeper::Put;
 use row_queries::Cells;
 use session_state::Change;

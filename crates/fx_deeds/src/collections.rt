@@ -22,7 +22,7 @@ use crate::tables::{with_copies, with_tables};
 use crate::world::World;
 use fx_base::Memory;
 use fx_data::{Columns, Fields, Kind, Rows, Ty, Value};
-use fx_eval::{Steps, Stop};
+use fx_env::{Steps, Stop};
 use fx_value::same;
 use session_state::Change;
 use std::alloc::Global;

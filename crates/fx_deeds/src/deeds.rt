@@ -20,7 +20,7 @@ use crate::table_rows::{patch_table, update_table};
 use crate::updates::{first_of_changes, update_equal};
 use crate::world::World;
 use fx_data::{Fields, Value};
-use fx_eval::{Steps, Stop};
+use fx_env::{Steps, Stop};
 use fx_trees::Target;
 use std::alloc::Global;
 use std::sync::ledger::Ledger;

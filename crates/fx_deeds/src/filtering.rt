@@ -19,7 +19,7 @@ use crate::session::rows_held;
 use crate::world::World;
 use fx_base::Memory;
 use fx_data::{Fields, Rows, Value};
-use fx_eval::{Steps, Stop, rows_of};
+use fx_env::{Steps, Stop, rows_of};
 use fx_value::same;
 use session_state::Change;
 use std::alloc::Global;

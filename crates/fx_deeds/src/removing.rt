@@ -16,7 +16,7 @@ use crate::changes::remove;
 use crate::world::World;
 use fx_base::Memory;
 use fx_data::{Kind, Value, Words};
-use fx_eval::Stop;
+use fx_env::Stop;
 use fx_number::Num;
 use std::alloc::Global;
 

@@ -22,7 +22,7 @@ use crate::tables::{with_table, with_tables};
 use crate::world::World;
 use fx_base::Memory;
 use fx_data::{Fault, Kind, Rows, Value, Words};
-use fx_eval::{Steps, Stop};
+use fx_env::{Steps, Stop};
 use fx_trees::Source;
 use session_state::Change;
 use std::alloc::Global;

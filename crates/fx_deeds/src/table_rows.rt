@@ -29,7 +29,7 @@ use crate::tables::{with_table, with_tables};
 use crate::world::World;
 use fx_base::{InOrder, Memory};
 use fx_data::{Cmp, Fields, Kind, Rows, Value};
-use fx_eval::Stop;
+use fx_env::Stop;
 use fx_trees::{Column, TableShape};
 use row_keeper::Put;
 use row_keeper::scans::number_of;

@@ -26,7 +26,7 @@ use crate::tables::with_table;
 use crate::world::World;
 use fx_base::Memory;
 use fx_data::{Columns, Fields, Rows, Value};
-use fx_eval::{Steps, Stop};
+use fx_env::{Steps, Stop};
 use session_state::Change;
 use std::alloc::Global;
 use std::sync::ledger::Ledger;

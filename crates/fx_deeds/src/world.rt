@@ -4,7 +4,7 @@ ghost use Rattle.fx_base.specs.Faults.{Rose};
 ghost use Rattle.fx_base.specs.Silence.{Goes, IsLater, IsLost};
 ghost use Rattle.fx_base.specs.Telling.{Stays};
 ghost use Rattle.fx_data.specs.Values.{Data};
-ghost use Rattle.fx_eval.specs.Telling.{Told, values_told};
+ghost use Rattle.fx_env.specs.Telling.{Told, values_told};
 ghost use Rattle.fx_trees.specs.declared.names.Names.{Names as AppNames};
 ghost use Rattle.fx_trees.specs.declared.sources.Source.{Source as Origin};
 ghost use Rattle.fx_trees.specs.declared.sources.Source.TheVariants as source;
@@ -19,7 +19,7 @@ ghost use Rattle.session_state.specs.Sessions.{held};
 ghost use Rattle.fx_deeds.specs.Changed.{IsChanged, IsRowChanged, IsRowMade, IsRowRemoved};
 ghost use Rattle.fx_deeds.specs.State.{AreReady, State};
 
-use fx_eval::{Env, Steps, Stop};
+use fx_env::{Env, Steps, Stop};
 use fx_trees::{Core, Names};
 use row_keeper::Put;
 use row_queries::Cells;

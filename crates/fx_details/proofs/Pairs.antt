@@ -1,7 +1,7 @@
 -- Columns that are told in pairs.
 use Rattle.std.proofs.Common.{◌≡◌, ℕ, ◌-◌, ◌≤◌, List, [], ◌∷◌, length, map, take, drop, get_or, true, Option, Some, None, is_some, option_map, Ok, sym, ap, ◌∙◌, arith}
 use Rattle.fx_data.specs.Types.{Shape, ColumnList}
-use Rattle.fx_typing.specs.Columns.{field_in, with_renamed}
+use Rattle.fx_trees.specs.ColumnLists.{field_in, with_renamed}
 use Rattle.fx_typing.specs.Local.{Piece, label}
 use Rattle.fx_typing.specs.Details.{or_stuck, stuck_renamed, unless_there}
 use Rattle.fx_call_checks.proofs.InTurn.{behind_pair}

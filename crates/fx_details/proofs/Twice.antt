@@ -2,7 +2,7 @@
 use Rattle.std.proofs.Common.{◌≡◌, ℕ, ◌+◌, ◌<◌, List, [], ◌∷◌, ◌++◌, length, drop, take, get_or, Bool, true, false, ◌||◌, if◌then◌else◌, bytes_eq, refl, ap, sym, ◌∙◌}
 use Rattle.std.proofs.lemmas.List.{take_more}
 use Rattle.fx_trees.specs.Tree.{Tree, NamedTree, names_of}
-use Rattle.fx_typing.specs.Columns.{is_one_of}
+use Rattle.fx_trees.specs.ColumnLists.{is_one_of}
 use Rattle.fx_typing.specs.Details.{twice_after}
 use Rattle.fx_details.proofs.Sought.{drop_at}
 

@@ -7,7 +7,7 @@ ghost use Rattle.fx_trees.specs.declared.signatures.SigShape.TheVariants as sig;
 ghost use Rattle.fx_typing.specs.Details as told;
 ghost use Rattle.fx_typing.specs.Targets as targets;
 ghost use Rattle.fx_trees.specs.Lawful.{IsLawful};
-ghost use Rattle.fx_typing.specs.Columns as typing;
+ghost use Rattle.fx_trees.specs.ColumnLists as lists;
 ghost use Rattle.fx_typing.specs.TypedView.{typed};
 ghost use Rattle.fx_scopes.specs.PartView.{part};
 
@@ -42,7 +42,7 @@ fn first_more(alloc: Global, columns: &Columns, fields: &Columns) -> Result<Opti
 // `ID`, where no field has this name.
 fn missing_id(alloc: Global, fields: &Columns) -> Result<Option<Words>, Memory>
     ensures { IfOk result (λ w. w
-        ≡ (if is_some (typing.field_in (codes "ID") (column_list fields.now)) then None else Some (codes "ID"))) }
+        ≡ (if is_some (lists.field_in (codes "ID") (column_list fields.now)) then None else Some (codes "ID"))) }
 {
     let id = word(alloc, "ID")?;
     if field_in(&id, fields).is_some() {

@@ -5,7 +5,7 @@ ghost use Rattle.fx_data.specs.Types.{column_list};
 ghost use Rattle.fx_typing.specs.Details as told;
 ghost use Rattle.fx_trees.specs.Lawful.{IsLawful};
 ghost use Rattle.fx_trees.specs.Tree as tree;
-ghost use Rattle.fx_typing.specs.Columns as typing;
+ghost use Rattle.fx_trees.specs.ColumnLists as lists;
 ghost use Rattle.fx_typing.specs.Local as local;
 ghost use Rattle.fx_typing.specs.TypedView.{piece};
 ghost use Rattle.fx_scopes.specs.PartView.{part};
@@ -31,7 +31,7 @@ use std::alloc::Global;
 
 // Whether one of the fields has this name.
 fn has_field(name: &Words, fields: &[(FieldName, Expr)]) -> bool
-    ensures { result ≡ typing.is_one_of name.now (tree.names_of fields.now) }
+    ensures { result ≡ lists.is_one_of name.now (tree.names_of fields.now) }
 {
     for (other, _) in fields {
         if other.text.is(name) {

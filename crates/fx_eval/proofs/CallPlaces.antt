@@ -6,7 +6,7 @@ use Rattle.fx_eval.proofs.CallHeads.{call_plain, of_values}
 use Rattle.fx_eval.proofs.Ready.{AreCalm, Lawfully, calm_parts, calm_rest, part_ready, ready_fits}
 use Rattle.fx_eval.proofs.Standings.{parts_fine}
 use Rattle.fx_eval.specs.Parts.{AreFine}
-use Rattle.fx_eval.specs.Scopes.{Held, Suits, IsReady, CanEvaluate, around}
+use Rattle.fx_env.specs.Scopes.{Held, Suits, IsReady, CanEvaluate, around}
 use Rattle.fx_semantics.specs.Around.{Around, AreValues, Meaning}
 use Rattle.fx_semantics.specs.Fresh.{IsCalled, OfAll, meanings}
 use Rattle.fx_semantics.specs.Sound.{AreFit, AreLawfulTypings, ValuesFit}

@@ -7,7 +7,7 @@ use Rattle.fx_eval.specs.Courses.{Going, all, any, branches, switch, matches, re
 use Rattle.fx_eval.specs.Kinds.{CanTurn}
 use Rattle.fx_eval.specs.Moments.{Moment, Went}
 use Rattle.fx_eval.specs.Parts.{AreSet, AreSome, HasNext}
-use Rattle.fx_eval.specs.Scopes.{Held, around, IsReady}
+use Rattle.fx_env.specs.Scopes.{Held, around, IsReady}
 use Rattle.fx_eval.proofs.Forms.{ThenSet, can_turn, rest_set}
 use Rattle.fx_eval.proofs.Passing.{as_before, meant_before}
 use Rattle.fx_eval.proofs.Taken.{IsOpen, Then, last_taken, part_taken}

@@ -1,33 +1,12 @@
 -- Fields of records.
-use Rattle.std.proofs.Common.{◌≡◌, ℕ, List, [], ◌∷◌, ◌++◌, Bool, true, false, Some, None, refl, ap, sym, subst, ◌∙◌}
-use Rattle.std.specs.Prelude.{bytes_eq, if◌then◌else◌}
-use Rattle.fx_data.specs.Lookup.{item_of}
+use Rattle.std.proofs.Common.{◌≡◌, ℕ, List, [], ◌∷◌, ◌++◌, refl, ap, sym, subst, ◌∙◌}
 use Rattle.fx_data.specs.Rising.{AreRising, IsBelow, IsBelowAll}
-use Rattle.fx_data.specs.Values.{Data, blank, field, field_list, rec}
+use Rattle.fx_data.specs.Values.{Data, field, field_list, rec}
 use Rattle.fx_eval.specs.Parts.{AreFilled}
 use Rattle.fx_semantics.specs.Around.{Around, AreValues}
 use Rattle.fx_semantics.specs.Fresh.{IsValue, OfAll, fields_by, meanings}
 use Rattle.fx_trees.specs.Term.{Term, names_of, parts_of}
 use Rattle.fx_typing.specs.WellTyped.{IsBelowNames, NamesRise}
-use Rattle.fx_value.specs.Coercion.{value_in}
-
-pub value_found : (n : List ℕ) (fs : List (List ℕ × Data)) (d : Data) → Some d ≡ item_of n fs → d ≡ value_in n (field_list fs)
-value_found n [] d e = absurd cc
-value_found n (f ∷ fs) d e = by (bytes_eq f.0 n) (value_found n fs d) e
-  where
-    by : (b : Bool) → (Some d ≡ item_of n fs → d ≡ value_in n (field_list fs)) → Some d ≡ (if b then Some f.1 else item_of n fs) →
-        d ≡ (if b then f.1 else value_in n (field_list fs))
-    by true r e = cc
-    by false r e = r e
-
-pub none_found : (n : List ℕ) (fs : List (List ℕ × Data)) → None ≡ item_of n fs → blank ≡ value_in n (field_list fs)
-none_found n [] e = refl
-none_found n (f ∷ fs) e = by (bytes_eq f.0 n) (none_found n fs) e
-  where
-    by : (b : Bool) → (None ≡ item_of n fs → blank ≡ value_in n (field_list fs)) → None ≡ (if b then Some f.1 else item_of n fs) →
-        blank ≡ (if b then f.1 else value_in n (field_list fs))
-    by true r e = absurd cc
-    by false r e = r e
 
 -- ---- records that are made
 

@@ -6,7 +6,7 @@ use Rattle.fx_data.specs.Values.{Data, blank, number, text, boolean, date, rec, 
 use Rattle.fx_eval.specs.Courses.{Going, all, any, branches, switch, matches, recovers, coalesces, Turning, answers, chooses, catches, goes, passes, by_decision, turned}
 use Rattle.fx_eval.specs.Kinds.{CanTurn}
 use Rattle.fx_eval.specs.Parts.{AreMatches, AreRecoveries, AreFine, AreSet, HasNext, IsFallback, caught_in}
-use Rattle.fx_eval.specs.Scopes.{Held, IsReady, CanEvaluate}
+use Rattle.fx_env.specs.Scopes.{Held, IsReady, CanEvaluate}
 use Rattle.fx_eval.proofs.Taken.{IsSettled}
 use Rattle.fx_eval.proofs.Matching.{can_match}
 use Rattle.fx_scalar.specs.declared.lazy_forms.Decision.{Decision}

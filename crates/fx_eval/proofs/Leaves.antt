@@ -5,7 +5,7 @@ use Rattle.fx_data.specs.Types.{Shape, blanks, numbers, texts, booleans, dates, 
 use Rattle.fx_data.specs.Values.{Data}
 use Rattle.fx_eval.proofs.Ready.{one_part}
 use Rattle.fx_eval.proofs.Ways.{changed_coerces}
-use Rattle.fx_eval.specs.Scopes.{Held, IsReady, CanEvaluate}
+use Rattle.fx_env.specs.Scopes.{Held, IsReady, CanEvaluate}
 use Rattle.fx_semantics.specs.Sound.{AreFit}
 use Rattle.fx_trees.specs.declared.sources.Source.{Source}
 use Rattle.fx_trees.specs.Term.{Term, Terms, of, nil, cons, row, coerce}

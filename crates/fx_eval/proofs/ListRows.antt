@@ -9,7 +9,7 @@ use Rattle.fx_semantics.specs.Sound.{AreFit}
 use Rattle.fx_tables.specs.RowCalls.{CanBeRowType}
 use Rattle.fx_eval.specs.Lists.{CanList}
 use Rattle.fx_tables.specs.Unions.{CanBeRow, CanBeRows}
-use Rattle.fx_typing.specs.Columns.{row_columns}
+use Rattle.fx_trees.specs.ColumnLists.{row_columns}
 use Rattle.fx_typing.specs.WellTyped.{AreAll}
 use Rattle.fx_value.specs.Coercion.{same}
 use Rattle.fx_value.specs.Fits.{fits_in}

@@ -12,7 +12,7 @@ use Rattle.fx_eval.proofs.Leaves.{can_coerce, row_there}
 use Rattle.fx_eval.proofs.Ready.{calm_parts, only_part}
 use Rattle.fx_eval.proofs.Standings.{parts_fine}
 use Rattle.fx_eval.specs.Parts.{AreFilled, AreFine}
-use Rattle.fx_eval.specs.Scopes.{Held, IsReady, CanEvaluate, around}
+use Rattle.fx_env.specs.Scopes.{Held, IsReady, CanEvaluate, around}
 use Rattle.fx_semantics.specs.Around.{Around, AreValues}
 use Rattle.fx_semantics.specs.Fresh.{IsValue, meanings}
 use Rattle.fx_semantics.specs.Sound.{ValuesFit}

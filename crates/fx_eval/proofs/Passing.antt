@@ -8,8 +8,8 @@ use Rattle.fx_data.specs.declared.values.Value.{Value}
 use Rattle.fx_data.specs.ValueView.{view}
 use Rattle.fx_data.specs.Values.{Data}
 use Rattle.fx_eval.specs.Moments.{Moment, Went}
-use Rattle.fx_eval.specs.Scopes.{Fixed, Held, around}
-use Rattle.fx_eval.specs.Telling.{IsHeard, Told, values_told}
+use Rattle.fx_env.specs.Scopes.{Fixed, Held, around}
+use Rattle.fx_env.specs.Telling.{IsHeard, Told, values_told}
 use Rattle.fx_semantics.specs.Around.{Around, Meaning}
 use Rattle.fx_trees.specs.declared.sources.Source.{Source}
 

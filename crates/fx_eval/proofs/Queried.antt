@@ -22,9 +22,9 @@ use Rattle.fx_eval.proofs.SketchSizes.{constants_fall}
 use Rattle.fx_eval.specs.Demands.{AnswersAreValues, CanStand, CanTake, ConstantsAreReady, FoundAreReady, IsAnswered, IsAskedFor, IsDemand, IsFirstOf, IsFolded, IsSearch, IsSearchBy, IsWorthBy, fun_of}
 use Rattle.fx_eval.specs.Moments.{Went, moment}
 use Rattle.fx_eval.specs.Parts.{AreFine, inner}
-use Rattle.fx_eval.specs.Queries.{AreRead, AreTold, AreValuesOf, KeepsTables}
-use Rattle.fx_eval.specs.Scopes.{CanEvaluate, Fixed, Held, IsReady, Suits, around}
-use Rattle.fx_eval.specs.Telling.{Heard, IsHeard, Told, tables_told, values_told}
+use Rattle.fx_env.specs.Queries.{AreRead, AreTold, AreValuesOf, KeepsTables}
+use Rattle.fx_env.specs.Scopes.{CanEvaluate, Fixed, Held, IsReady, Suits, around}
+use Rattle.fx_env.specs.Telling.{Heard, IsHeard, Told, tables_told, values_told}
 use Rattle.fx_plan.specs.declared.plans.Sketch.{Sketch}
 use Rattle.fx_plan.specs.Outlines.{Outline, OutlineList, all_filled, filled, value_at, constant, compares, starts, contains, all_of, any_of, opposite, no_outlines, with}
 use Rattle.fx_plan.specs.Plans.{CanPlan, IsPlan, is_fault}

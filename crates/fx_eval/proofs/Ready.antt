@@ -4,7 +4,7 @@ use Rattle.std.specs.Prelude.{◌||◌}
 use Rattle.fx_data.specs.Types.{Shape}
 use Rattle.fx_data.specs.Values.{Data}
 use Rattle.fx_eval.specs.Parts.{inner}
-use Rattle.fx_eval.specs.Scopes.{Held, Suits, IsReady, CanEvaluate, around}
+use Rattle.fx_env.specs.Scopes.{Held, Suits, IsReady, CanEvaluate, around}
 use Rattle.fx_semantics.specs.Fresh.{IsValue}
 use Rattle.fx_semantics.specs.Sound.{ValuesFit, IsLawfulTyping}
 use Rattle.fx_semantics.proofs.Parts.{rows_more}

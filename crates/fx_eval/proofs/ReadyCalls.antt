@@ -28,8 +28,10 @@ use Rattle.fx_eval.proofs.Places.{ArePaired, at_least, at_most, formula_behind, 
 use Rattle.fx_value.specs.Columns.{Row, renamed, with_column}
 use Rattle.fx_tables.specs.Unions.{is_fault}
 use Rattle.fx_trees.specs.Term.{Term, Terms, of, nil, cons, const, Top, over}
-use Rattle.fx_typing.specs.Columns.{added, and_then, dropped, field_in, if_there, label_of, names_there, shown, with_new, with_renamed}
+use Rattle.fx_typing.specs.Columns.{added, dropped, label_of, names_there, shown}
+use Rattle.fx_trees.specs.ColumnLists.{and_then, field_in, if_there, with_new, with_renamed}
 use Rattle.fx_typing.specs.Columns as columns
+use Rattle.fx_trees.specs.ColumnLists as lists
 use Rattle.fx_typing.specs.Ways.{is_scalar}
 use Rattle.fx_typing.specs.WellTyped.{AllStand, Context, Standing, answered, context_for, head_of, inside, paired, plain, standing_at, standing_of}
 use Rattle.fx_typing.proofs.Operators.{then_ok}
@@ -161,7 +163,7 @@ renamed_names a given (cons t (cons t' ts)) (u ∷ u' ∷ us) cs es rows (once d
     let free = all_lack x'.0 rows cs h v.0 in
     let made = all_renamed_fit ((x.0, x'.0) ∷ []) rows cs y.0 rising (free, tt) (table_fits cs rows h) (ap (λ (r : Result ColumnList ℕ). and_then r go) y.1) in
     let more = renamed_names a given ts us y.0 es (map (renamed x.0 x'.0) rows) gs m w
-    (subst Rises v.1 (rises_put x'.0 z.0 (columns.without x.0 cs) (rises_without x.0 cs rising))) y.2
+    (subst Rises v.1 (rises_put x'.0 z.0 (lists.without x.0 cs) (rises_without x.0 cs rising))) y.2
     (fit_table y.0 (map (renamed x.0 x'.0) rows) made) f k.1.1 in
     pairs_named x.0 x'.0 d d' gs rows (text_is t a x.0 d x.1 k.0) (text_is t' a x'.0 d' x'.1 k.1.0) (more.0, (free, more.1))
 renamed_names a given nil [] cs es rows (g ∷ gs) m w rising e h f k = absurd k

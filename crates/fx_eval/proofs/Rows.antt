@@ -8,7 +8,7 @@ use Rattle.fx_data.specs.Values.{Data}
 use Rattle.fx_data.specs.ValueView.{view}
 use Rattle.fx_eval.specs.Moments.{Moment, Went}
 use Rattle.fx_eval.specs.Parts.{AreAsked, AreInside, IsAsked, inner}
-use Rattle.fx_eval.specs.Scopes.{Held, Suits, IsReady, CanEvaluate, around}
+use Rattle.fx_env.specs.Scopes.{Held, Suits, IsReady, CanEvaluate, around}
 use Rattle.fx_eval.proofs.CallHeads.{table_first}
 use Rattle.fx_eval.proofs.Passing.{as_before, held_before}
 use Rattle.fx_eval.proofs.Ready.{AreCalm, Lawfully, calm_parts, calm_rest, part_ready, suits_inside}

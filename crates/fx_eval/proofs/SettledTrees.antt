@@ -11,9 +11,9 @@ use Rattle.fx_eval.proofs.Queried.{fit_many, setting_of}
 use Rattle.fx_eval.proofs.Ready.{suits_inside}
 use Rattle.fx_eval.specs.Demands.{IsAskedFor, IsDemand, SettledAreReady, SettledAreSmall, SettledAreValues, fun_of, settled_in}
 use Rattle.fx_eval.specs.Parts.{inner}
-use Rattle.fx_eval.specs.Queries.{AreRead}
-use Rattle.fx_eval.specs.Scopes.{CanEvaluate, Fixed, Held, IsReady, Suits, around}
-use Rattle.fx_eval.specs.Telling.{Heard, IsHeard, Told, values_told}
+use Rattle.fx_env.specs.Queries.{AreRead}
+use Rattle.fx_env.specs.Scopes.{CanEvaluate, Fixed, Held, IsReady, Suits, around}
+use Rattle.fx_env.specs.Telling.{Heard, IsHeard, Told, values_told}
 use Rattle.fx_plan.specs.declared.plans.Sketch.{Sketch}
 use Rattle.fx_plan.specs.Constants.{HasType, ReadsTables, in_row, row_shape}
 use Rattle.fx_plan.specs.Consumers.{over_query}
@@ -32,8 +32,8 @@ use Rattle.fx_trees.specs.Term.{Term, Terms, of, nil, cons, all, term_size}
 use Rattle.fx_trees.specs.Term as top
 use Rattle.fx_typing.specs.Acts.{acts}
 use Rattle.fx_typing.specs.WellTyped.{Context, plain, standing_at}
-use Rattle.query_settling.proofs.Retyping.{table_replaced}
-use Rattle.query_settling.specs.Settled.{AreFittingFor, SearchesAreWorth, SearchesHaveTypes, SettledAreNoMore, SettledAreWorth, SettledHaveTypes, call_settled, query_settled, search_settled}
+use Rattle.fx_plan.proofs.Retyping.{table_replaced}
+use Rattle.fx_plan.specs.Settled.{AreFittingFor, SearchesAreWorth, SearchesHaveTypes, SettledAreNoMore, SettledAreWorth, SettledHaveTypes, call_settled, query_settled, search_settled}
 
 abbrev Types : Type 0
 Types = Source → Option Shape

@@ -5,7 +5,7 @@ use Rattle.std.proofs.lemmas.List.{length-append}
 use Rattle.std.proofs.lemmas.Bool.Decides.{Decides-eqb}
 use Rattle.fx_data.specs.Types.{Shape, booleans}
 use Rattle.fx_eval.specs.Parts.{AreConditions, AreBranches, AreMatches, AreRecoveries, AreFine, IsFallback, IsSwitched, caught_in, terms_of}
-use Rattle.fx_eval.specs.Scopes.{Held, Suits, IsReady, CanEvaluate}
+use Rattle.fx_env.specs.Scopes.{Held, Suits, IsReady, CanEvaluate}
 use Rattle.fx_eval.proofs.Ready.{AreCalm, Lawfully, calm_parts, calm_rest, part_ready}
 use Rattle.fx_eval.proofs.CallHeads.{IsPlain}
 use Rattle.fx_semantics.specs.Sound.{AreLawfulTypings}

@@ -3,11 +3,10 @@ use Rattle.std.proofs.Common.{◌≡◌, ℕ, ◌+◌, ◌<◌, suc, List, [], �
 use Rattle.std.specs.Prelude.{unwrap_or}
 use Rattle.std.specs.List.{find}
 use Rattle.std.proofs.lemmas.List.{length-map}
-use Rattle.fx_data.specs.Values.{Data, boolean, text, row_list, field_list}
+use Rattle.fx_data.specs.Values.{Data, boolean, text}
 use Rattle.fx_data.specs.ValueView.{view}
 use Rattle.fx_data.specs.declared.values.Value.{Value}
 use Rattle.fx_data.specs.declared.values.Value.TheVariants.{Boolean}
-use Rattle.fx_semantics.specs.Rows.{fields_of, rows_of}
 use Rattle.fx_tables.proofs.FirstErrors.{found_passes}
 use Rattle.fx_tables.specs.RowCalls.{holds}
 use Rattle.fx_eval.specs.Given.{Given, once, each, IsName, given}
@@ -16,15 +15,6 @@ use Rattle.fx_eval.specs.declared.answers.Answers.{Answers}
 use Rattle.fx_value.specs.Columns.{Row}
 use Rattle.fx_tables.specs.Unions.{fault_or, is_fault}
 use Rattle.fx_value.proofs.JoinSteps.{left}
-
--- ---- the rows of a table
-fields_back : (fs : Row) → fields_of (field_list fs) ≡ fs
-fields_back [] = refl
-fields_back (f ∷ fs) = ap (λ z. f ∷ z) (fields_back fs)
-
-pub rows_back : (rs : List Row) → rs ≡ rows_of (row_list rs)
-rows_back [] = refl
-rows_back (r ∷ rs) = λ i. sym (fields_back r) i ∷ rows_back rs i
 
 -- ---- names
 pub first_name : (g : Given) (gs : List Given) → AreNames (g ∷ gs) → IsName (Some g) × AreNames gs

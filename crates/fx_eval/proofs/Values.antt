@@ -7,7 +7,7 @@ use Rattle.fx_data.specs.Values.{Data}
 use Rattle.fx_data.specs.ValueView.{fields_view, view}
 use Rattle.fx_eval.proofs.Fields.{filled_more}
 use Rattle.fx_eval.specs.Parts.{AreFilled, AreFine, terms_of}
-use Rattle.fx_eval.specs.Scopes.{CanEvaluate, Held}
+use Rattle.fx_env.specs.Scopes.{CanEvaluate, Held}
 use Rattle.fx_trees.specs.declared.sources.Source.{Source}
 use Rattle.fx_semantics.specs.Around.{Around, AreValues}
 use Rattle.fx_semantics.specs.Fresh.{IsValue, meanings}

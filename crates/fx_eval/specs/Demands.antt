@@ -10,9 +10,9 @@ use Rattle.fx_eval.specs.declared.demands.Demand.TheVariants as demand
 use Rattle.fx_eval.specs.declared.demands.Fold.{Fold}
 use Rattle.fx_eval.specs.declared.demands.Fold.TheVariants as fold
 use Rattle.fx_eval.specs.Parts.{AreFine, inner}
-use Rattle.fx_eval.specs.Queries.{AreRead, AreTold, KeepsTables}
-use Rattle.fx_eval.specs.Scopes.{CanEvaluate, Fixed, Held, around}
-use Rattle.fx_eval.specs.Telling.{Told}
+use Rattle.fx_env.specs.Queries.{AreRead, AreTold, KeepsTables}
+use Rattle.fx_env.specs.Scopes.{CanEvaluate, Fixed, Held, around}
+use Rattle.fx_env.specs.Telling.{Told}
 use Rattle.fx_plan.specs.declared.plans.Sketch.{Sketch}
 use Rattle.fx_plan.specs.Plans.{CanPlan, IsPlan, is_fault}
 use Rattle.fx_plan.specs.QueryExpressions.{column_of, sketch_of}
@@ -32,7 +32,7 @@ use Rattle.fx_trees.specs.Lawful.{IsLawfulTable}
 use Rattle.fx_trees.specs.Term.{Term, all, nil, cons, term_size}
 use Rattle.fx_plan.specs.Consumers.{over_query}
 use Rattle.fx_plan.specs.Limited.{first_rows}
-use Rattle.query_settling.specs.Settled.{call_settled, query_settled, search_settled}
+use Rattle.fx_plan.specs.Settled.{call_settled, query_settled, search_settled}
 use Rattle.row_queries.specs.Answers.{IsCountAnswer, IsScanValue, IsTotalAnswer, OfRows}
 use Rattle.row_queries.specs.declared.queries.Query.{Query}
 use Rattle.row_queries.specs.declared.rows.Row.{Row}

@@ -7,7 +7,4 @@ pub mod Demands
 pub mod Kinds
 pub mod Moments
 pub mod Parts
-pub mod Scopes
-pub mod Telling
-pub mod Queries
 pub use Rattle.fx_plan.specs as fx_plan

@@ -2,8 +2,8 @@
 use Rattle.std.specs.Prelude.{◌≡◌, ℕ, ◌+◌, ◌≤◌, Option}
 use Rattle.fx_base.specs.Silence.{Goes, IsLater, IsLost, Marks}
 use Rattle.fx_base.specs.Telling.{Stays}
-use Rattle.fx_eval.specs.Scopes.{Fixed, Held}
-use Rattle.fx_eval.specs.Telling.{Told}
+use Rattle.fx_env.specs.Scopes.{Fixed, Held}
+use Rattle.fx_env.specs.Telling.{Told}
 
 -- what the environment leaves as it is, what it tells, its marks, the steps that its reads took, the rows that
 -- were visited, what the scope holds, and all steps

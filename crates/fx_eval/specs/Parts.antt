@@ -4,7 +4,7 @@ use Rattle.fx_data.specs.declared.faults.Kind.{Kind}
 use Rattle.fx_data.specs.Types.{Shape, booleans}
 use Rattle.fx_data.specs.Values.{Data, fault}
 use Rattle.fx_eval.specs.Courses.{Going, all, any, branches, switch, matches, recovers, coalesces}
-use Rattle.fx_eval.specs.Scopes.{Held, IsReady, CanEvaluate}
+use Rattle.fx_env.specs.Scopes.{Held, IsReady, CanEvaluate}
 use Rattle.fx_semantics.specs.Around.{Around, record_of}
 use Rattle.fx_semantics.specs.Fresh.{IsValue}
 use Rattle.fx_trees.specs.declared.functions.Fun.{Fun}

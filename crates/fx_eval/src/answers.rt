@@ -1,20 +1,16 @@
 // What the parts of a call come to.
-ghost use Rattle.std.specs.Prelude.{◌≡◌, false, length, map, option_map, Some, MatchResult, if◌then◌else◌};
+ghost use Rattle.std.specs.Prelude.{◌≡◌, false, length, map, option_map, Some, if◌then◌else◌};
 ghost use Rattle.fx_data.specs.ValueView.{view};
-ghost use Rattle.fx_data.specs.Values.{fault, text};
-ghost use Rattle.fx_semantics.specs.Rows.{rows_in};
+ghost use Rattle.fx_data.specs.Values.{text};
 ghost use Rattle.fx_eval.specs.Given.{is_inner as is_inner_place, IsEach, IsName, IsOnce, count_in, each, given, once, value_in, values_in};
 ghost use Rattle.fx_eval.specs.TableCalls.{IsCount, IsFormula};
-ghost use Rattle.fx_tables.specs.Unions.{is_fault};
 ghost use Rattle.fx_trees.specs.Term.{over};
 ghost use Rattle.fx_typing.specs.WellTyped.{inside, plain, standing_at};
 
-use fx_data::faults::Fault;
-use fx_data::values::{Rows, Value};
+use fx_data::values::Value;
 use fx_data::words::Words;
 use fx_trees::functions::Fun;
 use fx_trees::rows::{Takes, row_of};
-use std::alloc::Global;
 
 /// What a part of a call over a table comes to.
 #[derive(Drop)]
@@ -39,19 +35,6 @@ fn is_inner(takes: Takes) -> bool
     match takes {
         Takes::Formula(_) | Takes::ScalarFormula | Takes::AnyFormula | Takes::RowFormula => true,
         _ => false,
-    }
-}
-
-/// The rows of a table, of which a blank one has none, or the error in its place.
-pub fn rows_of(alloc: Global, table: Value) -> Result<Rows, Fault>
-    ensures { MatchResult result
-        (λ r. (r ≡ rows_in (view table)) × (is_fault (view table) ≡ false))
-        (λ f. view table ≡ fault f.kind f.message) }
-{
-    match table {
-        Value::Tab(rows) => Ok(rows),
-        Value::Fault(fault) => Err(fault),
-        _ => Ok(Rows::new(alloc)),
     }
 }
 

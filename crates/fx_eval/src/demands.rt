@@ -21,10 +21,9 @@ use fx_data::{Fault, Kind, Totals, Value, Words};
 use fx_number::Num;
 use fx_plan::conditions::column_of;
 use fx_plan::sketches::filtered;
-use fx_plan::{Sketch, sketch_under};
+use fx_plan::{Sketch, settled_call, settled_query, settled_search, sketch_under};
 use fx_tables::row_calls::first;
 use fx_trees::{Core, CoreNode, Fun, Scalar, Schema};
-use query_settling::{settled_call, settled_query, settled_search};
 use std::alloc::Global;
 use std::slice;
 

@@ -3,8 +3,8 @@ ghost use Rattle.fx_eval.specs.Laws.{ErrorIsWorth, MadeIsWorth, TypedCanMake};
 ghost use Rattle.fx_eval.specs.Demands.{AnswersAreValues, ConstantsAreReady, FoundAreReady, SettledAreReady, SettledAreSmall, SettledAreValues};
 
 use fx_plan::laws::{answers_are_values, sketches_can_plan};
+use fx_plan::{settled_are_no_more, settled_are_worth, settled_have_types};
 use fx_semantics::values_fit;
-use query_settling::{settled_are_no_more, settled_are_worth, settled_have_types};
 use row_queries::rows_fit;
 
 /// A law, and no work: what a function makes of the rows of a table, and of what its other parts give, is

@@ -5,7 +5,7 @@ ghost use Rattle.fx_data.specs.TypeView.{shape};
 ghost use Rattle.fx_data.specs.ValueView.{view};
 ghost use Rattle.fx_eval.specs.Lists.{CanList};
 ghost use Rattle.fx_tables.specs.Unions.{union_of};
-ghost use Rattle.fx_typing.specs.Columns.{row_columns as row_columns_of, value_column as value_column_of};
+ghost use Rattle.fx_trees.specs.ColumnLists.{row_columns as row_columns_of, value_column as value_column_of};
 
 use fx_base::Memory;
 use fx_data::types::{Columns, Ty};

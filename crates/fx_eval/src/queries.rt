@@ -6,16 +6,16 @@ ghost use Rattle.fx_base.specs.Silence.{Goes, IsLater, IsLost};
 ghost use Rattle.fx_base.specs.Telling.{Stays};
 ghost use Rattle.fx_data.specs.ValueView.{view};
 ghost use Rattle.fx_eval.specs.Demands.{CanMeet, CanTake, IsAnswered, IsAskedFor, IsMet, most_of, settled_in};
-ghost use Rattle.fx_eval.specs.Telling.{tables_told};
+ghost use Rattle.fx_env.specs.Telling.{tables_told};
 ghost use Rattle.fx_plan.specs.Plans.{CanPlan, IsPlan, is_fault};
 ghost use Rattle.row_queries.specs.Queries.{IsQuery};
 ghost use Rattle.row_queries.specs.RowTests.{HasNoFaults};
 
 use crate::demands::{Asked, Demand, asked_under, count_value, first_in, fold_value, settled};
-use crate::environment::{Env, Stop};
 use crate::scope::Scope;
 use fx_base::Memory;
 use fx_data::Value;
+use fx_env::environment::{Env, Stop};
 use fx_plan::plan;
 use fx_trees::Core;
 use row_queries::Query;

@@ -21,13 +21,13 @@ pub struct Scope {
 impl Model for Scope {
     ghost use Rattle.std.specs.Coded.{codes};
     ghost use Rattle.fx_data.specs.ValueCode.{data_code};
-    ghost use Rattle.fx_eval.specs.Scopes.{Held};
+    ghost use Rattle.fx_env.specs.Scopes.{Held};
 
     ghost Value = { Held };
 
     ghost coded = { Prim.hlevel (codes, data_code) };
 
-    ghost use Rattle.fx_eval.specs.Scopes.{held};
+    ghost use Rattle.fx_env.specs.Scopes.{held};
 
     ghost view = { λ s. held s.rows.items s.item s.caught };
 }

@@ -8,7 +8,7 @@ use Rattle.fx_typing.specs.Typing.{admit, constant, global_by, name_by, paired_b
 use Rattle.fx_trees.specs.declared.expr.Op.{Op}
 use Rattle.fx_trees.specs.Tree as tree
 use Rattle.fx_trees.specs.Term.{Term}
-use Rattle.fx_typing.specs.Columns.{and_then}
+use Rattle.fx_trees.specs.ColumnLists.{and_then}
 use Rattle.fx_typing.specs.Local.{Piece, value, label}
 use Rattle.fx_typing.specs.Meaning.{Place, in_globals, meaning_of}
 use Rattle.fx_infer.specs.Operands.{leaf_of, operator_of}

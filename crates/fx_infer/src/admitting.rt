@@ -11,7 +11,7 @@ ghost use Rattle.fx_trees.specs.Lawful.{IsLawful};
 ghost use Rattle.fx_trees.specs.Rules.{number_of};
 ghost use Rattle.fx_trees.specs.Tree as tree;
 ghost use Rattle.fx_trees.specs.Term.{Term};
-ghost use Rattle.fx_typing.specs.Columns.{and_then};
+ghost use Rattle.fx_trees.specs.ColumnLists.{and_then};
 ghost use Rattle.fx_typing.specs.Local as local;
 ghost use Rattle.fx_typing.specs.Meaning as meaning;
 ghost use Rattle.fx_typing.specs.Answers.{Answers};

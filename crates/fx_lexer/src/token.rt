@@ -1,7 +1,7 @@
 //! Tokens, and why a text has none.
 ghost use Rattle.std.specs.Prelude.{◌≡◌};
 
-use fx_base::Memory;
+use fx_number::Memory;
 use std::alloc::{AllocError, AllocFailed};
 
 /// A name that is kept for an operator or a value.

@@ -1,6 +1,6 @@
 -- What a call answers, one step after another.
 use Rattle.std.proofs.Common.{◌≡◌, ℕ, Result, Ok, Err, sym, ap, subst}
-use Rattle.fx_typing.specs.Columns.{and_then}
+use Rattle.fx_trees.specs.ColumnLists.{and_then}
 use Rattle.fx_typing.proofs.Stops.{stops}
 use Rattle.fx_typing.specs.Answers.{Answers, Wrong}
 

@@ -2,7 +2,7 @@
 use Rattle.std.proofs.Common.{◌≡◌, ℕ, List, [], ◌∷◌, ◌++◌, map, Result, Ok, Err, refl, sym, ap, ◌∙◌}
 use Rattle.fx_data.specs.Types.{Shape}
 use Rattle.fx_trees.specs.Term.{Term}
-use Rattle.fx_typing.specs.Columns.{and_then}
+use Rattle.fx_trees.specs.ColumnLists.{and_then}
 use Rattle.fx_typing.specs.Local.{value, label, put_first}
 use Rattle.fx_typing.specs.Parts.{Part, piece, meant, target, assigned, values, put_value}
 use Rattle.fx_typing.proofs.Stops.{stops}

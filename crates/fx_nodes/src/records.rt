@@ -3,6 +3,7 @@ ghost use Rattle.std.specs.Prelude.{◌≡◌, IfOk, OnOk, length, map};
 ghost use Rattle.fx_data.specs.Rising.{AreRising};
 ghost use Rattle.fx_typing.specs.Builds as builds;
 ghost use Rattle.fx_typing.specs.Columns as columns;
+ghost use Rattle.fx_trees.specs.ColumnLists as lists;
 ghost use Rattle.fx_typing.specs.Answers.{Answers};
 ghost use Rattle.fx_typing.specs.TypedView.{typed};
 ghost use Rattle.fx_nodes.specs.Fields.{field_view, place_in};
@@ -19,7 +20,7 @@ use std::cmp::Ordering;
 
 /// Whether a name is one of these.
 pub fn is_one_of(name: &Words, names: &[Words]) -> bool
-    ensures { result ≡ columns.is_one_of name.now names.now }
+    ensures { result ≡ lists.is_one_of name.now names.now }
 {
     for other in names {
         if other.is(name) {

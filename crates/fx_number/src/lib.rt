@@ -4,13 +4,14 @@
 ghost use Rattle.std.specs.Prelude.{◌≡◌, ◌<◌, ◌≤◌, MatchOption, IsTrue};
 ghost use Rattle.fx_number.specs.Decimal.{IsInRange, greatest, signed};
 
-pub use fx_base::Memory;
 use std::marker::Model;
 
 mod arithmetic;
+mod memory;
 mod spelling;
 
 pub use arithmetic::{add, div, modulo, mul, power, round, sub};
+pub use memory::Memory;
 pub use spelling::{read, spelling_laws, text};
 
 /// Why an operation has no number.

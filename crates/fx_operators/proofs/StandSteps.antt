@@ -7,7 +7,7 @@ use Rattle.fx_trees.specs.Rows.{takes_at}
 use Rattle.fx_trees.specs.Term.{Term}
 use Rattle.fx_typing.specs.Local as local
 use Rattle.fx_typing.specs.Local.{stand, put_first, stand_rest, stand_all}
-use Rattle.fx_typing.specs.Columns.{and_then}
+use Rattle.fx_trees.specs.ColumnLists.{and_then}
 use Rattle.fx_typing.specs.WellTyped.{first_type}
 use Rattle.fx_typing.specs.declared.typed.Typed.{Typed}
 use Rattle.fx_typing.specs.declared.typed.Piece.{Piece}

@@ -5,7 +5,7 @@ ghost use Rattle.fx_data.specs.Types.{column_list, blanks};
 ghost use Rattle.fx_trees.specs.Rows.{takes_at};
 ghost use Rattle.fx_trees.specs.declared.rows.Takes.TheVariants as takes;
 ghost use Rattle.fx_trees.specs.Rules.{number_of};
-ghost use Rattle.fx_typing.specs.Columns.{field_in};
+ghost use Rattle.fx_trees.specs.ColumnLists.{field_in};
 ghost use Rattle.fx_typing.specs.Local as local;
 ghost use Rattle.fx_typing.specs.Ways.{way};
 ghost use Rattle.fx_typing.specs.WellTyped.{first_type};

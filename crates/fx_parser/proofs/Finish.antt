@@ -1,7 +1,7 @@
 -- From each place some tokens lead to an end, and so the answers hold.
 use Rattle.std.proofs.Common.{◌≡◌, suc, Bool, true, false, List, [], ◌∷◌, ◌++◌, take, refl, ap, ◌∙◌, Result, Ok, Err, IfOk}
 use Rattle.std.specs.Prelude.{option_and_then}
-use Rattle.fx_base.specs.declared.Memory.{Memory}
+use Rattle.fx_number.specs.declared.memory.Memory.{Memory}
 use Rattle.fx_lexer.specs.declared.token.Symbol.{Symbol}
 use Rattle.fx_lexer.specs.declared.token.Symbol.TheVariants as symbol
 use Rattle.fx_lexer.specs.declared.token.Word.TheVariants as word

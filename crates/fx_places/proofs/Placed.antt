@@ -34,7 +34,7 @@ use Rattle.fx_typing.proofs.QuietParts.{AllQuiet, EachQuiet, Made, PartQuiet, Tr
 use Rattle.fx_typing.specs.Breaks.{taken_at, mistells}
 use Rattle.fx_typing.specs.Builds.{as_record, blank_record, bounded, bounded_by, field_names, field_parts, is_bounded, are_distinct, list_as, list_by, list_of, put_field, put_fields, record_by, record_of, rows_to, table_of, types_of, with_of}
 use Rattle.fx_typing.specs.Calls.{called, called_by, called_with, defaults_of, function_by, literal_in, made_if, made_literal, made_or_lowest}
-use Rattle.fx_typing.specs.Columns.{and_then, field_in}
+use Rattle.fx_trees.specs.ColumnLists.{and_then, field_in}
 use Rattle.fx_typing.specs.Local.{value, by_way, firsts, formed, join_all, made, put_first}
 use Rattle.fx_typing.specs.Meaning.{Place, valued, controlled, screened, enumerated, field_read, in_globals, known_field, meaning_of}
 use Rattle.fx_typing.specs.Operators.{function_of}

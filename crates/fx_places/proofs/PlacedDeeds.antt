@@ -23,7 +23,7 @@ use Rattle.fx_trees.specs.Term as term
 use Rattle.fx_typing.proofs.QuietParts.{EachQuiet, Made, if_quiet, made_quiet, pieces_quiet, then_quiet, unless_quiet}
 use Rattle.fx_typing.specs.Breaks.{could_act, gives_variables, large_given}
 use Rattle.fx_typing.specs.Calls.{acted_by, acted_on_screen, acted_or_lowest}
-use Rattle.fx_typing.specs.Columns.{and_then, field_in}
+use Rattle.fx_trees.specs.ColumnLists.{and_then, field_in}
 use Rattle.fx_typing.specs.Deeds.{done_by, joins_to, given, by_name, if_known, by_rows, set_to, set_of, give_one, give_all, given_sources, given_terms, update_of, rows_of, rows_given, collect_to, collect_of, clear_by, clear_of, by_id, row_named, rows_named_by, leaves_id, change_of, changes_of, patch_to, patch_of, remove_of, filter_of, remove_if, update_to, update_if, navigate_of, notify_of, reset_by, reset_of, acted, nothing_done, until_settled}
 use Rattle.fx_typing.specs.Local.{value, coerced, by_way, firsts}
 use Rattle.fx_typing.specs.Meaning.{Place}

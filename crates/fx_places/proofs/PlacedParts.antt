@@ -13,7 +13,8 @@ use Rattle.fx_trees.specs.Term.{Term, Terms, of, nil, cons, all, Top}
 use Rattle.fx_trees.specs.Term as term
 use Rattle.fx_typing.proofs.QuietParts.{AllQuiet, Made, PartQuiet, PiecesQuiet, TreeQuiet, if_quiet, made_quiet, then_quiet}
 use Rattle.fx_typing.specs.Acts.{acts, any_acts, is_acting}
-use Rattle.fx_typing.specs.Columns.{field_in, tells_error}
+use Rattle.fx_typing.specs.Columns.{tells_error}
+use Rattle.fx_trees.specs.ColumnLists.{field_in}
 use Rattle.fx_typing.specs.Local.{Piece, value, label, by_way, exact_way, branch_way, when, without_kind, stand, put_first, stand_rest, stand_all, branches, common_of, firsts, answer_by, made_as, made_by, made}
 use Rattle.fx_typing.specs.Meaning.{Meaning, valued}
 use Rattle.fx_typing.specs.Parts.{Part, piece, meant, target, assigned, as_part, pieces, put_value, values}

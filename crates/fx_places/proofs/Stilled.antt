@@ -9,7 +9,8 @@ use Rattle.fx_trees.specs.Rows.{form_row, row_of}
 use Rattle.fx_trees.specs.Term.{Term, Terms, of, nil, cons, Top}
 use Rattle.fx_trees.specs.Term as top
 use Rattle.fx_typing.specs.Acts.{is_acting}
-use Rattle.fx_typing.specs.Columns.{added, and_then, by_label, field_in, if_there, label_of, names_there, only, renamed, with_new, with_renamed, without_all}
+use Rattle.fx_typing.specs.Columns.{added, by_label, label_of, names_there, renamed}
+use Rattle.fx_trees.specs.ColumnLists.{and_then, field_in, if_there, only, with_new, with_renamed, without_all}
 use Rattle.fx_typing.specs.WellTyped.{Context, IsRuled, IsTyped, AreTyped, answered, as_table, context_for, paired, parts_count, standing_at}
 
 -- a tree that has every type and does nothing; a name of a column stays

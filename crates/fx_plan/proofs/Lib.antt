@@ -20,3 +20,7 @@ pub mod Limiting
 pub mod Retyped
 pub mod Firsts
 pub mod Consumers
+pub mod SettledPlaces
+pub mod Keeping
+pub mod Retyping
+pub mod Sizes

@@ -10,7 +10,7 @@ use Rattle.fx_trees.specs.Term as top
 use Rattle.fx_plan.specs.CallNames.{function_name}
 use Rattle.fx_plan.specs.declared.site_list.Scoped.{Scoped}
 use Rattle.fx_plan.specs.declared.site_list.Scoped.TheVariants.{Formulas}
-use Rattle.fx_plan.specs.declared.site_list.Site.{Site}
+use Rattle.fx_trees.specs.declared.sites.Site.{Site}
 use Rattle.fx_plan.specs.SitePlaces.{opened, parts_in, stand_at, within}
 use Rattle.fx_plan.specs.Sites.{Position, Use, count_of, deeper, is_query, listed, numbered, opens, own_use, part_at, site, takes_whole, totals, uses_among, uses_in}
 

@@ -303,7 +303,7 @@ same_parts c h r s p q n m i first common (cons x xs) done us w l a =
       same_parts c h r s p q n m (suc i) first common xs (done ++ w.0 ∷ []) w.1 w.4 l.1 at.1,
     )
 
-same_inner : (a b d : Bool) (k : Takes) → (if a then k else (if b then k else (if d then k else k))) ≡ k
+pub same_inner : (a b d : Bool) (k : Takes) → (if a then k else (if b then k else (if d then k else k))) ≡ k
 same_inner true b d k = refl
 same_inner false true d k = refl
 same_inner false false true k = refl
@@ -329,7 +329,7 @@ not_parts c cs u h =
     (parts_count cs) (length h.0.0) 0 (first_type h.0.0) h.0.2.1.1 cs [] h.0.0 h.0.1 h.1.1 h.0.2.1.2
 
 -- the parts of a call of two scalars of one type
-two_at : (s : Scalar) (n i : ℕ) → takes_at (two s s Boolean) n i ≡ takes.Scalar s
+pub two_at : (s : Scalar) (n i : ℕ) → takes_at (two s s Boolean) n i ≡ takes.Scalar s
 two_at s n i = same_inner (nat_eq i 0) (nat_eq i 1) (nat_eq (i % 2) 0) (takes.Scalar s)
 
 pair_parts : (c : Context) (f : Fun) (s : Scalar) (cs : Terms) (u : Shape) → row_of f ≡ two s s Boolean → HasType c (of (top.call f) cs) u → AllOf c (shape_of s) cs
@@ -554,10 +554,10 @@ pub record IsOver (c : Context) (f : Fun) (q : Term) (cs : Terms) (u : Shape) : 
   pub common : Shape
   pub stand : AllStand (row_of f) (length (u ∷ types)) 1 u common types
 
-abbrev as_answer : Shape → Result Shape ℕ
+abbrev pub as_answer : Shape → Result Shape ℕ
 as_answer a = Ok a
 
-same_answer : (a b : Shape) → as_answer a ≡ as_answer b → a ≡ b
+pub same_answer : (a b : Shape) → as_answer a ≡ as_answer b → a ≡ b
 same_answer a b e = cc
 
 over_parts : (c : Context) (f : Fun) (q : Term) (cs : Terms) (u : Shape) → (row_of f).answer ≡ answer.Same → ((n : ℕ) → standing_at (top.over f) n 0 ≡ plain) →

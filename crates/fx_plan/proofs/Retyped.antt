@@ -22,7 +22,8 @@ use Rattle.fx_trees.specs.SourceTypes.{columns_of}
 use Rattle.fx_trees.specs.Term.{Term, Terms, of, nil, cons, Top}
 use Rattle.fx_trees.specs.Term as top
 use Rattle.fx_typing.specs.Acts.{acts, any_acts, is_acting}
-use Rattle.fx_typing.specs.Columns.{added, and_then, by_label, dropped, field_in, if_there, label_of, names_there, only, renamed, row_columns, shown, value_column, with_new, with_renamed, without_all}
+use Rattle.fx_typing.specs.Columns.{added, by_label, dropped, label_of, names_there, renamed, shown}
+use Rattle.fx_trees.specs.ColumnLists.{and_then, field_in, if_there, only, row_columns, value_column, with_new, with_renamed, without_all}
 use Rattle.fx_typing.specs.WellTyped.{AreTyped, Context, IsByRow, IsRuled, Standing, answered, as_table, bound, catching, context_for, head_of, inside, paired, parts_count, plain, row_type, standing_at, standing_of}
 use Rattle.fx_plan.proofs.Placing.{query_found}
 use Rattle.fx_plan.specs.Constants.{HasType, ReadsTables}

@@ -15,3 +15,4 @@ pub mod TestValues
 pub mod Wholes
 pub mod Limited
 pub mod Consumers
+pub mod Settled

@@ -13,7 +13,7 @@ use Rattle.fx_trees.specs.Rows.{row_of, takes_at}
 use Rattle.fx_trees.specs.Term.{Term, Terms, of, nil, cons, Top}
 use Rattle.fx_trees.specs.Term as top
 use Rattle.fx_plan.specs.declared.plans.Sketch.{Sketch}
-use Rattle.fx_plan.specs.declared.site_list.Site.{Site}
+use Rattle.fx_trees.specs.declared.sites.Site.{Site}
 use Rattle.fx_plan.specs.CallNames.{call_name}
 use Rattle.fx_plan.specs.QueryExpressions.{column_of, sketch_of}
 

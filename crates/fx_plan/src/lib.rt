@@ -1,4 +1,4 @@
-//! Plans of queries.
+//! Plans of queries, and query expressions in which the values of their constants stand for them.
 #![tactic(auto)]
 
 mod call_names;
@@ -8,12 +8,17 @@ pub mod laws;
 pub mod patterns;
 pub mod plans;
 pub mod ranges;
+mod settling;
+mod settling_laws;
 pub mod site_list;
 pub mod sketches;
 
 pub use filling::fill;
+pub use fx_trees::Site;
 pub use patterns::{Pattern, PatternNode, Patterns};
 pub use plans::{Sketch, has_error, plan};
 pub use ranges::{Reach, no_row_is_missed, ranges_of};
-pub use site_list::{Scoped, Site, formulas_of, is_update, sites, takes_whole};
+pub use settling::{settled_call, settled_query, settled_search};
+pub use settling_laws::{settled_are_no_more, settled_are_worth, settled_have_types};
+pub use site_list::{Scoped, formulas_of, is_update, sites, takes_whole};
 pub use sketches::{sketch, sketch_under};

@@ -11,20 +11,8 @@ use crate::sketches::{filtered, sketch_under};
 use fx_base::Memory;
 use fx_data::Words;
 use fx_trees::rows::{Takes, row_of};
-use fx_trees::{Core, CoreNode, Deed, Form, Fun, Scalar, Schema};
+use fx_trees::{Core, CoreNode, Deed, Form, Fun, Scalar, Schema, Site};
 use std::alloc::Global;
-
-/// A largest query expression of a formula.
-#[derive(Drop)]
-pub struct Site {
-    /// Its number, from 1, in the order in which they begin.
-    pub number: u32,
-    pub table: u16,
-    /// The function of the nearest call around it, and `cell` where there is none.
-    pub by: Words,
-    /// Whether that takes the whole of it; else the first rows up to the app's row limit.
-    pub delegated: bool,
-}
 
 // Where a tree stands.
 #[derive(Clone, Copy)]

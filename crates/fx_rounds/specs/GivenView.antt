@@ -6,7 +6,7 @@ use Rattle.fx_typing.specs.Parts.{Part}
 use Rattle.fx_typing.specs.Rounds as rounds
 use Rattle.fx_typing.specs.Rounds.{part_type}
 use Rattle.fx_trees.specs.Term.{Term}
-use Rattle.fx_typing.specs.Columns.{row_columns}
+use Rattle.fx_trees.specs.ColumnLists.{row_columns}
 use Rattle.fx_rounds.specs.declared.giving.Given.{Given}
 use Rattle.fx_rounds.specs.declared.giving.Given.TheVariants.{Global, Screen, Collection}
 

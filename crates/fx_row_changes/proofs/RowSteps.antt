@@ -4,7 +4,7 @@ use Rattle.fx_data.specs.Types.{Shape, blanks, numbers, texts, booleans, dates, 
 use Rattle.fx_trees.specs.declared.deeds.Deed.TheVariants as deed
 use Rattle.fx_trees.specs.declared.deeds.Target.{Target}
 use Rattle.fx_trees.specs.Term.{Term, of, all, act}
-use Rattle.fx_typing.specs.Columns.{and_then}
+use Rattle.fx_trees.specs.ColumnLists.{and_then}
 use Rattle.fx_typing.specs.Local.{firsts}
 use Rattle.fx_typing.specs.Deeds.{by_rows, row_named, changes_of, patch_to}
 use Rattle.fx_typing.specs.Parts.{lowest}

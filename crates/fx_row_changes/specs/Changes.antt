@@ -8,7 +8,7 @@ use Rattle.fx_trees.specs.declared.rule.Rule.{Rule}
 use Rattle.fx_trees.specs.Term.{Term}
 use Rattle.fx_trees.specs.declared.deeds.Deed.TheVariants as deed
 use Rattle.fx_trees.specs.Rules as rules
-use Rattle.fx_typing.specs.Columns.{and_then}
+use Rattle.fx_trees.specs.ColumnLists.{and_then}
 use Rattle.fx_typing.specs.Local.{firsts}
 use Rattle.fx_typing.specs.Deeds.{filter_of, done_by, row_named, rows_named_by, changes_of}
 use Rattle.fx_typing.specs.Parts.{Part, lowest}

@@ -5,7 +5,7 @@ ghost use Rattle.fx_data.specs.Types.{Shape, column, column_list, no_columns, nu
 ghost use Rattle.fx_typing.specs.Deeds as deeds;
 ghost use Rattle.fx_trees.specs.Rules.{number_of};
 ghost use Rattle.fx_trees.specs.Term.{Term};
-ghost use Rattle.fx_typing.specs.Columns.{field_in};
+ghost use Rattle.fx_trees.specs.ColumnLists.{field_in};
 ghost use Rattle.fx_typing.specs.Local as local;
 ghost use Rattle.fx_typing.specs.Ways.{way};
 ghost use Rattle.fx_typing.specs.Answers.{Answers};

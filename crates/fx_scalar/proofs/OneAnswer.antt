@@ -7,7 +7,7 @@ use Rattle.fx_data.specs.Values.{Data, boolean}
 use Rattle.fx_builtins.specs.Folds.{present}
 use Rattle.fx_trees.specs.declared.functions.Fun.{Fun}
 use Rattle.fx_trees.specs.declared.functions.Fun.TheVariants as fun
-use Rattle.fx_value.specs.Civil.{civil_of}
+use Rattle.fx_data.specs.Civil.{civil_of}
 use Rattle.fx_builtins.specs.Dates.{difference, number_of_parts, weekday_of}
 use Rattle.fx_scalar.specs.Answers.{IsPosition, UnlessFault, date_answer, maybe_answer, number_answer, text_answer}
 use Rattle.fx_scalar.specs.Arguments.{at, date_at, maybe_number, maybe_whole_at, number_at, text_at, whole_at}

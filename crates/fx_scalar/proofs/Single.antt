@@ -17,10 +17,10 @@ use Rattle.fx_data.specs.Days.{IsDay}
 use Rattle.fx_data.specs.Types.{texts}
 use Rattle.fx_data.specs.Values.{Data, blank, number, text, boolean, date, rec, tab, fault}
 use Rattle.fx_value.specs.Coercion.{IsCoerced, IsReadAs, are_spaces, value_in}
-use Rattle.fx_value.specs.Civil.{civil_of}
-use Rattle.fx_value.proofs.CivilDays.{civil_is_date}
-use Rattle.fx_trees.specs.declared.literals.TimeUnit.{TimeUnit}
-use Rattle.fx_trees.specs.declared.literals.TimeUnit.TheVariants.{Days, Months, Quarters, Years}
+use Rattle.fx_data.specs.Civil.{civil_of}
+use Rattle.fx_data.proofs.CivilDays.{civil_is_date}
+use Rattle.fx_data.specs.declared.formats.TimeUnit.{TimeUnit}
+use Rattle.fx_data.specs.declared.formats.TimeUnit.TheVariants.{Days, Months, Quarters, Years}
 use Rattle.fx_builtins.specs.Dates.{IsDayOrInvalid, IsInMonth, IsInMonthOrInvalid, IsLater, IsShifted}
 use Rattle.fx_builtins.specs.Months.{year_of, month_of, month_number}
 use Rattle.fx_builtins.specs.Numbers.{AsKind, with_kind}

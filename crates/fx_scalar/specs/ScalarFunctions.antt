@@ -25,8 +25,8 @@ use Rattle.fx_builtins.specs.Folding.{BeginsWithoutCase, EndsWithoutCase, HasPar
 use Rattle.fx_builtins.specs.Numbers.{AsKind}
 use Rattle.fx_builtins.specs.Folds.{present, IsSum, IsLeast, IsGreatest, average_of}
 use Rattle.fx_builtins.specs.Formats.{format_of}
-use Rattle.fx_value.specs.Civil.{civil_of}
-use Rattle.fx_value.specs.DateText.{date_text}
+use Rattle.fx_data.specs.Civil.{civil_of}
+use Rattle.fx_data.specs.DateText.{date_text}
 use Rattle.fx_builtins.specs.Dates.{IsDayOrInvalid, IsLater, IsShifted, difference, number_of_parts, weekday_of}
 use Rattle.fx_builtins.specs.DateTexts.{text_in as date_text_in}
 use Rattle.fx_scalar.specs.Arguments.{at, text_in, number_at, text_at, truth_at, date_at, whole_at, maybe_whole_at, maybe_number, first_fault}

@@ -9,7 +9,7 @@ ghost use Rattle.fx_trees.specs.Controls.{input_type};
 ghost use Rattle.fx_trees.specs.Lawful.{IsLawful};
 ghost use Rattle.fx_trees.specs.SourceTypes.{property_of};
 ghost use Rattle.fx_trees.specs.declared.names.Property.{Property};
-ghost use Rattle.fx_typing.specs.Columns.{field_in};
+ghost use Rattle.fx_trees.specs.ColumnLists.{field_in};
 ghost use Rattle.fx_typing.specs.Meaning as sought;
 ghost use Rattle.fx_typing.specs.Meaning.{place_of};
 ghost use Rattle.fx_typing.specs.Answers.{Answers};

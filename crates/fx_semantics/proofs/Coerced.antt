@@ -7,7 +7,7 @@ use Rattle.fx_data.specs.Values.{Data, blank, number, text, boolean, date, rec, 
 use Rattle.fx_tables.specs.RowCalls.{CanBeRowType}
 use Rattle.fx_tables.specs.Distinct.{value_name}
 use Rattle.fx_tables.specs.Unions.{fields_in, is_fault, rows_of, union_of}
-use Rattle.fx_typing.specs.Columns.{row_columns, value_column}
+use Rattle.fx_trees.specs.ColumnLists.{row_columns, value_column}
 use Rattle.fx_typing.specs.Ways.{way, widening, joined_way, same_shape, changed, refused, same}
 use Rattle.fx_typing.specs.WellTyped.{AreAll}
 use Rattle.fx_typing.proofs.Same.{shape_same}

@@ -17,8 +17,10 @@ use Rattle.fx_tables.specs.ColumnCalls.{in_turn, renamed_columns, without_column
 use Rattle.fx_value.specs.Columns.{LacksColumn, Row, only, renamed, with_column, with_field}
 use Rattle.fx_tables.proofs.FitRows.{RowFits}
 use Rattle.fx_trees.specs.Term.{Term, Terms, of, nil, cons, const}
-use Rattle.fx_typing.specs.Columns.{and_then, by_label, dropped, field_in, if_free, if_there, label_of, names_there, shown, with_renamed}
+use Rattle.fx_typing.specs.Columns.{by_label, dropped, label_of, names_there, shown}
+use Rattle.fx_trees.specs.ColumnLists.{and_then, field_in, if_free, if_there, with_renamed}
 use Rattle.fx_typing.specs.Columns as columns
+use Rattle.fx_trees.specs.ColumnLists as lists
 use Rattle.fx_typing.specs.WellTyped.{paired}
 use Rattle.fx_typing.proofs.Operators.{then_ok}
 use Rattle.fx_value.proofs.Unions.{Under, Rises}
@@ -85,19 +87,19 @@ pub rises_of : (cs : ColumnList) → AreLawfulColumns cs → Rises cs
 rises_of no_columns l = tt
 rises_of (column n t cs) l = (under_of n cs l.0, rises_of cs l.2)
 
-under_without : (k n : List ℕ) (cs : ColumnList) → Under k cs → Under k (columns.without n cs)
+under_without : (k n : List ℕ) (cs : ColumnList) → Under k cs → Under k (lists.without n cs)
 under_without k n no_columns u = tt
 under_without k n (column m t cs) u = by (bytes_eq m n) (under_without k n cs u.1)
   where
-    by : (b : Bool) → Under k (columns.without n cs) → Under k (if b then cs else column m t (columns.without n cs))
+    by : (b : Bool) → Under k (lists.without n cs) → Under k (if b then cs else column m t (lists.without n cs))
     by true w = u.1
     by false w = (u.0, w)
 
-pub rises_without : (n : List ℕ) (cs : ColumnList) → Rises cs → Rises (columns.without n cs)
+pub rises_without : (n : List ℕ) (cs : ColumnList) → Rises cs → Rises (lists.without n cs)
 rises_without n no_columns r = tt
 rises_without n (column m t cs) r = by (bytes_eq m n) (rises_without n cs r.1)
   where
-    by : (b : Bool) → Rises (columns.without n cs) → Rises (if b then cs else column m t (columns.without n cs))
+    by : (b : Bool) → Rises (lists.without n cs) → Rises (if b then cs else column m t (lists.without n cs))
     by true w = r.1
     by false w = (under_without m n cs r.0, w)
 
@@ -170,17 +172,17 @@ pub dropped_rows : (a : Around) (ts : Terms) (us : List Shape) (cs es : ColumnLi
     dropped (paired ts us) cs ≡ Ok es → AreNames (meanings ts) a ns → fits_in (table_of rows) (tables cs) ≡ true → fits_in (table_of (without_columns ns rows)) (tables es) ≡ true
 dropped_rows a ts us cs es ns rows m rising e k h =
     let x = then_ok (names_there (paired ts us) cs) _ es e in
-    let P : List (List ℕ) → Type 0 = λ w. fits_in (table_of (without_columns ns rows)) (tables (columns.without_all w cs)) ≡ true in
+    let P : List (List ℕ) → Type 0 = λ w. fits_in (table_of (without_columns ns rows)) (tables (lists.without_all w cs)) ≡ true in
     let R : ColumnList → Type 0 = λ w. fits_in (table_of (without_columns ns rows)) (tables w) ≡ true in
-    subst R (ok_is (columns.without_all x.0 cs) es x.2) (subst P (names_same a ts us cs x.0 ns m x.1 k) (dropped_fit ns rows cs rising h))
+    subst R (ok_is (lists.without_all x.0 cs) es x.2) (subst P (names_same a ts us cs x.0 ns m x.1 k) (dropped_fit ns rows cs rising h))
 
 pub shown_rows : (a : Around) (ts : Terms) (us : List Shape) (cs es : ColumnList) (ns : List (List ℕ)) (rows : List Row) → SoMany ts us →
     shown (paired ts us) cs ≡ Ok es → AreNames (meanings ts) a ns → fits_in (table_of rows) (tables cs) ≡ true → fits_in (table_of (map (only ns) rows)) (tables es) ≡ true
 shown_rows a ts us cs es ns rows m e k h =
     let x = then_ok (names_there (paired ts us) cs) _ es e in
-    let P : List (List ℕ) → Type 0 = λ w. fits_in (table_of (map (only ns) rows)) (tables (columns.only w cs)) ≡ true in
+    let P : List (List ℕ) → Type 0 = λ w. fits_in (table_of (map (only ns) rows)) (tables (lists.only w cs)) ≡ true in
     let R : ColumnList → Type 0 = λ w. fits_in (table_of (map (only ns) rows)) (tables w) ≡ true in
-    subst R (ok_is (columns.only x.0 cs) es x.2) (subst P (names_same a ts us cs x.0 ns m x.1 k) (rows_only_fit ns rows cs h))
+    subst R (ok_is (lists.only x.0 cs) es x.2) (subst P (names_same a ts us cs x.0 ns m x.1 k) (rows_only_fit ns rows cs h))
 
 pub renamed_rows : (a : Around) (ts : Terms) (us : List Shape) (cs es : ColumnList) (ps : List (List ℕ × List ℕ)) (rows : List Row) → SoMany ts us → Rises cs →
     columns.renamed (paired ts us) cs ≡ Ok es → ArePairs (meanings ts) a ps → RowsFit cs rows → RowsFit es (renamed_columns ps rows)
@@ -199,7 +201,7 @@ renamed_rows a (cons t (cons t' ts)) (u ∷ u' ∷ us) cs es (p ∷ ps) rows m r
     let P' : List ℕ → Type 0 = λ v. RowsFit y.0 (map (renamed x.0 v) rows) in
     let made = all_renamed_fit ((x.0, x'.0) ∷ []) rows cs y.0 rising (all_lack x'.0 rows cs h w.0, tt) (table_fits cs rows h) (ap (λ (r : Result ColumnList ℕ). and_then r go) y.1) in
     renamed_rows a ts us y.0 es ps (map (renamed p.0 p.1) rows) m
-    (subst Rises w.1 (rises_put x'.0 z.0 (columns.without x.0 cs) (rises_without x.0 cs rising))) y.2 k.2
+    (subst Rises w.1 (rises_put x'.0 z.0 (lists.without x.0 cs) (rises_without x.0 cs rising))) y.2 k.2
     (subst P (sym same) (subst P' (sym same') (fit_table y.0 (map (renamed x.0 x'.0) rows) made)))
 renamed_rows a nil [] cs es (p ∷ ps) rows m rising e k h = absurd k
 renamed_rows a (cons t nil) (u ∷ []) cs es [] rows m rising e k h = absurd k

@@ -6,7 +6,7 @@ use Rattle.fx_data.specs.Types.{Shape, records, ColumnList, no_columns, column}
 use Rattle.fx_data.specs.Values.{Data, blank, number, text, boolean, date, rec, tab, fault, FieldList, no_fields, field}
 use Rattle.fx_data.proofs.Utf8Order.{and_second, and_first}
 use Rattle.fx_tables.specs.Unions.{fault_or, is_fault}
-use Rattle.fx_typing.specs.Columns.{field_in}
+use Rattle.fx_trees.specs.ColumnLists.{field_in}
 use Rattle.fx_typing.specs.Columns as columns
 use Rattle.fx_typing.specs.WellTyped.{columns_by}
 use Rattle.fx_value.proofs.Widenings.{both, own_name, same_name}

@@ -20,8 +20,10 @@ use Rattle.fx_trees.specs.declared.sources.Source.{Source}
 use Rattle.fx_trees.specs.SourceTypes.{put_column}
 use Rattle.fx_trees.specs.Term.{Term, Terms, of, nil, cons, Top}
 use Rattle.fx_trees.specs.Term as top
-use Rattle.fx_typing.specs.Columns.{added, dropped, field_in, if_there, is_one_of, label_of, names_there, row_columns, shown, value_column, with_new, with_renamed}
+use Rattle.fx_typing.specs.Columns.{added, dropped, label_of, names_there, shown}
+use Rattle.fx_trees.specs.ColumnLists.{field_in, if_there, is_one_of, row_columns, value_column, with_new, with_renamed}
 use Rattle.fx_typing.specs.Columns as columns
+use Rattle.fx_trees.specs.ColumnLists as lists
 use Rattle.fx_typing.specs.LawfulTypes.{AreLawfulColumns, IsLawfulType, IsUnder}
 use Rattle.fx_typing.specs.WellTyped.{Context, Standing, plain, inside, bound, catching, Stands, AllStand, IsBelowNames, NamesRise, IsConstantType, IsRuled, IsTyped, AreTyped, answered, as_table, columns_by, context_for, first_type, paired, parts_count, row_type, standing_at, target_source}
 use Rattle.fx_typing.proofs.Operators.{then_ok}
@@ -61,46 +63,46 @@ inner_put n u (column m t cs) l i = by (slice_cmp nat_cmp n m) (inner_put n u cs
     by Equal z = (l, i.1)
     by Greater z = (i.0, z)
 
-inner_without : (n : List ℕ) (cs : ColumnList) → AreInner cs → AreInner (columns.without n cs)
+inner_without : (n : List ℕ) (cs : ColumnList) → AreInner cs → AreInner (lists.without n cs)
 inner_without n no_columns i = tt
 inner_without n (column m t cs) i = by (bytes_eq m n) (inner_without n cs i.1)
   where
-    by : (b : Bool) → AreInner (columns.without n cs) → AreInner (if b then cs else column m t (columns.without n cs))
+    by : (b : Bool) → AreInner (lists.without n cs) → AreInner (if b then cs else column m t (lists.without n cs))
     by true z = i.1
     by false z = (i.0, z)
 
-inner_only : (ns : List (List ℕ)) (cs : ColumnList) → AreInner cs → AreInner (columns.only ns cs)
+inner_only : (ns : List (List ℕ)) (cs : ColumnList) → AreInner cs → AreInner (lists.only ns cs)
 inner_only ns no_columns i = tt
 inner_only ns (column m t cs) i = by (is_one_of m ns) (inner_only ns cs i.1)
   where
-    by : (b : Bool) → AreInner (columns.only ns cs) → AreInner (if b then column m t (columns.only ns cs) else columns.only ns cs)
+    by : (b : Bool) → AreInner (lists.only ns cs) → AreInner (if b then column m t (lists.only ns cs) else lists.only ns cs)
     by true z = (i.0, z)
     by false z = z
 
-under_only : (k : List ℕ) (ns : List (List ℕ)) (cs : ColumnList) → Under k cs → Under k (columns.only ns cs)
+under_only : (k : List ℕ) (ns : List (List ℕ)) (cs : ColumnList) → Under k cs → Under k (lists.only ns cs)
 under_only k ns no_columns u = tt
 under_only k ns (column m t cs) u = by (is_one_of m ns) (under_only k ns cs u.1)
   where
-    by : (b : Bool) → Under k (columns.only ns cs) → Under k (if b then column m t (columns.only ns cs) else columns.only ns cs)
+    by : (b : Bool) → Under k (lists.only ns cs) → Under k (if b then column m t (lists.only ns cs) else lists.only ns cs)
     by true z = (u.0, z)
     by false z = z
 
-rises_only : (ns : List (List ℕ)) (cs : ColumnList) → Rises cs → Rises (columns.only ns cs)
+rises_only : (ns : List (List ℕ)) (cs : ColumnList) → Rises cs → Rises (lists.only ns cs)
 rises_only ns no_columns r = tt
 rises_only ns (column m t cs) r = by (is_one_of m ns) (rises_only ns cs r.1)
   where
-    by : (b : Bool) → Rises (columns.only ns cs) → Rises (if b then column m t (columns.only ns cs) else columns.only ns cs)
+    by : (b : Bool) → Rises (lists.only ns cs) → Rises (if b then column m t (lists.only ns cs) else lists.only ns cs)
     by true z = (under_only m ns cs r.0, z)
     by false z = z
 
 put_lawful : (n : List ℕ) (u : Shape) (cs : ColumnList) → IsLawfulType u → AreLawfulColumns cs → AreLawfulColumns (put_column n u cs)
 put_lawful n u cs k l = lawful_by (put_column n u cs) (rises_put n u cs (rises_of cs l)) (inner_put n u cs k (inner_of cs l))
 
-without_lawful : (n : List ℕ) (cs : ColumnList) → AreLawfulColumns cs → AreLawfulColumns (columns.without n cs)
-without_lawful n cs l = lawful_by (columns.without n cs) (rises_without n cs (rises_of cs l)) (inner_without n cs (inner_of cs l))
+without_lawful : (n : List ℕ) (cs : ColumnList) → AreLawfulColumns cs → AreLawfulColumns (lists.without n cs)
+without_lawful n cs l = lawful_by (lists.without n cs) (rises_without n cs (rises_of cs l)) (inner_without n cs (inner_of cs l))
 
-only_lawful : (ns : List (List ℕ)) (cs : ColumnList) → AreLawfulColumns cs → AreLawfulColumns (columns.only ns cs)
-only_lawful ns cs l = lawful_by (columns.only ns cs) (rises_only ns cs (rises_of cs l)) (inner_only ns cs (inner_of cs l))
+only_lawful : (ns : List (List ℕ)) (cs : ColumnList) → AreLawfulColumns cs → AreLawfulColumns (lists.only ns cs)
+only_lawful ns cs l = lawful_by (lists.only ns cs) (rises_only ns cs (rises_of cs l)) (inner_only ns cs (inner_of cs l))
 
 field_lawful : (n : List ℕ) (cs : ColumnList) (t : Shape) → AreLawfulColumns cs → field_in n cs ≡ Some t → IsLawfulType t
 field_lawful n no_columns t l e = absurd cc
@@ -129,19 +131,19 @@ added_lawful (x ∷ f ∷ more) cs es k l e =
     let z = free_ok (field_in n.0 cs) (put_column n.0 f.1 cs) y.0 y.1 in
     added_lawful more y.0 es k.1.1 (subst AreLawfulColumns z.1 (put_lawful n.0 f.1 cs k.1.0 l)) y.2
 
-without_all_lawful : (ns : List (List ℕ)) (cs : ColumnList) → AreLawfulColumns cs → AreLawfulColumns (columns.without_all ns cs)
+without_all_lawful : (ns : List (List ℕ)) (cs : ColumnList) → AreLawfulColumns cs → AreLawfulColumns (lists.without_all ns cs)
 without_all_lawful [] cs l = l
-without_all_lawful (n ∷ ns) cs l = without_all_lawful ns (columns.without n cs) (without_lawful n cs l)
+without_all_lawful (n ∷ ns) cs l = without_all_lawful ns (lists.without n cs) (without_lawful n cs l)
 
 dropped_lawful : (xs : List (Term × Shape)) (cs es : ColumnList) → AreLawfulColumns cs → dropped xs cs ≡ Ok es → AreLawfulColumns es
 dropped_lawful xs cs es l e =
     let y = then_ok (names_there xs cs) _ es e in
-    subst AreLawfulColumns (ok_is (columns.without_all y.0 cs) es y.2) (without_all_lawful y.0 cs l)
+    subst AreLawfulColumns (ok_is (lists.without_all y.0 cs) es y.2) (without_all_lawful y.0 cs l)
 
 shown_lawful : (xs : List (Term × Shape)) (cs es : ColumnList) → AreLawfulColumns cs → shown xs cs ≡ Ok es → AreLawfulColumns es
 shown_lawful xs cs es l e =
     let y = then_ok (names_there xs cs) _ es e in
-    subst AreLawfulColumns (ok_is (columns.only y.0 cs) es y.2) (only_lawful y.0 cs l)
+    subst AreLawfulColumns (ok_is (lists.only y.0 cs) es y.2) (only_lawful y.0 cs l)
 
 renamed_lawful : (xs : List (Term × Shape)) (cs es : ColumnList) → AreLawfulColumns cs → columns.renamed xs cs ≡ Ok es → AreLawfulColumns es
 renamed_lawful [] cs es l e = subst AreLawfulColumns (ok_is cs es e) l
@@ -153,7 +155,7 @@ renamed_lawful (x ∷ y ∷ more) cs es l e =
     let t = then_ok (if_there (field_in n.0 cs)) _ d.0 d.1 in
     let w = free_ok (field_in m.0 cs) _ d.0 t.2 in
     let own = field_lawful n.0 cs t.0 l (there_ok (field_in n.0 cs) t.0 t.1) in
-    renamed_lawful more d.0 es (subst AreLawfulColumns w.1 (put_lawful m.0 t.0 (columns.without n.0 cs) own (without_lawful n.0 cs l))) d.2
+    renamed_lawful more d.0 es (subst AreLawfulColumns w.1 (put_lawful m.0 t.0 (lists.without n.0 cs) own (without_lawful n.0 cs l))) d.2
 
 -- ---- answers
 scalar_lawful : (s : Scalar) → IsLawfulType (shape_of s)

@@ -15,3 +15,4 @@ pub mod SingleRows
 pub mod SingleWhole
 pub mod Examples
 pub mod Wider
+pub mod RowsBack

@@ -19,7 +19,8 @@ use Rattle.fx_builtins.specs.Folds.{IsGreatest, IsLeast}
 use Rattle.fx_value.specs.Aggregates.{numbers_in}
 use Rattle.fx_value.specs.Columns.{Row, only, with_column}
 use Rattle.fx_trees.specs.Term.{Term, Terms, nil, cons, Top, over}
-use Rattle.fx_typing.specs.Columns.{added, dropped, shown, renamed, field_in, label_of, row_columns, value_column, with_new}
+use Rattle.fx_typing.specs.Columns.{added, dropped, shown, renamed, label_of}
+use Rattle.fx_trees.specs.ColumnLists.{field_in, row_columns, value_column, with_new}
 use Rattle.fx_typing.specs.WellTyped.{Context, Standing, inside, standing_at, context_for, Stands, AllStand, paired, answered, as_table}
 use Rattle.fx_typing.proofs.Operators.{then_ok}
 use Rattle.fx_value.proofs.Unions.{Rises}

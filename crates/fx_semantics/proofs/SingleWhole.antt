@@ -16,7 +16,7 @@ use Rattle.fx_scalar.proofs.Single.{AtMostOne}
 use Rattle.fx_tables.specs.Unions.{union_of}
 use Rattle.fx_trees.specs.Term.{Term, Terms, of, nil, cons, Top}
 use Rattle.fx_trees.specs.Term as top
-use Rattle.fx_typing.specs.Columns.{row_columns}
+use Rattle.fx_trees.specs.ColumnLists.{row_columns}
 use Rattle.fx_value.specs.Coercion.{IsCoerced}
 use Rattle.fx_semantics.specs.Around.{Around, Meaning, AreValues, inside}
 use Rattle.fx_semantics.specs.Errors.{IsCaught}
@@ -28,7 +28,7 @@ use Rattle.fx_semantics.proofs.Single.{AllSingle, Single, coalesced_one, equal_o
 use Rattle.fx_semantics.proofs.SingleRows.{Once, over_one}
 
 -- a coerced value; a text is read as the function Value reads it
-coerced_one : (d : Data) (t : Shape) → AtMostOne (IsCoerced d t)
+pub coerced_one : (d : Data) (t : Shape) → AtMostOne (IsCoerced d t)
 coerced_one blank t = λ v w h k. h ∙ sym k
 coerced_one (fault x cs) t = λ v w h k. h ∙ sym k
 coerced_one (text cs) numbers = one_answer fun.Value (text cs ∷ [])
@@ -87,7 +87,7 @@ module _ (g : Giving) (rows : List Data) (item : Option Data) (caught : Option F
 
 -- ---- whole trees
 mutual
-  single : (g : Giving) → Once → ((s : Source) → AtMostOne (g s)) → (t : Term) → Single g (meaning t)
+  pub single : (g : Giving) → Once → ((s : Source) → AtMostOne (g s)) → (t : Term) → Single g (meaning t)
   single g o e (of h ts) = λ rows item caught. node_one g rows item caught o e h (meanings ts) (singles g o e ts)
 
   singles : (g : Giving) → Once → ((s : Source) → AtMostOne (g s)) → (ts : Terms) → AllSingle g (meanings ts)

@@ -17,7 +17,7 @@ use Rattle.fx_tables.proofs.FitDistinct.{distinct_fit}
 use Rattle.fx_tables.proofs.ValueRows.{values_fit as by_values_fit}
 use Rattle.fx_value.specs.Columns.{Row}
 use Rattle.fx_tables.specs.Distinct.{distinct_of, value_row}
-use Rattle.fx_typing.specs.Columns.{row_columns, value_column}
+use Rattle.fx_trees.specs.ColumnLists.{row_columns, value_column}
 use Rattle.fx_typing.specs.WellTyped.{Context}
 use Rattle.fx_value.proofs.Widenings.{both}
 use Rattle.fx_value.specs.Fits.{fits_in, fields_fit, rows_fit}

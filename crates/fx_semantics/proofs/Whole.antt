@@ -14,7 +14,8 @@ use Rattle.fx_tables.specs.RowCalls.{CanBeRowType}
 use Rattle.fx_tables.specs.Unions.{union_of}
 use Rattle.fx_trees.specs.Term.{Term, Terms, of, nil, cons, Top}
 use Rattle.fx_trees.specs.Term as top
-use Rattle.fx_typing.specs.Columns.{fault_type, row_columns}
+use Rattle.fx_typing.specs.Columns.{fault_type}
+use Rattle.fx_trees.specs.ColumnLists.{row_columns}
 use Rattle.fx_typing.specs.Ways.{way, changed}
 use Rattle.fx_typing.specs.WellTyped.{Context, Stands, AreAll, IsByRow, IsRuled, IsTyped, AreTyped, columns_by, context_for, first_type, head_of, parts_count, standing_at}
 use Rattle.fx_value.proofs.Unions.{Rises}

@@ -83,7 +83,7 @@ of_all K g Ps k a m R h = (h.0, values K g Ps k a m h.0 h.1, h.2)
 
 -- ---- where an error is the answer, and where a condition decides
 
-error_or : (w : Data) (P Q : Type 0) (v : Data) → (P → Q) → ErrorOr w P v → ErrorOr w Q v
+pub error_or : (w : Data) (P Q : Type 0) (v : Data) → (P → Q) → ErrorOr w P v → ErrorOr w Q v
 error_or (fault k cs) P Q v f h = h
 error_or blank P Q v f h = f h
 error_or (number z) P Q v f h = f h
@@ -93,12 +93,12 @@ error_or (date z) P Q v f h = f h
 error_or (rec fs) P Q v f h = f h
 error_or (tab rs) P Q v f h = f h
 
-by_decision : (d : Decision) (P P' Q Q' : Type 0) (v : Data) → (P → P') → (Q → Q') → ByDecision d P Q v → ByDecision d P' Q' v
+pub by_decision : (d : Decision) (P P' Q Q' : Type 0) (v : Data) → (P → P') → (Q → Q') → ByDecision d P Q v → ByDecision d P' Q' v
 by_decision Met P P' Q Q' v f g h = f h
 by_decision Unmet P P' Q Q' v f g h = g h
 by_decision (Error x) P P' Q Q' v f g h = h
 
-passed_or : (b : Bool) (P P' Q : Type 0) → (P → P') → PassedOr b P Q → PassedOr b P' Q
+pub passed_or : (b : Bool) (P P' Q : Type 0) → (P → P') → PassedOr b P Q → PassedOr b P' Q
 passed_or true P P' Q f h = f h
 passed_or false P P' Q f h = h
 

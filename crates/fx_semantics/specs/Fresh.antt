@@ -8,7 +8,7 @@ use Rattle.fx_scalar.specs.ScalarFunctions.{IsAnswer}
 use Rattle.fx_tables.specs.Unions.{union_of}
 use Rattle.fx_trees.specs.Term.{Term, Terms, of, nil, cons, Top}
 use Rattle.fx_trees.specs.Term as top
-use Rattle.fx_typing.specs.Columns.{row_columns}
+use Rattle.fx_trees.specs.ColumnLists.{row_columns}
 use Rattle.fx_value.specs.Coercion.{IsCoerced, value_in}
 use Rattle.fx_scalar.specs.LazyForms.{ErrorOr}
 use Rattle.fx_semantics.specs.Around.{Around, Meaning, AreValues, inside}

@@ -6,7 +6,7 @@ use Rattle.fx_trees.specs.declared.functions.Form.{Form}
 use Rattle.fx_trees.specs.declared.functions.Form.TheVariants as form
 use Rattle.fx_trees.specs.declared.functions.Acting.{Acting}
 use Rattle.fx_trees.specs.declared.functions.Acting.TheVariants as acting
-use Rattle.fx_trees.specs.declared.literals.TimeUnit.TheVariants as unit
+use Rattle.fx_data.specs.declared.formats.TimeUnit.TheVariants as unit
 use Rattle.fx_trees.specs.declared.literals.SortOrder.TheVariants as order
 use Rattle.fx_trees.specs.declared.signatures.SigShape.{SigShape}
 use Rattle.fx_trees.specs.declared.signatures.SigShape.TheVariants as shape

@@ -1,6 +1,6 @@
 use crate::table::{all, signature};
+use fx_trees::TimeUnit;
 use fx_trees::functions::{Acting, Fun};
-use fx_trees::literals::TimeUnit;
 use fx_trees::signatures::SigShape;
 use std::test::Fail;
 

@@ -3,7 +3,7 @@ use Rattle.std.proofs.Common.{◌≡◌, ℕ, ◌+◌, ◌<◌, List, [], ◌∷
 use Rattle.std.specs.Prelude.{MatchOption}
 use Rattle.std.specs.List.{find}
 use Rattle.std.proofs.lemmas.Option.{slice_get_read, get_or_from_slice_get}
-use Rattle.fx_base.specs.declared.Memory.{Memory}
+use Rattle.fx_number.specs.declared.memory.Memory.{Memory}
 use Rattle.fx_data.specs.Values.{Data}
 use Rattle.fx_data.specs.ValueView.{view}
 use Rattle.fx_data.specs.declared.values.Value.{Value}

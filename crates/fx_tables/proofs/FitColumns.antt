@@ -20,8 +20,8 @@ use Rattle.fx_value.proofs.Unions.{Rises, Under, below}
 use Rattle.fx_value.proofs.Widenings.{both, own_name, same_name}
 use Rattle.fx_value.specs.Columns.{LacksColumn, Row, only, renamed, with_column, with_field, without}
 use Rattle.fx_tables.proofs.ColumnSteps.{lacking_rest, lacks_without, lacks_rest, lacks_first, not_below_itself}
-use Rattle.fx_typing.specs.Columns.{and_then, field_in, if_free, if_there, is_one_of, with_new, with_renamed, without_all}
-use Rattle.fx_typing.specs.Columns.{only as only_columns, without as without_column}
+use Rattle.fx_trees.specs.ColumnLists.{and_then, field_in, if_free, if_there, is_one_of, with_new, with_renamed, without_all}
+use Rattle.fx_trees.specs.ColumnLists.{only as only_columns, without as without_column}
 use Rattle.fx_tables.specs.ColumnCalls.{AreOfTypes, CanAdd, CanRename, in_turn, renamed_columns, with_columns, without_columns}
 
 -- ---- names

@@ -9,7 +9,7 @@ use Rattle.fx_value.specs.Order.{order}
 use Rattle.fx_value.specs.Fits.{fits_in, fields_fit, rows_fit}
 use Rattle.fx_value.proofs.Widenings.{both}
 use Rattle.fx_tables.specs.Distinct.{distinct_of, value_name, value_row}
-use Rattle.fx_typing.specs.Columns.{value_column}
+use Rattle.fx_trees.specs.ColumnLists.{value_column}
 use Rattle.fx_tables.proofs.ValueRows.{scalar_fits}
 
 distinct_all : (P : Data → Type 0) (ds : List Data) → All P ds → All P (distinct_of ds)

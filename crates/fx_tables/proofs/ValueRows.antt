@@ -16,7 +16,7 @@ use Rattle.fx_tables.specs.RowCalls.{CanBeRowType, is_blank, rows_by_values}
 use Rattle.fx_value.specs.Columns.{Row}
 use Rattle.fx_tables.specs.Distinct.{value_name}
 use Rattle.fx_tables.specs.Unions.{fields_in, is_fault}
-use Rattle.fx_typing.specs.Columns.{row_columns, value_column}
+use Rattle.fx_trees.specs.ColumnLists.{row_columns, value_column}
 
 -- one more row
 rows_push : (ws : List Row) (ds : List Value) (w : Row) (v : Value) → row_list ws ≡ rows_by_values (map view ds) → field_list w ≡ fields_in (view v) → row_list (ws ++ w ∷ []) ≡ rows_by_values (map view (ds ++ v ∷ []))

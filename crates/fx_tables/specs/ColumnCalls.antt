@@ -3,7 +3,7 @@ use Rattle.std.specs.Prelude.{◌≡◌, ℕ, true, List, [], ◌∷◌, map, le
 use Rattle.fx_data.specs.Types.{ColumnList, Shape}
 use Rattle.fx_data.specs.Values.{Data}
 use Rattle.fx_value.specs.Columns.{LacksColumn, Row, renamed, with_column, without}
-use Rattle.fx_typing.specs.Columns.{and_then}
+use Rattle.fx_trees.specs.ColumnLists.{and_then}
 use Rattle.fx_value.specs.Fits.{fits_in}
 
 -- `AddColumns`: each column of a name and its values, which stand at the places of the rows

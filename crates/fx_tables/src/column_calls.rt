@@ -7,7 +7,7 @@ ghost use Rattle.fx_data.specs.Values.{row_list, tab};
 ghost use Rattle.fx_tables.specs.ColumnCalls.{AreOfTypes, CanAdd, CanRename, in_turn, renamed_columns, with_columns, without_columns};
 ghost use Rattle.fx_tables.specs.NewColumn.{column_seen, renaming_seen};
 ghost use Rattle.fx_value.specs.Columns.{only};
-ghost use Rattle.fx_typing.specs.Columns.{only as only_columns, with_new, with_renamed, without_all};
+ghost use Rattle.fx_trees.specs.ColumnLists.{only as only_columns, with_new, with_renamed, without_all};
 ghost use Rattle.fx_value.specs.Fits.{fits_in};
 
 use crate::{add_column, drop_column, rename_column};

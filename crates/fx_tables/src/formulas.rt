@@ -8,7 +8,7 @@ ghost use Rattle.fx_value.specs.Fits.{fits_in};
 ghost use Rattle.fx_tables.specs.RowCalls.{AreKeysOrErrors, CanBeRowType, IsSortOf, distinct_or, for_all_of, is_blank as is_blank_in, rows_by_values as rows_of};
 ghost use Rattle.fx_tables.specs.Distinct.{value_row as value_row_of};
 ghost use Rattle.fx_tables.specs.Unions.{fields_in};
-ghost use Rattle.fx_typing.specs.Columns.{row_columns, value_column};
+ghost use Rattle.fx_trees.specs.ColumnLists.{row_columns, value_column};
 
 use crate::errors::without_errors;
 use crate::{distinct, order_by};

@@ -17,3 +17,4 @@ pub mod Controls
 pub mod Formulas
 pub mod Lawful
 pub mod SourceTypes
+pub mod ColumnLists

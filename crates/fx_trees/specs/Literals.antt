@@ -4,14 +4,14 @@ use Rattle.fx_data.specs.declared.faults.Kind.{Kind}
 use Rattle.fx_data.specs.declared.faults.Kind.TheVariants as kind
 use Rattle.fx_trees.specs.declared.functions.Fun.{Fun}
 use Rattle.fx_trees.specs.declared.functions.Fun.TheVariants as fun
-use Rattle.fx_trees.specs.declared.literals.TimeUnit.{TimeUnit}
-use Rattle.fx_trees.specs.declared.literals.TimeUnit.TheVariants as unit
+use Rattle.fx_data.specs.declared.formats.TimeUnit.{TimeUnit}
+use Rattle.fx_data.specs.declared.formats.TimeUnit.TheVariants as unit
 use Rattle.fx_trees.specs.declared.literals.SortOrder.{SortOrder}
 use Rattle.fx_trees.specs.declared.literals.SortOrder.TheVariants as order
-use Rattle.fx_trees.specs.declared.literals.NumberFormat.{NumberFormat}
-use Rattle.fx_trees.specs.declared.literals.NumberFormat.TheVariants as number
-use Rattle.fx_trees.specs.declared.literals.DateFormat.{DateFormat}
-use Rattle.fx_trees.specs.declared.literals.DateFormat.TheVariants as date
+use Rattle.fx_data.specs.declared.formats.NumberFormat.{NumberFormat}
+use Rattle.fx_data.specs.declared.formats.NumberFormat.TheVariants as number
+use Rattle.fx_data.specs.declared.formats.DateFormat.{DateFormat}
+use Rattle.fx_data.specs.declared.formats.DateFormat.TheVariants as date
 use Rattle.fx_trees.specs.declared.literals.Enumeration.{Enumeration}
 use Rattle.fx_trees.specs.declared.literals.Enumeration.TheVariants as enumerated
 

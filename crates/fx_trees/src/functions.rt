@@ -1,6 +1,7 @@
 //! The names of functions and operators.
 
-use crate::literals::{DateFormat, NumberFormat, SortOrder, TimeUnit};
+use crate::literals::SortOrder;
+use fx_data::formats::{DateFormat, NumberFormat, TimeUnit};
 
 /// A pure function, or an operator with one row of its operands' types. Literal arguments (a unit, an
 /// order, a format) are a part of the function. All other arguments are values.

@@ -18,6 +18,7 @@ pub mod rows;
 mod rule;
 pub mod schema;
 pub mod signatures;
+pub mod sites;
 pub mod sources;
 pub mod trees;
 
@@ -27,7 +28,8 @@ pub use broken_text::{address, line, lines};
 pub use deeds::{Deed, Sources, Target};
 pub use formulas::FormulaList;
 pub use functions::{Acting, Form, Fun};
-pub use literals::{DateFormat, Enumeration, NumberFormat, SortOrder, TimeUnit};
+pub use fx_data::formats::{DateFormat, NumberFormat, TimeUnit};
+pub use literals::{Enumeration, SortOrder};
 pub use names::{
     Collection, CollectionList, ControlList, ControlName, FormulaName, Names, Property,
     PropertyList, ScreenList, Variable, VariableList,
@@ -36,5 +38,6 @@ pub use rows::{Answer, Ending, Row, Scalar, Takes};
 pub use rule::Rule;
 pub use schema::{Column, ColumnList, Schema, TableList, TableShape};
 pub use signatures::{SigShape, Signature, signature_in};
+pub use sites::Site;
 pub use sources::Source;
 pub use trees::{Core, CoreArgs, CoreFields, CoreNode};

@@ -7,7 +7,7 @@ use Rattle.fx_trees.specs.declared.deeds.Target.{Target}
 use Rattle.fx_trees.specs.declared.names.Names.{Names}
 use Rattle.fx_trees.specs.Term.{Term, Terms, of, nil, cons, all, within, list, coerce}
 use Rattle.fx_value.specs.Fits.{fields_fit}
-use Rattle.fx_typing.specs.Columns.{and_then, row_columns}
+use Rattle.fx_trees.specs.ColumnLists.{and_then, row_columns}
 use Rattle.fx_typing.specs.Local.{value, coerced, by_way, put_first, join_all, firsts}
 use Rattle.fx_typing.specs.Meaning.{Place, Scope}
 use Rattle.fx_typing.specs.Ways.{Way, same, changed, refused, way}

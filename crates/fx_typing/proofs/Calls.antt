@@ -7,8 +7,8 @@ use Rattle.fx_data.specs.Types.{Shape, dates, tables}
 use Rattle.fx_trees.specs.declared.functions.Acting.{Acting}
 use Rattle.fx_trees.specs.declared.functions.Fun.{Fun}
 use Rattle.fx_trees.specs.declared.functions.Fun.TheVariants as fun
-use Rattle.fx_trees.specs.declared.literals.DateFormat.{DateFormat}
-use Rattle.fx_trees.specs.declared.literals.NumberFormat.{NumberFormat}
+use Rattle.fx_data.specs.declared.formats.DateFormat.{DateFormat}
+use Rattle.fx_data.specs.declared.formats.NumberFormat.{NumberFormat}
 use Rattle.fx_trees.specs.declared.signatures.SigShape.{SigShape}
 use Rattle.fx_trees.specs.declared.signatures.SigShape.TheVariants as sig
 use Rattle.fx_trees.specs.declared.signatures.Signature.{Signature}

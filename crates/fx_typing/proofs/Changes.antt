@@ -10,7 +10,7 @@ use Rattle.fx_trees.specs.Controls.{input_type}
 use Rattle.fx_trees.specs.declared.names.ControlName.{ControlName}
 use Rattle.fx_trees.specs.declared.names.Names.{Names}
 use Rattle.fx_trees.specs.Term.{Term, of, nil, cons, read, list, act}
-use Rattle.fx_typing.specs.Columns.{field_in}
+use Rattle.fx_trees.specs.ColumnLists.{field_in}
 use Rattle.fx_typing.specs.Local.{coerced, by_way, firsts}
 use Rattle.fx_typing.specs.WellTyped.{Context, context_for, inside, target_source, IsNumbered, IsNamedRow, AreNamedRows, LeavesId, IsChange, AreChanges, IsFilterOf, HasColumns, IsDone, IsTyped}
 use Rattle.fx_typing.specs.Ways.{way}

@@ -13,7 +13,7 @@ use Rattle.fx_data.specs.Types.{Shape, ColumnList, no_columns, column, column_li
 use Rattle.fx_data.specs.TypeView.{shape, columns_view}
 use Rattle.fx_data.specs.declared.types.Ty.{Ty}
 use Rattle.fx_trees.specs.SourceTypes.{put_column}
-use Rattle.fx_typing.specs.Columns.{field_in, without, is_one_of, only}
+use Rattle.fx_trees.specs.ColumnLists.{field_in, without, is_one_of, only}
 use Rattle.fx_value.proofs.Unions.{Under, Rises, under_list, rises_list, list_rises, rises_with, under_further}
 use Rattle.fx_value.proofs.Widenings.{same_name, own_name}
 use Rattle.fx_value.specs.Join.{with_column}

@@ -14,7 +14,7 @@ use Rattle.fx_trees.specs.declared.names.Variable.{Variable}
 use Rattle.fx_trees.specs.declared.schema.TableShape.{TableShape}
 use Rattle.fx_trees.specs.SourceTypes.{columns_of, sources}
 use Rattle.fx_trees.specs.Term.{Term, list, act}
-use Rattle.fx_typing.specs.Columns.{row_columns}
+use Rattle.fx_trees.specs.ColumnLists.{row_columns}
 use Rattle.fx_typing.specs.Local.{by_way, firsts, put_first}
 use Rattle.fx_typing.specs.WellTyped.{Context, AreAll, target_source, HasColumns, IsTyped}
 use Rattle.fx_typing.specs.Ways.{way}

@@ -15,7 +15,7 @@ use Rattle.fx_trees.specs.declared.expr.Op.TheVariants as op
 use Rattle.fx_trees.specs.Tree.{Tree, node, Forest, none, more, Head}
 use Rattle.fx_trees.specs.Tree as tree
 use Rattle.fx_trees.specs.Term.{Term, of, nil, cons, const, call, over, coerce, rec, list, dot, row, chain}
-use Rattle.fx_typing.specs.Columns.{and_then}
+use Rattle.fx_trees.specs.ColumnLists.{and_then}
 use Rattle.fx_typing.specs.Local.{value, label}
 use Rattle.fx_data.specs.declared.controls.Control.TheVariants as control
 use Rattle.fx_typing.specs.Meaning.{Place, written_or}

@@ -13,7 +13,7 @@ use Rattle.fx_trees.specs.declared.rows.Takes.{Takes}
 use Rattle.fx_trees.specs.declared.rows.Takes.TheVariants as takes
 use Rattle.fx_trees.specs.Rows.{row_of, form_row, inner_at, ended_at, takes_at, takes_count}
 use Rattle.fx_trees.specs.Term.{Term, Top, form}
-use Rattle.fx_typing.specs.Columns.{and_then}
+use Rattle.fx_trees.specs.ColumnLists.{and_then}
 use Rattle.fx_typing.specs.Local.{Piece, value, label, coerced, stand, branches, common_of, answer_by, made_as, made_by, made, formed}
 use Rattle.fx_typing.specs.Meaning.{Place}
 use Rattle.fx_typing.specs.WellTyped.{Context, head_of, Standing, standing_of, row_type, context_for}

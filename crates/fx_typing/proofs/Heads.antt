@@ -7,7 +7,7 @@ use Rattle.fx_trees.specs.Lawful.{IsLawful}
 use Rattle.fx_trees.specs.Tree.{Head}
 use Rattle.fx_trees.specs.Tree as tree
 use Rattle.fx_trees.specs.Term.{Term, of, nil, const}
-use Rattle.fx_typing.specs.Columns.{and_then}
+use Rattle.fx_trees.specs.ColumnLists.{and_then}
 use Rattle.fx_typing.specs.LawfulTypes.{IsLawfulType}
 use Rattle.fx_typing.specs.Local.{value, label}
 use Rattle.fx_typing.specs.Meaning.{Place, Meaning, valued, controlled, screened, enumerated, in_globals, meaning_of, named}

@@ -22,7 +22,8 @@ use Rattle.fx_trees.specs.Lawful.{DiffersFromAll, AreDistinct, IsLawful}
 use Rattle.fx_trees.specs.SourceTypes.{columns_of, item_columns, item_type, property_of, property_cell, formula_cell, if_global, if_context, chosen_of, sources}
 use Rattle.fx_trees.specs.Term.{Term, of, nil, cons, const, read, row, item, caught}
 use Rattle.fx_trees.specs.Term as term
-use Rattle.fx_typing.specs.Columns.{field_in, field_of, fault_type}
+use Rattle.fx_typing.specs.Columns.{field_of, fault_type}
+use Rattle.fx_trees.specs.ColumnLists.{field_in}
 use Rattle.fx_typing.specs.LawfulTypes.{IsLawfulType}
 use Rattle.fx_typing.specs.Meaning.{Place, Scope, Meaning, valued, controlled, screened, enumerated, or_else, field_at, in_scope_by, in_scopes, whole_by, this_record, this_item, first_error, reserved, place_of, is_on, is_global, in_context, in_globals, behind_scopes, meaning_of, named, own_default, default_of, default_type, is_input, is_chosen, written_or, property_read, input_read, control_read, member_of, known_field, field_read, dotted}
 use Rattle.fx_typing.specs.WellTyped.{Context, IsTyped}

@@ -19,7 +19,8 @@ use Rattle.fx_trees.specs.Tree.{Head}
 use Rattle.fx_trees.specs.Tree as tree
 use Rattle.fx_trees.specs.Term.{Term, of, nil, all, read, chain}
 use Rattle.fx_trees.specs.Term as term
-use Rattle.fx_typing.specs.Columns.{and_then, field_in, is_told, is_told_or_missing, tells_error}
+use Rattle.fx_typing.specs.Columns.{is_told, is_told_or_missing, tells_error}
+use Rattle.fx_trees.specs.ColumnLists.{and_then, field_in}
 use Rattle.fx_typing.specs.Local.{Piece, value, label, join_all, firsts, made, formed}
 use Rattle.fx_typing.specs.Meaning.{Place, Meaning, valued, controlled, screened, enumerated, in_globals, meaning_of, named, dotted}
 use Rattle.fx_typing.specs.Operators.{function_of}

@@ -14,7 +14,7 @@ use Rattle.fx_trees.specs.declared.expr.Op.{Op}
 use Rattle.fx_trees.specs.declared.expr.Op.TheVariants as op
 use Rattle.fx_trees.specs.Tree as tree
 use Rattle.fx_trees.specs.Term.{Term, of, nil, const}
-use Rattle.fx_typing.specs.Columns.{and_then}
+use Rattle.fx_trees.specs.ColumnLists.{and_then}
 use Rattle.fx_typing.specs.Local.{made, formed}
 use Rattle.fx_typing.specs.Meaning.{Place}
 use Rattle.fx_typing.specs.Operators.{Compared, as_numbers, as_texts, as_booleans, as_dates, compared, equal_by, unequal_by, ordered_by, sum_of, difference_of, function_of}

@@ -4,7 +4,8 @@ use Rattle.std.proofs.lemmas.List.{take_all}
 use Rattle.fx_data.specs.TypeView.{shape}
 use Rattle.fx_data.specs.Types.{ColumnList}
 use Rattle.fx_trees.specs.Term.{Term}
-use Rattle.fx_typing.specs.Columns.{label_of, by_label, with_new, with_renamed, added, renamed}
+use Rattle.fx_typing.specs.Columns.{label_of, by_label, added, renamed}
+use Rattle.fx_trees.specs.ColumnLists.{with_new, with_renamed}
 use Rattle.fx_typing.specs.declared.typed.Typed.{Typed}
 use Rattle.fx_typing.specs.TypedView.{typed}
 

@@ -23,7 +23,7 @@ use Rattle.fx_trees.specs.Tree as tree
 use Rattle.fx_trees.specs.Term.{Term, of, nil, cons, within}
 use Rattle.fx_trees.specs.Term as term
 use Rattle.fx_typing.specs.Acts as deeds
-use Rattle.fx_typing.specs.Columns.{and_then}
+use Rattle.fx_trees.specs.ColumnLists.{and_then}
 use Rattle.fx_typing.specs.Local.{value, by_way, join_all, put_first, made}
 use Rattle.fx_typing.specs.Meaning.{Place, in_globals, meaning_of}
 use Rattle.fx_typing.specs.Operators.{function_of}

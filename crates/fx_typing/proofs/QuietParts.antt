@@ -20,7 +20,8 @@ use Rattle.fx_trees.specs.SourceTypes.{property_of}
 use Rattle.fx_trees.specs.Term.{Term, of, nil, cons, all, Top, read, row, item}
 use Rattle.fx_trees.specs.Term as term
 use Rattle.fx_typing.specs.Acts.{is_acting, acts, any_acts}
-use Rattle.fx_typing.specs.Columns.{and_then, field_in, field_of, tells_error}
+use Rattle.fx_typing.specs.Columns.{field_of, tells_error}
+use Rattle.fx_trees.specs.ColumnLists.{and_then, field_in}
 use Rattle.fx_typing.specs.Local.{Piece, value, label, by_way, exact_way, branch_way, when, without_kind, stand, put_first, stand_rest, stand_all, branches, common_of, firsts, answer_by, made_as, made_by, made, formed}
 use Rattle.fx_typing.specs.Meaning.{Place, Scope, Meaning, valued, controlled, screened, enumerated, or_else, field_at, in_scope_by, in_scopes, whole_by, this_record, this_item, first_error, reserved, place_of, is_on, is_global, in_context, in_globals, behind_scopes, meaning_of, named, is_input, is_chosen, written_or, property_read, input_read, control_read, member_of, known_field, field_read, dotted}
 use Rattle.fx_typing.specs.Ways.{Way, same, changed, refused, way, is_scalar, is_comparable}

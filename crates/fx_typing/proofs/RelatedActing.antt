@@ -20,7 +20,7 @@ use Rattle.fx_trees.specs.declared.names.ControlName.{ControlName}
 use Rattle.fx_trees.specs.declared.names.Names.{Names}
 use Rattle.fx_trees.specs.declared.names.Variable.{Variable}
 use Rattle.fx_trees.specs.Term.{Term, of, nil, all, read, act}
-use Rattle.fx_typing.specs.Columns.{and_then, field_in}
+use Rattle.fx_trees.specs.ColumnLists.{and_then, field_in}
 use Rattle.fx_typing.specs.Local.{Piece, value, label, by_way, stand, put_first, firsts}
 use Rattle.fx_typing.specs.Meaning.{Place, or_else}
 use Rattle.fx_typing.specs.WellTyped.{target_source, head_of}

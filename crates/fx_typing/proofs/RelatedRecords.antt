@@ -11,7 +11,7 @@ use Rattle.fx_trees.specs.declared.names.Property.{Property}
 use Rattle.fx_trees.specs.Controls.{input_type}
 use Rattle.fx_trees.specs.SourceTypes.{item_type, property_of}
 use Rattle.fx_trees.specs.Term.{Term, of, nil, cons, const, read, dot, within}
-use Rattle.fx_typing.specs.Columns.{field_in, and_then}
+use Rattle.fx_trees.specs.ColumnLists.{field_in, and_then}
 use Rattle.fx_typing.specs.Local.{value, coerced, by_way, put_first}
 use Rattle.fx_typing.specs.Meaning.{Place, Meaning, valued, controlled, enumerated, is_chosen, is_input, written_or, property_read, input_read, control_read, member_of, known_field, dotted}
 use Rattle.fx_typing.specs.Ways.{way}

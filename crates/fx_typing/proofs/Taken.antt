@@ -16,7 +16,8 @@ use Rattle.fx_trees.specs.declared.rows.Takes.TheVariants as takes
 use Rattle.fx_trees.specs.Rows.{row_of, takes_at, takes_count}
 use Rattle.fx_trees.specs.SourceTypes.{put_column, item_columns}
 use Rattle.fx_trees.specs.Term.{Term}
-use Rattle.fx_typing.specs.Columns.{field_in, without, is_one_of, if_there, if_free, and_then, with_new, with_renamed, label_of, by_label, added, renamed}
+use Rattle.fx_typing.specs.Columns.{label_of, by_label, added, renamed}
+use Rattle.fx_trees.specs.ColumnLists.{field_in, without, is_one_of, if_there, if_free, and_then, with_new, with_renamed}
 use Rattle.fx_typing.specs.Local.{Piece, value, label, stand}
 use Rattle.fx_typing.specs.Breaks.{column_names, names_in, taken_or, taken_added, taken_renamed, taken_by, taken_at}
 use Rattle.fx_typing.specs.Parts.{Part, piece, meant, target, assigned, piece_of, pieces}

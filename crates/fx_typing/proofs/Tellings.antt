@@ -3,7 +3,8 @@ use Rattle.std.proofs.Common.{◌≡◌, ℕ, List, Option, Some, None, Bool, tr
 use Rattle.std.specs.Prelude.{◌&&◌, unwrap_or}
 use Rattle.std.specs.Str.{chars}
 use Rattle.fx_data.specs.Types.{Shape, ColumnList, texts}
-use Rattle.fx_typing.specs.Columns.{field_in, is_told, is_told_or_missing, tells_error}
+use Rattle.fx_typing.specs.Columns.{is_told, is_told_or_missing, tells_error}
+use Rattle.fx_trees.specs.ColumnLists.{field_in}
 use Rattle.fx_typing.specs.Local.{without_kind}
 use Rattle.fx_typing.specs.Ways.{way, is_open}
 

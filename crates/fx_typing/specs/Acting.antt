@@ -16,7 +16,7 @@ use Rattle.fx_trees.specs.declared.names.ControlName.{ControlName}
 use Rattle.fx_trees.specs.declared.names.Names.{Names}
 use Rattle.fx_trees.specs.declared.names.Variable.{Variable}
 use Rattle.fx_trees.specs.Term.{Term, of, nil, all, read, act}
-use Rattle.fx_typing.specs.Columns.{field_in}
+use Rattle.fx_trees.specs.ColumnLists.{field_in}
 use Rattle.fx_typing.specs.Local.{value, coerced, firsts}
 use Rattle.fx_typing.specs.Meaning.{Place}
 use Rattle.fx_typing.specs.WellTyped.{target_source}

@@ -12,7 +12,8 @@ use Rattle.fx_trees.specs.Rows.{row_of, takes_count}
 use Rattle.fx_trees.specs.declared.names.Collection.{Collection}
 use Rattle.fx_trees.specs.declared.names.Names.{Names}
 use Rattle.fx_trees.specs.declared.names.Variable.{Variable}
-use Rattle.fx_typing.specs.Columns.{field_in, is_one_of, is_told_or_missing}
+use Rattle.fx_typing.specs.Columns.{is_told_or_missing}
+use Rattle.fx_trees.specs.ColumnLists.{field_in, is_one_of}
 use Rattle.fx_typing.specs.Local.{value, label}
 use Rattle.fx_typing.specs.Meaning.{or_else}
 use Rattle.fx_typing.specs.Ways.{way, is_open}

@@ -7,7 +7,7 @@ use Rattle.fx_data.specs.Values.{blank, rec, FieldList, no_fields, field}
 use Rattle.fx_trees.specs.Term.{Term, of, nil, cons, all, const, within, list}
 use Rattle.fx_trees.specs.Term as term
 use Rattle.fx_trees.specs.Rules as rules
-use Rattle.fx_typing.specs.Columns.{and_then, is_one_of, row_columns}
+use Rattle.fx_trees.specs.ColumnLists.{and_then, is_one_of, row_columns}
 use Rattle.fx_typing.specs.Local.{coerced, by_way, join_all, firsts, put_first}
 use Rattle.fx_typing.specs.WellTyped.{columns_by}
 use Rattle.fx_typing.specs.Ways.{way}

@@ -13,7 +13,8 @@ use Rattle.fx_trees.specs.Signatures.{signature_in}
 use Rattle.fx_trees.specs.declared.names.Names.{Names}
 use Rattle.fx_trees.specs.Term.{Term, of, nil, read}
 use Rattle.fx_trees.specs.Rules as rules
-use Rattle.fx_typing.specs.Columns.{and_then, label_of}
+use Rattle.fx_typing.specs.Columns.{label_of}
+use Rattle.fx_trees.specs.ColumnLists.{and_then}
 use Rattle.fx_typing.specs.Local.{Piece, value, made, formed}
 use Rattle.fx_typing.specs.Meaning.{Place}
 use Rattle.fx_typing.specs.Breaks.{taken_at, mistells, could_act, gives_variables, large_given}

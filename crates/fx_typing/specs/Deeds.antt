@@ -19,7 +19,7 @@ use Rattle.fx_trees.specs.declared.names.Names.{Names}
 use Rattle.fx_trees.specs.declared.names.Variable.{Variable}
 use Rattle.fx_trees.specs.Term.{Term, of, nil, cons, all, read, list, act}
 use Rattle.fx_trees.specs.Rules as rules
-use Rattle.fx_typing.specs.Columns.{and_then, field_in, without, row_columns}
+use Rattle.fx_trees.specs.ColumnLists.{and_then, field_in, without, row_columns}
 use Rattle.fx_typing.specs.Local.{value, coerced, by_way, firsts, put_first, made}
 use Rattle.fx_typing.specs.WellTyped.{target_source}
 use Rattle.fx_typing.specs.Ways.{way, same_shape}

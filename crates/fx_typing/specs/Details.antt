@@ -22,7 +22,7 @@ use Rattle.fx_trees.specs.Tree.{Tree, node, Forest, none, more, Head}
 use Rattle.fx_trees.specs.Tree as tree
 use Rattle.fx_trees.specs.Term.{Term}
 use Rattle.fx_trees.specs.Rules as rules
-use Rattle.fx_typing.specs.Columns.{field_in, with_renamed, is_one_of, row_columns}
+use Rattle.fx_trees.specs.ColumnLists.{field_in, with_renamed, is_one_of, row_columns}
 use Rattle.fx_typing.specs.Local.{Piece, value, label, join_all}
 use Rattle.fx_typing.specs.Meaning.{Place, or_else}
 use Rattle.fx_typing.specs.Breaks.{taken_at, large_given}

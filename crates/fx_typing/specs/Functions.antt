@@ -14,7 +14,8 @@ use Rattle.fx_trees.specs.declared.rows.Takes.TheVariants as takes
 use Rattle.fx_trees.specs.Rows.{shape_of, row_of, form_row, takes_at, takes_count}
 use Rattle.fx_trees.specs.SourceTypes.{put_column}
 use Rattle.fx_trees.specs.Term.{Term, of, nil, all, Top, const, form}
-use Rattle.fx_typing.specs.Columns.{tells_error, value_column, row_columns, field_in, without, only, label_of, without_all}
+use Rattle.fx_typing.specs.Columns.{tells_error, label_of}
+use Rattle.fx_trees.specs.ColumnLists.{value_column, row_columns, field_in, without, only, without_all}
 use Rattle.fx_typing.specs.Local.{Piece, value, label, coerced, exact_way, branch_way, branches, join_all, all_scalar, some_text, some_acts, firsts}
 use Rattle.fx_typing.specs.WellTyped.{head_of, row_type}
 use Rattle.fx_typing.specs.Ways.{Way, same, changed, way, is_scalar, is_comparable}

@@ -12,7 +12,8 @@ use Rattle.fx_trees.specs.Rows.{shape_of, row_of, form_row, takes_at, takes_coun
 use Rattle.fx_trees.specs.Term.{Term, of, nil, cons, all, Top, const, coerce, form}
 use Rattle.fx_trees.specs.Rules as rules
 use Rattle.fx_typing.specs.Acts.{acts}
-use Rattle.fx_typing.specs.Columns.{tells_error, and_then, field_in}
+use Rattle.fx_typing.specs.Columns.{tells_error}
+use Rattle.fx_trees.specs.ColumnLists.{and_then, field_in}
 use Rattle.fx_typing.specs.Ways.{Way, same, changed, refused, way, same_shape, is_scalar, is_comparable}
 use Rattle.fx_typing.specs.WellTyped.{answered, head_of}
 

@@ -19,7 +19,8 @@ use Rattle.fx_trees.specs.Controls.{is_items, input_type}
 use Rattle.fx_trees.specs.SourceTypes.{columns_of, item_type, property_of}
 use Rattle.fx_trees.specs.Term.{Term, of, nil, cons, const, read, row, item, caught, dot}
 use Rattle.fx_trees.specs.Rules as rules
-use Rattle.fx_typing.specs.Columns.{field_in, field_of, fault_type}
+use Rattle.fx_typing.specs.Columns.{field_of, fault_type}
+use Rattle.fx_trees.specs.ColumnLists.{field_in}
 
 -- a scope of rows or of a record: its type, its alias if it has one, and whether it is a table call's,
 -- whose depth is limited

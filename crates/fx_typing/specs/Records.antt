@@ -11,7 +11,7 @@ use Rattle.fx_trees.specs.declared.names.Property.{Property}
 use Rattle.fx_trees.specs.Controls.{input_type}
 use Rattle.fx_trees.specs.SourceTypes.{item_type, property_of}
 use Rattle.fx_trees.specs.Term.{Term, of, nil, cons, const, read, dot}
-use Rattle.fx_typing.specs.Columns.{field_in}
+use Rattle.fx_trees.specs.ColumnLists.{field_in}
 use Rattle.fx_typing.specs.Local.{value, coerced, join_all}
 use Rattle.fx_typing.specs.Meaning.{Meaning, valued, controlled, enumerated, place_of, is_chosen, is_input, default_of, default_type}
 use Rattle.fx_typing.specs.Ways.{way}

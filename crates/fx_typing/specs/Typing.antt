@@ -11,7 +11,7 @@ use Rattle.fx_trees.specs.Tree.{Tree, node, Forest, none, more, Head}
 use Rattle.fx_trees.specs.Tree as tree
 use Rattle.fx_trees.specs.Term.{Term, of, nil, all, const, chain}
 use Rattle.fx_trees.specs.Rules as rules
-use Rattle.fx_typing.specs.Columns.{and_then}
+use Rattle.fx_trees.specs.ColumnLists.{and_then}
 use Rattle.fx_typing.specs.Local.{Piece, value, label, by_way, firsts, made, formed}
 use Rattle.fx_typing.specs.Meaning.{Place, Scope, Meaning, valued, in_globals, meaning_of, named, dotted}
 use Rattle.fx_typing.specs.Operators.{function_of}

@@ -22,7 +22,8 @@ use Rattle.fx_trees.specs.Term.{Term, Terms, of, nil, cons, Top, const, read, ro
 use Rattle.fx_trees.specs.Rules as rules
 use Rattle.fx_typing.specs.Ways.{way, changed, is_scalar, is_comparable}
 use Rattle.fx_typing.specs.LawfulTypes.{IsLawfulType}
-use Rattle.fx_typing.specs.Columns.{field_in, field_of, value_column, row_columns, added, dropped, shown, renamed, fault_type, tells_error}
+use Rattle.fx_typing.specs.Columns.{field_of, added, dropped, shown, renamed, fault_type, tells_error}
+use Rattle.fx_trees.specs.ColumnLists.{field_in, value_column, row_columns}
 
 -- what a tree stands in: the types of the sources, how many screens there are, the types of the scopes
 -- from the outside, that of the gallery's item if there is one, and whether an error is caught around

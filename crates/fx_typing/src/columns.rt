@@ -5,6 +5,7 @@ ghost use Rattle.fx_data.specs.Types.{column_list, texts};
 ghost use Rattle.fx_data.specs.Words.{scalars_of};
 ghost use Rattle.fx_trees.specs.SourceTypes as sources;
 ghost use Rattle.fx_typing.specs.Columns as typing;
+ghost use Rattle.fx_trees.specs.ColumnLists as lists;
 ghost use Rattle.fx_typing.specs.Ways.{way, is_open};
 ghost use Rattle.fx_typing.specs.Answers.{Answers};
 ghost use Rattle.fx_typing.specs.ColumnPlaces.{place_of};
@@ -23,7 +24,7 @@ use std::cmp::Ordering;
 
 /// The type of the column of this name.
 pub fn field_in<'a>(name: &Words, columns: &'a Columns) -> Option<&'a Ty>
-    ensures { option_map (λ t. shape t.now) result ≡ typing.field_in name.now (column_list columns.now) }
+    ensures { option_map (λ t. shape t.now) result ≡ lists.field_in name.now (column_list columns.now) }
 {
     columns.ty(name)
 }
@@ -43,7 +44,7 @@ fn place_of(name: &Words, columns: &[(Words, Ty)]) -> usize
 
 /// The columns without the one of this name.
 pub fn without(name: &Words, columns: Columns) -> Columns
-    ensures { column_list result ≡ typing.without name.now (column_list columns) }
+    ensures { column_list result ≡ lists.without name.now (column_list columns) }
 {
     Columns::from_rising(others(name, columns.into_items()))
 }
@@ -69,7 +70,7 @@ pub fn put_column(name: Words, ty: Ty, columns: Columns) -> Result<Columns, Memo
 
 /// A column more, whose name is new.
 pub fn with_new(name: Words, ty: Ty, columns: Columns) -> Result<Columns, Wrong>
-    ensures { Answers column_list (typing.with_new name (shape ty) (column_list columns)) result }
+    ensures { Answers column_list (lists.with_new name (shape ty) (column_list columns)) result }
 {
     if field_in(&name, &columns).is_some() {
         return Err(Wrong::Refused(Rule::NameTwice));
@@ -84,7 +85,7 @@ pub fn rename_column(
     to: Words,
     columns: Columns,
 ) -> Result<Columns, Wrong>
-    ensures { Answers column_list (typing.with_renamed from.now to (column_list columns)) result }
+    ensures { Answers column_list (lists.with_renamed from.now to (column_list columns)) result }
 {
     let Some(ty) = field_in(from, &columns) else {
         return Err(Wrong::Refused(Rule::UnknownColumn));
@@ -147,7 +148,7 @@ pub fn rename_columns(alloc: Global, parts: &[Typed], columns: Columns) -> Resul
 
 /// Whether a name is one of these.
 pub fn is_one_of(name: &Words, names: &[Words]) -> bool
-    ensures { result ≡ typing.is_one_of name.now names.now }
+    ensures { result ≡ lists.is_one_of name.now names.now }
 {
     names.contains(name)
 }
@@ -169,7 +170,7 @@ fn names_there(alloc: Global, parts: &[Typed], columns: &Columns) -> Result<Vec<
 
 // The columns without those of these names.
 fn without_all(names: &[Words], columns: Columns) -> Columns
-    ensures { column_list result ≡ typing.without_all names.now (column_list columns) }
+    ensures { column_list result ≡ lists.without_all names.now (column_list columns) }
 {
     let mut left = columns;
     for name in names {
@@ -188,14 +189,14 @@ pub fn drop_columns(alloc: Global, parts: &[Typed], columns: Columns) -> Result<
 
 // The columns of these names alone.
 fn only(names: &[Words], columns: Columns) -> Columns
-    ensures { column_list result ≡ typing.only names.now (column_list columns) }
+    ensures { column_list result ≡ lists.only names.now (column_list columns) }
 {
     Columns::from_rising(select_columns(names, columns.into_items()))
 }
 
 // The columns of these names.
 fn select_columns(names: &[Words], columns: Vec<(Words, Ty)>) -> Vec<(Words, Ty)>
-    ensures { result.items ≡ filter (λ c. typing.is_one_of c.0 names.now) columns.items }
+    ensures { result.items ≡ filter (λ c. lists.is_one_of c.0 names.now) columns.items }
 {
     let mut columns = columns;
     columns.retain(|(name, _)| is_one_of(name, names));
@@ -212,7 +213,7 @@ pub fn show_columns(alloc: Global, parts: &[Typed], columns: Columns) -> Result<
 
 /// The one column, `Value`, of a table of values.
 pub fn value_column(alloc: Global, ty: Ty) -> Result<Columns, Memory>
-    ensures { IfOk result (λ cs. column_list cs ≡ typing.value_column (shape ty)) }
+    ensures { IfOk result (λ cs. column_list cs ≡ lists.value_column (shape ty)) }
 {
     let mut columns = Columns::new(alloc);
     columns.push((Words::of(alloc, "Value")?, ty))?;
@@ -221,7 +222,7 @@ pub fn value_column(alloc: Global, ty: Ty) -> Result<Columns, Memory>
 
 /// The columns of rows that are values of a type: a record's own, and else the column `Value`.
 pub fn row_columns(alloc: Global, ty: Ty) -> Result<Columns, Memory>
-    ensures { IfOk result (λ cs. column_list cs ≡ typing.row_columns (shape ty)) }
+    ensures { IfOk result (λ cs. column_list cs ≡ lists.row_columns (shape ty)) }
 {
     match ty {
         Ty::Rec(columns) => Ok(columns),
@@ -242,7 +243,7 @@ pub fn fault_type(alloc: Global) -> Result<Ty, Memory>
 // Whether a field has a coercion to Text, or what is said where it is missing.
 fn is_told(alloc: Global, name: &str, if_missing: bool, columns: &Columns) -> Result<bool, Memory>
     ensures { IfOk result (λ b. b ≡ unwrap_or
-        (option_map (λ t. is_open (way t texts)) (typing.field_in (scalars_of name.now) (column_list columns.now)))
+        (option_map (λ t. is_open (way t texts)) (lists.field_in (scalars_of name.now) (column_list columns.now)))
         if_missing) }
 {
     let name = Words::of(alloc, name)?;

@@ -1,6 +1,5 @@
 mod KeyLemmas
 mod Orders
-pub mod CivilDays
 pub mod Coercions
 pub mod FitsLemmas
 pub mod JoinSteps
@@ -9,3 +8,4 @@ pub mod Unions
 pub mod WideningSteps
 pub mod Widenings
 pub mod RowOrders
+pub mod FieldValues

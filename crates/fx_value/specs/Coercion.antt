@@ -4,7 +4,7 @@ use Rattle.std.specs.List.{list_all}
 use Rattle.std.specs.Ordering.{int_eq}
 use Rattle.fx_number.specs.Decimal.{IsInRange}
 use Rattle.fx_number.specs.Spelling.{Spells, text_of}
-use Rattle.fx_value.specs.DateText.{date_text}
+use Rattle.fx_data.specs.DateText.{date_text}
 use Rattle.fx_data.specs.Words.{scalars_of}
 use Rattle.fx_data.specs.declared.faults.Kind.TheVariants.{InvalidArgument}
 use Rattle.fx_data.specs.Types.{Shape, blanks, numbers, texts, booleans, dates, records, tables, ColumnList, no_columns, column}

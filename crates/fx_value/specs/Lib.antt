@@ -1,8 +1,6 @@
 pub mod Keys
 pub mod Operators
 pub mod Order
-pub mod Civil
-pub mod DateText
 pub mod Coercion
 pub mod Fits
 pub mod Join

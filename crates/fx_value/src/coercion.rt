@@ -1,7 +1,7 @@
 // Coercions.
 ghost use Rattle.std.specs.Prelude.{◌≡◌, IfOk, true, not, ℤ, List, ℕ, pos, codes, encode_utf8_all, if◌then◌else◌};
 ghost use Rattle.std.specs.Ordering.{int_eq};
-ghost use Rattle.fx_value.specs.DateText.{date_text as date_text_of};
+ghost use Rattle.fx_data.specs.DateText.{date_text as date_text_of};
 ghost use Rattle.fx_data.specs.TypeView.{shape};
 ghost use Rattle.fx_data.specs.Types.{blanks, numbers, texts, booleans};
 ghost use Rattle.fx_data.specs.ValueView.{view};
@@ -128,7 +128,7 @@ fn number_text(alloc: Global, number: Num) -> Result<Words, Memory>
 fn date_text(alloc: Global, day: Day) -> Result<Words, Memory>
     ensures { IfOk result (λ w. w ≡ scalars_of (date_text_of day)) }
 {
-    let text = crate::date_text(alloc, day)?;
+    let text = fx_data::date_text(alloc, day)?;
     Words::of(alloc, text.as_str())
 }
 

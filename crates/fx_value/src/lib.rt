@@ -1,10 +1,8 @@
 //! What is decided on values: which types they fit, how types join, what values weigh, how they compare and are
-//! coerced, their keys in an index, and the calendar.
+//! coerced, and their keys in an index.
 #![tactic(auto)]
 
-mod civil;
 pub mod coercion;
-mod date_texts;
 pub mod equality;
 pub mod fitting;
 pub mod joining;
@@ -14,9 +12,7 @@ pub mod ordering;
 pub mod weighing;
 pub mod widening;
 
-pub use civil::{CivilDate, civil_date, day_of_date, day_of_plain, is_date, plain_date};
 pub use coercion::coerce;
-pub use date_texts::date_text;
 pub use equality::same;
 pub use fitting::fits;
 pub use fx_base::Memory;

@@ -10,8 +10,8 @@ use Rattle.app_wire.specs.Routing.{IsOneRoute, method_of}
 use Rattle.app_wire.specs.declared.head.Method.TheVariants.{Post}
 use Rattle.app_cells.specs.declared.app.App.{App}
 use Rattle.fx_data.specs.Values.{Data}
-use Rattle.session_events.specs.declared.trigger.Trigger.{Trigger}
-use Rattle.session_events.specs.declared.trigger.Trigger.TheVariants.{OnSelect}
+use Rattle.session_requests.specs.declared.trigger.Trigger.{Trigger}
+use Rattle.session_requests.specs.declared.trigger.Trigger.TheVariants.{OnSelect}
 use Rattle.app_wire.specs.declared.route.Route.{Route}
 use Rattle.app_wire.specs.declared.route.Route.TheVariants.{Begin, End, View, Named as Shown, Items, Event, Input, Rows, Edit, Page, Plan, Graph}
 use Rattle.session_state.specs.Once.{Kept}

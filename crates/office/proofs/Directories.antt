@@ -8,7 +8,7 @@ use Rattle.request_checks.specs.declared.directory.Named.{Named}
 use Rattle.request_checks.proofs.Directories.{find_here, find_past, same_bytes}
 use Rattle.std.specs.List.{AllByRecursion, position}
 use Rattle.fx_trees.specs.declared.names.Names.{Names}
-use Rattle.session_events.specs.Scenes.{quiet, unasked}
+use Rattle.session_requests.specs.Scenes.{quiet, unasked}
 use Rattle.session_state.specs.Carrying.{carried}
 use Rattle.session_state.specs.Changes.{FitsNames}
 use Rattle.session_state.specs.Sessions.{SessionState}

@@ -15,7 +15,7 @@ use Rattle.request_checks.specs.declared.directory.Named.{Named}
 use Rattle.office.specs.DeskEdits.{all_carried}
 use Rattle.office.specs.Editing.{KeepsApp}
 use Rattle.office.specs.Ready.{AreFit}
-use Rattle.session_events.specs.Opening.{CanOpen}
+use Rattle.session_requests.specs.Opening.{CanOpen}
 
 -- sessions of it can be opened, since it has the same screens
 pub can_open : (a b : App) → CanOpen a.names → KeepsApp a b → CanOpen b.names

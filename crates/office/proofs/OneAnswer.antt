@@ -35,8 +35,8 @@ use Rattle.request_checks.specs.Directory.{find, put}
 use Rattle.request_checks.specs.declared.directory.Named.{Named}
 use Rattle.row_requests.specs.Sound.{AreSound}
 use Rattle.row_requests.proofs.Soundness.{state_is}
-use Rattle.session_events.specs.Laws.{OneOpening}
-use Rattle.session_events.specs.Scenes.{Scene, quiet, scene, unasked}
+use Rattle.session_requests.specs.EventLaws.{OneOpening}
+use Rattle.session_requests.specs.Scenes.{Scene, quiet, scene, unasked}
 use Rattle.session_requests.specs.Laws.{IsOneOutcome}
 use Rattle.session_requests.specs.Posting.{PostsEvent, PostsInput}
 use Rattle.office.specs.Ready.{IsSettled}

@@ -12,9 +12,9 @@ use Rattle.app_wire.specs.declared.route.Route.TheVariants.{Begin, End, View, Na
 use Rattle.app_wire.specs.declared.route.RouteEnd.{RouteEnd}
 use Rattle.app_wire.specs.declared.route.RouteEnd.TheVariants.{NoRoute, WrongMethod, Memory}
 use Rattle.row_keeper.specs.Tables.{Tables}
-use Rattle.session_events.specs.Opening.{CanOpen}
-use Rattle.session_events.specs.declared.trigger.Trigger.{Trigger}
-use Rattle.session_events.specs.declared.trigger.Trigger.TheVariants.{OnSelect}
+use Rattle.session_requests.specs.Opening.{CanOpen}
+use Rattle.session_requests.specs.declared.trigger.Trigger.{Trigger}
+use Rattle.session_requests.specs.declared.trigger.Trigger.TheVariants.{OnSelect}
 use Rattle.session_state.specs.Changes.{FitsNames}
 use Rattle.session_state.specs.Sessions.{SessionState}
 use Rattle.view_text.specs.declared.refused.Refusal.{Refusal}

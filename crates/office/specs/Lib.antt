@@ -11,5 +11,5 @@ pub use Rattle.app_loader.specs as app_loader
 pub mod DeskEdits
 pub mod DeskEditLaws
 pub use Rattle.app_loader.specs.app_semantics
-pub use Rattle.session_events.specs as session_events
+pub use Rattle.session_requests.specs as session_requests
 pub mod Rooms

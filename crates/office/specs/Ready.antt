@@ -7,7 +7,7 @@ use Rattle.app_loader.specs.app_semantics.Sound.{IsSound}
 use Rattle.fx_trees.specs.declared.names.Names.{Names}
 use Rattle.fx_trees.specs.declared.schema.Schema.{Schema}
 use Rattle.row_keeper.specs.Tables.{Tables}
-use Rattle.session_events.specs.Opening.{CanOpen}
+use Rattle.session_requests.specs.Opening.{CanOpen}
 use Rattle.session_state.specs.Changes.{FitsNames}
 use Rattle.session_state.specs.Once.{Kept}
 use Rattle.session_state.specs.Sessions.{SessionState}

@@ -7,7 +7,7 @@ use Rattle.app_wire.specs.ReplyBytes.{refusal, reply}
 use Rattle.fx_base.specs.Silence.{Goes}
 use Rattle.fx_base.specs.Telling.{Stays}
 use Rattle.row_keeper.specs.Tables.{Tables, rows_told}
-use Rattle.session_events.specs.Opening.{OpensNew}
+use Rattle.session_requests.specs.Opening.{OpensNew}
 use Rattle.session_state.specs.Sessions.{SessionState}
 use Rattle.view_text.specs.ReplyText.{ok_text}
 use Rattle.request_checks.specs.Directory.{find, is_among, is_named, put}

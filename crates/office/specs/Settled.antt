@@ -5,7 +5,7 @@ use Rattle.app_loader.specs.app_edits.Frames.{frame_of}
 use Rattle.app_loader.specs.app_semantics.Sound.{IsSound}
 use Rattle.fx_base.specs.Silence.{Marks}
 use Rattle.row_keeper.specs.Tables.{Tables}
-use Rattle.session_events.specs.Opening.{CanOpen}
+use Rattle.session_requests.specs.Opening.{CanOpen}
 use Rattle.office.specs.Answers.{Exchange, Plays}
 use Rattle.office.specs.Ready.{IsSettled}
 use Rattle.office.specs.State.{State, started}

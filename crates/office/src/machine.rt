@@ -9,7 +9,7 @@ ghost use Rattle.app_wire.specs.Framing.{asked};
 ghost use Rattle.app_wire.specs.declared.route.RouteEnd.TheVariants.{Memory as NoMemory};
 ghost use Rattle.request_checks.specs.Replies.{IsReply, said};
 ghost use Rattle.row_requests.specs.Sound.{AreSound};
-ghost use Rattle.session_events.specs.Opening.{CanOpen};
+ghost use Rattle.session_requests.specs.Opening.{CanOpen};
 ghost use Rattle.office.specs.State.{schema_of, started};
 ghost use Rattle.office.specs.Step.{Answered, Does, Left, Reaches, ReachesKeeper, Step};
 

@@ -6,7 +6,7 @@ use Rattle.app_semantics.specs.Fresh.{reads_table}
 use Rattle.fx_base.proofs.Silences.{goes_two, later_then}
 use Rattle.fx_base.specs.Silence.{Goes, IsLost}
 use Rattle.fx_base.specs.Telling.{Stays}
-use Rattle.fx_eval.specs.Telling.{IsHeard}
+use Rattle.fx_env.specs.Telling.{IsHeard}
 use Rattle.recalc.specs.Asking.{CanAsk, HasRead, IsHeardOf, Keeping}
 use Rattle.fx_trees.specs.declared.schema.Schema.{Schema}
 use Rattle.row_keeper.specs.Tables.{Tables, rows_told}

@@ -5,8 +5,8 @@ use Rattle.app_semantics.specs.Telling.{told_on}
 use Rattle.fx_base.specs.Silence.{Goes, IsLater, IsLost, Marks}
 use Rattle.fx_base.specs.Telling.{Stays}
 use Rattle.fx_data.specs.Values.{Data}
-use Rattle.fx_eval.specs.Scopes.{Fixed}
-use Rattle.fx_eval.specs.Telling.{Told, values_told}
+use Rattle.fx_env.specs.Scopes.{Fixed}
+use Rattle.fx_env.specs.Telling.{Told, values_told}
 use Rattle.fx_trees.specs.declared.names.Names.{Names}
 use Rattle.fx_trees.specs.declared.schema.Schema.{Schema}
 use Rattle.fx_trees.specs.declared.sources.Source.{Source}

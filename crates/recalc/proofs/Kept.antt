@@ -23,7 +23,7 @@ use Rattle.fx_data.specs.declared.values.Value.{Value}
 use Rattle.fx_semantics.proofs.Wider.{stays}
 use Rattle.fx_scalar.specs.ScalarFunctions.{IsToday}
 use Rattle.fx_semantics.specs.Sound.{IsItemFit}
-use Rattle.fx_eval.specs.Telling.{IsHeard}
+use Rattle.fx_env.specs.Telling.{IsHeard}
 use Rattle.fx_eval.specs.fx_plan.Limited.{limited}
 use Rattle.recalc.specs.Asking.{ToldRows}
 use Rattle.fx_trees.specs.declared.names.Names.{Names}

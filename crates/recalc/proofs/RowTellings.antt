@@ -9,8 +9,8 @@ use Rattle.app_semantics.specs.Telling.{table_told, told_on}
 use Rattle.fx_data.specs.Types.{Shape, tables}
 use Rattle.fx_data.specs.Values.{Data}
 use Rattle.fx_eval.proofs.of_fx_plan.Placing.{lawful_at}
-use Rattle.fx_eval.specs.Queries.{AreValuesOf, KeepsTables}
-use Rattle.fx_eval.specs.Telling.{Told, tables_told, values_told}
+use Rattle.fx_env.specs.Queries.{AreValuesOf, KeepsTables}
+use Rattle.fx_env.specs.Telling.{Told, tables_told, values_told}
 use Rattle.fx_semantics.specs.Sources.{FitsIn, Gives, IsTold}
 use Rattle.fx_trees.specs.Lawful.{IsLawfulSchema, IsLawfulTable}
 use Rattle.fx_trees.specs.SourceTypes.{columns_of}

@@ -2,7 +2,7 @@
 use Rattle.std.proofs.Common.{◌≡◌, ℕ, List, Option, ap, ◌∙◌}
 use Rattle.app_semantics.specs.Chosen.{chosen_of, chosen_row, row_or_blank}
 use Rattle.fx_data.specs.Values.{Data, row_list, tab}
-use Rattle.fx_eval.proofs.Turns.{rows_back}
+use Rattle.fx_semantics.proofs.RowsBack.{rows_back}
 
 -- a row of a table
 abbrev Row : Type 0

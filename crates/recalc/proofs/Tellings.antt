@@ -18,8 +18,8 @@ use Rattle.fx_data.specs.TypeView.{shape}
 use Rattle.fx_data.specs.Types.{Shape, tables}
 use Rattle.fx_data.specs.Values.{Data}
 use Rattle.fx_semantics.proofs.Wider.{stays}
-use Rattle.fx_eval.specs.Scopes.{Held, IsReady, around, fitted}
-use Rattle.fx_eval.specs.Telling.{IsHeard}
+use Rattle.fx_env.specs.Scopes.{Held, IsReady, around, fitted}
+use Rattle.fx_env.specs.Telling.{IsHeard}
 use Rattle.fx_scalar.specs.ScalarFunctions.{IsToday}
 use Rattle.fx_semantics.proofs.Lawful.{typings_lawful}
 use Rattle.fx_semantics.specs.Fresh.{IsValue}

@@ -4,8 +4,8 @@ use Rattle.std.specs.List.{list_any}
 use Rattle.app_semantics.specs.Telling.{told_on}
 use Rattle.fx_data.specs.Types.{Shape}
 use Rattle.fx_data.specs.Values.{Data, blank}
-use Rattle.fx_eval.specs.Scopes.{Fixed, fitted}
-use Rattle.fx_eval.specs.Telling.{Told}
+use Rattle.fx_env.specs.Scopes.{Fixed, fitted}
+use Rattle.fx_env.specs.Telling.{Told}
 use Rattle.fx_trees.specs.Reads.{number_of, rank_of}
 use Rattle.fx_trees.specs.SourceTypes.{sources, table_type}
 use Rattle.fx_trees.specs.declared.names.Names.{Names}

@@ -1,6 +1,6 @@
 -- Why evaluations stop.
-use Rattle.fx_eval.specs.declared.environment.Stop.{Stop}
-use Rattle.fx_eval.specs.declared.environment.Stop.TheVariants as stop
+use Rattle.fx_env.specs.declared.environment.Stop.{Stop}
+use Rattle.fx_env.specs.declared.environment.Stop.TheVariants as stop
 use Rattle.row_keeper.specs.declared.keeper.KeeperEnd.{KeeperEnd}
 use Rattle.row_keeper.specs.declared.keeper.KeeperEnd.TheVariants as end
 

@@ -15,7 +15,7 @@ pub mod valued;
 pub use app_semantics;
 use app_semantics::app_cells;
 pub use evaluating::end_of;
-pub use fx_eval::Steps;
+pub use fx_env::Steps;
 use fx_eval::fx_plan;
 pub use fx_semantics;
 pub use given::given_value;

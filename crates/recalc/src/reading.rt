@@ -3,14 +3,14 @@ ghost use Rattle.std.specs.Prelude.{◌≡◌, Some, length, map};
 ghost use Rattle.std.proofs.Math.Bool.{Bool-set};
 ghost use Rattle.app_semantics.specs.Holding.{HoldsFitting};
 ghost use Rattle.fx_data.specs.ValueView.{view};
-ghost use Rattle.fx_eval.specs.Telling.{unmarked};
+ghost use Rattle.fx_env.specs.Telling.{unmarked};
 ghost use Rattle.recalc.specs.Holds.{holds_prop};
 ghost use Rattle.recalc.specs.Reading.{fixed_on, told_by, told_values};
 
 use crate::given::given_value;
 use fx_data::{Totals, Value};
-use fx_eval::Steps;
-use fx_eval::environment::{Env, Stop};
+use fx_env::Steps;
+use fx_env::environment::{Env, Stop};
 use fx_trees::{Names, Schema, Source};
 use row_queries::Query;
 use session_state::Session;

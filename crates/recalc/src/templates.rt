@@ -23,7 +23,7 @@ use crate::app_cells::App;
 use crate::sources::cell_of_property;
 use crate::valued::Valued;
 use fx_data::values::{Fields, Value};
-use fx_eval::Steps;
+use fx_env::Steps;
 use fx_trees::Names;
 use row_keeper::{Keeper, KeeperEnd};
 use session_state::Session;

@@ -20,7 +20,7 @@ use crate::evaluating::formula_value;
 use crate::sources;
 use fx_base::Memory;
 use fx_data::values::Value;
-use fx_eval::Steps;
+use fx_env::Steps;
 use fx_scalar::today;
 use fx_trees::Names;
 use row_keeper::{Keeper, KeeperEnd};

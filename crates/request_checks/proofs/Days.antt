@@ -7,10 +7,10 @@ use Rattle.jiff_core.specs.Calendar.{days_from_civil}
 use Rattle.jiff_core.proofs.CalendarLemmas.{days_in_month_bounds}
 use Rattle.fx_data.specs.Days.{IsDay}
 use Rattle.fx_data.specs.declared.faults.Kind.{Kind}
-use Rattle.fx_value.specs.Civil.{civil_of}
-use Rattle.fx_value.specs.DateText.{civil_text, date_text}
-use Rattle.fx_value.specs.declared.civil.CivilDate.{CivilDate}
-use Rattle.fx_value.proofs.CivilDays.{civil_is_date}
+use Rattle.fx_data.specs.Civil.{civil_of}
+use Rattle.fx_data.specs.DateText.{civil_text, date_text}
+use Rattle.fx_data.specs.declared.civil.CivilDate.{CivilDate}
+use Rattle.fx_data.proofs.CivilDays.{civil_is_date}
 use Rattle.request_checks.specs.GivenValues.{day_at, day_if, digits_of, spelled_day}
 use Rattle.request_checks.proofs.Directories.{itself, same_bytes}
 

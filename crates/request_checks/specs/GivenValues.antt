@@ -10,7 +10,7 @@ use Rattle.fx_data.specs.Values.{Data, blank, number, text, boolean, date}
 use Rattle.fx_data.specs.Words.{scalars_of}
 use Rattle.fx_number.specs.Decimal.{greatest}
 use Rattle.fx_number.specs.Reading.{spelled}
-use Rattle.fx_value.specs.DateText.{date_text}
+use Rattle.fx_data.specs.DateText.{date_text}
 
 -- ---- values
 

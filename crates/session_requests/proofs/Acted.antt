@@ -17,8 +17,8 @@ use Rattle.recalc.specs.fx_semantics.Around.{record_of}
 use Rattle.recalc.specs.fx_semantics.Rows.{rows_in}
 use Rattle.recalc.specs.fx_semantics.Sound.{IsItemFit}
 use Rattle.recalc.specs.Values.{CellsFit}
-use Rattle.session_events.specs.Triggers.{ItemFits, gallery_of as gallery_seen}
-use Rattle.session_events.specs.declared.trigger.Trigger.TheVariants.{OnChange, OnCheck, OnSelect, OnUncheck}
+use Rattle.session_requests.specs.Triggers.{ItemFits, gallery_of as gallery_seen}
+use Rattle.session_requests.specs.declared.trigger.Trigger.TheVariants.{OnChange, OnCheck, OnSelect, OnUncheck}
 use Rattle.session_requests.specs.Acting.{item_seen, trigger_at, trigger_of}
 use Rattle.session_requests.specs.Targets.{IsItemOf, IsTarget, gallery_of, is_gallery}
 use Rattle.session_requests.specs.declared.target.Item.{Item}

@@ -6,7 +6,7 @@ use Rattle.fx_data.specs.Values.{Data, blank, number, text, boolean, date, rec, 
 use Rattle.fx_data.specs.declared.values.Value.TheVariants as value
 use Rattle.recalc.specs.fx_semantics.Rows.{fields_of, rows_of}
 use Rattle.fx_trees.specs.declared.names.Names.{Names}
-use Rattle.session_events.proofs.Fitting.{fits_with}
+use Rattle.session_requests.proofs.RequestFitting.{fits_with}
 use Rattle.fx_trees.specs.declared.sources.Source.{Source}
 use Rattle.fx_trees.specs.declared.sources.Source.TheVariants as source
 use Rattle.request_checks.specs.Checked.{KeepsReply, SessionsKeepReplies}

@@ -9,3 +9,15 @@ pub mod Passing
 pub mod Posted
 pub mod Sending
 pub use Rattle.recalc.proofs as of_recalc
+pub mod WorldTelling
+pub mod Readying
+pub mod Changing
+pub mod Needs
+pub mod WorldEnding
+pub mod Keeping
+pub mod Beginnings
+pub mod SingleActing
+pub mod Chains
+pub mod RequestFitting
+pub mod Placed
+pub mod SingleEvents

@@ -27,11 +27,11 @@ use Rattle.view_text.specs.declared.refused.Refusal.{Refusal}
 use Rattle.request_checks.specs.Checks.{checks, if_live, session_of}
 use Rattle.request_checks.specs.Directory.{find, put}
 use Rattle.request_checks.specs.declared.directory.Named.{Named}
-use Rattle.session_events.specs.Laws.{OneRunning}
-use Rattle.session_events.specs.Requests.{accepted_reply}
-use Rattle.session_events.specs.Scenes.{Scene, begun, quiet, scene}
-use Rattle.session_events.specs.declared.trigger.Trigger.{Trigger}
-use Rattle.session_events.specs.declared.trigger.Trigger.TheVariants.{OnSelect}
+use Rattle.session_requests.specs.EventLaws.{OneRunning}
+use Rattle.session_requests.specs.Requests.{accepted_reply}
+use Rattle.session_requests.specs.Scenes.{Scene, begun, quiet, scene}
+use Rattle.session_requests.specs.declared.trigger.Trigger.{Trigger}
+use Rattle.session_requests.specs.declared.trigger.Trigger.TheVariants.{OnSelect}
 use Rattle.session_requests.specs.Acting.{EndsEvent, EndsInput, TakesEffect, answered, input_trigger, item_seen, with_input, with_target}
 use Rattle.session_requests.specs.Bodies.{event_in, input_in}
 use Rattle.session_requests.specs.Laws.{IsOneOutcome}

@@ -23,11 +23,11 @@ use Rattle.fx_base.proofs.Silences.{lost_before, lost_more}
 use Rattle.request_checks.specs.Replies.{said}
 use Rattle.request_checks.specs.declared.directory.Named.{Named}
 use Rattle.request_checks.specs.declared.reply.Reply.{Reply}
-use Rattle.session_events.specs.Requests.{Accepts}
-use Rattle.session_events.specs.Running.{Runs}
-use Rattle.session_events.specs.Scenes.{begun, scene}
-use Rattle.session_events.specs.declared.trigger.Trigger.{Trigger}
-use Rattle.session_events.specs.declared.trigger.Trigger.TheVariants.{OnSelect}
+use Rattle.session_requests.specs.Requests.{Accepts}
+use Rattle.session_requests.specs.Running.{Runs}
+use Rattle.session_requests.specs.Scenes.{begun, scene}
+use Rattle.session_requests.specs.declared.trigger.Trigger.{Trigger}
+use Rattle.session_requests.specs.declared.trigger.Trigger.TheVariants.{OnSelect}
 use Rattle.session_requests.specs.Acting.{EndsEvent, EndsInput, TakesEffect, input_trigger, item_seen, with_input, with_target}
 use Rattle.session_requests.specs.Posting.{IsShownFor, IsVerdict, gallery_around}
 use Rattle.session_requests.specs.Shown.{cell_values}

@@ -10,8 +10,8 @@ use Rattle.request_checks.specs.Directory.{find}
 use Rattle.request_checks.specs.declared.directory.Named.{Named}
 use Rattle.request_checks.proofs.Again.{comes_again}
 use Rattle.request_checks.proofs.Directories.{find_other}
-use Rattle.session_events.specs.declared.trigger.Trigger.{Trigger}
-use Rattle.session_events.specs.declared.trigger.Trigger.TheVariants.{OnSelect}
+use Rattle.session_requests.specs.declared.trigger.Trigger.{Trigger}
+use Rattle.session_requests.specs.declared.trigger.Trigger.TheVariants.{OnSelect}
 use Rattle.session_requests.specs.Acting.{EndsEvent, EndsInput, TakesEffect, answered, input_trigger, item_seen, with_input, with_target}
 use Rattle.session_requests.specs.Bodies.{event_in, input_in}
 use Rattle.row_keeper.specs.Tables.{Tables}

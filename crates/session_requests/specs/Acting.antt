@@ -16,9 +16,9 @@ use Rattle.request_checks.specs.Directory.{is_named, put}
 use Rattle.request_checks.specs.Replies.{refusal_reply}
 use Rattle.request_checks.specs.declared.directory.Named.{Named}
 use Rattle.row_keeper.specs.Tables.{Tables}
-use Rattle.session_events.specs.Requests.{Accepts}
-use Rattle.session_events.specs.declared.trigger.Trigger.{Trigger}
-use Rattle.session_events.specs.declared.trigger.Trigger.TheVariants.{OnChange, OnCheck, OnSelect, OnUncheck}
+use Rattle.session_requests.specs.Requests.{Accepts}
+use Rattle.session_requests.specs.declared.trigger.Trigger.{Trigger}
+use Rattle.session_requests.specs.declared.trigger.Trigger.TheVariants.{OnChange, OnCheck, OnSelect, OnUncheck}
 use Rattle.session_state.specs.Sessions.{SessionState}
 use Rattle.view_text.specs.declared.refused.Refusal.{Refusal}
 use Rattle.session_requests.specs.Targets.{Given}

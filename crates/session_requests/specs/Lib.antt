@@ -5,3 +5,15 @@ pub mod Posting
 pub mod Shown
 pub mod Targets
 pub use Rattle.recalc.specs as recalc
+pub mod Grounds
+pub mod Performing
+pub mod Worlds
+pub mod WorldLaws
+pub mod Facts
+pub mod OneActing
+pub mod Triggers
+pub mod Scenes
+pub mod Running
+pub mod Requests
+pub mod Opening
+pub mod EventLaws

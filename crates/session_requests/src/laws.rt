@@ -2,8 +2,8 @@
 ghost use Rattle.session_requests.specs.Laws.{ActsOnce, IsOneOutcome, LeavesOthers};
 
 use crate::app_semantics::{fitting_holds, fresh_fits, one_fresh};
+use crate::event_laws::one_running;
 use crate::fx_semantics::one_value;
-use session_events::one_running;
 
 /// A law, and no work: what is sent by a session leaves every other as it was.
 pub fn leaves_others()

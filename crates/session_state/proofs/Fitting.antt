@@ -8,7 +8,7 @@ use Rattle.std.proofs.lemmas.List.{length-replicate, get_or-replicate}
 use Rattle.fx_trees.specs.declared.names.Collection.{Collection}
 use Rattle.fx_trees.specs.declared.names.ControlName.{ControlName}
 use Rattle.fx_trees.specs.Controls.{input_type}
-use Rattle.fx_base.specs.declared.Memory.{Memory}
+use Rattle.fx_number.specs.declared.memory.Memory.{Memory}
 use Rattle.fx_data.specs.Values.{Data, blank, tab, no_rows}
 use Rattle.fx_data.specs.Types.{Shape}
 use Rattle.fx_data.specs.TypeView.{shape}

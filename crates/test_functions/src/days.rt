@@ -3,9 +3,8 @@
 use crate::page::Page;
 use fx_base::Memory;
 use fx_builtins::{date, date_add, today};
-use fx_data::{Day, Kind, Value};
+use fx_data::{CivilDate, Day, Kind, Value, civil_date, date_text, day_of_date};
 use fx_trees::TimeUnit;
-use fx_value::{CivilDate, civil_date, date_text, day_of_date};
 use view_text::plain;
 
 pub fn write(page: &mut Page) -> Result<(), Memory> {

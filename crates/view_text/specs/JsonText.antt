@@ -6,7 +6,7 @@ use Rattle.serde_json.specs.Find.{of_integer}
 use Rattle.fx_data.specs.Values.{Data, blank, number, text, boolean, date, rec, tab, fault, FieldList, no_fields, field, RowList, no_rows, row}
 use Rattle.fx_data.specs.declared.faults.Kind.{Kind}
 use Rattle.fx_number.specs.Spelling.{text_of}
-use Rattle.fx_value.specs.DateText.{date_text}
+use Rattle.fx_data.specs.DateText.{date_text}
 use Rattle.fx_data.specs.Faults.{kind_name}
 
 -- an object of one member

@@ -7,9 +7,8 @@ ghost use Rattle.fx_data.specs.ValueView.{view};
 ghost use Rattle.view_text.specs.JsonText.{error_data, fields_data, number_data, rows_data, tagged, value_data};
 
 use fx_base::Memory;
-use fx_data::{Fault, Fields, Rows, Value};
+use fx_data::{Fault, Fields, Rows, Value, date_text};
 use fx_number::Num;
-use fx_value::date_text;
 use serde_json::{Map, Value as Json, json};
 use std::alloc::Global;
 

@@ -6,8 +6,7 @@ ghost use Rattle.fx_data.specs.ValueView.{view};
 ghost use Rattle.view_text.specs.PlainText.{comma_if, doubled, error_text, fields_text, plain_text, quoted_text, rows_text};
 
 use fx_base::Memory;
-use fx_data::{Fields, Kind, Rows, Value, Words};
-use fx_value::date_text;
+use fx_data::{Fields, Kind, Rows, Value, Words, date_text};
 use std::alloc::Global;
 
 /// The plain form of a value, as `{A: 1, B: "x"}`.

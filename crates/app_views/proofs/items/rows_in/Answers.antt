@@ -1,7 +1,7 @@
 use Rattle.std.proofs.Common.{◌∙◌, ap, sym}
 use Rattle.fx_data.specs.ValueView.{view}
 use Rattle.fx_data.specs.declared.values.Value.{Value}
-use Rattle.recalc.proofs.of_fx_eval.Turns.{rows_back}
+use Rattle.fx_semantics.proofs.RowsBack.{rows_back}
 use Rattle.recalc.specs.fx_semantics.Rows.{rows_in}
 use Rattle.app_views.proofs.items.rows_in.Goals as goal
 

@@ -10,7 +10,7 @@ use Rattle.fx_data.specs.ValueView.{view}
 use Rattle.fx_eval.proofs.ListRows.{can_list}
 use Rattle.fx_eval.proofs.Sizes.{one_falls, parts_fall, table_falls}
 use Rattle.fx_eval.specs.Parts.{caught_in, inner}
-use Rattle.fx_eval.specs.Scopes.{Fixed}
+use Rattle.fx_env.specs.Scopes.{Fixed}
 use Rattle.fx_scalar.specs.LazyForms.{CanMatch, decision_of, none_left as none_left_of}
 use Rattle.fx_semantics.specs.Around.{record_of}
 use Rattle.fx_semantics.specs.Sound.{AreFit}

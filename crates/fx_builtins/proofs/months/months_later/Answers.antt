@@ -2,7 +2,7 @@ use Rattle.std.proofs.Common.{◌≡◌, ℤ, pos, ◌+ℤ◌, subst, arith, Fit
 use Rattle.std.specs.Int.{w128}
 use Rattle.std.proofs.lemmas.Int.{to_z-of_z}
 use Rattle.jiff_core.proofs.SignedLemmas.{signed_arith}
-use Rattle.fx_value.specs.declared.civil.CivilDate.{CivilDate}
+use Rattle.fx_data.specs.declared.civil.CivilDate.{CivilDate}
 use Rattle.fx_builtins.specs.Dates.{IsInMonthOrInvalid}
 use Rattle.fx_builtins.specs.Months.{month_number}
 use Rattle.fx_builtins.proofs.months.months_later.Goals as goal

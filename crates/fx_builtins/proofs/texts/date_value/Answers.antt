@@ -1,6 +1,6 @@
 use Rattle.std.proofs.Common.{◌∙◌, sym}
-use Rattle.fx_value.specs.Civil.{civil_of}
-use Rattle.fx_value.proofs.CivilDays.{civil_is_date}
+use Rattle.fx_data.specs.Civil.{civil_of}
+use Rattle.fx_data.proofs.CivilDays.{civil_is_date}
 use Rattle.fx_builtins.proofs.DateTextLemmas.{value_is}
 use Rattle.fx_builtins.proofs.texts.date_value.Goals as goal
 

@@ -1,5 +1,5 @@
 use Rattle.std.proofs.Common.{◌≡◌, ◌<◌, ◌≤◌, [], ◌∷◌, length, get_or, arith}
-use Rattle.fx_value.specs.DateText.{two_digits}
+use Rattle.fx_data.specs.DateText.{two_digits}
 use Rattle.fx_builtins.proofs.DateTextLemmas.{read_is}
 use Rattle.fx_builtins.proofs.texts.read_date.Goals as goal
 

@@ -1,5 +1,5 @@
 use Rattle.std.proofs.Common.{◌≡◌, drop, map}
-use Rattle.fx_typing.specs.Columns.{is_one_of}
+use Rattle.fx_trees.specs.ColumnLists.{is_one_of}
 use Rattle.fx_call_checks.proofs.taken.is_one_of.Given as goal
 
 abbrev pub invariant-loop-other : goal.invariant-loop-other

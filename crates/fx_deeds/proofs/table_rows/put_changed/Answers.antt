@@ -1,6 +1,6 @@
 use Rattle.std.proofs.Common.{◌≡◌, ◌∙◌, refl, subst, sym}
 use Rattle.fx_base.specs.Silence.{IsLost}
-use Rattle.fx_eval.specs.Scopes.{Fixed}
+use Rattle.fx_env.specs.Scopes.{Fixed}
 use Rattle.row_keeper.specs.declared.rows.Put.TheVariants.{NoRow}
 use Rattle.row_queries.specs.TableRows.{AreCellsOf}
 use Rattle.fx_deeds.proofs.Cells.{changed_cells_fit}

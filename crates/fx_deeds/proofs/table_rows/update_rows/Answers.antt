@@ -1,7 +1,7 @@
 use Rattle.std.proofs.Common.{map, inl, inr, subst, sym}
 use Rattle.fx_base.specs.Silence.{IsLost}
 use Rattle.fx_data.specs.ValueView.{view}
-use Rattle.fx_eval.specs.Scopes.{Fixed}
+use Rattle.fx_env.specs.Scopes.{Fixed}
 use Rattle.fx_deeds.proofs.Passing.{passed_on}
 use Rattle.fx_deeds.proofs.Patching.{update_ends, update_goes, update_stops, updating}
 use Rattle.fx_deeds.proofs.Steps.{none_left}

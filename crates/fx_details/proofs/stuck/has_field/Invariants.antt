@@ -1,6 +1,6 @@
 use Rattle.std.proofs.Common.{◌≡◌, drop}
 use Rattle.fx_trees.specs.Tree.{names_of}
-use Rattle.fx_typing.specs.Columns.{is_one_of}
+use Rattle.fx_trees.specs.ColumnLists.{is_one_of}
 use Rattle.fx_details.proofs.stuck.has_field.Given as goal
 
 abbrev pub invariant-loop-other : goal.invariant-loop-other

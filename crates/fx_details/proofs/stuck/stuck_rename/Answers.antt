@@ -2,7 +2,7 @@ use Rattle.std.proofs.Common.{◌∙◌, ap}
 use Rattle.fx_data.specs.Types.{column_list}
 use Rattle.fx_data.specs.TypeView.{shape}
 use Rattle.fx_typing.specs.TypedView.{piece}
-use Rattle.fx_typing.specs.Columns.{field_in}
+use Rattle.fx_trees.specs.ColumnLists.{field_in}
 use Rattle.fx_details.proofs.Pairs.{renamed_step, known}
 use Rattle.fx_details.proofs.stuck.stuck_rename.Goals as goal
 

@@ -1,7 +1,7 @@
 use Rattle.std.proofs.Common.{◌≡◌, ◌∙◌, ap, subst, sym}
 use Rattle.fx_data.specs.declared.values.Value.{Value}
 use Rattle.fx_data.specs.ValueView.{view}
-use Rattle.fx_eval.proofs.Turns.{rows_back}
+use Rattle.fx_semantics.proofs.RowsBack.{rows_back}
 use Rattle.fx_semantics.specs.Rows.{rows_in}
 use Rattle.fx_tables.specs.RowCalls.{first_of}
 use Rattle.fx_eval.proofs.demands.first_in.Goals as goal

@@ -18,7 +18,7 @@ use Rattle.fx_eval.proofs.Values.{field_fine, filled_step, part_fine, values_ste
 use Rattle.fx_eval.specs.Courses.{answers, catches, chooses, goes, going, passes}
 use Rattle.fx_eval.specs.Demands.{CanStand}
 use Rattle.fx_eval.specs.Parts.{AreBranches, AreConditions, AreFine, AreRecoveries, IsSwitched, caught_in, inner, terms_of}
-use Rattle.fx_eval.specs.Scopes.{CanEvaluate, around}
+use Rattle.fx_env.specs.Scopes.{CanEvaluate, around}
 use Rattle.fx_semantics.specs.Around.{record_of}
 use Rattle.fx_semantics.specs.Fresh.{IsValue, meaning}
 use Rattle.fx_semantics.specs.Rows.{IsOfFound}

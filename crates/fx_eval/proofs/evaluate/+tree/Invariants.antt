@@ -4,8 +4,8 @@ use Rattle.fx_data.specs.Values.{Data}
 use Rattle.fx_eval.specs.Courses.{IsWorth, going}
 use Rattle.fx_eval.specs.Moments.{Went, moment}
 use Rattle.fx_eval.specs.Parts.{AreFilled, AreSet, terms_of}
-use Rattle.fx_eval.specs.Scopes.{around}
-use Rattle.fx_eval.specs.Telling.{IsHeard, values_told}
+use Rattle.fx_env.specs.Scopes.{around}
+use Rattle.fx_env.specs.Telling.{IsHeard, values_told}
 use Rattle.fx_semantics.specs.Around.{AreEach, AreValues}
 use Rattle.fx_semantics.specs.Fresh.{meaning, meanings}
 use Rattle.fx_eval.specs.Given.{AreGiven, given}

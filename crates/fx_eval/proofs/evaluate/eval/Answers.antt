@@ -1,8 +1,8 @@
 use Rattle.std.proofs.lemmas.Result.{IfOk-weaker}
 use Rattle.fx_data.specs.ValueView.{view}
 use Rattle.fx_eval.proofs.Passing.{heard_told}
-use Rattle.fx_eval.specs.Scopes.{around}
-use Rattle.fx_eval.specs.Telling.{values_told}
+use Rattle.fx_env.specs.Scopes.{around}
+use Rattle.fx_env.specs.Telling.{values_told}
 use Rattle.fx_semantics.specs.Fresh.{IsValue}
 use Rattle.fx_eval.proofs.evaluate.eval.Goals as goal
 

@@ -14,7 +14,7 @@ use Rattle.fx_scopes.specs.PartView.{part}
 use Rattle.fx_scopes.specs.SettingView.{setting}
 use Rattle.fx_trees.specs.Tree.{names_of}
 use Rattle.fx_trees.specs.Tree as tree
-use Rattle.fx_typing.specs.Columns.{and_then}
+use Rattle.fx_trees.specs.ColumnLists.{and_then}
 use Rattle.fx_typing.specs.Local.{formed, made}
 use Rattle.fx_typing.specs.Meaning.{in_globals, meaning_of}
 use Rattle.fx_infer.proofs.Admits.{global_leaf, name_leaf, number_leaf, text_leaf, truth_leaf}

@@ -6,7 +6,7 @@ use Rattle.fx_typing.specs.Answers.{Answers}
 use Rattle.fx_typing.specs.TypedView.{typed}
 use Rattle.fx_scopes.specs.PartView.{part}
 use Rattle.fx_scopes.specs.declared.parts.Part.{Part}
-use Rattle.fx_typing.specs.Columns.{and_then}
+use Rattle.fx_trees.specs.ColumnLists.{and_then}
 use Rattle.fx_typing.specs.Local.{made}
 use Rattle.fx_nodes.proofs.Exits.{as_same}
 use Rattle.fx_infer.specs.Operands.{operator_of}

@@ -1,5 +1,5 @@
 use Rattle.std.proofs.Common.{◌≡◌, drop}
-use Rattle.fx_typing.specs.Columns.{is_one_of}
+use Rattle.fx_trees.specs.ColumnLists.{is_one_of}
 use Rattle.fx_nodes.proofs.records.is_one_of.Given as goal
 
 abbrev pub invariant-loop-other : goal.invariant-loop-other

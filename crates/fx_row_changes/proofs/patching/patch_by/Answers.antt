@@ -5,7 +5,7 @@ use Rattle.fx_typing.specs.TypedView.{typed}
 use Rattle.fx_trees.specs.Term.{Term}
 use Rattle.fx_row_changes.specs.Changes.{changing_view, patched}
 use Rattle.fx_typing.specs.Deeds.{patch_to}
-use Rattle.fx_typing.specs.Columns.{and_then}
+use Rattle.fx_trees.specs.ColumnLists.{and_then}
 use Rattle.fx_nodes.proofs.Exits.{first_stops, as_same}
 use Rattle.fx_row_changes.proofs.RowSteps.{patch_is, patching}
 use Rattle.fx_row_changes.proofs.patching.patch_by.Goals as goal

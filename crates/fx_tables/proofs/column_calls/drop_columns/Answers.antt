@@ -8,7 +8,7 @@ use Rattle.fx_value.proofs.Unions.{rises_list}
 use Rattle.fx_data.specs.Types.{column_list}
 use Rattle.fx_tables.specs.ColumnCalls.{without_columns}
 use Rattle.fx_tables.proofs.FitColumns.{dropped_fit}
-use Rattle.fx_typing.specs.Columns.{without_all}
+use Rattle.fx_trees.specs.ColumnLists.{without_all}
 use Rattle.fx_tables.proofs.column_calls.drop_columns.Goals as goal
 
 pub loop-name-preserved : goal.loop-name-preserved

@@ -7,7 +7,7 @@ use Rattle.fx_value.specs.Fits.{fits_in}
 use Rattle.fx_value.specs.Columns.{Row}
 use Rattle.fx_tables.specs.Distinct.{distinct_of, value_row}
 use Rattle.fx_value.specs.Ordered.{AreKeys}
-use Rattle.fx_typing.specs.Columns.{value_column}
+use Rattle.fx_trees.specs.ColumnLists.{value_column}
 use Rattle.fx_tables.proofs.FirstErrors.{error_is, none_is}
 use Rattle.fx_tables.proofs.FitDistinct.{distinct_fit}
 use Rattle.fx_tables.proofs.formulas.distinct_values.Goals as goal

@@ -7,8 +7,8 @@ use Rattle.fx_data.specs.TypeView.{shape}
 use Rattle.fx_data.specs.ValueView.{view}
 use Rattle.fx_data.specs.Values.{Data}
 use Rattle.fx_data.specs.declared.values.Value.{Value}
-use Rattle.fx_eval.specs.Scopes.{CanEvaluate, Held, IsReady, around, held}
-use Rattle.fx_eval.specs.Telling.{Told}
+use Rattle.fx_env.specs.Scopes.{CanEvaluate, Held, IsReady, around, held}
+use Rattle.fx_env.specs.Telling.{Told}
 use Rattle.fx_semantics.specs.Fresh.{IsValue}
 use Rattle.fx_trees.specs.Term.{Term}
 use Rattle.fx_trees.specs.declared.sources.Source.{Source}

@@ -10,8 +10,8 @@ use Rattle.fx_data.specs.Types.{Shape}
 use Rattle.fx_data.specs.ValueView.{view}
 use Rattle.fx_data.specs.Values.{Data}
 use Rattle.fx_data.specs.declared.values.Value.{Value}
-use Rattle.fx_eval.specs.Scopes.{CanEvaluate, Held, IsReady, around, held}
-use Rattle.fx_eval.specs.Telling.{values_told}
+use Rattle.fx_env.specs.Scopes.{CanEvaluate, Held, IsReady, around, held}
+use Rattle.fx_env.specs.Telling.{values_told}
 use Rattle.fx_scalar.specs.ScalarFunctions.{IsToday}
 use Rattle.fx_semantics.specs.Fresh.{IsValue}
 use Rattle.fx_trees.specs.Term.{Term}

@@ -3,8 +3,8 @@ use Rattle.fx_base.specs.Silence.{IsLost}
 use Rattle.fx_data.specs.ValueView.{view}
 use Rattle.fx_data.specs.Values.{Data}
 use Rattle.recalc.specs.Values.{value_of}
-use Rattle.session_events.specs.Triggers.{ItemFits}
-use Rattle.session_events.specs.declared.trigger.Trigger.TheVariants.{OnSelect}
+use Rattle.session_requests.specs.Triggers.{ItemFits}
+use Rattle.session_requests.specs.declared.trigger.Trigger.TheVariants.{OnSelect}
 use Rattle.session_state.specs.Changes.{FitsNames}
 use Rattle.session_requests.specs.Targets.{IsTarget}
 use Rattle.session_requests.proofs.Acted.{event_item}

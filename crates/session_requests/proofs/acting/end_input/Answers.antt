@@ -2,8 +2,8 @@ use Rattle.std.proofs.Common.{◌≡◌, None, subst, sym}
 use Rattle.recalc.specs.app_semantics.Present.{input_of}
 use Rattle.recalc.specs.app_semantics.Properties.{is_true}
 use Rattle.recalc.specs.Values.{value_of}
-use Rattle.session_events.specs.Triggers.{ItemFits}
-use Rattle.session_events.specs.declared.trigger.Trigger.{Trigger}
+use Rattle.session_requests.specs.Triggers.{ItemFits}
+use Rattle.session_requests.specs.declared.trigger.Trigger.{Trigger}
 use Rattle.session_state.specs.Changes.{FitsNames}
 use Rattle.session_requests.specs.Targets.{Given}
 use Rattle.session_requests.proofs.Acted.{input_item}

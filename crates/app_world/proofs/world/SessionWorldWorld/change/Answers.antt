@@ -1,5 +1,0 @@
-use Rattle.app_world.proofs.Changing.{is_there}
-use Rattle.app_world.proofs.world.SessionWorldWorld.change.Goals as goal
-
-pub change-requires : goal.change-requires
-change-requires g c = is_there (g.A.SoundApp.app c.args.self.now.app.now).names c.args.self.now.session.now c.args.change c.args.self.now.fits c.requires

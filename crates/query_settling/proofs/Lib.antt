@@ -1,4 +1,0 @@
-pub mod Places
-pub mod Keeping
-pub mod Retyping
-pub mod Sizes

@@ -1,5 +1,0 @@
-use Rattle.query_settling.proofs.Retyping.{searches_typed, settled_typed}
-use Rattle.query_settling.proofs.laws.settled_have_types.Goals as goal
-
-pub returns : goal.returns
-returns c = record { queries = settled_typed; searches = searches_typed }

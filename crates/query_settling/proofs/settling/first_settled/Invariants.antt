@@ -1,8 +1,0 @@
-use Rattle.std.proofs.Common.{◌≡◌, ◌++◌, drop, map}
-use Rattle.fx_data.specs.ValueView.{view}
-use Rattle.query_settling.specs.Settled.{with_first}
-use Rattle.query_settling.proofs.settling.first_settled.Given as goal
-
--- the parts so far, and behind them what is left
-abbrev pub invariant-loop-part : goal.invariant-loop-part
-invariant-loop-part l = l.settled ++ drop l.part-index l.others ≡ with_first l.depth (map view l.values) l.fn.parts l.fn.place

@@ -1,4 +1,0 @@
-pub mod Chains
-pub mod Fitting
-pub mod Placed
-pub mod Single

@@ -1,5 +1,0 @@
-use Rattle.session_events.proofs.Fitting.{fits_arrived}
-use Rattle.session_events.proofs.running.run.Goals as goal
-
-pub show-requires-clause-fits : goal.show-requires-clause-fits
-show-requires-clause-fits g c = fits_arrived c.args.app.now.names c.act.new.session c.take_navigated.new.self c.take_navigated.ensures.taken c.in_ok-value.ensures.fits

@@ -1,0 +1,55 @@
+-- Tables that fit go on fitting.
+use Rattle.std.proofs.Common.{◌≡◌, ℕ, Bool, List, ◌++◌, Option, None, Some, refl, subst, sym}
+use Rattle.std.specs.Prelude.{IsSome, IsSomeAnd, slice_get}
+use Rattle.fx_base.specs.Silence.{Goes}
+use Rattle.fx_base.specs.Telling.{Stays}
+use Rattle.fx_data.specs.Values.{Data}
+use Rattle.fx_deeds.specs.Changed.{IsRowChanged}
+use Rattle.fx_trees.specs.declared.schema.Column.{Column}
+use Rattle.fx_trees.specs.declared.schema.Schema.{Schema}
+use Rattle.fx_trees.specs.declared.schema.TableShape.{TableShape}
+use Rattle.fx_trees.specs.declared.sources.Source.{Source}
+use Rattle.recalc.specs.app_cells.declared.app.App.{App}
+use Rattle.row_keeper.specs.Changes.{Inserts, Removes, Replaces}
+use Rattle.row_keeper.specs.Tables.{Tables, columns_at, shapes_of}
+use Rattle.row_keeper.specs.declared.rows.Put.{Put}
+use Rattle.row_queries.specs.TableRows.{AreCellsOf}
+use Rattle.row_requests.proofs.Soundness.{sound_inserts, sound_removes, sound_replaces}
+use Rattle.row_requests.specs.Sound.{AreSound}
+use Rattle.session_state.specs.Sessions.{SessionState}
+use Rattle.session_requests.proofs.Changing.{row_changed, state_goes}
+use Rattle.session_requests.proofs.WorldEnding.{told_state}
+use Rattle.session_requests.specs.Grounds.{grounds}
+use Rattle.session_requests.specs.Worlds.{written_by}
+
+pub inserted_sound : (s : Schema) (lost : Type 0) (columns : List Column) (k : ℕ) (cells : List Data) (put : Put) (x y : Option Tables) → IsSomeAnd (slice_get s.tables k) (λ t. AreCellsOf t.columns cells) → AreSound s x →
+    Goes lost (Inserts columns k cells put) x y → AreSound s y
+inserted_sound s lost columns k cells put x y fit sound goes = by (slice_get s.tables k) refl fit
+  where
+    by : (o : Option TableShape) → slice_get s.tables k ≡ o → IsSomeAnd o (λ t. AreCellsOf t.columns cells) → AreSound s y
+    by (Some t) e h = sound_inserts s lost columns k t cells put e h x y sound goes
+    by None e h = absurd h
+
+pub replaced_sound : (s : Schema) (lost : Type 0) (columns : List Column) (k id : ℕ) (cells : List Data) (put : Put) (x y : Option Tables) → IsSomeAnd (slice_get s.tables k) (λ t. AreCellsOf t.columns cells) → AreSound s x →
+    Goes lost (Replaces columns k id cells put) x y → AreSound s y
+replaced_sound s lost columns k id cells put x y fit sound goes = by (slice_get s.tables k) refl fit
+  where
+    by : (o : Option TableShape) → slice_get s.tables k ≡ o → IsSomeAnd o (λ t. AreCellsOf t.columns cells) → AreSound s y
+    by (Some t) e h = sound_replaces s lost columns k id t cells put e h x y sound goes
+    by None e h = absurd h
+
+pub removed_sound : (s : Schema) (lost : Type 0) (k id : ℕ) (was : Bool) (x y : Option Tables) → IsSome (slice_get s.tables k) → AreSound s x → Goes lost (Removes k id was) x y → AreSound s y
+removed_sound s lost k id was x y there sound goes = by (slice_get s.tables k) refl there
+  where
+    by : (o : Option TableShape) → slice_get s.tables k ≡ o → IsSome o → AreSound s y
+    by (Some t) e h = sound_removes s lost k id t was e x y sound goes
+    by None e h = absurd cc
+
+-- other cells in a row
+pub replaced : (lost : Type 0) (s : Schema) (shaped : Option Schema) (k id : ℕ) (cells : List Data) (put : Put) (day : Data) (a : App) (moment : ℕ) (r : SessionState) (values others : List Data) (ws us : List Source)
+    (b d x y : Option Tables) → shaped ≡ Some s → us ≡ ws ++ written_by put k → (IsSome y → IsSome d) → Goes lost (Replaces (columns_at (shapes_of shaped) k) k id cells put) x y → Goes lost Stays b d →
+    Goes lost (IsRowChanged (columns_at s.tables k) k id cells put) (told_state day (grounds a moment b) r values ws x) (told_state day (grounds a moment d) r others us y)
+replaced lost s shaped k id cells put day a moment r values others ws us b d x y e w heard h stays =
+    subst (λ (zs : List Source). Goes lost (IsRowChanged (columns_at s.tables k) k id cells put) (told_state day (grounds a moment b) r values ws x) (told_state day (grounds a moment d) r others zs y)) (sym w)
+    (state_goes lost (Replaces (columns_at s.tables k) k id cells put) (IsRowChanged (columns_at s.tables k) k id cells put) day a moment r values others ws (ws ++ written_by put k) b d x y
+    (λ g t u. row_changed (columns_at s.tables k) k id cells put g r ws t u) heard (subst (λ (o : Option Schema). Goes lost (Replaces (columns_at (shapes_of o) k) k id cells put) x y) e h) stays)

@@ -1,0 +1,85 @@
+-- What a behaviour formula does is one thing at most.
+use Rattle.std.proofs.Common.{◌≡◌, ℕ, zero, suc, List, [], ◌∷◌, Bool, true, Option, None, Some, refl, ap, sym, subst, ◌∙◌}
+use Rattle.std.proofs.Math.Logic.{∥∥₁_elim}
+use Rattle.std.specs.Coded.{Coded-set}
+use Rattle.std.specs.List.{All}
+use Rattle.fx_behave.proofs.SingleAll.{one_performing}
+use Rattle.fx_behave.specs.Unique.{GivesOne}
+use Rattle.fx_data.specs.ValueCode.{data_code}
+use Rattle.fx_data.specs.Values.{Data}
+use Rattle.fx_deeds.proofs.Single.{Outcome, Same}
+use Rattle.fx_deeds.specs.State.{State}
+use Rattle.fx_scalar.specs.ScalarFunctions.{IsToday}
+use Rattle.fx_semantics.proofs.SingleRows.{Once}
+use Rattle.fx_trees.specs.declared.names.Names.{Names}
+use Rattle.fx_trees.specs.declared.schema.Schema.{Schema}
+use Rattle.fx_trees.specs.declared.schema.TableShape.{TableShape}
+use Rattle.fx_trees.specs.declared.sources.Source.{Source}
+use Rattle.fx_trees.specs.declared.sources.Source.TheVariants as source
+use Rattle.recalc.proofs.of_app_semantics.Freshness.{given_told, today_is}
+use Rattle.recalc.specs.app_cells.declared.app.App.{App}
+use Rattle.recalc.specs.app_semantics.Fresh.{AreKnown, IsFresh}
+use Rattle.recalc.specs.app_semantics.Holding.{FittingHolds, HoldRows}
+use Rattle.recalc.specs.app_semantics.Laws.{OneFresh}
+use Rattle.recalc.specs.app_semantics.Present.{Gives, input_of, selected_of}
+use Rattle.recalc.specs.app_semantics.Telling.{told_on}
+use Rattle.row_keeper.specs.Tables.{TableState, Tables, rows_of, state_at}
+use Rattle.row_queries.specs.TableRows.{IsRowOf, rows_at}
+use Rattle.row_queries.specs.declared.rows.Row.{Row}
+use Rattle.row_requests.proofs.Soundness.{state_is}
+use Rattle.row_requests.specs.Sound.{AreSound}
+use Rattle.session_state.specs.Sessions.{SessionState}
+use Rattle.session_requests.proofs.Beginnings.{performs}
+use Rattle.session_requests.specs.Performing.{Acts, outermost}
+use Rattle.session_requests.specs.Grounds.{Grounds, IsFit, gives, ground_of, grounds, hangs_on_cells, present_in, state_on}
+use Rattle.session_requests.specs.OneActing.{OneActing}
+
+-- ---- rows
+
+rows_are : (ss : List TableState) (k : ℕ) → (state_at ss k).rows ≡ rows_at (rows_of ss) k
+rows_are [] k = refl
+rows_are (s ∷ ss) zero = refl
+rows_are (s ∷ ss) (suc k) = rows_are ss k
+
+-- the rows of tables that are sound fit
+rows_hold : (schema : Schema) (t : Tables) → AreSound schema (Some t) → HoldRows schema (Some (rows_of t.states))
+rows_hold schema t are k shape e = subst (λ (rows : List Row). All (IsRowOf shape) rows) (rows_are t.states k) (state_is schema.tables t.states k shape are e).fit
+
+-- ---- sources
+
+-- what a source is worth is the same where the values of cells are, if it hangs on them
+worth_alike : (day : Data) (n : Names) (s : SessionState) (rows : Option (List (List Row))) (values others : ℕ → Data) (x : Source) → (hangs_on_cells x ≡ true → values ≡ others) →
+    told_on day n s rows values x ≡ told_on day n s rows others x
+worth_alike day n s rows values others (source.Cell k) h = ap (λ (f : ℕ → Data). f k) (h refl)
+worth_alike day n s rows values others (source.Input k) h = ap (λ (f : ℕ → Data). input_of n s f k) (h refl)
+worth_alike day n s rows values others (source.Chosen k) h = ap (λ (f : ℕ → Data). selected_of n s f k) (h refl)
+worth_alike day n s rows values others (source.Global k) h = refl
+worth_alike day n s rows values others (source.Context k) h = refl
+worth_alike day n s rows values others (source.Gathered k) h = refl
+worth_alike day n s rows values others (source.Table k) h = refl
+worth_alike day n s rows values others source.Today h = refl
+
+-- each source gives one value at most in a state: the values of cells are fresh, and there is one such assignment
+gives_one : OneFresh → FittingHolds → GivesOne gives
+gives_one once holds s x v w g k =
+    ∥∥₁_elim g (Coded-set data_code v w) (λ i.
+    ∥∥₁_elim k (Coded-set data_code v w) (λ j.
+    let p = present_in s in
+    let day = today_is s.app.moment in
+    let known : AreKnown s.app.app (Some (rows_of s.tables.states)) = record { told = λ n c e. refl; fit = rows_hold s.app.app.names.schema s.tables (i.0).tables } in
+    let same : hangs_on_cells x ≡ true → i.1 ≡ j.1 = λ hangs. once p i.1 j.1 (i.0).accepted (holds s.app.app.names s.session (i.0).session) known (i.2 hangs) (j.2 hangs) in
+    given_told p i.1 day.0 x v day.1 i.3 ∙ worth_alike day.0 s.app.app.names s.session (Some (rows_of s.tables.states)) i.1 j.1 x same ∙ sym (given_told p j.1 day.0 x w day.1 j.3)))
+
+-- ---- formulas
+
+-- A BEHAVIOUR FORMULA DOES ONE THING AT MOST
+pub one_acting : Once → OneFresh → FittingHolds → OneActing
+one_acting once fresh holds a moment c item t s x y u v q r ws zs h k =
+    let start = state_on (grounds a moment None) t s [] in
+    let first = state_on (grounds a moment None) u q ws in
+    let second = state_on (grounds a moment None) v r zs in
+    let same : Same x first y second =
+    one_performing (ground_of a) once (gives_one fresh holds) c.core (outermost item) start x y first second
+    (performs None a c.core (outermost item) (state_on (grounds a moment h.began) t s []) x (state_on (grounds a moment h.began) u q ws) h.performs)
+    (performs None a c.core (outermost item) (state_on (grounds a moment k.began) t s []) y (state_on (grounds a moment k.began) v r zs) k.performs) in
+    (ap (λ (o : Outcome Grounds). o.0) same, ap (λ (o : Outcome Grounds). o.1.tables) same, ap (λ (o : Outcome Grounds). o.1.session) same, ap (λ (o : Outcome Grounds). o.1.wrote) same)

@@ -1,0 +1,29 @@
+use Rattle.std.proofs.Common.{Option, option_map, subst}
+use Rattle.fx_base.specs.Silence.{Goes, IsLost}
+use Rattle.fx_data.specs.ValueView.{view}
+use Rattle.row_keeper.specs.Tables.{Tables}
+use Rattle.session_state.specs.Sessions.{SessionState}
+use Rattle.session_requests.specs.Running.{Runs}
+use Rattle.session_requests.specs.Scenes.{scene}
+use Rattle.session_requests.proofs.RequestFitting.{fits_begun, fits_quiet, is_begun}
+use Rattle.session_requests.proofs.transaction.prepare.Goals as goal
+
+pub run-requires-clause-fits : goal.run-requires-clause-fits
+run-requires-clause-fits g c = fits_begun c.args.app.now.names c.args.session c.take_notices.new.self c.take_navigated.new.self c.take_notices.ensures.none c.take_navigated.ensures.taken c.requires.fits
+
+pub returns-clause-accepts : goal.returns-clause-accepts
+returns-clause-accepts g c =
+    let told = g.K.Keeper.told in
+    let marks = g.K.Keeper.marks in
+    let end = c.run.new.session in
+    let value = view c.in_ok-value.value in
+    record {
+      value = value;
+      end = end;
+      runs = subst (λ (s : SessionState). Goes (IsLost (marks c.args.keeper.now) (marks c.run.new.keeper))
+          (λ (t u : Tables). Runs c.args.app.now c.args.moment c.args.trigger (option_map view c.args.item) (scene t s) value (scene u end)) (told c.args.keeper.now) (told c.run.new.keeper))
+          (is_begun c.args.session c.take_notices.new.self c.take_navigated.new.self c.take_notices.ensures.none c.take_navigated.ensures.taken) c.in_ok-value.ensures.done;
+      said_is = c.in_ok-replied.ensures.said;
+      left = c.in_ok-replied.ensures.left;
+      fits = fits_quiet c.args.app.now.names end c.in_ok-replied.field-0.session c.in_ok-replied.ensures.left c.in_ok-value.ensures.fits;
+    }

@@ -1,0 +1,52 @@
+-- What the formulas of one request do, one after another.
+use Rattle.std.specs.Prelude.{◌≡◌, ℕ, Bool, true, false, List, Option, None, Some, slice_get}
+use Rattle.session_requests.specs.Performing.{Acts}
+use Rattle.recalc.specs.app_cells.declared.app.App.{App}
+use Rattle.recalc.specs.app_cells.declared.app.CellInfo.{CellInfo}
+use Rattle.fx_data.specs.Values.{Data, blank}
+use Rattle.fx_trees.specs.declared.sources.Source.{Source}
+use Rattle.session_requests.specs.Scenes.{Scene, arrived, scene}
+use Rattle.session_requests.specs.Triggers.{cell_at}
+use Rattle.session_requests.specs.declared.trigger.Trigger.{Trigger}
+use Rattle.session_requests.specs.declared.trigger.Trigger.TheVariants.{OnStart, OnVisible}
+
+-- the formula of this number is performed
+pub record IsPerformed (a : App) (m k : ℕ) (item : Option Data) (s : Scene) (value : Data) (t : Scene) : Type 0 where
+  pub cell : CellInfo
+  pub there : slice_get a.cells k ≡ Some cell
+  pub wrote : List Source
+  pub acts : Acts a m cell item s.tables s.session value t.tables t.session wrote
+
+-- where none is written nothing is done, and the value is blank
+abbrev pub IsActed : App → ℕ → Option ℕ → Option Data → Scene → Data → Scene → Type 0
+IsActed a m None item s value t = (value ≡ blank) × (t ≡ s)
+IsActed a m (Some k) item s value t = IsPerformed a m k item s value t
+
+-- the formula of a trigger acts, for an item where it sees one
+abbrev pub IsTriggered : App → ℕ → Trigger → Option Data → Scene → Data → Scene → Type 0
+IsTriggered a m trigger item s value t = IsActed a m (cell_at trigger a) item s value t
+
+-- the current screen is shown: its `OnVisible` acts, and shows no further one where it navigates
+pub record IsShown (a : App) (m : ℕ) (s t : Scene) : Type 0 where
+  pub value : Data
+  pub end : Scene
+  pub acts : IsTriggered a m (OnVisible s.session.screen) None (scene s.tables (arrived s.session)) value end
+  pub is : t ≡ scene end.tables (arrived end.session)
+
+-- so it is once, where a screen was navigated to
+abbrev pub IsFollowed : App → ℕ → Bool → Scene → Scene → Type 0
+IsFollowed a m true s t = IsShown a m s t
+IsFollowed a m false s t = t ≡ s
+
+-- WHAT A REQUEST DOES at a trigger: the formula acts, and then the screen is shown that was navigated to.
+pub record Runs (a : App) (m : ℕ) (trigger : Trigger) (item : Option Data) (s : Scene) (value : Data) (t : Scene) : Type 0 where
+  pub end : Scene
+  pub acts : IsTriggered a m trigger item s value end
+  pub follows : IsFollowed a m end.session.navigated end t
+
+-- WHAT OPENING A SESSION DOES: `App.OnStart` acts, and the screen that is then current is shown.
+pub record Opens (a : App) (m : ℕ) (s t : Scene) : Type 0 where
+  pub value : Data
+  pub end : Scene
+  pub acts : IsTriggered a m OnStart None s value end
+  pub shown : IsShown a m end t

@@ -1,0 +1,84 @@
+//! Sessions are opened, each in one transaction.
+ghost use Rattle.std.specs.Prelude.{◌≡◌, IfOk, OnErr, Some, false, true};
+ghost use Rattle.fx_base.specs.Silence.{Goes, IsLost};
+ghost use Rattle.fx_base.specs.Telling.{Stays};
+ghost use Rattle.recalc.specs.app_semantics.Sound.{IsSound};
+ghost use Rattle.row_keeper.specs.Causes.{HasCause};
+ghost use Rattle.row_requests.specs.Sound.{AreSound};
+ghost use Rattle.session_requests.specs.Opening.{CanOpen, OpensNew};
+
+use crate::app_cells::App;
+use crate::running::open;
+use recalc::Steps;
+use row_keeper::{Keeper, KeeperEnd};
+use row_requests::settle;
+use session_state::Session;
+use std::alloc::Global;
+use std::sync::ledger::Ledger;
+
+/// Opens a session in a transaction that is begun.
+fn prepare_session<K: Keeper, L: Ledger>(
+    alloc: Global,
+    app: &App,
+    keeper: &mut K,
+    moment: u64,
+    steps: &mut Steps<L>,
+) -> Result<Session, KeeperEnd>
+    requires sound { IsSound app.now }
+    requires opens { CanOpen app.now.names }
+    requires shaped { K.shaped keeper.old ≡ Some app.now.names.schema }
+    requires rows { AreSound app.now.names.schema (K.told keeper.old) }
+    requires begun { K.in_transaction keeper.old ≡ true }
+    ensures opens { IfOk result (λ s. OpensNew (IsLost (K.marks keeper.old) (K.marks keeper.new)) app.now moment (K.told keeper.old) (K.told keeper.new) s) }
+    ensures rows { AreSound app.now.names.schema (K.told keeper.new) }
+    ensures began { Goes (IsLost (K.marks keeper.old) (K.marks keeper.new)) Stays (K.began keeper.old) (K.began keeper.new) }
+    ensures shaped { K.shaped keeper.new ≡ Some app.now.names.schema }
+    ensures open { K.in_transaction keeper.new ≡ true }
+    ensures cause { HasCause (K.marks keeper.old) (K.marks keeper.new) result }
+    ensures loan { K.loan keeper.new ≡ K.loan keeper.old }
+{
+    let mut session = Session::new(alloc, &app.names)?;
+    open(alloc, app, &mut session, keeper, moment, steps)?;
+    session.take_notices();
+    // No request was accepted yet, whatever the keeper tells.
+    session.keep(0, Vec::new(alloc), Vec::new(alloc));
+    Ok(session)
+}
+
+/// Opens a session, in one transaction: `App.OnStart` acts, and then the `OnVisible` of the screen that is then current, once. All
+/// memory is taken before the transaction ends. What stops leaves the tables.
+pub fn open_session<K: Keeper, L: Ledger>(
+    alloc: Global,
+    app: &App,
+    keeper: &mut K,
+    moment: u64,
+    steps: &mut Steps<L>,
+) -> Result<Session, KeeperEnd>
+    requires sound { IsSound app.now }
+    requires opens { CanOpen app.now.names }
+    requires shaped { K.shaped keeper.old ≡ Some app.now.names.schema }
+    requires rows { AreSound app.now.names.schema (K.told keeper.old) }
+    requires idle { K.in_transaction keeper.old ≡ false }
+    ensures opens { IfOk result (λ s. OpensNew (IsLost (K.marks keeper.old) (K.marks keeper.new)) app.now moment (K.told keeper.old) (K.told keeper.new) s) }
+    ensures stopped { OnErr result (Goes (IsLost (K.marks keeper.old) (K.marks keeper.new)) Stays (K.told keeper.old) (K.told keeper.new)) }
+    ensures rows { AreSound app.now.names.schema (K.told keeper.new) }
+    ensures shaped { K.shaped keeper.new ≡ Some app.now.names.schema }
+    ensures idle { K.in_transaction keeper.new ≡ false }
+    ensures cause { HasCause (K.marks keeper.old) (K.marks keeper.new) result }
+    ensures loan { K.loan keeper.new ≡ K.loan keeper.old }
+{
+    match keeper.begin() {
+        Ok(()) => {}
+        Err(end) => return Err(end),
+    }
+    match prepare_session(alloc, app, keeper, moment, steps) {
+        Ok(session) => match settle(keeper, true) {
+            Ok(()) => Ok(session),
+            Err(end) => Err(end),
+        },
+        Err(end) => {
+            keeper.back();
+            Err(end)
+        }
+    }
+}

@@ -1,0 +1,143 @@
+//! Accepted events and inputs, each in one transaction.
+ghost use Rattle.std.specs.Prelude.{◌≡◌, IfOk, OnErr, Some, false, option_map, true};
+ghost use Rattle.fx_base.specs.Silence.{Goes, IsLost};
+ghost use Rattle.fx_base.specs.Telling.{Stays};
+ghost use Rattle.fx_data.specs.ValueView.{view};
+ghost use Rattle.recalc.specs.app_semantics.Sound.{IsSound};
+ghost use Rattle.request_checks.specs.Replies.{IsReply, said};
+ghost use Rattle.row_keeper.specs.Causes.{HasCause};
+ghost use Rattle.row_requests.specs.Sound.{AreSound};
+ghost use Rattle.session_requests.specs.Requests.{Accepts, accepted_reply};
+ghost use Rattle.session_requests.specs.Scenes.{quiet};
+ghost use Rattle.session_requests.specs.Triggers.{ItemFits};
+ghost use Rattle.session_state.specs.Changes.{FitsNames};
+
+use crate::app_cells::App;
+use crate::running::run;
+use crate::trigger::Trigger;
+use fx_base::Memory;
+use fx_data::Value;
+use recalc::Steps;
+use request_checks::Reply;
+use row_keeper::{Keeper, KeeperEnd};
+use row_requests::settle;
+use session_state::Session;
+use std::alloc::Global;
+use std::sync::ledger::Ledger;
+use view_text::event_json;
+
+/// What an accepted event or input leaves of its session, with its reply and a copy of that to keep.
+#[derive(Drop)]
+pub struct Accepted {
+    pub session: Session,
+    pub reply: Reply,
+    pub kept: Vec<u8>,
+}
+
+/// Runs the formula of a request in a transaction that is begun, and makes the reply.
+fn prepare<K: Keeper, L: Ledger>(
+    alloc: Global,
+    app: &App,
+    mut session: Session,
+    keeper: &mut K,
+    moment: u64,
+    trigger: Trigger,
+    item: Option<Value>,
+    seq: u32,
+    steps: &mut Steps<L>,
+) -> Result<Accepted, KeeperEnd>
+    requires sound { IsSound app.now }
+    requires fits { FitsNames app.now.names session }
+    requires shaped { K.shaped keeper.old ≡ Some app.now.names.schema }
+    requires rows { AreSound app.now.names.schema (K.told keeper.old) }
+    requires begun { K.in_transaction keeper.old ≡ true }
+    requires item { ItemFits app.now trigger (option_map view item) }
+    ensures accepts { IfOk result (λ r. Accepts (IsLost (K.marks keeper.old) (K.marks keeper.new)) app.now moment trigger (option_map view item) seq session (K.told keeper.old) (said r.reply) (K.told keeper.new) r.session) }
+    ensures kept { IfOk result (λ r. r.kept.items ≡ said r.reply) }
+    ensures whole { IfOk result (λ r. IsReply r.reply) }
+    ensures rows { AreSound app.now.names.schema (K.told keeper.new) }
+    ensures began { Goes (IsLost (K.marks keeper.old) (K.marks keeper.new)) Stays (K.began keeper.old) (K.began keeper.new) }
+    ensures shaped { K.shaped keeper.new ≡ Some app.now.names.schema }
+    ensures open { K.in_transaction keeper.new ≡ true }
+    ensures cause { HasCause (K.marks keeper.old) (K.marks keeper.new) result }
+    ensures loan { K.loan keeper.new ≡ K.loan keeper.old }
+{
+    session.take_notices();
+    session.take_navigated();
+    let value = run(
+        alloc,
+        app,
+        &mut session,
+        keeper,
+        moment,
+        trigger,
+        item,
+        steps,
+    )?;
+    Ok(replied(alloc, session, seq, &value)?)
+}
+
+/// The reply to a request whose formula had this value, and what is left of its session.
+fn replied(alloc: Global, mut session: Session, seq: u32, value: &Value) -> Result<Accepted, Memory>
+    ensures said { IfOk result (λ r. said r.reply ≡ accepted_reply seq (view value.now) session) }
+    ensures kept { IfOk result (λ r. r.kept.items ≡ said r.reply) }
+    ensures whole { IfOk result (λ r. IsReply r.reply) }
+    ensures left { IfOk result (λ r. r.session ≡ quiet session) }
+{
+    let notices = session.take_notices();
+    let text = event_json(alloc, &notices, seq, value)?;
+    let reply = Reply::accept(alloc, &text)?;
+    let kept = Vec::from_slice(alloc, reply.whole())?;
+    Ok(Accepted {
+        session,
+        reply,
+        kept,
+    })
+}
+
+/// Does what an accepted event or input does, in one transaction, to a session in which what is given or chosen stands
+/// already. All memory is taken before the transaction ends. What stops leaves the tables.
+pub fn accept_request<K: Keeper, L: Ledger>(
+    alloc: Global,
+    app: &App,
+    session: Session,
+    keeper: &mut K,
+    moment: u64,
+    trigger: Trigger,
+    item: Option<Value>,
+    seq: u32,
+    steps: &mut Steps<L>,
+) -> Result<Accepted, KeeperEnd>
+    requires sound { IsSound app.now }
+    requires fits { FitsNames app.now.names session }
+    requires shaped { K.shaped keeper.old ≡ Some app.now.names.schema }
+    requires rows { AreSound app.now.names.schema (K.told keeper.old) }
+    requires idle { K.in_transaction keeper.old ≡ false }
+    requires item { ItemFits app.now trigger (option_map view item) }
+    ensures accepts { IfOk result (λ r. Accepts (IsLost (K.marks keeper.old) (K.marks keeper.new)) app.now moment trigger (option_map view item) seq session (K.told keeper.old) (said r.reply) (K.told keeper.new) r.session) }
+    ensures kept { IfOk result (λ r. r.kept.items ≡ said r.reply) }
+    ensures whole { IfOk result (λ r. IsReply r.reply) }
+    ensures stopped { OnErr result (Goes (IsLost (K.marks keeper.old) (K.marks keeper.new)) Stays (K.told keeper.old) (K.told keeper.new)) }
+    ensures rows { AreSound app.now.names.schema (K.told keeper.new) }
+    ensures shaped { K.shaped keeper.new ≡ Some app.now.names.schema }
+    ensures idle { K.in_transaction keeper.new ≡ false }
+    ensures cause { HasCause (K.marks keeper.old) (K.marks keeper.new) result }
+    ensures loan { K.loan keeper.new ≡ K.loan keeper.old }
+{
+    match keeper.begin() {
+        Ok(()) => {}
+        Err(end) => return Err(end),
+    }
+    match prepare(
+        alloc, app, session, keeper, moment, trigger, item, seq, steps,
+    ) {
+        Ok(accepted) => match settle(keeper, true) {
+            Ok(()) => Ok(accepted),
+            Err(end) => Err(end),
+        },
+        Err(end) => {
+            keeper.back();
+            Err(end)
+        }
+    }
+}

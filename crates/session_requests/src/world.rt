@@ -1,0 +1,234 @@
+//! What the behaviour formulas of an app act on: a session of it, and the tables of a keeper.
+ghost use Rattle.std.specs.Prelude.{◌≡◌, Some, map, option_map, true};
+ghost use Rattle.std.proofs.Common.{ap, refl};
+ghost use Rattle.std.proofs.Math.Bool.{Bool-set};
+ghost use Rattle.fx_data.specs.ValueView.{view};
+ghost use Rattle.fx_deeds.specs.State.{State};
+ghost use Rattle.fx_scalar.specs.ScalarFunctions.{IsToday};
+ghost use Rattle.fx_trees.specs.Lawful.{IsLawfulSchema};
+ghost use Rattle.recalc.specs.Reading.{cell_value};
+ghost use Rattle.recalc.specs.Schemas.{schema_prop, shaped_prop};
+ghost use Rattle.recalc.specs.Values.{CellsFit};
+ghost use Rattle.row_requests.specs.Sound.{AreSound};
+ghost use Rattle.session_state.specs.Changes.{FitsNames};
+ghost use Rattle.session_requests.specs.Facts.{names_prop, sound_prop};
+ghost use Rattle.session_requests.specs.Grounds.{Grounds, gives, grounds};
+ghost use Rattle.session_requests.specs.WorldLaws.{collections_told, rows_are, state_told};
+ghost use Rattle.session_requests.specs.Worlds.{AreFreshOver, cells_of, fixed_in, told_in};
+
+use crate::accepted::{SoundApp, fresh_values};
+use crate::hanging::reads_cells;
+use crate::writing::{note, when, written, written_by};
+use fx_data::{Totals, Value};
+use fx_deeds::World;
+use fx_env::{Env, Steps, Stop};
+use fx_trees::{Core, Names, Schema, Source};
+use recalc::{Valued, given_value, stop_of, table_value};
+use row_keeper::{Keeper, Put};
+use row_queries::{Cells, Query, rows_fit};
+use row_values::scan;
+use session_state::{Change, Session};
+use std::alloc::Global;
+use std::sync::ledger::Ledger;
+
+/// An app at a moment and on its day, a session of it whose values fit, and a keeper that is shaped by its schema and in a
+/// transaction.
+#[derive(Drop)]
+pub(crate) struct SessionWorld<'a, A: SoundApp, K: Keeper> {
+    pub(crate) alloc: Global,
+    pub(crate) app: &'a A,
+    pub(crate) moment: u64,
+    pub(crate) day: &'a Value,
+    pub(crate) session: &'a mut Session,
+    pub(crate) keeper: &'a mut K,
+    /// The values of cells, where they were evaluated since the last change.
+    pub(crate) cells: &'a mut Option<Valued>,
+    /// The sources that were written, one after another.
+    pub(crate) wrote: &'a mut Vec<Source>,
+    ghost today: { ∥ IsToday moment (view day.now) ∥₁ },
+    ghost lawful: { IsLawfulSchema (A.app app.now).names.schema } by { schema_prop (A.app app.now).names.schema },
+    ghost shaped: { K.shaped keeper.now ≡ Some (A.app app.now).names.schema } by { shaped_prop (K.shaped keeper.now) (Some (A.app app.now).names.schema) },
+    ghost begun: { K.in_transaction keeper.now ≡ true } by { Bool-set (K.in_transaction keeper.now) true },
+    ghost sound: { AreSound (A.app app.now).names.schema (K.told keeper.now) } by { sound_prop (A.app app.now).names.schema (K.told keeper.now) },
+    ghost fits: { FitsNames (A.app app.now).names session.now } by { names_prop (A.app app.now).names session.now },
+    ghost cells_fit: { CellsFit (A.app app.now) (cell_value (cells_of cells.now)) } by { Prim.hlevel Bool-set },
+    ghost fresh: { ∥ AreFreshOver (A.app app.now) moment session.now (K.told keeper.now) cells.now ∥₁ },
+}
+
+// The values of cells that are kept.
+fn kept_values(cells: &Option<Valued>) -> &[Value]
+    ensures { map view result.now ≡ cells_of cells.now }
+{
+    match cells {
+        Some(valued) => valued.as_slice(),
+        None => &[],
+    }
+}
+
+impl<A: SoundApp, K: Keeper> Env for SessionWorld<'_, A, K> {
+    ghost Beside = { State Grounds };
+
+    ghost fixed = { λ w. fixed_in (A.app w.app.now) w.session.ghost_name w.keeper.ghost_name w.wrote.ghost_name (K.loan w.keeper.now) (K.in_transaction w.keeper.now) };
+
+    ghost told = { λ w. option_map (told_in (view w.day.now) (grounds (A.app w.app.now) w.moment (K.began w.keeper.now)) w.session.now (cells_of w.cells.now) w.wrote.now.items) (K.told w.keeper.now) };
+
+    ghost marks = { λ w. K.marks w.keeper.now };
+
+    ghost ticked = { λ w. 0 };
+
+    ghost visited = { λ w. K.visited w.keeper.now };
+
+    fn read<L: Ledger>(&mut self, source: Source, _steps: &mut Steps<L>) -> Result<Value, Stop> {
+        // Called for what they say: rows that fit a table are a value of its type, and the app is sound.
+        rows_fit();
+        self.app.is_sound();
+        let app = self.app.get();
+        match source {
+            Source::Table(table) => {
+                match table_value(self.alloc, self.keeper, &app.names.schema, table) {
+                    Ok(value) => Ok(value),
+                    Err(end) => Err(stop_of(end)),
+                }
+            }
+            _ => Ok(given_value(
+                self.alloc,
+                &app.names,
+                self.session,
+                kept_values(self.cells),
+                self.day,
+                source,
+            )?),
+        }
+    }
+
+    fn schema(&self) -> &Schema {
+        &self.app.get().names.schema
+    }
+
+    fn limit(&self) -> u32 {
+        self.app.get().limit
+    }
+
+    fn tables(&self) -> Option<&Schema> {
+        Some(&self.app.get().names.schema)
+    }
+
+    fn scan(&mut self, query: &Query) -> Result<Value, Stop> {
+        match scan(self.alloc, self.keeper, &self.app.get().names.schema, query) {
+            Ok(value) => Ok(value),
+            Err(end) => Err(stop_of(end)),
+        }
+    }
+
+    fn count(&mut self, query: &Query) -> Result<u32, Stop> {
+        match self.keeper.count(query) {
+            Ok(number) => Ok(number),
+            Err(end) => Err(stop_of(end)),
+        }
+    }
+
+    fn total(&mut self, query: &Query, column: u16) -> Result<Totals, Stop> {
+        match self.keeper.total(query, column) {
+            Ok(totals) => Ok(totals),
+            Err(end) => Err(stop_of(end)),
+        }
+    }
+}
+
+impl<A: SoundApp, K: Keeper> World for SessionWorld<'_, A, K> {
+    ghost App = { Grounds };
+
+    ghost gives = { gives };
+
+    ghost names = { λ w. (A.app w.app.now).names };
+
+    ghost state = { λ w. state_told (option_map (told_in (view w.day.now) (grounds (A.app w.app.now) w.moment (K.began w.keeper.now)) w.session.now (cells_of w.cells.now) w.wrote.now.items) (K.told w.keeper.now)) };
+
+    fn names(&self) -> &Names {
+        &self.app.get().names
+    }
+
+    fn ready<L: Ledger>(&mut self, core: &Core, steps: &mut Steps<L>) -> Result<(), Stop> {
+        // Called for what it says: the app is sound.
+        self.app.is_sound();
+        if self.cells.is_some() {
+            return Ok(());
+        }
+        if !reads_cells(self.alloc, core)? {
+            return Ok(());
+        }
+        match fresh_values(
+            self.alloc,
+            self.app,
+            self.session,
+            self.keeper,
+            self.moment,
+            steps,
+        ) {
+            Ok(cells) => {
+                *self.cells = Some(cells);
+                Ok(())
+            }
+            Err(end) => Err(stop_of(end)),
+        }
+    }
+
+    fn change(&mut self, change: Change) -> Result<bool, Stop> {
+        *self.cells = None;
+        let source = written(&change);
+        self.wrote.reserve(1)?;
+        let done = self.session.change(change)?;
+        note(self.wrote, when(done, source));
+        Ok(done)
+    }
+
+    fn insert(&mut self, table: u16, cells: &Cells) -> Result<Put, Stop> {
+        *self.cells = None;
+        self.wrote.reserve(1)?;
+        match self.keeper.insert(table, cells) {
+            Ok(put) => {
+                note(self.wrote, written_by(put, table));
+                Ok(put)
+            }
+            Err(end) => Err(stop_of(end)),
+        }
+    }
+
+    fn replace(&mut self, table: u16, id: u32, cells: &Cells) -> Result<Put, Stop> {
+        *self.cells = None;
+        self.wrote.reserve(1)?;
+        match self.keeper.replace(table, id, cells) {
+            Ok(put) => {
+                note(self.wrote, written_by(put, table));
+                Ok(put)
+            }
+            Err(end) => Err(stop_of(end)),
+        }
+    }
+
+    fn remove(&mut self, table: u16, id: u32) -> Result<bool, Stop> {
+        *self.cells = None;
+        self.wrote.reserve(1)?;
+        match self.keeper.remove(table, id) {
+            Ok(was) => {
+                note(self.wrote, when(was, Some(Source::Table(table))));
+                Ok(was)
+            }
+            Err(end) => Err(stop_of(end)),
+        }
+    }
+
+    ghost keeps = { λ a b e. ap state_told e };
+
+    ghost lost = { λ w e. ap state_told e };
+
+    ghost collections = { λ w s e p q k. collections_told (view w.day.now) (grounds (A.app w.app.now) w.moment (K.began w.keeper.now)) w.session.now (cells_of w.cells.now) w.wrote.now.items (K.told w.keeper.now) s e p q k };
+
+    ghost rows = { λ w s e p q. rows_are (view w.day.now) (grounds (A.app w.app.now) w.moment (K.began w.keeper.now)) w.session.now (cells_of w.cells.now) w.wrote.now.items (K.told w.keeper.now) s e p q };
+
+    ghost typed = { λ w x. refl };
+
+    ghost shaped = { λ w. refl };
+
+    ghost lawful = { λ w. w.lawful };
+}

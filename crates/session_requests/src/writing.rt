@@ -1,0 +1,54 @@
+//! The sources that are written.
+ghost use Rattle.std.specs.Prelude.{◌≡◌, ◌<◌, ◌++◌, Option};
+ghost use Rattle.std.specs.Option.{option_to_list};
+ghost use Rattle.std.specs.Vec.{vec_capacity, vec_len};
+ghost use Rattle.session_requests.specs.Worlds.{when as when_done, written_by as by_put};
+ghost use Rattle.fx_deeds.specs.Changed.{written as sources_of};
+
+use fx_trees::Source;
+use row_keeper::Put;
+use session_state::Change;
+
+/// The source that a change of a session writes, if it writes one.
+pub(crate) fn written(change: &Change) -> Option<Source>
+    ensures { option_to_list result ≡ sources_of change.now }
+{
+    match change {
+        Change::Global(number, _) => Some(Source::Global(*number)),
+        Change::Context(number, _) => Some(Source::Context(*number)),
+        Change::Gather(number, _) | Change::Empty(number) => Some(Source::Gathered(*number)),
+        Change::Input(number, _) => Some(Source::Input(*number)),
+        Change::Choose(number, _, _) => Some(Source::Chosen(*number)),
+        Change::Screen(_) | Change::Notice(_) => None,
+    }
+}
+
+/// The table, where a row of it was written.
+pub(crate) fn written_by(put: Put, table: u16) -> Option<Source>
+    ensures { option_to_list result ≡ by_put put table }
+{
+    match put {
+        Put::Id(_) => Some(Source::Table(table)),
+        Put::NoRow | Put::Refused(_) => None,
+    }
+}
+
+/// The source, where it was written.
+pub(crate) fn when(done: bool, source: Option<Source>) -> Option<Source>
+    ensures { result ≡ when_done done source }
+{
+    if done { source } else { None }
+}
+
+/// Notes a source that was written, if one was. There is room for it.
+pub(crate) fn note(wrote: &mut Vec<Source>, source: Option<Source>)
+    requires { vec_len wrote.old < vec_capacity wrote.old }
+    ensures { wrote.new.items ≡ wrote.old.items ++ option_to_list source }
+{
+    if let Some(source) = source {
+        match wrote.push(source) {
+            Ok(()) => {}
+            Err(_) => unreachable!(),
+        }
+    }
+}
