@@ -31,7 +31,8 @@ use Rattle.row_queries.specs.TableRows.{record_of as kept_record}
 use Rattle.row_queries.specs.declared.rows.Row.{Row as KeptRow}
 use Rattle.fx_deeds.proofs.Cells.{cells_back}
 use Rattle.fx_deeds.proofs.Deeding.{by_none}
-use Rattle.fx_deeds.proofs.Finding.{found_in, one}
+use Rattle.fx_deeds.proofs.Finding.{found_in}
+use Rattle.row_keeper.proofs.NumberedRows.{one}
 use Rattle.fx_deeds.proofs.Passing.{goes_weaker}
 use Rattle.fx_deeds.proofs.Patching.{by_number, patched_row}
 use Rattle.fx_deeds.specs.Changed.{IsRowChanged, IsRowMade}

@@ -5,6 +5,7 @@ pub mod FoundLemmas
 pub mod HeldLemmas
 pub mod HitLemmas
 pub mod MarkLemmas
+pub mod NumberedRows
 pub mod PageLemmas
 pub mod PutLemmas
 pub mod RowLists
