@@ -1,2 +1,3 @@
 pub mod Leaning
+pub mod Reach
 pub mod Spots

@@ -19,6 +19,9 @@ pub struct CellInfo {
     pub ty: Ty,
     /// What the tree names, each once, in the order of sources.
     pub reads: Sources,
+    /// The sources, cells aside, that it or a formula to which a path of leaning leads from it names, each once, in the order
+    /// of sources.
+    pub support: Sources,
     /// The tree in which each query expression that isn't taken whole gives its first rows, as many as the app's row limit.
     /// It is the one that is evaluated.
     pub taken: Core,

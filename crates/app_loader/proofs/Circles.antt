@@ -14,7 +14,7 @@ use Rattle.app_cells.specs.Leaning.{cell_behind, edge_to, edges_by, edges_from, 
 use Rattle.app_loader.proofs.Rounds.{functions_at}
 
 -- ---- the edges don't name the table of functions
-behind_alike : (n : Names) (t : Bor (List Signature)) (s : Source) → cell_behind (functions_at n t) s ≡ cell_behind n s
+pub behind_alike : (n : Names) (t : Bor (List Signature)) (s : Source) → cell_behind (functions_at n t) s ≡ cell_behind n s
 behind_alike n t (source.Cell k) = refl
 behind_alike n t (source.Input k) = refl
 behind_alike n t (source.Chosen k) = refl

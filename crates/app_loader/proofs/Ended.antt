@@ -18,7 +18,11 @@ use Rattle.app_loader.specs.Cycles.{cycle_of, name_at}
 use Rattle.app_loader.specs.Infos.{AreElaborated}
 use Rattle.app_loader.specs.JudgedFormulas.{AreFit, AreSome, IsCyclic, IsOrdered, JudgedCells, Tells, unsettled}
 use Rattle.app_loader.specs.JudgedFormulas as judge
+use Rattle.app_loader.specs.Supports.{AreSupported, unordered}
+use Rattle.app_loader.specs.Types.{HaveLawfulTrees}
 use Rattle.app_loader.proofs.Below.{still_numbered}
+use Rattle.app_loader.proofs.Elaborated.{still_elaborated, still_lawful}
+use Rattle.app_loader.proofs.Reaching.{same_count, same_edges, supports_too}
 
 pub tells_weaker : (P Q : List Broken → Type 0) → ((bs : List Broken) → P bs → Q bs) → (e : AppEnd) → Tells P e → Tells Q e
 tells_weaker P Q f (Refused all) h = f all.items h
@@ -41,13 +45,17 @@ unsettled_by seen cells n b same still limit =
     (λ bs is. (is ∙ ap (λ x. x ∷ []) (limit_is b limit), subst (λ (cs : List Seen). StillChanges cs n) same still))
 
 -- ---- order
-pub ordered : (m : Names) (limit count : ℕ) (is : List CellInfo) (edges : List (ℕ × ℕ)) (numbers order : List ℕ) → count ≡ length is → edges ≡ edges_of m is → IsOrder count edges numbers → order ≡ numbers →
-    IsOrdered m limit is (record { names = m; cells = is; order = order; limit = limit })
-ordered m limit count is edges numbers order c e o k = record {
+pub right_order : (m : Names) (count : ℕ) (is : List CellInfo) (edges : List (ℕ × ℕ)) (numbers : List ℕ) → count ≡ length is → edges ≡ edges_of m is → IsOrder count edges numbers → IsOrder (length is) (edges_of m is) numbers
+right_order m count is edges numbers c e o = subst (λ (es : List (ℕ × ℕ)). IsOrder (length is) es numbers) e (subst (λ n. IsOrder n edges numbers) c o)
+
+pub ordered : (m : Names) (limit count : ℕ) (is js : List CellInfo) (edges : List (ℕ × ℕ)) (numbers order : List ℕ) → count ≡ length is → edges ≡ edges_of m is → IsOrder count edges numbers → AreSupported m is js →
+    order ≡ numbers → IsOrdered m limit is (record { names = m; cells = js; order = order; limit = limit })
+ordered m limit count is js edges numbers order c e o all k = record {
   names = refl;
-  cells = refl;
+  cells = all.same;
   limit = refl;
-  order = subst (λ (ns : List ℕ). IsOrder (length is) (edges_of m is) ns) (sym k) (subst (λ (es : List (ℕ × ℕ)). IsOrder (length is) es numbers) e (subst (λ n. IsOrder n edges numbers) c o));
+  order = subst (λ (ns : List ℕ). IsOrder (length is) (edges_of m is) ns) (sym k) (right_order m count is edges numbers c e o);
+  supports = λ i x there. supports_too (unordered m js) (record { names = m; cells = js; order = order; limit = limit }) i x.support (λ s. refl) refl (all.each i x there);
 }
 
 pub cyclic : (m : Names) (is : List CellInfo) (edges : List (ℕ × ℕ)) (path : List ℕ) (b : Broken) → edges ≡ edges_of m is → IsClosedPath edges path → b ≡ cycle_of (map (name_at is) path) → (e : AppEnd) →
@@ -76,13 +84,15 @@ module _ (first : Names) (limit : ℕ) (cells : List Cell) where
   pub app_ok : (m : Names) (is : List CellInfo) → IsFinal (map cell_of cells) first m → AreElaborated m limit cells is → (r : Result App AppEnd) → IfOk r (IsOrdered m limit is) → IfOk r (λ a. JudgedCells first limit cells (Ok a))
   app_ok m is f h (Err e) o = tt
   app_ok m is f h (Ok a) o =
-      let both : ◌≡◌ {A = Names × List CellInfo} (m, is) (a.names, a.cells) = λ i. (sym o.names i, sym o.cells i) in
       judge.app first limit cells a (record {
         settled = record {
           final = subst (λ k. IsFinal (map cell_of cells) first k) (sym o.names) f;
-          elaborated = subst (λ (z : Names × List CellInfo). AreElaborated z.0 limit cells z.1) both h;
+          elaborated = subst (λ (n : Names). AreElaborated n limit cells a.cells) (sym o.names) (still_elaborated m limit cells is a.cells (sym o.cells) h);
         };
-        order = subst (λ (z : Names × List CellInfo). IsOrder (length z.1) (edges_of z.0 z.1) a.order) both o.order;
+        order =
+            subst (λ (n : Names). IsOrder (length a.cells) (edges_of n a.cells) a.order) (sym o.names)
+            (subst (λ n. IsOrder n (edges_of m a.cells) a.order) (sym (same_count a.cells is o.cells)) (subst (λ (es : List (ℕ × ℕ)). IsOrder (length is) es a.order) (sym (same_edges m a.cells is o.cells)) o.order));
+        supports = o.supports;
         limit = o.limit;
       })
 
@@ -91,6 +101,6 @@ pub names_ok : (P : Names → Type 0) (m : Names) (limit : ℕ) (is : List CellI
 names_ok P m limit is h (Ok a) o = subst P (sym o.names) h
 names_ok P m limit is h (Err e) o = tt
 
-pub cells_ok : (P : List CellInfo → Type 0) (m : Names) (limit : ℕ) (is : List CellInfo) → P is → (r : Result App AppEnd) → IfOk r (IsOrdered m limit is) → IfOk r (λ a. P a.cells)
-cells_ok P m limit is h (Ok a) o = subst P (sym o.cells) h
-cells_ok P m limit is h (Err e) o = tt
+pub trees_ok : (m : Names) (limit : ℕ) (is : List CellInfo) → HaveLawfulTrees is → (r : Result App AppEnd) → IfOk r (IsOrdered m limit is) → IfOk r (λ a. HaveLawfulTrees a.cells)
+trees_ok m limit is h (Ok a) o = still_lawful is a.cells (sym o.cells) h
+trees_ok m limit is h (Err e) o = tt

@@ -8,6 +8,7 @@ pub mod Rounds
 pub mod OneText
 pub mod OneReading
 pub mod Circles
+pub mod SourceOrder
 pub mod OneInfos
 pub mod OneVerdict
 pub mod Told
@@ -22,6 +23,10 @@ mod BreakLists
 mod Looks
 mod Arrows
 pub mod Below
+mod Merging
+pub mod Reaching
+mod Elaborated
+mod Supporting
 mod Ended
 pub mod Pure
 pub mod Contexts

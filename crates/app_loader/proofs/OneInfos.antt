@@ -1,74 +1,25 @@
--- Formulas have one typed tree under names, and one list of what they read.
-use Rattle.std.proofs.Common.{inl, inr, ◌≡◌, ℕ, List, [], ◌∷◌, false, Result, Ok, Err, option_map, refl, ap, sym, subst, ◌∙◌}
-use Rattle.std.specs.Cmp.Lexicographic.{slice_cmp}
-use Rattle.std.specs.Ordering.{nat_cmp, ordering_reverse, ordering_then}
-use Rattle.std.specs.declared.cmp.Ordering.{Ordering}
-use Rattle.std.specs.declared.cmp.Ordering.TheVariants.{Less, Equal, Greater}
-use Rattle.std.proofs.lemmas.Cmp.{nat_list_cmp_total}
+-- Formulas have one typed tree under names, one list of what they read, and one of what they stand on.
+use Rattle.std.proofs.Common.{inl, inr, ◌≡◌, ℕ, List, [], ◌∷◌, false, map, Result, Ok, Err, option_map, refl, ap, sym, subst, ◌∙◌}
 use Rattle.fx_data.specs.TypeView.{shape}
 use Rattle.fx_data.specs.Types.{Shape}
 use Rattle.fx_infer.proofs.Only.{ty_one}
-use Rattle.fx_trees.specs.Reads.{AreRising, IsAmong, IsBelowAll, number_of, rank_of, source_order, sources_in}
+use Rattle.fx_trees.specs.Reads.{IsAmong, sources_in}
 use Rattle.fx_trees.specs.Term.{Term}
 use Rattle.fx_trees.specs.declared.broken.Broken.{Broken}
 use Rattle.fx_trees.specs.declared.names.Names.{Names}
-use Rattle.fx_trees.specs.declared.sources.Source.{Source}
 use Rattle.app_cells.specs.declared.app.CellInfo.{CellInfo}
 use Rattle.app_cells.specs.declared.cell.Cell.{Cell}
 use Rattle.app_loader.specs.Admitted.{AreRefused}
 use Rattle.app_loader.specs.Cells.{judged}
 use Rattle.app_loader.specs.Infos.{AreElaborated, IsElaborated}
+use Rattle.app_loader.specs.Supports.{without_support}
 use Rattle.fx_plan.specs.Sites.{sites_of}
 use Rattle.fx_trees.specs.declared.schema.TableShape.{TableShape}
 use Rattle.fx_plan.specs.Limited.{limited}
 use Rattle.app_loader.proofs.JudgedAlike.{judged_alike}
 use Rattle.app_loader.proofs.Rounds.{AreAlike, functions_at}
+use Rattle.app_loader.proofs.SourceOrder.{sources_one}
 use Rattle.fx_trees.specs.Rules as rules
-
--- ---- sources in order, each once
-abbrev key_of : Source → List ℕ
-key_of s = rank_of s ∷ number_of s ∷ []
-
-then_equal : (o : Ordering) → ordering_then o Equal ≡ o
-then_equal Less = refl
-then_equal Equal = refl
-then_equal Greater = refl
-
-by_keys : (s t : Source) → source_order s t ≡ slice_cmp nat_cmp (key_of s) (key_of t)
-by_keys s t = ap (ordering_then (nat_cmp (rank_of s) (rank_of t))) (sym (then_equal (nat_cmp (number_of s) (number_of t))))
-
--- no two are each below the other
-not_both_below : (s t : Source) → source_order s t ≡ Less → source_order t s ≡ Less → ⊥
-not_both_below s t d e =
-    let both : Less ≡ Greater = sym d ∙ by_keys s t ∙ nat_list_cmp_total.antisymm (key_of s) (key_of t) ∙ ap ordering_reverse (sym (by_keys t s) ∙ e) in
-    cc
-
-below_among : (s t : Source) (ts : List Source) → IsBelowAll s ts → IsAmong t ts → source_order s t ≡ Less
-below_among s t [] b a = absurd a
-below_among s t (u ∷ us) b (inl e) = subst (λ z. source_order s z ≡ Less) e b.0
-below_among s t (u ∷ us) b (inr a) = below_among s t us b.1 a
-
-first_one : (x y : Source) (xs ys : List Source) → IsBelowAll x xs → IsBelowAll y ys → IsAmong x (y ∷ ys) → IsAmong y (x ∷ xs) → x ≡ y
-first_one x y xs ys b d (inl e) k = sym e
-first_one x y xs ys b d (inr a) (inl e) = e
-first_one x y xs ys b d (inr a) (inr k) = absurd (not_both_below x y (below_among x y xs b k) (below_among y x ys d a))
-
-later_one : (x y s : Source) (xs ys : List Source) → x ≡ y → IsBelowAll x xs → IsAmong s xs → IsAmong s (y ∷ ys) → IsAmong s ys
-later_one x y s xs ys e b a (inl h) =
-    let self : source_order s s ≡ Less = subst (λ z. source_order z s ≡ Less) (e ∙ h) (below_among x s xs b a) in
-    absurd (not_both_below s s self self)
-later_one x y s xs ys e b a (inr h) = h
-
--- lists in order that have the same sources are one
-sources_one : (xs ys : List Source) → AreRising xs → AreRising ys → ((s : Source) → IsAmong s xs → IsAmong s ys) → ((s : Source) → IsAmong s ys → IsAmong s xs) → xs ≡ ys
-sources_one [] [] p q to from = refl
-sources_one [] (y ∷ ys) p q to from = absurd (from y (inl refl))
-sources_one (x ∷ xs) [] p q to from = absurd (to x (inl refl))
-sources_one (x ∷ xs) (y ∷ ys) p q to from =
-    let first : x ≡ y = first_one x y xs ys p.0 q.0 (to x (inl refl)) (from y (inl refl)) in
-    let others : xs ≡ ys =
-    sources_one xs ys p.1 q.1 (λ s a. later_one x y s xs ys first p.0 a (to s (inr a))) (λ s a. later_one y x s ys xs (sym first) q.0 a (from s (inr a))) in
-    λ i. first i ∷ others i
 
 -- ---- where the table of functions stands doesn't matter
 module _ (m k : Names) (e : k ≡ functions_at m k.signatures) (alike : AreAlike k.signatures m.signatures) where
@@ -81,7 +32,7 @@ module _ (m k : Names) (e : k ≡ functions_at m k.signatures) (alike : AreAlike
   same_tables : k.schema.tables ≡ m.schema.tables
   same_tables = ap (λ (z : Names). z.schema.tables) e
 
-  info_one : (most : ℕ) (c : Cell) (i j : CellInfo) → IsElaborated m most c i → IsElaborated k most c j → i ≡ j
+  info_one : (most : ℕ) (c : Cell) (i j : CellInfo) → IsElaborated m most c i → IsElaborated k most c j → without_support i ≡ without_support j
   info_one most c i j x y =
       let tree : ◌≡◌ {A = Term × Shape} (i.core, shape i.ty) (j.core, shape j.ty) = same_pair (i.core, shape i.ty) (j.core, shape j.ty) (judged m c) x.tree (sym (judged_at c) ∙ y.tree) in
       let cells : i.cell ≡ j.cell = x.cell ∙ sym y.cell in
@@ -94,17 +45,17 @@ module _ (m k : Names) (e : k ≡ functions_at m k.signatures) (alike : AreAlike
       let taken : i.taken ≡ j.taken =
       x.taken ∙ ap (limited m.schema.tables most 0 false) trees ∙ ap (λ (ts : List TableShape). limited ts most 0 false j.core) (sym same_tables) ∙ sym y.taken in
       let sites : i.sites ≡ j.sites = x.sites ∙ ap (sites_of m.schema.tables) trees ∙ ap (λ (ts : List TableShape). sites_of ts j.core) (sym same_tables) ∙ sym y.sites in
-      λ z. record { cell = cells z; core = trees z; ty = types z; reads = reads z; taken = taken z; sites = sites z }
+      λ z. record { cell = cells z; core = trees z; ty = types z; reads = reads z; support = []; taken = taken z; sites = sites z }
 
-  pub infos_one : (most : ℕ) (cs : List Cell) (is js : List CellInfo) → AreElaborated m most cs is → AreElaborated k most cs js → is ≡ js
+  pub infos_one : (most : ℕ) (cs : List Cell) (is js : List CellInfo) → AreElaborated m most cs is → AreElaborated k most cs js → map without_support is ≡ map without_support js
   infos_one most [] [] [] x y = refl
   infos_one most [] [] (j ∷ js) x y = absurd y
   infos_one most [] (i ∷ is) js x y = absurd x
   infos_one most (c ∷ cs) [] js x y = absurd x
   infos_one most (c ∷ cs) (i ∷ is) [] x y = absurd y
   infos_one most (c ∷ cs) (i ∷ is) (j ∷ js) x y =
-      let first : i ≡ j = info_one most c i j x.0 y.0 in
-      let others : is ≡ js = infos_one most cs is js x.1 y.1 in
+      let first : without_support i ≡ without_support j = info_one most c i j x.0 y.0 in
+      let others : map without_support is ≡ map without_support js = infos_one most cs is js x.1 y.1 in
       λ z. first z ∷ others z
 
   not_admitted : (x : Term × Shape) (w : ℕ × ℕ) (r : Result (Term × Shape) (ℕ × ℕ)) → r ≡ Ok x → r ≡ Err w → ⊥

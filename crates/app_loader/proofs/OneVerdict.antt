@@ -3,10 +3,11 @@ use Rattle.std.proofs.Common.{◌≡◌, ℕ, ◌≤◌, List, [], ◌∷◌, le
 use Rattle.std.specs.Str.{IsUtf8}
 use Rattle.fx_trees.specs.declared.broken.Broken.{Broken}
 use Rattle.fx_trees.specs.declared.names.Names.{Names}
+use Rattle.fx_trees.specs.declared.sources.Source.{Source}
 use Rattle.app_file.specs.Files.{IsOneReading, IsRead}
 use Rattle.app_file.specs.declared.breaks.FileBreak.{FileBreak}
 use Rattle.app_file.specs.declared.file.AppFile.{AppFile}
-use Rattle.app_cells.specs.Leaning.{edges_of}
+use Rattle.app_cells.specs.Leaning.{cell_behind, edges_of}
 use Rattle.app_cells.specs.declared.app.App.{App}
 use Rattle.app_cells.specs.declared.app.CellInfo.{CellInfo}
 use Rattle.app_cells.specs.declared.cell.Cell.{Cell}
@@ -20,13 +21,15 @@ use Rattle.app_loader.specs.Admitted.{AreRefused}
 use Rattle.app_loader.specs.Cells.{cell_of}
 use Rattle.app_loader.specs.Cycles.{IsCycle}
 use Rattle.app_loader.specs.JudgedFormulas.{AreSettled, IsAppOf, JudgedCells, app, cyclic, refused, unsettling}
+use Rattle.app_loader.specs.Supports.{without_support}
 use Rattle.app_loader.specs.Judged as judge
 use Rattle.app_loader.specs.Judged.{AreNamed, Judged, JudgedApp, JudgedFile, JudgedFormulas, JudgedText, longest, misnamed, named, no_text, text, too_long}
 use Rattle.app_loader.specs.Verdicts.{IsOneApp, IsOneAppOfAFile, IsOneAppOfAText, IsOneVerdict, IsSameApp}
-use Rattle.app_loader.proofs.Circles.{edges_alike, no_circle}
+use Rattle.app_loader.proofs.Circles.{behind_alike, edges_alike, no_circle}
 use Rattle.app_loader.proofs.Functions.{breaks_alike}
 use Rattle.app_loader.proofs.OneInfos.{infos_one, none_refused}
 use Rattle.app_loader.proofs.OneReading.{named_reading_one, reading_one}
+use Rattle.app_loader.proofs.Reaching.{cells_one, same_edges}
 use Rattle.app_loader.proofs.Rounds.{AreAlike, final_names, functions_at, settles_alike}
 use Rattle.app_loader.proofs.Singles.{named_parts, reading_parts}
 use Rattle.depend_graph.specs.Order.{IsClosedPath}
@@ -45,7 +48,7 @@ module _ (f : Frame) (cells : List Cell) (first : Names) (are : AreNames f cells
   same_names : (n m : Names) (is : List CellInfo) → AreNames f cells n → AreSettled n most cells m is → (m ≡ functions_at a.names m.signatures) × AreAlike m.signatures a.names.signatures
   same_names n m is its s = final_names f (map cell_of cells) cells first n a.names m are its h.settled.final s.final
 
-  same_infos : (n m : Names) (is : List CellInfo) → AreNames f cells n → AreSettled n most cells m is → a.cells ≡ is
+  same_infos : (n m : Names) (is : List CellInfo) → AreNames f cells n → AreSettled n most cells m is → map without_support a.cells ≡ map without_support is
   same_infos n m is its s =
       let same = same_names n m is its s in
       infos_one a.names m same.0 same.1 most cells a.cells is h.settled.elaborated s.elaborated
@@ -54,7 +57,7 @@ module _ (f : Frame) (cells : List Cell) (first : Names) (are : AreNames f cells
   not_cyclic n m is b its s k =
       let same = same_names n m is its s in
       let edges : edges_of m is ≡ edges_of a.names a.cells =
-      ap (λ (z : Names). edges_of z is) same.0 ∙ edges_alike a.names m.signatures is ∙ ap (edges_of a.names) (sym (same_infos n m is its s)) in
+      ap (λ (z : Names). edges_of z is) same.0 ∙ edges_alike a.names m.signatures is ∙ sym (same_edges a.names a.cells is (same_infos n m is its s)) in
       no_circle a.names a.cells a.order k.0 h.order (subst (λ (es : List (ℕ × ℕ)). IsClosedPath es k.0) edges k.1)
 
   -- a verdict on them that is no other
@@ -62,7 +65,9 @@ module _ (f : Frame) (cells : List Cell) (first : Names) (are : AreNames f cells
   cells_agree (app n limit own b k) e l its =
       let settled : AreSettled n most cells b.names b.cells = subst (λ q. AreSettled n q cells b.names b.cells) l (subst (λ (cs : List Cell). AreSettled n limit cs b.names b.cells) e k.settled) in
       let same = same_names n b.names b.cells its settled in
-      record { cells = same_infos n b.names b.cells its settled; names = same.0; functions = same.1; limit = h.limit ∙ sym l ∙ sym k.limit }
+      let behind : (s : Source) → cell_behind a.names s ≡ cell_behind b.names s =
+      λ s. sym (ap (λ (z : Names). cell_behind z s) same.0 ∙ behind_alike a.names b.names.signatures s) in
+      record { cells = cells_one a b behind (same_infos n b.names b.cells its settled) h.supports k.supports; names = same.0; functions = same.1; limit = h.limit ∙ sym l ∙ sym k.limit }
   cells_agree (unsettling n limit own still) e l its =
       settles_alike f (map cell_of cells) cells first n a.names are its h.settled.final (subst (λ (cs : List Cell). StillChanges (map cell_of cs) n) e still)
   cells_agree (refused n limit own m b bs final r) e l its =

@@ -196,6 +196,7 @@ module _ (typed : AdmittedIsTyped) (fits : AdmittedIsWanted) (quiet : PureIsQuie
         subst (λ n. c.taken ≡ limited a.names.schema.tables n 0 false c.core) (sym parts.limit)
         (zip_left (IsElaborated a.names most) cells a.cells k c parts.settled.elaborated e).2.taken;
     order = parts.order;
+    supports = parts.supports;
   }
 
 pub accepted_sound : AdmittedIsTyped → AdmittedIsWanted → PureIsQuiet → AdmittedIsPlaced → AcceptedIsSound

@@ -16,6 +16,7 @@ use Rattle.app_loader.specs.Admitted.{AreRefused}
 use Rattle.app_loader.specs.Cells.{AreNumbered, AreShallow, cell_of}
 use Rattle.app_loader.specs.Cycles.{IsCycle}
 use Rattle.app_loader.specs.Infos.{AreElaborated}
+use Rattle.app_loader.specs.Supports.{HaveSupports, without_support}
 
 -- each of 256 rounds changes a type
 abbrev pub unsettled : Broken
@@ -26,21 +27,23 @@ pub record AreSettled (first : Names) (most : ℕ) (cells : List Cell) (m : Name
   pub final : IsFinal (map cell_of cells) first m
   pub elaborated : AreElaborated m most cells is
 
--- formulas with their typed trees in an app, in which each stands behind those that it leans on
+-- formulas with their typed trees in an app, in which each stands behind those that it leans on, and it is said what each stands on
 pub record IsOrdered (m : Names) (most : ℕ) (is : List CellInfo) (a : App) : Type 0 where
   pub names : a.names ≡ m
-  pub cells : a.cells ≡ is
+  pub cells : map without_support a.cells ≡ map without_support is
   pub limit : a.limit ≡ most
   pub order : IsOrder (length is) (edges_of m is) a.order
+  pub supports : HaveSupports a
 
 -- the one break of formulas that lean on one another in a circle
 abbrev pub IsCyclic : Names → List CellInfo → List Broken → Type 0
 IsCyclic m is bs = (b : Broken) × (bs ≡ b ∷ []) × IsCycle m is b
 
--- an app of formulas under names: each formula stands behind those that it leans on
+-- an app of formulas under names: each formula stands behind those that it leans on, and it is said what each stands on
 pub record IsAppOf (first : Names) (most : ℕ) (written : List Cell) (a : App) : Type 0 where
   pub settled : AreSettled first most written a.names a.cells
   pub order : IsOrder (length a.cells) (edges_of a.names a.cells) a.order
+  pub supports : HaveSupports a
   pub limit : a.limit ≡ most
 
 -- WHAT FORMULAS ARE UNDER NAMES: their types don't settle; some aren't admitted; some lean on one another in a circle; or

@@ -6,6 +6,7 @@ pub mod Written
 pub mod Admitted
 pub mod Types
 pub mod Infos
+pub mod Supports
 pub mod Cycles
 pub mod JudgedFormulas
 pub mod Accepted

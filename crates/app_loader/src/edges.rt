@@ -48,8 +48,8 @@ fn default_cell(names: &Names, control: u32) -> Option<u32>
     property_cell(names, control, name)
 }
 
-// The number of the cell on which leans who reads a source.
-fn cell_behind(names: &Names, source: Source) -> Option<u32>
+/// The number of the cell on which leans who reads a source.
+pub fn cell_behind(names: &Names, source: Source) -> Option<u32>
     ensures { result ≡ leaning.cell_behind names.now source }
 {
     match source {

@@ -56,7 +56,7 @@ fn taken_of(
     Ok((taken, in_order(alloc, listed)?))
 }
 
-// A formula with its typed tree under names.
+// A formula with its typed tree under names. Of what it stands on nothing is said yet.
 fn info_of(
     alloc: Global,
     names: &Names,
@@ -75,6 +75,7 @@ fn info_of(
         core: tree.core,
         ty: tree.ty,
         reads,
+        support: InOrder::new(alloc),
         taken,
         sites,
     })

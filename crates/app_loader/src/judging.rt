@@ -5,6 +5,7 @@ ghost use Rattle.app_loader.specs.Cells.{cell_of};
 ghost use Rattle.fx_trees.specs.declared.names.Names.{Names as Named};
 ghost use Rattle.app_loader.specs.Types.{AreLawfullyTyped, HaveLawfulTrees};
 ghost use Rattle.fx_trees.specs.Lawful.{IsLawful};
+ghost use Rattle.app_loader.specs.Supports.{HaveRisingReads};
 ghost use Rattle.app_loader.specs.JudgedFormulas.{AreFit, IsCyclic, IsOrdered, JudgedCells, Tells, unsettled};
 ghost use Rattle.app_cells.specs.Leaning.{edges_of};
 ghost use Rattle.depend_graph.specs.Order.{AreBelow};
@@ -14,6 +15,7 @@ use crate::admitting::typed_trees;
 use crate::cycles::cycle_break;
 use crate::edges::edges;
 use crate::infos::{in_order, infos_of, look_at_infos};
+use crate::supports::supported;
 use crate::types::look_at_types;
 use crate::writing::written_cells;
 use app_cells::{App, Cell, CellInfo};
@@ -50,14 +52,15 @@ fn final_names(alloc: Global, first: Names, cells: &[Cell]) -> Result<Names, App
     }
 }
 
-// The app of formulas with their typed trees, by their order.
+// The app of formulas with their typed trees, by their order, each with what it stands on.
 fn ordered_app(
     alloc: Global,
     names: Names,
     limit: u32,
     infos: InOrder<CellInfo>,
 ) -> Result<App, AppEnd>
-    requires { AreBelow (length infos) (edges_of names infos) }
+    requires below { AreBelow (length infos) (edges_of names infos) }
+    requires reads { HaveRisingReads infos }
     ensures app { IfOk result (IsOrdered names limit infos) }
     ensures refused { IfErr result (Tells (IsCyclic names infos)) }
 {
@@ -67,12 +70,15 @@ fn ordered_app(
     };
     let edges = edges(alloc, &names, infos.as_slice())?;
     match order(alloc, count, &edges) {
-        Ok(numbers) => Ok(App {
-            names,
-            cells: infos,
-            order: in_order(alloc, numbers)?,
-            limit,
-        }),
+        Ok(numbers) => {
+            let cells = supported(alloc, &names, infos, &numbers)?;
+            Ok(App {
+                names,
+                cells,
+                order: in_order(alloc, numbers)?,
+                limit,
+            })
+        }
         Err(OrderEnd::Cycle(path)) => {
             let broken = cycle_break(alloc, infos.as_slice(), &path)?;
             Err(only(alloc, broken))

@@ -11,6 +11,7 @@ pub mod infos;
 pub mod judging;
 pub mod laws;
 pub mod loading;
+pub mod supports;
 pub mod trees;
 pub mod types;
 pub mod verdicts;

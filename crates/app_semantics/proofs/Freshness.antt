@@ -167,7 +167,7 @@ value_fits p values c item v s n r w quiet led fit h =
     where_either (is_told p.tables c.reads) (λ x. taken_fits p values c item v s n r w quiet led fit x) (λ x. x) h
 
 -- ---- fresh values fit
-by_itself_fits : (p : Present) (values : ℕ → Data) (c : CellInfo) (v : Data) → IsSound p.app → HoldsFitting p.app.names p.session → HoldRows p.app.names.schema p.tables → IsSoundCell p.app.names c →
+pub by_itself_fits : (p : Present) (values : ℕ → Data) (c : CellInfo) (v : Data) → IsSound p.app → HoldsFitting p.app.names p.session → HoldRows p.app.names.schema p.tables → IsSoundCell p.app.names c →
     AllFit p.app values c.reads → IsCellValue p values c v → fits_in v (shape c.ty) ≡ true
 by_itself_fits p values c v s n k w led h = by c.cell.acts c.cell.item refl refl h
   where
@@ -190,7 +190,7 @@ fresh_fits p values s n r fresh k c there =
 all_fit : (p : Present) (values : ℕ → Data) (reads : List Source) → ((k : ℕ) (c : CellInfo) → slice_get p.app.cells k ≡ Some c → fits_in (values k) (shape c.ty) ≡ true) → AllFit p.app values reads
 all_fit p values reads h x among d c behind there = h d c there
 
-one_by_itself : OneValue → (p : Present) (values others : ℕ → Data) (c : CellInfo) (v w : Data) → IsSound p.app → HoldsFitting p.app.names p.session → HoldRows p.app.names.schema p.tables → IsSoundCell p.app.names c →
+pub one_by_itself : OneValue → (p : Present) (values others : ℕ → Data) (c : CellInfo) (v w : Data) → IsSound p.app → HoldsFitting p.app.names p.session → HoldRows p.app.names.schema p.tables → IsSoundCell p.app.names c →
     AllFit p.app values c.reads → AllFit p.app others c.reads → is_told p.tables c.reads ≡ true → ((x : Source) (d : ℕ) → IsAmong x c.reads → cell_behind p.app.names x ≡ Some d → values d ≡ others d) →
     IsCellValue p values c v → IsCellValue p others c w → v ≡ w
 one_by_itself one p values others c v w s n r k led also told same h j = by c.cell.acts c.cell.item h j

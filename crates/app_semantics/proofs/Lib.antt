@@ -4,3 +4,4 @@ pub mod Ordered
 pub mod CellTypes
 pub mod Given
 pub mod Freshness
+pub mod FreshAt

@@ -2,6 +2,7 @@
 use Rattle.std.specs.Prelude.{◌≡◌, ℕ, true, Some, slice_get}
 use Rattle.app_cells.specs.declared.app.CellInfo.{CellInfo}
 use Rattle.app_semantics.specs.Fresh.{AreKnown, IsFresh}
+use Rattle.app_semantics.specs.Needed.{IsFreshAt}
 use Rattle.app_semantics.specs.Present.{Present}
 use Rattle.app_semantics.specs.Sound.{IsSound}
 use Rattle.fx_data.specs.TypeView.{shape}
@@ -20,3 +21,9 @@ abbrev pub OneFresh : Type 0
 OneFresh =
     (p : Present) (values others : ℕ → Data) → IsSound p.app → HoldsFitting p.app.names p.session → AreKnown p.app p.tables →
     IsFresh p values → IsFresh p others → values ≡ others
+
+-- a cell has one fresh value, however little is known of cells that it doesn't need
+abbrev pub OneFreshAt : Type 0
+OneFreshAt =
+    (p : Present) (values others : ℕ → Data) (k : ℕ) (c : CellInfo) → IsSound p.app → HoldsFitting p.app.names p.session → AreKnown p.app p.tables →
+    slice_get p.app.cells k ≡ Some c → IsFreshAt p values k → IsFreshAt p others k → values k ≡ others k

@@ -1,6 +1,7 @@
 -- What holds of an accepted app.
 use Rattle.std.specs.Prelude.{◌≡◌, ◌↔◌, ℕ, List, [], length, true, false, Option, Some, None, slice_get}
 use Rattle.app_cells.specs.Leaning.{edges_of}
+use Rattle.app_cells.specs.Reach.{IsSupport}
 use Rattle.app_cells.specs.Spots as spots
 use Rattle.app_cells.specs.declared.app.App.{App}
 use Rattle.app_cells.specs.declared.app.CellInfo.{CellInfo}
@@ -65,8 +66,8 @@ IsTaken ts most c = c.taken ≡ limited ts most 0 false c.core
 abbrev pub frame_in : App → Frame
 frame_in a = record { schema = a.names.schema; limit = a.limit; screens = a.names.screens; controls = a.names.controls }
 
--- AN ACCEPTED APP: its names are lawful and those of its cells, each formula stands where it says and has its type, and the
--- order is one of leaning.
+-- AN ACCEPTED APP: its names are lawful and those of its cells, each formula stands where it says and has its type, the
+-- order is one of leaning, and of each formula it is known what it stands on.
 pub record IsSound (a : App) : Type 0 where
   pub names : IsLawful a.names
   pub placed : (k : ℕ) (c : CellInfo) → slice_get a.cells k ≡ Some c → spots.IsPlaced (frame_in a) c.cell
@@ -77,3 +78,4 @@ pub record IsSound (a : App) : Type 0 where
       IsCellOf a.cells p.cell c.gallery t
   pub taken : (k : ℕ) (c : CellInfo) → slice_get a.cells k ≡ Some c → IsTaken a.names.schema.tables a.limit c
   pub order : IsOrder (length a.cells) (edges_of a.names a.cells) a.order
+  pub supports : (k : ℕ) (c : CellInfo) → slice_get a.cells k ≡ Some c → IsSupport a k c.support

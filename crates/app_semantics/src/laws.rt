@@ -1,6 +1,6 @@
 // Laws of fresh values.
 ghost use Rattle.app_semantics.specs.Holding.{FittingHolds};
-ghost use Rattle.app_semantics.specs.Laws.{FreshFits, OneFresh};
+ghost use Rattle.app_semantics.specs.Laws.{FreshFits, OneFresh, OneFreshAt};
 
 use fx_semantics::one_value;
 
@@ -12,6 +12,14 @@ pub fn fresh_fits()
 /// A law, and no work: over a session whose values fit an accepted app, each cell has one fresh value.
 pub fn one_fresh()
     ensures { OneFresh }
+{
+    one_value();
+}
+
+/// A law, and no work: over a session whose values fit an accepted app, a cell has one fresh value, whatever those have that it
+/// doesn't need.
+pub fn one_fresh_at()
+    ensures { OneFreshAt }
 {
     one_value();
 }

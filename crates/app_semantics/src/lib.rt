@@ -4,4 +4,4 @@
 pub mod laws;
 
 pub use app_cells;
-pub use laws::{fitting_holds, fresh_fits, one_fresh};
+pub use laws::{fitting_holds, fresh_fits, one_fresh, one_fresh_at};
