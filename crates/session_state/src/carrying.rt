@@ -71,8 +71,8 @@ fn is_place(place: usize, found: Option<usize>) -> bool
     }
 }
 
-// Where the variable at a place was among the old ones.
-fn variable_was(old: &Names, new: &Names, place: usize) -> Option<usize>
+/// Where the variable at a place was among the old ones.
+pub fn variable_was(old: &Names, new: &Names, place: usize) -> Option<usize>
     ensures { result ≡ carrying.variable_was old.now new.now place }
 {
     let variable = new.variables.get(place)?;
@@ -85,8 +85,8 @@ fn variable_was(old: &Names, new: &Names, place: usize) -> Option<usize>
     }
 }
 
-// Where the collection at a place was among the old ones.
-fn collection_was(old: &Names, new: &Names, place: usize) -> Option<usize>
+/// Where the collection at a place was among the old ones.
+pub fn collection_was(old: &Names, new: &Names, place: usize) -> Option<usize>
     ensures { result ≡ carrying.collection_was old.now new.now place }
 {
     let collection = new.collections.get(place)?;

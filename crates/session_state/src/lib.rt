@@ -11,6 +11,7 @@ pub mod session;
 pub mod turn;
 mod weight;
 
+pub use carrying::{collection_was, variable_was};
 pub use change::Change;
 pub use desk::Desk;
 pub use session::Session;
