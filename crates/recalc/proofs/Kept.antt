@@ -14,6 +14,7 @@ use Rattle.app_semantics.proofs.Freshness.{got, read_behind}
 use Rattle.app_semantics.proofs.Given.{told_agrees}
 use Rattle.app_semantics.proofs.Ordered.{earlier, leaning_edge}
 use Rattle.app_semantics.specs.Fresh.{CanRead, IsByItself, IsCellValue, IsFresh, IsValueOf, IsWhere, is_told, standing}
+use Rattle.app_semantics.specs.Needed.{stands_alone, stands_by}
 use Rattle.app_semantics.specs.Present.{Gives, Present, present}
 use Rattle.app_semantics.specs.Sound.{IsSound}
 use Rattle.fx_data.specs.TypeView.{shape}
@@ -32,7 +33,7 @@ use Rattle.fx_trees.specs.declared.sources.Source.{Source}
 use Rattle.fx_typing.specs.Typing.{item_of}
 use Rattle.fx_value.specs.Fits.{fits_in}
 use Rattle.recalc.specs.Reading.{cell_value}
-use Rattle.recalc.specs.Values.{CellsFit, stands_alone, stands_by}
+use Rattle.recalc.specs.Values.{CellsFit}
 use Rattle.session_state.specs.Sessions.{SessionState}
 
 -- the cells of these numbers have their values, over what is heard of the rows of tables, and all others are blank so far
@@ -59,7 +60,7 @@ none_kept a s told day n = record {
 }
 
 -- ---- values of cells that aren't read
-gives_agrees : (p : Present) (values others : ℕ → Data) (x : Source) (v : Data) → ((d : ℕ) → cell_behind p.app.names x ≡ Some d → values d ≡ others d) → Gives p values x v → Gives p others x v
+pub gives_agrees : (p : Present) (values others : ℕ → Data) (x : Source) (v : Data) → ((d : ℕ) → cell_behind p.app.names x ≡ Some d → values d ≡ others d) → Gives p values x v → Gives p others x v
 gives_agrees p values others (source.Cell k) v h e = e ∙ told_agrees blank p.app.names p.session p.tables values others (source.Cell k) h
 gives_agrees p values others (source.Global k) v h e = e
 gives_agrees p values others (source.Context k) v h e = e
@@ -73,7 +74,7 @@ where_map : {P P' : Type 0} (Q : Type 0) (b : Bool) → (P → P') → IsWhere b
 where_map Q true f h = f h
 where_map Q false f h = h
 
-moved : (p : Present) (values others : ℕ → Data) (c : CellInfo) (v : Data) → ((d : ℕ) → LeansOn p.app.names c d → values d ≡ others d) → IsCellValue p values c v → IsCellValue p others c v
+pub moved : (p : Present) (values others : ℕ → Data) (c : CellInfo) (v : Data) → ((d : ℕ) → LeansOn p.app.names c d → values d ≡ others d) → IsCellValue p values c v → IsCellValue p others c v
 moved p values others c v h x = by c.cell.acts c.cell.item x
   where
     by : (b : Bool) (o : Option ℕ) → IsByItself b o (IsValueOf p values None c v) v → IsByItself b o (IsValueOf p others None c v) v

@@ -1,3 +1,15 @@
+pub mod Places
+pub mod Among
+pub mod Listing
+pub mod Agreeing
+pub mod Raising
+pub mod Emptying
+pub mod Stepping
+pub mod Setting
+pub mod Touching
+pub mod Freshening
+pub mod Marking
+pub mod Turns
 pub mod Asked
 pub mod Evaluated
 pub mod Kept

@@ -1,3 +1,8 @@
+pub mod Kept
+pub mod Changes
+pub mod Needing
+pub mod Steps
+pub mod Outcomes
 pub mod Holds
 pub mod Reading
 pub mod Queries

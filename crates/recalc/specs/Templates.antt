@@ -14,3 +14,8 @@ StandsIn n k gallery = (c : ControlName) × (slice_get n.controls k ≡ Some c) 
 abbrev pub IsTemplateProperty : App → ℕ → Option ℕ → Type 0
 IsTemplateProperty a gallery None = Unit {0}
 IsTemplateProperty a gallery (Some d) = (t : Shape) × IsCellOf a.cells d (Some gallery) t
+
+-- how often a formula is evaluated for an item: once, where it is written
+abbrev pub steps_of : Option ℕ → ℕ
+steps_of (Some d) = 1
+steps_of None = 0

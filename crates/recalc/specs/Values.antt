@@ -1,5 +1,5 @@
 -- The values of an app's cells, as they are lent.
-use Rattle.std.specs.Prelude.{◌≡◌, ℕ, List, Bool, true, false, Option, Some, None, option_map, slice_get, unwrap_or}
+use Rattle.std.specs.Prelude.{◌≡◌, ℕ, List, true, Some, slice_get}
 use Rattle.app_semantics.specs.app_cells.declared.app.App.{App}
 use Rattle.app_semantics.specs.app_cells.declared.app.CellInfo.{CellInfo}
 use Rattle.fx_data.specs.TypeView.{shape}
@@ -18,15 +18,3 @@ value_of v = cell_value v.cells
 -- each cell has a value that fits it
 abbrev pub CellsFit : App → (ℕ → Data) → Type 0
 CellsFit a values = (k : ℕ) (c : CellInfo) → slice_get a.cells k ≡ Some c → fits_in (values k) (shape c.ty) ≡ true
-
--- a formula has a value by itself: it neither acts nor sees an item
-abbrev pub stands_by : Bool → Option ℕ → Bool
-stands_by false None = true
-stands_by acts item = false
-
-abbrev pub stands_alone : CellInfo → Bool
-stands_alone c = stands_by c.cell.acts c.cell.item
-
--- the cell of this number does
-abbrev pub is_alone : List CellInfo → ℕ → Bool
-is_alone cells k = unwrap_or (option_map stands_alone (slice_get cells k)) false

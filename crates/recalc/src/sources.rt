@@ -92,6 +92,19 @@ fn default_of(alloc: Global, names: &Names, values: &[Value], control: u32) -> R
     }
 }
 
+/// The number of the cell on which leans who reads a source.
+pub fn cell_behind(names: &Names, source: Source) -> Option<u32>
+    ensures { result ≡ leaning.cell_behind names.now source }
+{
+    match source {
+        Source::Cell(cell) => Some(cell),
+        Source::Input(control) => default_cell(names, control),
+        Source::Chosen(gallery) => cell_of_property(names, gallery, "Items"),
+        Source::Global(_) | Source::Context(_) | Source::Gathered(_) => None,
+        Source::Table(_) | Source::Today => None,
+    }
+}
+
 /// The value of an input.
 pub(crate) fn input(
     alloc: Global,

@@ -1,5 +1,5 @@
 //! Whether controls are visible, and the properties of controls in galleries for an item.
-ghost use Rattle.std.specs.Prelude.{◌≡◌, ℕ, true, IfOk, Some, codes, map, option_map, slice_get, unwrap_or};
+ghost use Rattle.std.specs.Prelude.{◌≡◌, ◌+◌, ℕ, true, IfOk, Some, codes, map, option_map, slice_get, unwrap_or};
 ghost use Rattle.app_semantics.specs.app_cells.Leaning as leaning;
 ghost use Rattle.app_semantics.specs.app_cells.declared.app.CellInfo.{CellInfo as Info};
 ghost use Rattle.app_semantics.specs.Fresh.{IsValueOf};
@@ -15,7 +15,7 @@ ghost use Rattle.fx_semantics.specs.Sound.{IsItemFit};
 ghost use Rattle.fx_typing.specs.Typing.{item_of};
 ghost use Rattle.recalc.specs.Asking.{HasRead, IsHeardOf, ToldRows, keeping};
 ghost use Rattle.recalc.specs.Reading.{cell_value};
-ghost use Rattle.recalc.specs.Templates.{IsTemplateProperty, StandsIn};
+ghost use Rattle.recalc.specs.Templates.{IsTemplateProperty, StandsIn, steps_of};
 ghost use Rattle.recalc.specs.Values.{CellsFit, value_of};
 ghost use Rattle.row_keeper.specs.Causes.{HasCause};
 
@@ -47,7 +47,7 @@ pub fn is_visible(names: &Names, values: &[Value], control: u32) -> bool
     }
 }
 
-/// Whether a control in a gallery is visible for an item of it, in at most one step. `Failed` only where the keeper counted a
+/// Whether a control in a gallery is visible for an item of it, in one step where `Visible` is written. `Failed` only where the keeper counted a
 /// fault.
 #[tactic(auto, using(crate::proofs::Asked::read_none))]
 pub fn is_visible_for_item<K: Keeper, L: Ledger>(
@@ -70,6 +70,7 @@ pub fn is_visible_for_item<K: Keeper, L: Ledger>(
     requires shaped { K.shaped keeper.old ≡ Some app.now.names.schema }
     ensures shows { IfOk result (λ b. (moment : ℕ) (tables : ToldRows) → IsToday moment valued.now.day → IsHeardOf (K.told keeper.new) tables →
         (v : Data) × IsPropertyForItem (present app.now session.now tables moment) (value_of valued.now) (record_of row.now) control (codes "Visible") (boolean true) v × (b ≡ is_true_of v)) }
+    ensures steps { IfOk result (λ b. steps.new ≡ steps.old + steps_of (leaning.cell_of_property app.now.names control (codes "Visible"))) }
     ensures read { HasRead (keeping (K.told keeper.old) (K.began keeper.old) (K.shaped keeper.old) (K.in_transaction keeper.old) (K.marks keeper.old) (K.visited keeper.old) (K.loan keeper.old))
         (keeping (K.told keeper.new) (K.began keeper.new) (K.shaped keeper.new) (K.in_transaction keeper.new) (K.marks keeper.new) (K.visited keeper.new) (K.loan keeper.new)) }
     ensures cause { HasCause (K.marks keeper.old) (K.marks keeper.new) result }
@@ -81,8 +82,8 @@ pub fn is_visible_for_item<K: Keeper, L: Ledger>(
     Ok(is_true(Some(&visible)))
 }
 
-/// The value of a property of a control in a gallery for an item of it, in at most one step, and another where it isn't
-/// written. `Failed` only where the keeper counted a fault.
+/// The value of a property of a control in a gallery for an item of it, in one step, and another where it isn't written, in
+/// none. `Failed` only where the keeper counted a fault.
 #[tactic(auto, using(crate::proofs::Asked::read_none))]
 pub fn property_for_item<K: Keeper, L: Ledger>(
     alloc: Global,
@@ -106,6 +107,7 @@ pub fn property_for_item<K: Keeper, L: Ledger>(
     requires shaped { K.shaped keeper.old ≡ Some app.now.names.schema }
     ensures shows { IfOk result (λ v. (moment : ℕ) (tables : ToldRows) → IsToday moment valued.now.day → IsHeardOf (K.told keeper.new) tables →
         IsPropertyForItem (present app.now session.now tables moment) (value_of valued.now) (record_of row.now) control name.now (view unwritten) (view v)) }
+    ensures steps { IfOk result (λ v. steps.new ≡ steps.old + steps_of (leaning.cell_of_property app.now.names control name.now)) }
     ensures read { HasRead (keeping (K.told keeper.old) (K.began keeper.old) (K.shaped keeper.old) (K.in_transaction keeper.old) (K.marks keeper.old) (K.visited keeper.old) (K.loan keeper.old))
         (keeping (K.told keeper.new) (K.began keeper.new) (K.shaped keeper.new) (K.in_transaction keeper.new) (K.marks keeper.new) (K.visited keeper.new) (K.loan keeper.new)) }
     ensures cause { HasCause (K.marks keeper.old) (K.marks keeper.new) result }
@@ -140,6 +142,7 @@ fn cell_for_item<K: Keeper, L: Ledger>(
     requires shaped { K.shaped keeper.old ≡ Some app.now.names.schema }
     ensures shows { IfOk result (λ v. (moment : ℕ) (tables : ToldRows) → IsToday moment valued.now.day → IsHeardOf (K.told keeper.new) tables →
         (c : Info) × (slice_get app.now.cells cell ≡ Some c) × IsValueOf (present app.now session.now tables moment) (value_of valued.now) (Some (record_of row.now)) c (view v)) }
+    ensures steps { IfOk result (λ v. steps.new ≡ steps.old + 1) }
     ensures read { HasRead (keeping (K.told keeper.old) (K.began keeper.old) (K.shaped keeper.old) (K.in_transaction keeper.old) (K.marks keeper.old) (K.visited keeper.old) (K.loan keeper.old))
         (keeping (K.told keeper.new) (K.began keeper.new) (K.shaped keeper.new) (K.in_transaction keeper.new) (K.marks keeper.new) (K.visited keeper.new) (K.loan keeper.new)) }
     ensures cause { HasCause (K.marks keeper.old) (K.marks keeper.new) result }

@@ -4,6 +4,7 @@ ghost use Rattle.std.specs.List.{count_by};
 ghost use Rattle.app_semantics.specs.app_cells.declared.app.CellInfo.{CellInfo as Info};
 ghost use Rattle.app_semantics.specs.Fresh.{IsCellValue, IsFresh, IsValueOf};
 ghost use Rattle.app_semantics.specs.Holding.{HoldsFitting};
+ghost use Rattle.app_semantics.specs.Needed.{is_alone, stands_alone as is_by_itself};
 ghost use Rattle.app_semantics.specs.Present.{present};
 ghost use Rattle.app_semantics.specs.Sound.{IsSound};
 ghost use Rattle.fx_data.specs.ValueView.{view};
@@ -13,7 +14,7 @@ ghost use Rattle.recalc.specs.Asking.{CanAsk, HasRead, IsHeardOf, ReadsNone, Tol
 ghost use Rattle.recalc.specs.Reading.{cell_value};
 ghost use Rattle.row_keeper.specs.Causes.{HasCause};
 ghost use Rattle.row_keeper.specs.declared.keeper.KeeperEnd.TheVariants.{Failed};
-ghost use Rattle.recalc.specs.Values.{CellsFit, is_alone, stands_alone as is_by_itself, value_of};
+ghost use Rattle.recalc.specs.Values.{CellsFit, value_of};
 
 use crate::app_cells::{App, CellInfo};
 use crate::evaluating::formula_value;
@@ -51,22 +52,49 @@ impl Model for Valued {
 }
 
 impl Valued {
-    ghost use Rattle.std.specs.Prelude.{◌≡◌, ◌+◌, ℕ, false, true, IfOk, Some, map, slice_get};
-    ghost use Rattle.app_semantics.specs.Fresh.{IsValueOf};
+    ghost use Rattle.std.specs.Prelude.{◌≡◌, ◌+◌, ◌<◌, ℕ, false, true, IfOk, IsErrOf, Some, length, map, replicate, slice_get, slice_set};
+    ghost use Rattle.app_semantics.specs.Fresh.{IsCellValue, IsValueOf};
     ghost use Rattle.app_semantics.specs.Holding.{HoldsFitting};
+    ghost use Rattle.app_semantics.specs.Needed.{stands_alone as is_by_itself};
     ghost use Rattle.app_semantics.specs.Present.{input_of, items_of, present};
     ghost use Rattle.app_semantics.specs.Sound.{IsSound};
     ghost use Rattle.fx_data.specs.TypeView.{shape};
     ghost use Rattle.fx_data.specs.ValueView.{view};
+    ghost use Rattle.fx_data.specs.Values.{blank};
     ghost use Rattle.fx_scalar.specs.ScalarFunctions.{IsToday};
     ghost use Rattle.fx_semantics.specs.Sound.{IsItemFit};
     ghost use Rattle.fx_trees.specs.declared.sources.Source.TheVariants as source;
     ghost use Rattle.fx_typing.specs.Typing.{item_of};
     ghost use Rattle.fx_value.specs.Fits.{fits_in};
-    ghost use Rattle.recalc.specs.Asking.{HasRead, IsHeardOf, ToldRows, keeping};
+    ghost use Rattle.recalc.specs.Asking.{CanAsk, HasRead, IsHeardOf, ReadsNone, ToldRows, keeping};
     ghost use Rattle.recalc.specs.Values.{CellsFit, value_of};
     ghost use Rattle.row_keeper.specs.Causes.{HasCause};
+    ghost use Rattle.row_keeper.specs.declared.keeper.KeeperEnd.TheVariants.{Failed};
     ghost use Rattle.session_state.specs.Sessions.{Holds};
+
+    /// Blank values of so many cells, on this day.
+    pub fn blank(alloc: Global, count: usize, day: Value) -> Result<Valued, Memory>
+        ensures cells { IfOk result (λ v. v.cells ≡ replicate count blank) }
+        ensures day { IfOk result (λ v. v.day ≡ view day) }
+    {
+        let values = blanks(alloc, count)?;
+        Ok(Valued { values, day })
+    }
+
+    /// Gives a cell a value.
+    pub fn put(&mut self, cell: u32, value: Value)
+        requires { cell < length self.old.cells }
+        ensures { self.new ≡ record self.old { cells = slice_set self.old.cells cell (view value) } }
+    {
+        self.values[cell as usize] = value;
+    }
+
+    /// Another day begins.
+    pub fn set_day(&mut self, day: Value)
+        ensures { self.new ≡ record self.old { day = view day } }
+    {
+        self.day = day;
+    }
 
     /// The value of each cell, by its number.
     pub fn as_slice(&self) -> &[Value]
@@ -101,6 +129,39 @@ impl Valued {
         ensures { IfOk result (λ v. view v ≡ items_of names.now (value_of self.now) gallery) }
     {
         sources::items(alloc, names, self.values.as_slice(), gallery)
+    }
+
+    /// The value of a formula that has one by itself, over those of the cells on which it leans, in one step. `Failed` only
+    /// where the keeper counted a fault.
+    pub fn by_itself<K: Keeper, L: Ledger>(
+        &self,
+        alloc: Global,
+        app: &App,
+        session: &Session,
+        keeper: &mut K,
+        info: &CellInfo,
+        steps: &mut Steps<L>,
+    ) -> Result<Value, KeeperEnd>
+        requires sound { IsSound app.now }
+        requires holds { HoldsFitting app.now.names session.now }
+        requires fits { CellsFit app.now (value_of self.now) }
+        requires day { (moment : ℕ) × IsToday moment self.now.day }
+        requires cell { (k : ℕ) × (slice_get app.now.cells k ≡ Some info.now) }
+        requires alone { is_by_itself info.now ≡ true }
+        requires asks { CanAsk app.now (K.shaped keeper.old) }
+        ensures value { IfOk result (λ v. (moment : ℕ) (tables : ToldRows) → IsToday moment self.now.day → IsHeardOf (K.told keeper.new) tables →
+            IsCellValue (present app.now session.now tables moment) (value_of self.now) info.now (view v)) }
+        ensures fits { IfOk result (λ v. fits_in (view v) (shape info.now.ty) ≡ true) }
+        ensures steps { IfOk result (λ v. steps.new ≡ steps.old + 1) }
+        ensures read { HasRead (keeping (K.told keeper.old) (K.began keeper.old) (K.shaped keeper.old) (K.in_transaction keeper.old) (K.marks keeper.old) (K.visited keeper.old) (K.loan keeper.old))
+            (keeping (K.told keeper.new) (K.began keeper.new) (K.shaped keeper.new) (K.in_transaction keeper.new) (K.marks keeper.new) (K.visited keeper.new) (K.loan keeper.new)) }
+        ensures cause { HasCause (K.marks keeper.old) (K.marks keeper.new) result }
+        ensures alone { ReadsNone app.now → keeper.new ≡ keeper.old }
+        ensures reached { IsErrOf result Failed → ReadsNone app.now → ⊥ }
+    {
+        let values = self.values.as_slice();
+        let day = &self.day;
+        formula_value(alloc, app, session, keeper, values, day, info, None, steps)
     }
 
     /// The value of a formula of a template for an item of its gallery, in one step. `Failed` only where the keeper counted a
@@ -230,8 +291,8 @@ fn blanks(alloc: Global, count: usize) -> Result<Vec<Value>, Memory>
     Ok(all)
 }
 
-// Whether a formula has a value by itself.
-fn stands_alone(info: &CellInfo) -> bool
+/// Whether a formula has a value by itself.
+pub fn stands_alone(info: &CellInfo) -> bool
     ensures { result ≡ is_by_itself info.now }
 {
     !info.cell.acts && info.cell.item.is_none()

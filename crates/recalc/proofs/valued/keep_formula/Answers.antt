@@ -6,7 +6,7 @@ use Rattle.fx_data.specs.ValueView.{view}
 use Rattle.fx_data.specs.Values.{Data}
 use Rattle.fx_data.specs.declared.values.Value.{Value}
 use Rattle.recalc.specs.Reading.{cell_value}
-use Rattle.recalc.specs.Values.{stands_alone}
+use Rattle.app_semantics.specs.Needed.{stands_alone}
 use Rattle.recalc.proofs.Asked.{asks_for}
 use Rattle.recalc.proofs.Kept.{own_value, set_fits, set_other, set_same}
 use Rattle.recalc.proofs.valued.keep_formula.Goals as goal

@@ -2,7 +2,7 @@ use Rattle.std.proofs.Common.{◌∙◌, ℕ, List, map}
 use Rattle.fx_data.specs.ValueView.{view}
 use Rattle.recalc.specs.Asking.{Keeping, keeping}
 use Rattle.recalc.specs.Reading.{cell_value}
-use Rattle.recalc.specs.Values.{is_alone}
+use Rattle.app_semantics.specs.Needed.{is_alone}
 use Rattle.row_keeper.specs.Tables.{rows_told}
 use Rattle.recalc.proofs.Asked.{heard_before, read_on, still_asks}
 use Rattle.recalc.proofs.Kept.{all_fresh, more_kept, number_blank, number_within, steps_all, steps_more}

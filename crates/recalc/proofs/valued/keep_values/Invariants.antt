@@ -4,7 +4,7 @@ use Rattle.fx_data.specs.ValueView.{view}
 use Rattle.recalc.specs.Asking.{HasRead, ReadsNone, keeping}
 use Rattle.recalc.specs.Reading.{cell_value}
 use Rattle.row_keeper.specs.Tables.{rows_told}
-use Rattle.recalc.specs.Values.{is_alone}
+use Rattle.app_semantics.specs.Needed.{is_alone}
 use Rattle.recalc.proofs.Kept.{AreKept}
 use Rattle.recalc.proofs.valued.keep_values.Given as goal
 

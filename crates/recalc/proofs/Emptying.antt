@@ -1,0 +1,94 @@
+-- An emptied cache is right, and so is a new one.
+use Rattle.std.proofs.Common.{◌≡◌, ℕ, zero, suc, ◌<◌, ◌≤◌, List, length, true, get_or, replicate, Option, Some, None, refl, sym, subst, ap, ◌∙◌, arith}
+use Rattle.std.proofs.lemmas.List.{length-replicate}
+use Rattle.fx_data.specs.TypeView.{shape}
+use Rattle.fx_data.specs.Values.{Data, blank}
+use Rattle.fx_trees.specs.declared.sources.Source.{Source}
+use Rattle.fx_value.specs.Fits.{fits_in}
+use Rattle.recalc.specs.Asking.{ToldRows}
+use Rattle.recalc.specs.Reading.{cell_value}
+use Rattle.recalc.specs.Values.{Values}
+use Rattle.recalc.specs.app_cells.declared.app.App.{App}
+use Rattle.recalc.specs.app_semantics.Present.{present}
+use Rattle.session_state.specs.Sessions.{SessionState}
+use Rattle.recalc.specs.Kept.{HasRoom, IsInOrder, IsRight, IsSourceOf, Kept, place_of, stamp_of, value_of}
+use Rattle.recalc.specs.Outcomes.{HasNumbers, IsEmptied, IsEmpty}
+use Rattle.recalc.specs.declared.stamps.Stamp.{Stamp}
+
+no_stamp : (o : Option Stamp) (e : Stamp) → o ≡ None → o ≡ Some e → ⊥
+no_stamp o e n s = let both : None ≡ Some e = sym n ∙ s in absurd cc
+
+pub emptied_order : (a : App) (old new : Kept) → IsEmptied old new → IsInOrder a old → IsInOrder a new
+emptied_order a old new h o = record {
+  few = o.few;
+  stamps = h.cells ∙ o.stamps;
+  values = ap (λ (v : Values). length v.cells) h.values ∙ o.values;
+  places = λ s there. subst (λ n. place_of s < n) (sym h.places) (o.places s there);
+  fits = λ k i there. subst (λ (v : Values). fits_in (cell_value v.cells k) (shape i.ty) ≡ true) (sym h.values) (o.fits k i there);
+  bare = λ k aside. ap (λ (v : Values). cell_value v.cells k) h.values ∙ o.bare k aside;
+  alone = λ k e at. absurd (no_stamp (stamp_of new k) e (h.stamps k) at);
+  leans = λ k d e at current leans. absurd (no_stamp (stamp_of new k) e (h.stamps k) at);
+  low = record {
+    versions = λ p. let zero = h.versions p in omega (arith, zero);
+    checked = λ k e at. absurd (no_stamp (stamp_of new k) e (h.stamps k) at);
+    moved = λ k e at. absurd (no_stamp (stamp_of new k) e (h.stamps k) at);
+  };
+}
+
+pub emptied_right : (a : App) (old new : Kept) → IsEmptied old new → (s : SessionState) (tables : ToldRows) (m : ℕ) (pending : List Source) → IsRight (present a s tables m) pending old → IsRight (present a s tables m) pending new
+emptied_right a old new h s tables m pending r = record {
+  order = emptied_order a old new h r.order;
+  valid = λ k e i at there none unmoved. absurd (no_stamp (stamp_of new k) e (h.stamps k) at);
+}
+
+pub has_numbers : (a : App) (c : Kept) → HasRoom c.last → HasNumbers a c c
+has_numbers a c room = record { room = room; same = λ h. refl; order = λ o. o; right = λ s tables m pending r. r; places = refl; day = refl }
+
+pub new_numbers : (a : App) (old new : Kept) → (HasRoom old.last → ⊥) → IsEmptied old new → HasNumbers a old new
+new_numbers a old new short h = record {
+  room = let zero = h.last in omega (arith, zero);
+  same = λ room. absurd (short room);
+  order = emptied_order a old new h;
+  right = emptied_right a old new h;
+  places = h.places;
+  day = ap (λ (v : Values). v.day) h.values;
+}
+
+-- ---- a new cache
+replicate_at : {X : Type 0} (n k : ℕ) (x : X) → get_or (replicate n x) k x ≡ x
+replicate_at zero k x = refl
+replicate_at (suc n) zero x = refl
+replicate_at (suc n) (suc k) x = replicate_at n k x
+
+blank_at : (n k : ℕ) → cell_value (replicate n blank) k ≡ blank
+blank_at zero k = refl
+blank_at (suc n) zero = refl
+blank_at (suc n) (suc k) = blank_at n k
+
+pub new_empty : (places cells : ℕ) (c : Kept) → c.last ≡ 0 → c.versions ≡ replicate places 0 → c.stamps ≡ replicate cells None → IsEmpty c
+new_empty places cells c last versions stamps = record {
+  last = last;
+  versions = λ p. ap (λ (xs : List ℕ). get_or xs p 0) versions ∙ replicate_at places p 0;
+  stamps = λ k. ap (λ (xs : List (Option Stamp)). get_or xs k None) stamps ∙ replicate_at cells k None;
+}
+
+pub new_order : (a : App) (places : ℕ) (c : Kept) → length a.cells ≤ 2000 → ((s : Source) → IsSourceOf a.names s → place_of s < places) → c.last ≡ 0 → c.versions ≡ replicate places 0 → c.stamps ≡ replicate (length a.cells) None →
+    c.values.cells ≡ replicate (length a.cells) blank → IsInOrder a c
+new_order a places c few hold last versions stamps values =
+    let empty : IsEmpty c = new_empty places (length a.cells) c last versions stamps in
+    let is_blank : (k : ℕ) → value_of c k ≡ blank = λ k. ap (λ (ds : List Data). cell_value ds k) values ∙ blank_at (length a.cells) k in
+    record {
+      few = few;
+      stamps = ap length stamps ∙ length-replicate (length a.cells) None;
+      values = ap length values ∙ length-replicate (length a.cells) blank;
+      places = λ s there. subst (λ n. place_of s < n) (sym (ap length versions ∙ length-replicate places 0)) (hold s there);
+      fits = λ k i there. subst (λ d. fits_in d (shape i.ty) ≡ true) (sym (is_blank k)) refl;
+      bare = λ k aside. is_blank k;
+      alone = λ k e at. absurd (no_stamp (stamp_of c k) e (empty.stamps k) at);
+      leans = λ k d e at current leans. absurd (no_stamp (stamp_of c k) e (empty.stamps k) at);
+      low = record {
+        versions = λ p. let zero = empty.versions p in omega (arith, zero);
+        checked = λ k e at. absurd (no_stamp (stamp_of c k) e (empty.stamps k) at);
+        moved = λ k e at. absurd (no_stamp (stamp_of c k) e (empty.stamps k) at);
+      };
+    }

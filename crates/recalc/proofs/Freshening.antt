@@ -1,0 +1,37 @@
+-- The values of clean cells are fresh.
+use Rattle.std.proofs.Common.{◌≡◌, ℕ, [], Bool, true, false, Some, refl}
+use Rattle.std.specs.List.{slice_get}
+use Rattle.recalc.proofs.Kept.{no_value}
+use Rattle.recalc.specs.Asking.{ToldRows}
+use Rattle.recalc.specs.app_cells.Reach.{named}
+use Rattle.recalc.specs.app_cells.declared.app.App.{App}
+use Rattle.recalc.specs.app_cells.declared.app.CellInfo.{CellInfo}
+use Rattle.recalc.specs.app_semantics.Fresh.{IsCellValue}
+use Rattle.recalc.specs.app_semantics.Needed.{IsFreshAt, Needs, further, is_alone, itself, stands_alone}
+use Rattle.recalc.specs.app_semantics.Present.{present}
+use Rattle.session_state.specs.Sessions.{SessionState}
+use Rattle.recalc.proofs.Places.{alone_of, aside_of}
+use Rattle.recalc.specs.Kept.{IsClean, IsInOrder, IsRight, IsUnmoved, Kept, value_of}
+
+-- what a clean cell needs is clean, but for formulas that have no value by themselves
+needed_clean : (a : App) (c : Kept) → IsInOrder a c → (k d : ℕ) → Needs a k d → IsClean a c k → is_alone a.cells d ≡ true → IsClean a c d
+needed_clean a c o k d (itself j) clean own = clean
+needed_clean a c o k d (further j x y i need there alone leans) clean own =
+    let below : IsClean a c x = needed_clean a c o j x need clean (alone_of a.cells x i there alone) in
+    (o.leans x y below.0 below.1 below.2 (i, there, leans, own)).0
+
+-- nothing that a clean cell names moved since it was checked
+clean_unmoved : (a : App) (c : Kept) → IsInOrder a c → (k : ℕ) (i : CellInfo) → slice_get a.cells k ≡ Some i → (clean : IsClean a c k) → IsUnmoved a c i (clean.0).checked
+clean_unmoved a c o k i there clean = record {
+  sources = λ s plain among. clean.2 s plain (named k i s there among);
+  cells = λ d leans own. (o.leans k d clean.0 clean.1 clean.2 (i, there, leans, own)).1;
+}
+
+pub clean_fresh : (a : App) (s : SessionState) (tables : ToldRows) (m : ℕ) (c : Kept) (k : ℕ) → IsRight (present a s tables m) [] c → IsClean a c k → IsFreshAt (present a s tables m) (value_of c) k
+clean_fresh a s tables m c k r clean = λ d i need there. by d i need there (stands_alone i) refl
+  where
+    by : (d : ℕ) (i : CellInfo) → Needs a k d → slice_get a.cells d ≡ Some i → (b : Bool) → stands_alone i ≡ b → IsCellValue (present a s tables m) (value_of c) i (value_of c d)
+    by d i need there true alone =
+        let below : IsClean a c d = needed_clean a c r.order k d need clean (alone_of a.cells d i there alone) in
+        r.valid d below.0 i below.1 there (λ x l n. absurd l) (clean_unmoved a c r.order d i there below)
+    by d i need there false aside = no_value (present a s tables m) (value_of c) i (value_of c d) aside (r.order.bare d (aside_of a.cells d i there aside))

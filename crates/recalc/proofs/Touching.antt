@@ -1,0 +1,51 @@
+-- A source is touched, and another day begins.
+use Rattle.std.proofs.Common.{◌≡◌, ℕ, ◌+◌, ◌<◌, List, length, length-set, false, None, Some, sym, subst, ap, ◌∙◌}
+use Rattle.fx_data.specs.Values.{Data}
+use Rattle.fx_trees.specs.declared.sources.Source.{Source}
+use Rattle.recalc.specs.app_cells.Reach.{is_cell}
+use Rattle.recalc.specs.app_cells.declared.app.App.{App}
+use Rattle.recalc.specs.app_semantics.Present.{Present}
+use Rattle.recalc.proofs.Raising.{raised_clears, raised_leaves, raised_none, raised_order, raised_right}
+use Rattle.recalc.specs.Changes.{IsTouched, on_day, raised}
+use Rattle.recalc.specs.Kept.{IsClean, IsInOrder, IsRight, Kept, place_of, stamp_of}
+use Rattle.recalc.specs.Outcomes.{HasNumbers}
+
+-- numbers are made, and the source gets the next one
+pub touched_is : (a : App) (source : Source) (old mid : Kept) → place_of source < length mid.versions → is_cell source ≡ false → HasNumbers a old mid → IsTouched a source old (raised mid source)
+touched_is a source old mid place plain h = record {
+  order = λ o. raised_order a source mid place plain (h.order o);
+  right = λ s tables m pending r. raised_right a source mid place plain s tables m pending (h.right s tables m _ r);
+  cleared = λ room o k z clean. raised_clears a source mid place plain (h.order o) k z clean;
+  left = λ room k far clean. raised_leaves a source mid place k far (subst (λ (c : Kept). IsClean a c k) (sym (h.same room)) clean);
+  none = λ room o k clean. subst (λ (c : Kept). IsClean a c k) (h.same room) (raised_none a source mid place (h.order o) k clean);
+  day = h.day;
+  kept = λ room. (ap (λ (c : Kept). c.stamps) (h.same room), ap (λ (c : Kept). c.values) (h.same room), ap (λ (c : Kept). c.last + 1) (h.same room));
+  places = length-set mid.versions (place_of source) (mid.last + 1) ∙ h.places;
+}
+
+-- the day is nothing to what is kept
+pub day_order : (a : App) (c : Kept) (d : Data) → IsInOrder a c → IsInOrder a (on_day c d)
+day_order a c d o = record {
+  few = o.few;
+  stamps = o.stamps;
+  values = o.values;
+  places = o.places;
+  fits = o.fits;
+  bare = o.bare;
+  alone = o.alone;
+  leans = o.leans;
+  low = record { versions = o.low.versions; checked = o.low.checked; moved = o.low.moved };
+}
+
+pub day_right : (p : Present) (pending : List Source) (c : Kept) (d : Data) → IsRight p pending c → IsRight p pending (on_day c d)
+day_right p pending c d r = record {
+  order = day_order p.app c d r.order;
+  valid = λ k e i at there none unmoved. r.valid k e i at there none (record { sources = unmoved.sources; cells = unmoved.cells });
+}
+
+-- a cache in which nothing is kept is right over all
+pub empty_right : (p : Present) (pending : List Source) (c : Kept) → IsInOrder p.app c → ((k : ℕ) → stamp_of c k ≡ None) → IsRight p pending c
+empty_right p pending c o none = record {
+  order = o;
+  valid = λ k e i at there far unmoved. let no : None ≡ Some e = sym (none k) ∙ at in absurd cc;
+}

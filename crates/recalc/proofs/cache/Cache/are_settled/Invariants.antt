@@ -1,0 +1,10 @@
+use Rattle.std.proofs.Common.{◌≡◌, ℕ, ◌<◌, Some, true, slice_get}
+use Rattle.fx_trees.specs.declared.sources.Source.{Source}
+use Rattle.recalc.specs.app_cells.Leaning.{cell_behind}
+use Rattle.recalc.specs.app_semantics.Needed.{is_alone}
+use Rattle.recalc.specs.Kept.{IsSettled}
+use Rattle.recalc.proofs.cache.Cache.are_settled.Given as goal
+
+abbrev pub invariant-loop-source : goal.invariant-loop-source
+invariant-loop-source l =
+    (j : ℕ) (s : Source) → j < l.source-index → slice_get l.sources j ≡ Some s → (d : ℕ) → cell_behind l.app.names s ≡ Some d → is_alone l.app.cells d ≡ true → IsSettled l.self d l.number

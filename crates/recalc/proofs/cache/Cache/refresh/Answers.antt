@@ -1,0 +1,68 @@
+use Rattle.std.proofs.Common.{◌≡◌, ◌∙◌, ◌+◌, ◌≤◌, ℕ, List, [], refl, subst, sym}
+use Rattle.std.proofs.lemmas.Result.{on_ok_weaker}
+use Rattle.std.specs.Prelude.{OnOk}
+use Rattle.recalc.specs.Asking.{IsHeardOf, ToldRows}
+use Rattle.fx_scalar.specs.ScalarFunctions.{IsToday}
+use Rattle.recalc.proofs.Freshening.{clean_fresh}
+use Rattle.recalc.proofs.Turns.{leaves_start, no_ticks}
+use Rattle.recalc.specs.Kept.{Kept}
+use Rattle.recalc.specs.Outcomes.{HasNumbers}
+use Rattle.recalc.specs.Steps.{Leaves, OncePerCell}
+use Rattle.recalc.proofs.cache.Cache.refresh.Goals as goal
+
+pub returns-then-all_stand-clause-fresh : goal.returns-then-all_stand-clause-fresh
+returns-then-all_stand-clause-fresh g c = λ right tables k heard root.
+    clean_fresh c.args.app.now c.args.session.now tables c.args.moment c.args.self.now k (right tables heard) (c.all_stand.ensures c.if-all_stand.true k root)
+
+pub returns-then-all_stand-clause-left : goal.returns-then-all_stand-clause-left
+returns-then-all_stand-clause-left g c = λ room. leaves_start c.args.app.now c.args.self.now
+
+pub returns-then-all_stand-clause-ticks : goal.returns-then-all_stand-clause-ticks
+returns-then-all_stand-clause-ticks g c = λ room. no_ticks c.args.app.now c.args.roots.now c.args.self.now c.args.self.now c.args.steps.now
+
+pub needed-requires-clause-order : goal.needed-requires-clause-order
+needed-requires-clause-order g c = (c.make_numbers.ensures.numbers c.args.app.now).order c.requires.order
+
+pub returns-in_err-marks-clause-order : goal.returns-in_err-marks-clause-order
+returns-in_err-marks-clause-order g c = (c.make_numbers.ensures.numbers c.args.app.now).order c.requires.order
+
+pub returns-in_err-marks-clause-right : goal.returns-in_err-marks-clause-right
+returns-in_err-marks-clause-right g c = λ right tables heard. (c.make_numbers.ensures.numbers c.args.app.now).right c.args.session.now tables c.args.moment [] (right tables heard)
+
+pub returns-in_err-marks-clause-day : goal.returns-in_err-marks-clause-day
+returns-in_err-marks-clause-day g c = (c.make_numbers.ensures.numbers c.args.app.now).day
+
+pub returns-in_err-marks-clause-left : goal.returns-in_err-marks-clause-left
+returns-in_err-marks-clause-left g c = λ room.
+    subst (λ (x : Kept). Leaves c.args.app.now c.args.self.now x) (sym ((c.make_numbers.ensures.numbers c.args.app.now).same room)) (leaves_start c.args.app.now c.args.self.now)
+
+pub bring_all-requires-clause-order : goal.bring_all-requires-clause-order
+bring_all-requires-clause-order g c = (c.make_numbers.ensures.numbers c.args.app.now).order c.requires.order
+
+pub bring_all-requires-clause-day : goal.bring_all-requires-clause-day
+bring_all-requires-clause-day g c = subst (IsToday c.args.moment) (sym (c.make_numbers.ensures.numbers c.args.app.now).day) c.requires.day
+
+pub bring_all-requires-clause-room : goal.bring_all-requires-clause-room
+bring_all-requires-clause-room g c = c.make_numbers.ensures.room
+
+pub returns-clause-right : goal.returns-clause-right
+returns-clause-right g c = λ right. c.bring_all.ensures.right (λ tables heard. (c.make_numbers.ensures.numbers c.args.app.now).right c.args.session.now tables c.args.moment [] (right tables heard))
+
+pub returns-clause-day : goal.returns-clause-day
+returns-clause-day g c = c.bring_all.ensures.left.day ∙ (c.make_numbers.ensures.numbers c.args.app.now).day
+
+pub returns-clause-fresh : goal.returns-clause-fresh
+returns-clause-fresh g c = λ right.
+    let after = c.bring_all.ensures.right (λ tables heard. (c.make_numbers.ensures.numbers c.args.app.now).right c.args.session.now tables c.args.moment [] (right tables heard)) in
+    on_ok_weaker c.bring_all.result (λ made tables k heard root. clean_fresh c.args.app.now c.args.session.now tables c.args.moment c.bring_all.new.self k (after tables heard) (made k root)) c.bring_all.ensures.made
+
+pub returns-clause-left : goal.returns-clause-left
+returns-clause-left g c = λ room. subst (λ (x : Kept). Leaves c.args.app.now x c.bring_all.new.self) ((c.make_numbers.ensures.numbers c.args.app.now).same room) c.bring_all.ensures.left
+
+pub returns-clause-ticks : goal.returns-clause-ticks
+returns-clause-ticks g c = λ room.
+    subst (λ (x : Kept). OnOk c.bring_all.result (OncePerCell c.args.app.now c.args.roots.now x c.bring_all.new.self c.args.steps.now c.bring_all.new.steps)) ((c.make_numbers.ensures.numbers c.args.app.now).same room) c.bring_all.ensures.ticks
+
+pub returns-clause-slow : goal.returns-clause-slow
+returns-clause-slow g c = λ room.
+    subst (λ (x : Kept). OnOk c.bring_all.result (c.bring_all.new.self.last + c.args.steps.now ≤ x.last + c.bring_all.new.steps)) ((c.make_numbers.ensures.numbers c.args.app.now).same room) c.bring_all.ensures.slow

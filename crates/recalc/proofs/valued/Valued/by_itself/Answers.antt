@@ -1,0 +1,40 @@
+use Rattle.std.proofs.Common.{◌≡◌, List, None, map, rules, subst, sym, true}
+use Rattle.std.proofs.lemmas.Result.{IfOk-weaker}
+use Rattle.fx_data.specs.TypeView.{shape}
+use Rattle.app_semantics.specs.app_cells.declared.app.CellInfo.{CellInfo}
+use Rattle.app_semantics.specs.Fresh.{IsValueOf}
+use Rattle.app_semantics.specs.Present.{Present, present}
+use Rattle.fx_data.specs.ValueView.{view}
+use Rattle.fx_data.specs.Values.{Data}
+use Rattle.fx_value.specs.Fits.{fits_in}
+use Rattle.fx_scalar.specs.ScalarFunctions.{IsToday}
+use Rattle.recalc.specs.Reading.{cell_value}
+use Rattle.recalc.specs.Values.{Values}
+use Rattle.recalc.proofs.Asked.{asks_for}
+use Rattle.recalc.proofs.Kept.{own_value}
+use Rattle.recalc.proofs.valued.Valued.by_itself.Goals as goal
+
+pub formula_value-requires-clause-cell : goal.formula_value-requires-clause-cell
+formula_value-requires-clause-cell g c = c.requires.sound.cells c.requires.cell.0 c.args.info.now c.requires.cell.1
+
+pub formula_value-requires-clause-taken : goal.formula_value-requires-clause-taken
+formula_value-requires-clause-taken g c = c.requires.sound.taken c.requires.cell.0 c.args.info.now c.requires.cell.1
+
+pub formula_value-requires-clause-shaped : goal.formula_value-requires-clause-shaped
+formula_value-requires-clause-shaped g c = λ reads. asks_for c.args.app.now (g.K.Keeper.shaped c.args.keeper.now) c.requires.cell.0 c.args.info.now c.requires.asks c.requires.cell.1 reads
+
+pub formula_value-requires-clause-fits : goal.formula_value-requires-clause-fits
+formula_value-requires-clause-fits g c = λ k e there.
+    let same : c.args.self.now.cells ≡ map view c.as_slice-values.result.now = search rules in
+    subst (λ (ds : List Data). fits_in (cell_value ds k) (shape e.ty) ≡ true) same (c.requires.fits k e there)
+
+pub returns-clause-value : goal.returns-clause-value
+returns-clause-value g c =
+    let same : map view c.as_slice-values.result.now ≡ c.args.self.now.cells = search rules in
+    let info : CellInfo = c.args.info.now in
+    IfOk-weaker c.formula_value.result _ _ (λ v h moment tables today heard.
+    let p : Present = present c.args.app.now c.args.session.now tables moment in
+    let began : IsToday moment (view c.self.inside.day) = subst (λ (w : Values). IsToday moment w.day) (sym c.self.view_is) today in
+    own_value p (cell_value c.args.self.now.cells) info (view v) c.requires.alone
+    (subst (λ (ds : List Data). IsValueOf p (cell_value ds) None info (view v)) same (h moment tables began heard)))
+    c.formula_value.ensures.value

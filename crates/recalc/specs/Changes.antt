@@ -1,0 +1,44 @@
+-- What changes of sources do to what is kept.
+use Rattle.std.specs.Prelude.{◌≡◌, ◌+◌, ℕ, List, ◌∷◌, length, false, Some, slice_set}
+use Rattle.fx_data.specs.Types.{Shape}
+use Rattle.fx_data.specs.Values.{Data}
+use Rattle.fx_trees.specs.Reads.{IsAmong}
+use Rattle.fx_trees.specs.SourceTypes.{sources}
+use Rattle.fx_trees.specs.declared.sources.Source.{Source}
+use Rattle.recalc.specs.Asking.{ToldRows}
+use Rattle.recalc.specs.app_cells.Reach.{Reaches, is_cell}
+use Rattle.recalc.specs.app_cells.declared.app.App.{App}
+use Rattle.recalc.specs.app_semantics.Present.{Gives, Present, present}
+use Rattle.row_queries.specs.declared.rows.Row.{Row}
+use Rattle.session_state.specs.Sessions.{SessionState}
+use Rattle.recalc.specs.Kept.{HasRoom, IsClean, IsInOrder, IsRight, Kept, place_of}
+
+-- rows that are told now were told before
+abbrev pub WereTold : ToldRows → ToldRows → Type 0
+WereTold before after = (rows : List (List Row)) → after ≡ Some rows → (old : List (List Row)) × (before ≡ Some old)
+
+-- Two presents in which nothing but these sources, and cells, gives anything else. A variable is global or a screen's: under the
+-- other kind it has no type.
+pub record AreSameBut (xs : List Source) (p q : Present) : Type 0 where
+  pub told : WereTold p.tables q.tables
+  pub gives : (s : Source) (t : Shape) (values : ℕ → Data) (v : Data) → sources p.app.names s ≡ Some t → (IsAmong s xs → ⊥) → is_cell s ≡ false → Gives p values s v → Gives q values s v
+
+-- on another day
+abbrev pub on_day : Kept → Data → Kept
+on_day c d = record { last = c.last; versions = c.versions; stamps = c.stamps; values = record { cells = c.values.cells; day = d } }
+
+-- a source has the next number as that of its last change
+abbrev pub raised : Kept → Source → Kept
+raised c s = record { last = c.last + 1; versions = slice_set c.versions (place_of s) (c.last + 1); stamps = c.stamps; values = c.values }
+
+-- A SOURCE THAT IS NO CELL WAS TOUCHED: what is kept is right where it was still to be told; and, unless the numbers ran out,
+-- exactly the cells that reach it are clean no more, and nothing is lost.
+pub record IsTouched (a : App) (source : Source) (old new : Kept) : Type 0 where
+  pub order : IsInOrder a old → IsInOrder a new
+  pub right : (s : SessionState) (tables : ToldRows) (m : ℕ) (pending : List Source) → IsRight (present a s tables m) (source ∷ pending) old → IsRight (present a s tables m) pending new
+  pub cleared : HasRoom old.last → IsInOrder a old → (k : ℕ) → Reaches a k source → IsClean a new k → ⊥
+  pub left : HasRoom old.last → (k : ℕ) → (Reaches a k source → ⊥) → IsClean a old k → IsClean a new k
+  pub none : HasRoom old.last → IsInOrder a old → (k : ℕ) → IsClean a new k → IsClean a old k
+  pub kept : HasRoom old.last → (new.stamps ≡ old.stamps) × (new.values ≡ old.values) × (new.last ≡ old.last + 1)
+  pub places : length new.versions ≡ length old.versions
+  pub day : new.values.day ≡ old.values.day

@@ -1,0 +1,45 @@
+-- What calls on a cache leave of it.
+use Rattle.std.specs.Prelude.{◌≡◌, ℕ, List, [], length, Option, None, slice_index}
+use Rattle.fx_trees.specs.declared.sources.Source.{Source}
+use Rattle.recalc.specs.Asking.{IsHeardOf, ToldRows}
+use Rattle.recalc.specs.app_cells.declared.app.App.{App}
+use Rattle.recalc.specs.app_semantics.Present.{present}
+use Rattle.row_keeper.specs.Tables.{Tables}
+use Rattle.session_state.specs.Sessions.{SessionState}
+use Rattle.recalc.specs.Kept.{HasRoom, IsInOrder, IsRight, Kept, stamp_of}
+
+-- right over all that is heard of the rows of tables
+abbrev pub IsRightOver : App → SessionState → Option Tables → ℕ → Kept → Type 0
+IsRightOver a s told m c = (tables : ToldRows) → IsHeardOf told tables → IsRight (present a s tables m) [] c
+
+-- nothing is kept, and no number is given
+pub record IsEmpty (c : Kept) : Type 0 where
+  pub last : c.last ≡ 0
+  pub versions : (p : ℕ) → slice_index c.versions p ≡ 0
+  pub stamps : (k : ℕ) → stamp_of c k ≡ None
+
+-- nothing is kept any more
+pub record IsForgotten (old new : Kept) : Type 0 where
+  pub last : new.last ≡ old.last
+  pub versions : new.versions ≡ old.versions
+  pub stamps : (k : ℕ) → stamp_of new k ≡ None
+  pub values : new.values ≡ old.values
+  pub cells : length new.stamps ≡ length old.stamps
+
+-- nothing is kept any more, and all numbers are given anew
+pub record IsEmptied (old new : Kept) : Type 0 where
+  pub last : new.last ≡ 0
+  pub versions : (p : ℕ) → slice_index new.versions p ≡ 0
+  pub stamps : (k : ℕ) → stamp_of new k ≡ None
+  pub values : new.values ≡ old.values
+  pub places : length new.versions ≡ length old.versions
+  pub cells : length new.stamps ≡ length old.stamps
+
+-- all is as before, or few numbers were left and nothing is kept any more
+pub record HasNumbers (a : App) (old new : Kept) : Type 0 where
+  pub room : HasRoom new.last
+  pub same : HasRoom old.last → new ≡ old
+  pub order : IsInOrder a old → IsInOrder a new
+  pub right : (s : SessionState) (tables : ToldRows) (m : ℕ) (pending : List Source) → IsRight (present a s tables m) pending old → IsRight (present a s tables m) pending new
+  pub places : length new.versions ≡ length old.versions
+  pub day : new.values.day ≡ old.values.day

@@ -1,0 +1,209 @@
+//! A session's cache.
+ghost use Rattle.std.specs.Prelude.{◌≡◌, ◌+◌, ◌<◌, ◌^◌, ℕ, IfOk, IfSome, None, length, slice_index, slice_index_or};
+ghost use Rattle.fx_trees.specs.declared.sources.Source.{Source as Src};
+ghost use Rattle.recalc.specs.Kept.{IsSourceOf, place_of};
+
+use crate::app_cells::App;
+use crate::stamps::Stamp;
+use crate::valued::Valued;
+use fx_base::Memory;
+use fx_data::values::Value;
+use fx_trees::{Names, Source};
+use std::alloc::Global;
+use std::marker::Model;
+
+/// The most cells of an app.
+const MOST_CELLS: usize = 2_000;
+
+/// How many kinds of sources there are. The places of those of one kind stand so far apart.
+const KINDS: usize = 8;
+
+/// The values of the cells of an app for one session, as far as they are kept, with the numbers by which it is known which of
+/// them stand. Every change of a source that is no cell is told it by `touched`.
+#[derive(Drop)]
+pub struct Cache {
+    last: u64,
+    versions: Vec<u64>,
+    stamps: Vec<Option<Stamp>>,
+    valued: Valued,
+}
+
+impl Model for Cache {
+    ghost use Rattle.std.specs.Coded.{codes};
+    ghost use Rattle.fx_data.specs.ValueCode.{data_code};
+    ghost use Rattle.recalc.specs.Kept.{Kept};
+
+    ghost Value = { Kept };
+
+    ghost coded = { Prim.hlevel (codes, data_code) };
+
+    ghost view = { λ c. record { last = c.last; versions = c.versions.items; stamps = c.stamps.items; values = c.valued } };
+}
+
+// How many places the sources under these names have.
+fn places_of(names: &Names) -> Option<usize>
+    ensures { IfSome result (λ n. (s : Src) → IsSourceOf names.now s → place_of s < n) }
+{
+    let named = names.variables.len().max(names.collections.len());
+    let shown = names.controls.len().max(names.schema.tables.len());
+    named.max(shown).checked_add(1)?.checked_mul(KINDS)
+}
+
+// Takes all stamps away.
+fn drop_stamps(stamps: &mut [Option<Stamp>])
+    ensures long { length stamps.new ≡ length stamps.old }
+    ensures none { (k : ℕ) → slice_index_or stamps.new k None ≡ None }
+{
+    for stamp in stamps.iter_mut() {
+        *stamp = None;
+    }
+}
+
+// Takes all versions back to the first number.
+fn drop_versions(versions: &mut [u64])
+    ensures long { length versions.new ≡ length versions.old }
+    ensures zero { (p : ℕ) → slice_index versions.new p ≡ 0 }
+{
+    for version in versions.iter_mut() {
+        *version = 0;
+    }
+}
+
+// The place of a source among versions.
+fn place(source: Source) -> usize
+    ensures { result ≡ place_of source }
+{
+    match source {
+        Source::Cell(k) => k as usize * KINDS,
+        Source::Global(k) => k as usize * KINDS + 1,
+        Source::Context(k) => k as usize * KINDS + 2,
+        Source::Gathered(k) => k as usize * KINDS + 3,
+        Source::Input(k) => k as usize * KINDS + 4,
+        Source::Chosen(k) => k as usize * KINDS + 5,
+        Source::Table(k) => k as usize * KINDS + 6,
+        Source::Today => 7,
+    }
+}
+
+impl Cache {
+    ghost use Rattle.fx_data.specs.ValueView.{view};
+    ghost use Rattle.recalc.specs.Changes.{on_day, raised};
+    ghost use Rattle.recalc.specs.Kept.{IsInOrder, place_of, stamp_of, version_of};
+    ghost use Rattle.recalc.specs.Outcomes.{IsEmpty, IsEmptied, IsForgotten};
+    ghost use Rattle.recalc.specs.Steps.{confirmed, kept_with};
+
+    /// A cache for a session of this app, on this day, in which nothing is kept.
+    pub fn new(alloc: Global, app: &App, day: Value) -> Result<Cache, Memory>
+        ensures order { IfOk result (IsInOrder app.now) }
+        ensures empty { IfOk result IsEmpty }
+        ensures day { IfOk result (λ c. c.values.day ≡ view day) }
+    {
+        let count = app.cells.len();
+        // No app has more.
+        if count > MOST_CELLS {
+            return Err(Memory);
+        }
+        let places = places_of(&app.names).ok_or(Memory)?;
+        let versions = vec![in alloc; 0; places]?;
+        let stamps = vec![in alloc; None; count]?;
+        let valued = Valued::blank(alloc, count, day)?;
+        Ok(Cache {
+            last: 0,
+            versions,
+            stamps,
+            valued,
+        })
+    }
+
+    /// The last number that was given.
+    pub(crate) fn last(&self) -> u64
+        ensures { result ≡ self.now.last }
+    {
+        self.last
+    }
+
+    /// The number of a source's last change.
+    pub(crate) fn version(&self, source: Source) -> u64
+        ensures { result ≡ version_of self.now source }
+    {
+        let place = place(source);
+        if place < self.versions.len() {
+            self.versions[place]
+        } else {
+            0
+        }
+    }
+
+    /// The stamp of a cell, where it is kept.
+    pub(crate) fn stamp(&self, cell: u32) -> Option<Stamp>
+        ensures { result ≡ stamp_of self.now cell }
+    {
+        match self.stamps.get(cell as usize) {
+            Some(stamp) => *stamp,
+            None => None,
+        }
+    }
+
+    /// The values of all cells, and the day.
+    pub fn valued(&self) -> &Valued
+        ensures { result.now ≡ self.now.values }
+    {
+        &self.valued
+    }
+
+    /// Keeps nothing any more. The numbers that were given stay so.
+    pub fn forget(&mut self)
+        ensures { IsForgotten self.old self.new }
+    {
+        drop_stamps(&mut self.stamps);
+    }
+
+    /// Another day begins, of which the cache is told by `touched` beside.
+    pub(crate) fn set_day(&mut self, day: Value)
+        ensures { self.new ≡ on_day self.old (view day) }
+    {
+        self.valued.set_day(day);
+    }
+
+    /// Keeps nothing any more, and gives all numbers anew.
+    pub(crate) fn empty(&mut self)
+        ensures { IsEmptied self.old self.new }
+    {
+        drop_stamps(&mut self.stamps);
+        drop_versions(&mut self.versions);
+        self.last = 0;
+    }
+
+    /// Gives a source the next number as that of its last change.
+    pub(crate) fn raise(&mut self, source: Source)
+        requires room { self.old.last + 1 < 2 ^ 64 }
+        requires place { place_of source < length self.old.versions }
+        ensures { self.new ≡ raised self.old source }
+    {
+        self.last += 1;
+        self.versions[place(source)] = self.last;
+    }
+
+    /// Says of a kept cell that it was checked now.
+    pub(crate) fn confirm(&mut self, cell: u32, moved: u64)
+        requires there { cell < length self.old.stamps }
+        ensures { self.new ≡ confirmed self.old cell moved }
+    {
+        self.stamps[cell as usize] = Some(Stamp {
+            checked: self.last,
+            moved,
+        });
+    }
+
+    /// Keeps a value that was made now, under the next number.
+    pub(crate) fn keep(&mut self, cell: u32, value: Value, moved: u64)
+        requires room { self.old.last + 1 < 2 ^ 64 }
+        requires stamp { cell < length self.old.stamps }
+        requires value { cell < length self.old.values.cells }
+        ensures { self.new ≡ kept_with self.old cell (view value) moved }
+    {
+        self.last += 1;
+        self.valued.put(cell, value);
+        self.confirm(cell, moved);
+    }
+}

@@ -1,0 +1,66 @@
+// The value of one cell.
+ghost use Rattle.std.specs.Prelude.{◌≡◌, ◌∷◌, [], ◌+◌, ◌≤◌, ℕ, IfOk, IsErrOf, OnOk, true};
+ghost use Rattle.fx_data.specs.ValueView.{view};
+ghost use Rattle.fx_scalar.specs.ScalarFunctions.{IsToday};
+ghost use Rattle.recalc.specs.Asking.{CanAsk, HasRead, IsHeardOf, ReadsNone, ToldRows, keeping};
+ghost use Rattle.recalc.specs.app_semantics.Holding.{HoldsFitting};
+ghost use Rattle.recalc.specs.app_semantics.Needed.{IsFreshAt, is_alone as is_alone_in};
+ghost use Rattle.recalc.specs.app_semantics.Present.{present};
+ghost use Rattle.recalc.specs.app_semantics.Sound.{IsSound};
+ghost use Rattle.row_keeper.specs.Causes.{HasCause};
+ghost use Rattle.row_keeper.specs.declared.keeper.KeeperEnd.TheVariants.{Failed};
+ghost use Rattle.recalc.specs.Kept.{HasRoom, IsClean, IsInOrder, value_of as value_in};
+ghost use Rattle.recalc.specs.Outcomes.{IsRightOver};
+ghost use Rattle.recalc.specs.Steps.{Leaves, OncePerCell};
+
+use crate::Steps;
+use crate::app_cells::App;
+use crate::cache::Cache;
+use fx_data::values::Value;
+use row_keeper::{Keeper, KeeperEnd};
+use session_state::Session;
+use std::alloc::Global;
+use std::sync::ledger::Ledger;
+
+impl Cache {
+    /// The value of a cell that has one by itself. It is kept, and clean from now on. `Failed` only where the keeper counted a
+    /// fault; what is kept is right also then.
+    #[tactic(auto, using(crate::proofs::Asked::read_none, crate::proofs::Asked::read_on))]
+    pub fn value_of<K: Keeper, L: Ledger>(
+        &mut self,
+        alloc: Global,
+        app: &App,
+        session: &Session,
+        keeper: &mut K,
+        moment: u64,
+        cell: u32,
+        steps: &mut Steps<L>,
+    ) -> Result<Value, KeeperEnd>
+        requires sound { IsSound app.now }
+        requires holds { HoldsFitting app.now.names session.now }
+        requires day { IsToday moment self.old.values.day }
+        requires asks { CanAsk app.now (K.shaped keeper.old) }
+        requires order { IsInOrder app.now self.old }
+        requires alone { is_alone_in app.now.cells cell ≡ true }
+        ensures order { IsInOrder app.now self.new }
+        ensures right { IsRightOver app.now session.now (K.told keeper.old) moment self.old → IsRightOver app.now session.now (K.told keeper.new) moment self.new }
+        ensures day { self.new.values.day ≡ self.old.values.day }
+        ensures value { IfOk result (λ v. view v ≡ value_in self.new cell) }
+        ensures made { OnOk result (IsClean app.now self.new cell) }
+        ensures fresh { IsRightOver app.now session.now (K.told keeper.old) moment self.old → OnOk result ((tables : ToldRows) → IsHeardOf (K.told keeper.new) tables →
+            IsFreshAt (present app.now session.now tables moment) (value_in self.new) cell) }
+        ensures left { HasRoom self.old.last → Leaves app.now self.old self.new }
+        ensures ticks { HasRoom self.old.last → OnOk result (OncePerCell app.now (cell ∷ []) self.old self.new steps.old steps.new) }
+        ensures slow { HasRoom self.old.last → OnOk result (self.new.last + steps.old ≤ self.old.last + steps.new) }
+        ensures read { HasRead (keeping (K.told keeper.old) (K.began keeper.old) (K.shaped keeper.old) (K.in_transaction keeper.old) (K.marks keeper.old) (K.visited keeper.old) (K.loan keeper.old))
+            (keeping (K.told keeper.new) (K.began keeper.new) (K.shaped keeper.new) (K.in_transaction keeper.new) (K.marks keeper.new) (K.visited keeper.new) (K.loan keeper.new)) }
+        ensures cause { HasCause (K.marks keeper.old) (K.marks keeper.new) result }
+        ensures alone { ReadsNone app.now → keeper.new ≡ keeper.old }
+        ensures idle { OnOk result (steps.new ≡ steps.old → keeper.new ≡ keeper.old) }
+        ensures reached { IsErrOf result Failed → ReadsNone app.now → ⊥ }
+    {
+        let roots = [cell];
+        self.refresh(alloc, app, session, keeper, moment, &roots, steps)?;
+        Ok(self.valued().value(alloc, cell)?)
+    }
+}
