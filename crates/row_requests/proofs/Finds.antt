@@ -1,119 +1,38 @@
 -- The rows that are found.
-use Rattle.std.proofs.Common.{◌≡◌, ℕ, zero, suc, ◌+◌, ◌*◌, ◌<◌, ◌≤◌, ◌^◌, ◌==◌, ◌&&◌, ◌||◌, Bool, true, false, cond, List, [], ◌∷◌, ◌++◌, map, filter, take, length, Option, Some, None, refl, ap, ap₂, sym, ◌∙◌, subst, arith, add-one}
-use Rattle.std.specs.Prelude.{IfSome, IsSomeAnd, MatchOption, nat_lt, option_to_list, pos, slice_index_or}
+use Rattle.std.proofs.Common.{◌≡◌, ℕ, zero, suc, ◌+◌, ◌*◌, ◌<◌, ◌≤◌, ◌^◌, ◌==◌, ◌&&◌, ◌||◌, Bool, true, false, cond, List, [], ◌∷◌, ◌++◌, map, filter, take, length, Option, Some, None, refl, ap, ap₂, sym, ◌∙◌, subst, arith}
+use Rattle.std.specs.Prelude.{IfSome, IsSomeAnd, MatchOption, nat_lt, option_to_list, pos}
 use Rattle.std.specs.List.{All, AllByRecursion}
-use Rattle.std.specs.List.Sorted.{IsSorted}
 use Rattle.std.specs.Ordering.{int_cmp, is_eq, is_le, is_lt, nat_cmp, ordering_then}
 use Rattle.std.specs.Cmp.Lexicographic.{slice_cmp}
 use Rattle.std.specs.declared.cmp.Ordering.{Ordering}
 use Rattle.std.specs.declared.cmp.Ordering.TheVariants.{Less, Equal, Greater}
 use Rattle.std.proofs.lemmas.Bool.Decides.{nat_tests}
-use Rattle.std.proofs.lemmas.List.Sorted.{IsPermutation-refl}
 use Rattle.std.proofs.lemmas.List.Elements.{recursion_from_All}
 use Rattle.fx_trees.specs.declared.schema.TableShape.{TableShape}
 use Rattle.fx_value.specs.Keys.{KeysOrder, key_bytes}
 use Rattle.row_queries.specs.Laws.{AskedOnce}
-use Rattle.row_queries.specs.Queries.{AreAsked, IsScanned, first_fault, given_of, lies, outcome_on, row_order, rows_or_fault}
+use Rattle.row_queries.specs.Queries.{IsScanned, first_fault, given_of, lies, outcome_on, rows_or_fault}
 use Rattle.row_queries.specs.Ranges.{in_ranges}
 use Rattle.row_queries.specs.RowTests.{decided, is_met}
-use Rattle.row_queries.specs.TableRows.{AreInIdOrder, IsBelowAll, IsRowOf, id_value, rows_at}
+use Rattle.row_queries.specs.TableRows.{AreInIdOrder, IsRowOf, id_value, rows_at}
 use Rattle.row_queries.specs.Visits.{VisitsItsRanges, VisitsTold}
-use Rattle.row_queries.specs.declared.queries.Query.{Query}
 use Rattle.row_queries.specs.declared.rows.Row.{Row}
 use Rattle.row_queries.specs.declared.rows.RowList.{RowList}
 use Rattle.row_keeper.specs.Changes.{Scans}
 use Rattle.row_keeper.specs.Tables.{TableState, Tables, has_id, rows_of, rows_told, state_at}
 use Rattle.row_keeper.proofs.PageLemmas.{keys_go, numbers_go}
-use Rattle.row_keeper.proofs.RowLists.{order_less}
+use Rattle.row_keeper.proofs.NumberedRows.{above_itself, asked_is, at_most_one, filter_same, filter_wider, from_itself, is_same, one}
 use Rattle.row_requests.specs.Changes.{row_of}
 use Rattle.row_requests.specs.Page.{past}
-use Rattle.row_requests.specs.Queries.{AreNumbered, FindsRow, FindsRows, VisitsPast, after_key, beyond, next_rows, one_row, only}
+use Rattle.row_requests.specs.Queries.{AreNumbered, FindsRow, FindsRows, VisitsPast, after_key, next_rows, one_row, only}
 
 -- ---- lists
-
-filter_same : {X : Type 0} (p q : X → Bool) → ((x : X) → p x ≡ q x) → (xs : List X) → filter p xs ≡ filter q xs
-filter_same p q h [] = refl
-filter_same p q h (x ∷ xs) = ap₂ (λ b l. cond b (x ∷ l) l) (h x) (filter_same p q h xs)
-
--- what a test lets through goes through a wider one
-filter_wider : (p q : Row → Bool) → ((r : Row) → p r ≡ true → q r ≡ true) → (rows : List Row) → filter p (filter q rows) ≡ filter p rows
-filter_wider p q h [] = refl
-filter_wider p q h (r ∷ rows) = by (p r) refl (q r) refl (filter_wider p q h rows)
-  where
-    kept : List Row
-    kept = filter q rows
-
-    by : (b : Bool) → p r ≡ b → (c : Bool) → q r ≡ c → filter p kept ≡ filter p rows → filter p (cond c (r ∷ kept) kept) ≡ cond b (r ∷ filter p rows) (filter p rows)
-    by true e true f ih = ap₂ (λ t l. cond t (r ∷ l) l) e ih
-    by true e false f ih = absurd (let g : true ≡ false = sym (h r e) ∙ f in cc)
-    by false e true f ih = ap₂ (λ t l. cond t (r ∷ l) l) e ih
-    by false e false f ih = ih
 
 all_pass : (q : Row → Bool) → ((r : Row) → q r ≡ true) → (rows : List Row) → filter q rows ≡ rows
 all_pass q h [] = refl
 all_pass q h (r ∷ rows) = ap₂ (λ t l. cond t (r ∷ l) l) (h r) (all_pass q h rows)
 
-none_pass : (id : ℕ) (rows : List Row) → IsBelowAll id rows → filter (has_id id) rows ≡ []
-none_pass id [] h = refl
-none_pass id (r ∷ rows) h = ap₂ (λ t l. cond t (r ∷ l) l) (differ (r.id == id) refl) (none_pass id rows h.1)
-  where
-    differ : (b : Bool) → (r.id == id) ≡ b → b ≡ false
-    differ true e = absurd (let k : id < r.id = h.0 in grind (arith, e, k))
-    differ false e = refl
-
--- a list of at most one
-abbrev pub one : Option Row → List Row
-one None = []
-one (Some r) = r ∷ []
-
--- rows by rising numbers have one of a number at most
-pub at_most_one : (id : ℕ) (rows : List Row) → AreInIdOrder rows → filter (has_id id) rows ≡ one (row_of id rows)
-at_most_one id [] h = refl
-at_most_one id (r ∷ rows) h = by (r.id == id) refl (at_most_one id rows h.1)
-  where
-    by : (b : Bool) → (r.id == id) ≡ b → filter (has_id id) rows ≡ one (row_of id rows) → cond b (r ∷ filter (has_id id) rows) (filter (has_id id) rows) ≡ one (cond b (Some r) (row_of id rows))
-    by true e ih = ap (λ (l : List Row). r ∷ l) (none_pass id rows (subst (λ n. IsBelowAll n rows) (same r.id id e) h.0))
-      where
-        same : (a b : ℕ) → (a == b) ≡ true → a ≡ b
-        same a b e = grind (arith, e)
-    by false e ih = ih
-
--- ---- order
-
-not_less : (a b : ℕ) → a < b → is_lt (nat_cmp b a) ≡ false
-not_less a b h = by (nat_cmp b a) refl
-  where
-    by : (o : Ordering) → nat_cmp b a ≡ o → is_lt o ≡ false
-    by Less e = absurd (let l : b < a = grind (arith, nat_tests, e) in omega (arith, l, h))
-    by Equal e = refl
-    by Greater e = refl
-
-sorted_rows : (rows : List Row) → AreInIdOrder rows → IsSorted (row_order None) rows
-sorted_rows [] h k d low l = absurd (omega (arith, l))
-sorted_rows (r ∷ []) h zero d low l = absurd (omega (arith, l))
-sorted_rows (r ∷ (s ∷ rows)) h zero d low l = not_less r.id s.id h.0.0
-sorted_rows (r ∷ rows) h (suc k) d low l =
-    subst (λ n. is_lt (row_order None (slice_index_or (r ∷ rows) n d) (slice_index_or rows k d)) ≡ false) (sym (add-one (suc k)))
-    (subst (λ n. is_lt (row_order None (slice_index_or rows n d) (slice_index_or rows k d)) ≡ false) (add-one k) (sorted_rows rows h.1 k d (omega arith) (omega (arith, l))))
-
--- rows that stand by rising numbers are asked in that order
-asked_is : AskedOnce → (q : Query) → q.order ≡ None → (rows asked : List Row) → AreInIdOrder rows → AreAsked q rows asked → asked ≡ filter (lies q) rows
-asked_is law q unordered rows asked h is =
-    law q rows asked (filter (lies q) rows) h is
-    (record {
-      rearranged = IsPermutation-refl (filter (lies q) rows);
-      sorted = subst (λ o. IsSorted (row_order o) (filter (lies q) rows)) (sym unordered) (sorted_rows (filter (lies q) rows) (order_less (lies q) rows h));
-    })
-
 -- ---- tests of numbers
-
-is_same : (a b : ℕ) → is_eq (nat_cmp a b) ≡ (a == b)
-is_same a b = by (nat_cmp a b) refl
-  where
-    by : (o : Ordering) → nat_cmp a b ≡ o → is_eq o ≡ (a == b)
-    by Less e = grind (arith, nat_tests, e)
-    by Equal e = grind (arith, nat_tests, e)
-    by Greater e = grind (arith, nat_tests, e)
 
 is_below : (a b : ℕ) → is_lt (nat_cmp a b) ≡ nat_lt a b
 is_below a b = by (nat_cmp a b) refl
@@ -131,20 +50,6 @@ met_one table id r = met (is_eq (int_cmp (pos (r.id * 10000)) (pos (id * 10000))
     met false = refl
 
 -- ---- ranges
-
-above_itself : (xs : List ℕ) (n : ℕ) → is_lt (slice_cmp nat_cmp xs (xs ++ n ∷ [])) ≡ true
-above_itself [] n = refl
-above_itself (x ∷ xs) n = rw (equal x) (above_itself xs n)
-  where
-    equal : (x : ℕ) → nat_cmp x x ≡ Equal
-    equal x = grind (arith, nat_tests)
-
-from_itself : (xs : List ℕ) → is_le (slice_cmp nat_cmp xs xs) ≡ true
-from_itself [] = refl
-from_itself (x ∷ xs) = rw (equal x) (from_itself xs)
-  where
-    equal : (x : ℕ) → nat_cmp x x ≡ Equal
-    equal x = grind (arith, nat_tests)
 
 in_only : (key : List ℕ) → in_ranges (only key ∷ []) key ≡ true
 in_only key = ap₂ (λ a b. (a && b) || false) (from_itself key) (above_itself key 0)

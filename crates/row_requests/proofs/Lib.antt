@@ -5,6 +5,7 @@ pub mod Floats
 pub mod Given
 pub mod GivenMembers
 pub mod Names
+pub mod Naming
 pub mod Pages
 pub mod Performing
 pub mod Rows

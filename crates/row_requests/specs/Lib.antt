@@ -9,3 +9,4 @@ pub mod Prepared
 pub mod Queries
 pub mod Sound
 pub mod Steps
+pub mod Written

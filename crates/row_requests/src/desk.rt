@@ -1,5 +1,6 @@
 //! A desk posts changes of rows.
-ghost use Rattle.std.specs.Prelude.{◌≡◌, ◌<◌, false, IfOk, IsErrOf, OnErr, OnOk, Some, vec_capacity, vec_len};
+ghost use Rattle.std.specs.Option.{option_to_list};
+ghost use Rattle.std.specs.Prelude.{◌≡◌, ◌<◌, ◌++◌, [], false, IfOk, IsErrOf, OnErr, OnOk, Some, vec_capacity, vec_len};
 ghost use Rattle.fx_base.specs.Silence.{Goes, IsLost};
 ghost use Rattle.fx_base.specs.Telling.{Stays};
 ghost use Rattle.fx_trees.specs.Lawful.{IsLawfulSchema};
@@ -9,12 +10,16 @@ ghost use Rattle.row_requests.specs.Bodies.{IsSoundPost};
 ghost use Rattle.row_requests.specs.DeskRows.{KeepsRows, PostsRows, ReachesRows};
 ghost use Rattle.request_checks.specs.Replies.{IsReply, KeepReplies, said};
 ghost use Rattle.row_requests.specs.Sound.{AreSound};
+ghost use Rattle.row_requests.specs.Written.{AreTablesBut, IsNamedBy, table_named as table_of_change, tables_named as tables_of_changes};
+ghost use Rattle.fx_trees.specs.Reads.{IsAmong};
+ghost use Rattle.fx_trees.specs.declared.sources.Source.{Source as Src};
 
-use crate::bodies::Posted;
+use crate::bodies::{Change, Posted};
+use crate::changes::table_place;
 use crate::transaction::{Prepared, act_rows};
 use fx_base::Memory;
 use fx_data::Words;
-use fx_trees::Schema;
+use fx_trees::{Schema, Source};
 use request_checks::{Checked, Named, Reply, check_desk, put};
 use row_keeper::{Keeper, KeeperEnd};
 use session_state::Desk;
@@ -23,7 +28,7 @@ use std::alloc::Global;
 /// A desk posts changes of rows, under a number. All of them act in one transaction, and the reply is kept; or nothing
 /// changes and the reply is a refusal: no JSON (9), another shape (10), a desk too many (12), another number (13, 14), no
 /// table (21), no row (22), or a rule that breaks (23). The last request once more gets the kept reply. Nothing but the
-/// rows and this desk's record can change.
+/// rows and this desk's record can change. `wrote` is empty, and gets the tables that were written.
 pub fn post_rows<K: Keeper>(
     alloc: Global,
     keeper: &mut K,
@@ -31,16 +36,20 @@ pub fn post_rows<K: Keeper>(
     schema: &Schema,
     name: &Words,
     body: &[u8],
+    wrote: &mut Vec<Source>,
 ) -> Result<Reply, KeeperEnd>
     requires idle { K.in_transaction keeper.old ≡ false }
     requires shaped { K.shaped keeper.old ≡ Some schema.now }
     requires lawful { IsLawfulSchema schema.now }
     requires sound { AreSound schema.now (K.told keeper.old) }
     requires kept { KeepReplies desks.old.items }
+    requires none { wrote.old.items ≡ [] }
     ensures done { IfOk result (λ r. PostsRows (IsLost (K.marks keeper.old) (K.marks keeper.new)) schema.now.tables name.now body.now (K.told keeper.old) desks.old.items (said r) (K.told keeper.new) desks.new.items) }
     ensures whole { IfOk result IsReply }
     ensures stopped { OnErr result (Goes (IsLost (K.marks keeper.old) (K.marks keeper.new)) Stays (K.told keeper.old) (K.told keeper.new)) }
     ensures same { OnErr result (desks.new.items ≡ desks.old.items) }
+    ensures wrote { IfOk result (λ r. Goes (IsLost (K.marks keeper.old) (K.marks keeper.new)) (AreTablesBut wrote.new.items) (K.told keeper.old) (K.told keeper.new)) }
+    ensures named { (s : Src) → IsAmong s wrote.new.items → IsNamedBy schema.now.tables desks.old.items name.now body.now s }
     ensures reached { IsErrOf result Failed → ReachesRows name.now body.now desks.old.items }
     ensures cause { HasCause (K.marks keeper.old) (K.marks keeper.new) result }
     ensures idle { K.in_transaction keeper.new ≡ false }
@@ -51,7 +60,9 @@ pub fn post_rows<K: Keeper>(
 {
     match check_desk(alloc, desks, name, body) {
         Ok(Checked::Says(reply)) => Ok(reply),
-        Ok(Checked::Acts(posted)) => keep_rows(alloc, keeper, desks, schema, name, body, &posted),
+        Ok(Checked::Acts(posted)) => keep_rows(
+            alloc, keeper, desks, schema, name, body, &posted, wrote,
+        ),
         Err(Memory) => Err(KeeperEnd::Memory),
     }
 }
@@ -74,6 +85,39 @@ fn make_room(
     Ok((name, body))
 }
 
+/// The table that a change names, if there is one of this name.
+fn table_named(schema: &Schema, change: &Change) -> Option<Source>
+    requires { IsLawfulSchema schema.now }
+    ensures { result ≡ table_of_change schema.now.tables change.now }
+{
+    match table_place(schema, change.table()) {
+        Some(table) => Some(Source::Table(table)),
+        None => None,
+    }
+}
+
+/// Adds a source, if there is one.
+fn add(sources: &mut Vec<Source>, source: Option<Source>) -> Result<(), Memory>
+    ensures { OnOk result (sources.new.items ≡ sources.old.items ++ option_to_list source) }
+{
+    match source {
+        Some(source) => Ok(sources.push(source)?),
+        None => Ok(()),
+    }
+}
+
+/// The tables that changes name.
+fn tables_named(alloc: Global, schema: &Schema, changes: &[Change]) -> Result<Vec<Source>, Memory>
+    requires { IsLawfulSchema schema.now }
+    ensures { IfOk result (λ v. v.items ≡ tables_of_changes schema.now.tables changes.now) }
+{
+    let mut tables = Vec::new(alloc);
+    for change in changes {
+        add(&mut tables, table_named(schema, change))?;
+    }
+    Ok(tables)
+}
+
 /// Changes rows, and keeps what an accepted request leaves of its desk.
 fn keep_rows<K: Keeper>(
     alloc: Global,
@@ -83,6 +127,7 @@ fn keep_rows<K: Keeper>(
     name: &Words,
     body: &[u8],
     posted: &Posted,
+    wrote: &mut Vec<Source>,
 ) -> Result<Reply, KeeperEnd>
     requires idle { K.in_transaction keeper.old ≡ false }
     requires shaped { K.shaped keeper.old ≡ Some schema.now }
@@ -90,10 +135,13 @@ fn keep_rows<K: Keeper>(
     requires sound { AreSound schema.now (K.told keeper.old) }
     requires kept { KeepReplies desks.old.items }
     requires posted { IsSoundPost posted.now }
+    requires none { wrote.old.items ≡ [] }
     ensures done { IfOk result (λ r. KeepsRows (IsLost (K.marks keeper.old) (K.marks keeper.new)) schema.now.tables name.now body.now posted.now (K.told keeper.old) desks.old.items (said r) (K.told keeper.new) desks.new.items) }
     ensures whole { IfOk result IsReply }
     ensures stopped { OnErr result (Goes (IsLost (K.marks keeper.old) (K.marks keeper.new)) Stays (K.told keeper.old) (K.told keeper.new)) }
     ensures same { OnErr result (desks.new.items ≡ desks.old.items) }
+    ensures wrote { IfOk result (λ r. Goes (IsLost (K.marks keeper.old) (K.marks keeper.new)) (AreTablesBut wrote.new.items) (K.told keeper.old) (K.told keeper.new)) }
+    ensures named { (s : Src) → IsAmong s wrote.new.items → IsAmong s (tables_of_changes schema.now.tables posted.now.changes) }
     ensures cause { HasCause (K.marks keeper.old) (K.marks keeper.new) result }
     ensures idle { K.in_transaction keeper.new ≡ false }
     ensures shaped { K.shaped keeper.new ≡ K.shaped keeper.old }
@@ -105,6 +153,10 @@ fn keep_rows<K: Keeper>(
         Ok(copies) => copies,
         Err(Memory) => return Err(KeeperEnd::Memory),
     };
+    let tables = match tables_named(alloc, schema, posted.changes.as_slice()) {
+        Ok(tables) => tables,
+        Err(Memory) => return Err(KeeperEnd::Memory),
+    };
     match act_rows(alloc, keeper, schema, posted) {
         Ok(prepared) => {
             if prepared.outcome.is_ok() {
@@ -112,6 +164,7 @@ fn keep_rows<K: Keeper>(
                 let mut desk = Desk::new(alloc);
                 desk.keep(posted.seq, copied_body, kept);
                 put(desks, copied_name, desk);
+                *wrote = tables;
                 return Ok(reply);
             }
             Ok(prepared.reply)
