@@ -49,7 +49,7 @@ text_type control.DatePicker items h = absurd cc
 text_type control.Gallery items h = absurd cc
 
 -- a written property is one that its control's kind has
-has_it : (a : App) (k d : ℕ) (name : List ℕ) (c : ControlName) → IsSound a → cell_of_property a.names k name ≡ Some d → slice_get a.names.controls k ≡ Some c → has_property c.kind name ≡ true
+pub has_it : (a : App) (k d : ℕ) (name : List ℕ) (c : ControlName) → IsSound a → cell_of_property a.names k name ≡ Some d → slice_get a.names.controls k ≡ Some c → has_property c.kind name ≡ true
 has_it a k d name c s e there =
     let at = found a.names.properties k name d e in
     let place : IsLawfulProperty a.names at.property = subst (IsLawfulProperty a.names) (get_or_from_slice_get a.names.properties at.place at.property at.property at.there)

@@ -1,6 +1,10 @@
+pub mod Counts
 pub mod Displays
 pub mod Galleries
+pub mod Gathering
 pub mod Giving
+pub mod Looks
+pub mod Needing
 pub mod Pages
 pub mod Places
 pub mod Replies

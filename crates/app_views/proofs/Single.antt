@@ -1,16 +1,25 @@
 -- A session has one view, and a gallery one list of items.
 use Rattle.std.proofs.Common.{◌≡◌, ℕ, suc, List, [], ◌∷◌, Bool, true, false, codes, max, take, drop, ◌-◌, Option, Some, None, refl, sym, subst, ap, ◌∙◌}
 use Rattle.std.specs.List.{slice_get}
-use Rattle.recalc.proofs.of_app_semantics.Freshness.{fresh_fits}
-use Rattle.recalc.specs.app_semantics.Fresh.{AreKnown, IsFresh}
+use Rattle.std.specs.Prelude.{if◌then◌else◌}
+use Rattle.recalc.proofs.of_app_semantics.FreshAt.{fits_at}
+use Rattle.recalc.specs.Values.{CellsFit}
+use Rattle.recalc.specs.app_cells.declared.app.App.{App}
+use Rattle.recalc.specs.app_cells.declared.app.CellInfo.{CellInfo}
+use Rattle.recalc.specs.app_semantics.Fresh.{AreKnown}
+use Rattle.recalc.specs.app_semantics.Needed.{itself}
 use Rattle.recalc.specs.app_semantics.Holding.{HoldsFitting}
-use Rattle.recalc.specs.app_semantics.Laws.{OneFresh}
+use Rattle.recalc.specs.app_semantics.Laws.{OneFreshAt}
 use Rattle.recalc.specs.app_semantics.Present.{Present, items_of}
 use Rattle.recalc.specs.app_semantics.Properties.{is_true}
 use Rattle.recalc.specs.app_semantics.Sound.{IsSound}
+use Rattle.app_views.proofs.Looks.{Agrees, seen_moved, view_moved}
 use Rattle.app_views.specs.Laws.{OneItems, OneView}
+use Rattle.app_views.specs.Looking.{AreFreshFor, is_it, is_on}
 use Rattle.app_views.specs.Views.{AreGiven, AreItemsFrom, AreItemsUnless, AreRowItems, AreSeenItems, IsItemAt, IsItemControl, IsShown, IsShownControl, IsShownFor, IsView, ShowsFirstItems, fault_in, is_seen_at, is_shown, put}
-use Rattle.fx_data.specs.Values.{Data, text, boolean}
+use Rattle.fx_data.specs.TypeView.{shape}
+use Rattle.fx_data.specs.Types.{Shape}
+use Rattle.fx_data.specs.Values.{Data, blank, text, boolean}
 use Rattle.fx_data.specs.declared.faults.Fault.{Fault}
 use Rattle.fx_data.specs.declared.controls.Control.TheVariants as control
 use Rattle.fx_data.specs.declared.controls.Control.{Control}
@@ -18,6 +27,7 @@ use Rattle.recalc.specs.fx_semantics.Around.{record_of}
 use Rattle.recalc.specs.fx_semantics.Rows.{rows_in}
 use Rattle.recalc.specs.fx_semantics.Unique.{OneValue}
 use Rattle.fx_value.specs.Columns.{Row}
+use Rattle.fx_value.specs.Fits.{fits_in}
 use Rattle.fx_trees.specs.declared.names.ControlName.{ControlName}
 use Rattle.recalc.proofs.ForItems.{Ground, property_one}
 use Rattle.view_text.specs.declared.views.ItemControl.{ItemControl}
@@ -124,14 +134,45 @@ view_one p values v w g h j =
     let shown : v.shown ≡ w.shown = given_one (IsShown p values) 0 p.app.names.controls v.shown w.shown (shown_one p values g) h.shown j.shown in
     λ i. record { screen = screen i; shown = shown i }
 
-ground : OneValue → (p : Present) (values : ℕ → Data) → IsSound p.app → HoldsFitting p.app.names p.session → AreKnown p.app p.tables → IsFresh p values → Ground p values
-ground one p values s n known fresh = record { one = one; sound = s; holds = n; known = known; fits = fresh_fits p values s n known.fit fresh }
+-- ---- values that fit
+-- a value, where it fits its cell, and blank where it doesn't
+abbrev fitting : Option CellInfo → Data → Data
+fitting (Some c) d = if fits_in d (shape c.ty) then d else blank
+fitting None d = d
+
+abbrev masked : App → (ℕ → Data) → ℕ → Data
+masked a values k = fitting (slice_get a.cells k) (values k)
+
+fits_so : (d : Data) (t : Shape) → fits_in (if fits_in d t then d else blank) t ≡ true
+fits_so d t = by (fits_in d t) refl
+  where
+    by : (b : Bool) → fits_in d t ≡ b → fits_in (if b then d else blank) t ≡ true
+    by true e = e
+    by false e = refl
+
+masked_fits : (a : App) (values : ℕ → Data) → CellsFit a (masked a values)
+masked_fits a values k c there = subst (λ o. fits_in (fitting o (values k)) (shape c.ty) ≡ true) (sym there) (fits_so (values k) (shape c.ty))
+
+masked_same : (a : App) (values : ℕ → Data) (k : ℕ) (c : CellInfo) → slice_get a.cells k ≡ Some c → fits_in (values k) (shape c.ty) ≡ true → values k ≡ masked a values k
+masked_same a values k c there fit = sym (ap (λ o. fitting o (values k)) there ∙ ap (λ (b : Bool). if b then values k else blank) fit)
+
+ground : OneValue → (p : Present) (values : ℕ → Data) → IsSound p.app → HoldsFitting p.app.names p.session → AreKnown p.app p.tables → CellsFit p.app values → Ground p values
+ground one p values s n known fit = record { one = one; sound = s; holds = n; known = known; fits = fit }
+
+-- fresh values fit where they are looked at, and are the only ones there
+as_masked : (p : Present) (of : ℕ → Bool) (values : ℕ → Data) → IsSound p.app → HoldsFitting p.app.names p.session → AreKnown p.app p.tables → AreFreshFor p values of → Agrees p.app of values (masked p.app values)
+as_masked p of values s n known fresh = λ k c looked there. masked_same p.app values k c there (fits_at p values k s n known.fit (fresh k looked) k c there (itself k))
+
+as_other : OneFreshAt → (p : Present) (of : ℕ → Bool) (values others : ℕ → Data) → IsSound p.app → HoldsFitting p.app.names p.session → AreKnown p.app p.tables → AreFreshFor p values of → AreFreshFor p others of → Agrees p.app of others (masked p.app values)
+as_other once p of values others s n known fresh also = λ k c looked there. once p others values k c s n known there (also k looked) (fresh k looked) ∙ as_masked p of values s n known fresh k c looked there
 
 -- ONE VIEW
-pub one_view : OneValue → OneFresh → OneView
+pub one_view : OneValue → OneFreshAt → OneView
 one_view one once p v w s n known h j =
-    let same : j.values ≡ h.values = once p j.values h.values s n known j.fresh h.fresh in
-    view_one p h.values v w (ground one p h.values s n known h.fresh) h.shows (subst (λ (f : ℕ → Data). IsView p f w) same j.shows)
+    let of : ℕ → Bool = is_on p.app.names p.session.screen in
+    view_one p (masked p.app h.values) v w (ground one p (masked p.app h.values) s n known (masked_fits p.app h.values))
+    (view_moved p h.values (masked p.app h.values) v s (as_masked p of h.values s n known h.fresh) h.shows)
+    (view_moved p j.values (masked p.app h.values) w s (as_other once p of h.values j.values s n known h.fresh j.fresh) j.shows)
 
 seen_one : (p : Present) (values : ℕ → Data) (gallery from : ℕ) (o q : Option Items) → Ground p values → AreSeenItems p values gallery from o → AreSeenItems p values gallery from q → o ≡ q
 seen_one p values gallery from None None g h j = refl
@@ -140,7 +181,8 @@ seen_one p values gallery from (Some s) None g h j = absurd (not_both (is_seen_a
 seen_one p values gallery from (Some s) (Some t) g h j = ap (λ (x : Items). Some x) (items_from_one p values gallery from s t g h.1 j.1)
 
 -- ONE LIST OF ITEMS
-pub one_items : OneValue → OneFresh → OneItems
+pub one_items : OneValue → OneFreshAt → OneItems
 one_items one once p gallery from o q s n known h j =
-    let same : j.values ≡ h.values = once p j.values h.values s n known j.fresh h.fresh in
-    seen_one p h.values gallery from o q (ground one p h.values s n known h.fresh) h.are (subst (λ (f : ℕ → Data). AreSeenItems p f gallery from q) same j.are)
+    seen_one p (masked p.app h.values) gallery from o q (ground one p (masked p.app h.values) s n known (masked_fits p.app h.values))
+    (seen_moved p h.values (masked p.app h.values) gallery from o s (as_masked p (is_it gallery) h.values s n known h.fresh) h.are)
+    (seen_moved p j.values (masked p.app h.values) gallery from q s (as_other once p (is_it gallery) h.values j.values s n known h.fresh j.fresh) j.are)

@@ -3,12 +3,15 @@ use Rattle.std.specs.Prelude.{◌≡◌, ℕ, List, Option, Some, None, IsSome}
 use Rattle.std.specs.List.{AllByRecursion}
 use Rattle.recalc.specs.app_cells.declared.app.App.{App}
 use Rattle.recalc.specs.app_semantics.Present.{Present, present}
+use Rattle.app_views.specs.Bounds.{AreMade, AreSteps, items_steps, shown_steps}
 use Rattle.app_views.specs.Galleries.{gallery_named}
+use Rattle.app_views.specs.Looking.{is_it, is_on}
 use Rattle.app_views.specs.Views.{AreFreshItems, IsFreshView}
 use Rattle.app_wire.specs.ReplyBytes.{refusal, reply}
 use Rattle.fx_base.specs.Silence.{Goes}
 use Rattle.fx_base.specs.Telling.{Stays}
 use Rattle.fx_trees.specs.declared.names.Names.{Names}
+use Rattle.recalc.specs.Kept.{Kept}
 use Rattle.request_checks.specs.Directory.{find}
 use Rattle.request_checks.specs.declared.directory.Named.{Named}
 use Rattle.row_keeper.specs.Tables.{Tables, rows_told}
@@ -28,7 +31,13 @@ AreFit n sessions = AllByRecursion (λ (x : Named SessionState). FitsNames n x.i
 abbrev pub ShowsViewTo : Type 0 → App → ℕ → Option SessionState → Option Tables → List ℕ → Option Tables → Type 0
 ShowsViewTo lost app moment None tables said tables' = (said ≡ refusal 11) × (tables' ≡ tables)
 ShowsViewTo lost app moment (Some s) tables said tables' =
-    ((v : View) × IsFreshView (present app s (rows_told tables') moment) v × (said ≡ reply 200 (view_text v))) × Goes lost Stays tables tables'
+    ((v : View) × ∥ IsFreshView (present app s (rows_told tables') moment) v ∥₁ × (said ≡ reply 200 (view_text v))) × Goes lost Stays tables tables'
+
+-- THE COST OF A VIEW: one step at most for each cell that is needed for it, wasn't clean, and isn't cut off; and one for each formula
+-- of a template and item shown
+abbrev pub CostsView : App → SessionState → Kept → Kept → ℕ → ℕ → List ℕ → Type 0
+CostsView a s old new before after said =
+    (v : View) × (said ≡ reply 200 (view_text v)) × AreSteps a (is_on a.names s.screen) old new (shown_steps a.names v.shown) before after
 
 -- THE route of views
 abbrev pub ShowsView : Type 0 → ℕ → App → List ℕ → List (Named SessionState) → Option Tables → List ℕ → Option Tables → Type 0
@@ -48,7 +57,17 @@ items_reply None = refusal 17
 -- the items of the gallery of this number over what a present tells, if there is one (15). The rows of tables stay.
 abbrev pub SaysItemsOf : Type 0 → Present → ℕ → Option ℕ → Option Tables → List ℕ → Option Tables → Type 0
 SaysItemsOf lost p from None tables said tables' = (said ≡ refusal 15) × (tables' ≡ tables)
-SaysItemsOf lost p from (Some g) tables said tables' = ((o : Option Items) × AreFreshItems p g from o × (said ≡ items_reply o)) × Goes lost Stays tables tables'
+SaysItemsOf lost p from (Some g) tables said tables' = ((o : Option Items) × ∥ AreFreshItems p g from o ∥₁ × (said ≡ items_reply o)) × Goes lost Stays tables tables'
+
+-- THE COST OF ITEMS, counted like that of a view: of the gallery of this number, if there is one
+abbrev pub CostsItems : App → Option ℕ → Kept → Kept → ℕ → ℕ → List ℕ → Type 0
+CostsItems a None old new before after said = (new ≡ old) × (after ≡ before)
+CostsItems a (Some g) old new before after said = (o : Option Items) × (said ≡ items_reply o) × AreSteps a (is_it g) old new (items_steps a.names g o) before after
+
+-- the cells are clean to which the items look
+abbrev pub MakesItems : App → Option ℕ → Kept → Type 0
+MakesItems a None c = Unit {0}
+MakesItems a (Some g) c = AreMade a (is_it g) c
 
 -- the items of the gallery of this name, from a position on
 abbrev pub SaysItems : Type 0 → Present → List ℕ → ℕ → Option Tables → List ℕ → Option Tables → Type 0

@@ -1,7 +1,7 @@
 -- What a session shows.
 use Rattle.std.specs.Prelude.{◌≡◌, ℕ, suc, pos, ◌-◌, ◌&&◌, ◌==◌, List, [], ◌∷◌, Bool, true, false, codes, length, take, drop, max, Option, Some, None, is_none, option_map, slice_get, unwrap_or}
 use Rattle.recalc.specs.app_semantics.Chosen.{item_id}
-use Rattle.recalc.specs.app_semantics.Fresh.{IsFresh}
+use Rattle.app_views.specs.Looking.{AreFreshFor, is_it, is_on}
 use Rattle.recalc.specs.app_semantics.Present.{Present, input_of, items_of}
 use Rattle.recalc.specs.app_semantics.Properties.{IsPropertyForItem, is_true, is_visible, property_value}
 use Rattle.fx_data.specs.Values.{Data, number, text, boolean, fault}
@@ -121,10 +121,10 @@ pub record IsView (p : Present) (values : ℕ → Data) (v : View) : Type 0 wher
   pub screen : slice_get p.app.names.screens p.session.screen ≡ Some v.screen
   pub shown : AreGiven (IsShown p values) 0 p.app.names.controls v.shown
 
--- THE VIEW AT A MOMENT: the cells have their fresh values
+-- THE VIEW AT A MOMENT: the cells that are looked at have their fresh values
 pub record IsFreshView (p : Present) (v : View) : Type 0 where
   pub values : ℕ → Data
-  pub fresh : IsFresh p values
+  pub fresh : AreFreshFor p values (is_on p.app.names p.session.screen)
   pub shows : IsView p values v
 
 -- ---- the items of a gallery alone
@@ -137,8 +137,8 @@ abbrev pub AreSeenItems : Present → (ℕ → Data) → ℕ → ℕ → Option 
 AreSeenItems p values g from (Some i) = (is_seen_at p.app.names p.session values g ≡ true) × AreItemsFrom p values g from i
 AreSeenItems p values g from None = is_seen_at p.app.names p.session values g ≡ false
 
--- THE ITEMS AT A MOMENT: the cells have their fresh values
+-- THE ITEMS AT A MOMENT: the cells that are looked at have their fresh values
 pub record AreFreshItems (p : Present) (g from : ℕ) (o : Option Items) : Type 0 where
   pub values : ℕ → Data
-  pub fresh : IsFresh p values
+  pub fresh : AreFreshFor p values (is_it g)
   pub are : AreSeenItems p values g from o

@@ -1,27 +1,33 @@
 //! The items of galleries.
-ghost use Rattle.std.specs.Prelude.{◌≡◌, ◌<◌, ◌+◌, ◌^◌, ℕ, [], IfOk, IfSome, Some, drop, length, slice_get, take};
+ghost use Rattle.std.specs.Prelude.{◌≡◌, ◌<◌, ◌≤◌, ◌+◌, ◌*◌, ◌^◌, ℕ, [], IfOk, IfSome, OnOk, Some, drop, length, slice_get, take};
 ghost use Rattle.recalc.specs.app_semantics.Holding.{HoldsFitting};
 ghost use Rattle.recalc.specs.app_semantics.Present.{present};
 ghost use Rattle.recalc.specs.app_semantics.Sound.{IsSound};
+ghost use Rattle.app_views.specs.Bounds.{AreMade, AreSteps, formulas_for, items_steps};
+ghost use Rattle.app_views.specs.Looking.{is_it};
 ghost use Rattle.app_views.specs.Galleries.{gallery_named as named_gallery, is_gallery as is_gallery_kind, is_gallery_named as is_named_gallery};
 ghost use Rattle.app_views.specs.Ready.{CanShow, IsGalleryOf, IsItemOf};
-ghost use Rattle.app_views.specs.Views.{AreFreshItems, AreGiven, AreItemsFrom, AreRowItems, IsItemAt, fault_in as fault_of, is_seen_at as is_seen_by_number};
+ghost use Rattle.app_views.specs.Views.{AreFreshItems, AreGiven, AreItemsFrom, AreRowItems, AreSeenItems, IsItemAt, fault_in as fault_of, is_seen_at as is_seen_by_number};
 ghost use Rattle.fx_data.specs.ValueView.{view};
 ghost use Rattle.fx_scalar.specs.ScalarFunctions.{IsToday};
 ghost use Rattle.recalc.specs.fx_semantics.Rows.{rows_in as rows_of_value};
 ghost use Rattle.fx_value.specs.Columns.{Row};
 ghost use Rattle.recalc.specs.Asking.{HasRead, IsHeardOf, ToldRows, keeping};
 ghost use Rattle.recalc.specs.Values.{value_of};
+ghost use Rattle.recalc.specs.Kept.{HasRoom, IsInOrder};
+ghost use Rattle.recalc.specs.Outcomes.{IsRightOver};
+ghost use Rattle.recalc.specs.Steps.{Leaves};
 ghost use Rattle.row_keeper.specs.Causes.{HasCause};
 
 use crate::app_cells::App;
 use crate::displaying::is_seen;
+use crate::roots::{Part, roots_of};
 use crate::templates::item_controls;
 use fx_base::{InOrder, Memory};
 use fx_data::{Control, Fault, Fields, Value, Words};
 use fx_trees::Names;
 use fx_trees::names::ControlName;
-use recalc::{Steps, Valued, evaluate, id_name, item_id};
+use recalc::{Cache, Steps, Valued, id_name, item_id};
 use row_keeper::{Keeper, KeeperEnd};
 use session_state::Session;
 use std::alloc::Global;
@@ -48,6 +54,7 @@ fn item_view<K: Keeper, L: Ledger>(
     requires row { IsItemOf app.now.names gallery row.now }
     requires shaped { K.shaped keeper.old ≡ Some app.now.names.schema }
     ensures shows { IfOk result (λ i. (moment : ℕ) (tables : ToldRows) → IsToday moment valued.now.day → IsHeardOf (K.told keeper.new) tables → IsItemAt (present app.now session.now tables moment) (value_of valued.now) gallery at row.now (Some i)) }
+    ensures ticks { IfOk result (λ i. steps.new ≤ steps.old + formulas_for app.now.names (is_it gallery)) }
     ensures read { HasRead (keeping (K.told keeper.old) (K.began keeper.old) (K.shaped keeper.old) (K.in_transaction keeper.old) (K.marks keeper.old) (K.visited keeper.old) (K.loan keeper.old))
         (keeping (K.told keeper.new) (K.began keeper.new) (K.shaped keeper.new) (K.in_transaction keeper.new) (K.marks keeper.new) (K.visited keeper.new) (K.loan keeper.new)) }
     ensures cause { HasCause (K.marks keeper.old) (K.marks keeper.new) result }
@@ -76,6 +83,7 @@ fn item_views<K: Keeper, L: Ledger>(
     requires few { first + length rows.now < 2 ^ 64 }
     requires shaped { K.shaped keeper.old ≡ Some app.now.names.schema }
     ensures shows { IfOk result (λ l. (moment : ℕ) (tables : ToldRows) → IsToday moment valued.now.day → IsHeardOf (K.told keeper.new) tables → AreGiven (IsItemAt (present app.now session.now tables moment) (value_of valued.now) gallery) first rows.now l) }
+    ensures ticks { IfOk result (λ l. steps.new ≤ steps.old + length l * formulas_for app.now.names (is_it gallery)) }
     ensures read { HasRead (keeping (K.told keeper.old) (K.began keeper.old) (K.shaped keeper.old) (K.in_transaction keeper.old) (K.marks keeper.old) (K.visited keeper.old) (K.loan keeper.old))
         (keeping (K.told keeper.new) (K.began keeper.new) (K.shaped keeper.new) (K.in_transaction keeper.new) (K.marks keeper.new) (K.visited keeper.new) (K.loan keeper.new)) }
     ensures cause { HasCause (K.marks keeper.old) (K.marks keeper.new) result }
@@ -117,6 +125,7 @@ fn table_items<K: Keeper, L: Ledger>(
     requires rows { (i : ℕ) (r : Row) → slice_get rows.now i ≡ Some r → IsItemOf app.now.names gallery r }
     requires shaped { K.shaped keeper.old ≡ Some app.now.names.schema }
     ensures shows { IfOk result (λ i. (moment : ℕ) (tables : ToldRows) → IsToday moment valued.now.day → IsHeardOf (K.told keeper.new) tables → AreRowItems (present app.now session.now tables moment) (value_of valued.now) gallery from rows.now i) }
+    ensures ticks { IfOk result (λ i. steps.new ≤ steps.old + length i.list * formulas_for app.now.names (is_it gallery)) }
     ensures read { HasRead (keeping (K.told keeper.old) (K.began keeper.old) (K.shaped keeper.old) (K.in_transaction keeper.old) (K.marks keeper.old) (K.visited keeper.old) (K.loan keeper.old))
         (keeping (K.told keeper.new) (K.began keeper.new) (K.shaped keeper.new) (K.in_transaction keeper.new) (K.marks keeper.new) (K.visited keeper.new) (K.loan keeper.new)) }
     ensures cause { HasCause (K.marks keeper.old) (K.marks keeper.new) result }
@@ -158,6 +167,7 @@ pub(crate) fn items_from<K: Keeper, L: Ledger>(
     requires gallery { IsGalleryOf app.now.names gallery }
     requires shaped { K.shaped keeper.old ≡ Some app.now.names.schema }
     ensures shows { IfOk result (λ i. (moment : ℕ) (tables : ToldRows) → IsToday moment valued.now.day → IsHeardOf (K.told keeper.new) tables → AreItemsFrom (present app.now session.now tables moment) (value_of valued.now) gallery from i) }
+    ensures ticks { IfOk result (λ i. steps.new ≤ steps.old + length i.list * formulas_for app.now.names (is_it gallery)) }
     ensures read { HasRead (keeping (K.told keeper.old) (K.began keeper.old) (K.shaped keeper.old) (K.in_transaction keeper.old) (K.marks keeper.old) (K.visited keeper.old) (K.loan keeper.old))
         (keeping (K.told keeper.new) (K.began keeper.new) (K.shaped keeper.new) (K.in_transaction keeper.new) (K.marks keeper.new) (K.visited keeper.new) (K.loan keeper.new)) }
     ensures cause { HasCause (K.marks keeper.old) (K.marks keeper.new) result }
@@ -219,12 +229,14 @@ fn is_seen_at(names: &Names, session: &Session, valued: &Valued, number: u32) ->
 
 /// The items of a gallery over a session at a moment, in seconds since 1970-01-01 UTC: those from a position on, of which 0
 /// counts as 1, a hundred at most, and how many the gallery has; or the error that stands in their place. None where the
-/// gallery isn't on the current screen or isn't visible.
-#[tactic(auto, using(recalc::proofs::Asked::read_none, recalc::proofs::Asked::read_on))]
+/// gallery isn't on the current screen or isn't visible. What was kept right stays so, also where it stops; the cells that are
+/// looked at are clean afterwards, and what was clean stays so. `Failed` only where the keeper counted a fault.
+#[tactic(auto, using(recalc::proofs::Asked::read_none, recalc::proofs::Asked::read_on, crate::proofs::Needing::leaves_none))]
 pub fn items_of<K: Keeper, L: Ledger>(
     alloc: Global,
     app: &App,
     session: &Session,
+    cache: &mut Cache,
     keeper: &mut K,
     moment: u64,
     gallery: u32,
@@ -235,14 +247,56 @@ pub fn items_of<K: Keeper, L: Ledger>(
     requires holds { HoldsFitting app.now.names session.now }
     requires gallery { IsGalleryOf app.now.names gallery }
     requires shaped { K.shaped keeper.old ≡ Some app.now.names.schema }
-    ensures shows { IfOk result (λ o. (tables : ToldRows) → IsHeardOf (K.told keeper.new) tables → AreFreshItems (present app.now session.now tables moment) gallery from o) }
+    requires day { IsToday moment cache.old.values.day }
+    requires order { IsInOrder app.now cache.old }
+    ensures shows { IfOk result (λ o. IsRightOver app.now session.now (K.told keeper.old) moment cache.old → (tables : ToldRows) → IsHeardOf (K.told keeper.new) tables → AreFreshItems (present app.now session.now tables moment) gallery from o) }
+    ensures order { IsInOrder app.now cache.new }
+    ensures right { IsRightOver app.now session.now (K.told keeper.old) moment cache.old → IsRightOver app.now session.now (K.told keeper.new) moment cache.new }
+    ensures day { cache.new.values.day ≡ cache.old.values.day }
+    ensures left { HasRoom cache.old.last → Leaves app.now cache.old cache.new }
+    ensures made { OnOk result (AreMade app.now (is_it gallery) cache.new) }
+    ensures ticks { IfOk result (λ o. HasRoom cache.old.last → AreSteps app.now (is_it gallery) cache.old cache.new (items_steps app.now.names gallery o) steps.old steps.new) }
     ensures read { HasRead (keeping (K.told keeper.old) (K.began keeper.old) (K.shaped keeper.old) (K.in_transaction keeper.old) (K.marks keeper.old) (K.visited keeper.old) (K.loan keeper.old))
         (keeping (K.told keeper.new) (K.began keeper.new) (K.shaped keeper.new) (K.in_transaction keeper.new) (K.marks keeper.new) (K.visited keeper.new) (K.loan keeper.new)) }
     ensures cause { HasCause (K.marks keeper.old) (K.marks keeper.new) result }
 {
-    let valued = evaluate(alloc, app, session, keeper, moment, steps)?;
-    if is_seen_at(&app.names, session, &valued, gallery) {
-        let items = items_from(alloc, app, session, keeper, &valued, gallery, from, steps)?;
+    let roots = roots_of(alloc, app, Part::Gallery(gallery))?;
+    cache.refresh(alloc, app, session, keeper, moment, &roots, steps)?;
+    items_by(
+        alloc,
+        app,
+        session,
+        keeper,
+        cache.valued(),
+        gallery,
+        from,
+        steps,
+    )
+}
+
+// The same, by the values of cells.
+#[tactic(auto, using(recalc::proofs::Asked::read_none, recalc::proofs::Asked::read_on))]
+fn items_by<K: Keeper, L: Ledger>(
+    alloc: Global,
+    app: &App,
+    session: &Session,
+    keeper: &mut K,
+    valued: &Valued,
+    gallery: u32,
+    from: u32,
+    steps: &mut Steps<L>,
+) -> Result<Option<Items>, KeeperEnd>
+    requires ready { CanShow app.now session.now valued.now }
+    requires gallery { IsGalleryOf app.now.names gallery }
+    requires shaped { K.shaped keeper.old ≡ Some app.now.names.schema }
+    ensures shows { IfOk result (λ o. (moment : ℕ) (tables : ToldRows) → IsToday moment valued.now.day → IsHeardOf (K.told keeper.new) tables → AreSeenItems (present app.now session.now tables moment) (value_of valued.now) gallery from o) }
+    ensures ticks { IfOk result (λ o. steps.new ≤ steps.old + items_steps app.now.names gallery o) }
+    ensures read { HasRead (keeping (K.told keeper.old) (K.began keeper.old) (K.shaped keeper.old) (K.in_transaction keeper.old) (K.marks keeper.old) (K.visited keeper.old) (K.loan keeper.old))
+        (keeping (K.told keeper.new) (K.began keeper.new) (K.shaped keeper.new) (K.in_transaction keeper.new) (K.marks keeper.new) (K.visited keeper.new) (K.loan keeper.new)) }
+    ensures cause { HasCause (K.marks keeper.old) (K.marks keeper.new) result }
+{
+    if is_seen_at(&app.names, session, valued, gallery) {
+        let items = items_from(alloc, app, session, keeper, valued, gallery, from, steps)?;
         Ok(Some(items))
     } else {
         Ok(None)

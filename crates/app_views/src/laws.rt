@@ -1,7 +1,7 @@
 //! Laws of views.
 ghost use Rattle.app_views.specs.Laws.{OneItems, OneItemsReply, OneView, OneViewReply};
 
-use crate::app_semantics::one_fresh;
+use crate::app_semantics::one_fresh_at;
 use crate::fx_semantics::one_value;
 
 /// A law, and no work: at a moment a session has one view.
@@ -9,7 +9,7 @@ pub fn one_view()
     ensures { OneView }
 {
     one_value();
-    one_fresh();
+    one_fresh_at();
 }
 
 /// A law, and no work: at a moment a gallery has one list of items from a position on.
@@ -17,7 +17,7 @@ pub fn one_items()
     ensures { OneItems }
 {
     one_value();
-    one_fresh();
+    one_fresh_at();
 }
 
 /// A law, and no work: the app, the moment and the session determine the reply that shows a view.

@@ -4,6 +4,7 @@
 mod displaying;
 mod items;
 mod laws;
+mod roots;
 mod showing;
 mod templates;
 mod view;

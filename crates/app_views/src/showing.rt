@@ -1,19 +1,25 @@
 //! What is shown to sessions.
-ghost use Rattle.std.specs.Prelude.{◌≡◌, IfOk, IsErrOf, IsSome, Some};
+ghost use Rattle.std.specs.Prelude.{◌≡◌, IfOk, IsErrOf, IsSome, OnOk, Some};
+ghost use Rattle.app_views.specs.Bounds.{AreMade};
+ghost use Rattle.app_views.specs.Galleries.{gallery_named as named_gallery};
+ghost use Rattle.app_views.specs.Looking.{is_on};
+ghost use Rattle.app_views.specs.Ready.{IsGalleryOf};
+ghost use Rattle.app_views.specs.Shows.{CostsItems, CostsView, MakesItems, SaysItemsOf, ShowsItemsTo, ShowsViewTo, items_reply as reply_of_items};
+ghost use Rattle.app_wire.specs.ReplyBytes.{reply};
+ghost use Rattle.recalc.specs.Asking.{HasRead, keeping};
 ghost use Rattle.recalc.specs.app_semantics.Present.{present};
 ghost use Rattle.recalc.specs.app_semantics.Sound.{IsSound};
 ghost use Rattle.fx_base.specs.Silence.{IsLost};
-ghost use Rattle.recalc.specs.Asking.{HasRead, keeping};
+ghost use Rattle.fx_scalar.specs.ScalarFunctions.{IsToday};
+ghost use Rattle.recalc.specs.Kept.{HasRoom, IsInOrder};
+ghost use Rattle.recalc.specs.Outcomes.{IsRightOver};
+ghost use Rattle.recalc.specs.Steps.{Leaves};
 ghost use Rattle.request_checks.specs.Replies.{IsReply, said};
 ghost use Rattle.row_keeper.specs.Causes.{HasCause};
 ghost use Rattle.row_keeper.specs.Tables.{rows_told};
 ghost use Rattle.row_keeper.specs.declared.keeper.KeeperEnd.TheVariants.{Failed};
 ghost use Rattle.session_state.specs.Changes.{FitsNames};
 ghost use Rattle.view_text.specs.ViewText.{view_text};
-ghost use Rattle.app_views.specs.Galleries.{gallery_named as named_gallery};
-ghost use Rattle.app_views.specs.Ready.{IsGalleryOf};
-ghost use Rattle.app_wire.specs.ReplyBytes.{reply};
-ghost use Rattle.app_views.specs.Shows.{AreFit, ReachesItems, ReachesView, SaysItems, SaysItemsOf, ShowsItems, ShowsView, ShowsViewTo, items_reply as reply_of_items};
 
 use crate::app_cells::App;
 use crate::app_semantics::fitting_holds;
@@ -21,47 +27,22 @@ use crate::items::{gallery_named, items_of};
 use crate::view::view_of;
 use fx_base::Memory;
 use fx_data::Words;
-use recalc::Steps;
-use request_checks::{Named, Reply, place_of};
+use recalc::{Cache, Steps};
+use request_checks::Reply;
 use row_keeper::{Keeper, KeeperEnd};
 use session_state::Session;
 use std::alloc::Global;
 use std::sync::ledger::Ledger;
 use view_text::{Items, View, items_json, view_json};
 
-/// Shows a live session its view over the rows of a keeper at a moment, in seconds since 1970-01-01 UTC. Of no such session
-/// it is refused (11). `Failed` only where the keeper counted a fault.
-#[tactic(auto, using(recalc::proofs::Asked::read_none))]
+/// Shows a live session its view over the rows of a keeper at a moment, in seconds since 1970-01-01 UTC. What is kept for it is
+/// right afterwards, also where it stops; the cells to which the view looks are then clean, and what was clean stays so. `Failed`
+/// only where the keeper counted a fault.
 pub fn show_view<K: Keeper, L: Ledger>(
     alloc: Global,
     app: &App,
-    sessions: &[Named<Session>],
-    keeper: &mut K,
-    name: &Words,
-    moment: u64,
-    steps: &mut Steps<L>,
-) -> Result<Reply, KeeperEnd>
-    requires sound { IsSound app.now }
-    requires fit { AreFit app.now.names sessions.now }
-    requires shaped { K.shaped keeper.old ≡ Some app.now.names.schema }
-    ensures done { IfOk result (λ r. ShowsView (IsLost (K.marks keeper.old) (K.marks keeper.new)) moment app.now name.now sessions.now (K.told keeper.old) (said r) (K.told keeper.new)) }
-    ensures whole { IfOk result IsReply }
-    ensures reached { IsErrOf result Failed → ReachesView name.now sessions.now }
-    ensures read { HasRead (keeping (K.told keeper.old) (K.began keeper.old) (K.shaped keeper.old) (K.in_transaction keeper.old) (K.marks keeper.old) (K.visited keeper.old) (K.loan keeper.old))
-        (keeping (K.told keeper.new) (K.began keeper.new) (K.shaped keeper.new) (K.in_transaction keeper.new) (K.marks keeper.new) (K.visited keeper.new) (K.loan keeper.new)) }
-    ensures cause { HasCause (K.marks keeper.old) (K.marks keeper.new) result }
-{
-    match place_of(sessions, name) {
-        Some(place) => show_view_to(alloc, app, &sessions[place].it, keeper, moment, steps),
-        None => Ok(Reply::refuse_plain(alloc, 11)?),
-    }
-}
-
-// The same, to this session.
-fn show_view_to<K: Keeper, L: Ledger>(
-    alloc: Global,
-    app: &App,
     session: &Session,
+    cache: &mut Cache,
     keeper: &mut K,
     moment: u64,
     steps: &mut Steps<L>,
@@ -69,14 +50,23 @@ fn show_view_to<K: Keeper, L: Ledger>(
     requires sound { IsSound app.now }
     requires fits { FitsNames app.now.names session.now }
     requires shaped { K.shaped keeper.old ≡ Some app.now.names.schema }
+    requires day { IsToday moment cache.old.values.day }
+    requires order { IsInOrder app.now cache.old }
+    requires right { ∥ IsRightOver app.now session.now (K.told keeper.old) moment cache.old ∥₁ }
     ensures done { IfOk result (λ r. ShowsViewTo (IsLost (K.marks keeper.old) (K.marks keeper.new)) app.now moment (Some session.now) (K.told keeper.old) (said r) (K.told keeper.new)) }
     ensures whole { IfOk result IsReply }
+    ensures order { IsInOrder app.now cache.new }
+    ensures right { ∥ IsRightOver app.now session.now (K.told keeper.new) moment cache.new ∥₁ }
+    ensures day { cache.new.values.day ≡ cache.old.values.day }
+    ensures left { HasRoom cache.old.last → Leaves app.now cache.old cache.new }
+    ensures made { OnOk result (AreMade app.now (is_on app.now.names session.now.screen) cache.new) }
+    ensures ticks { IfOk result (λ r. HasRoom cache.old.last → CostsView app.now session.now cache.old cache.new steps.old steps.new (said r)) }
     ensures read { HasRead (keeping (K.told keeper.old) (K.began keeper.old) (K.shaped keeper.old) (K.in_transaction keeper.old) (K.marks keeper.old) (K.visited keeper.old) (K.loan keeper.old))
         (keeping (K.told keeper.new) (K.began keeper.new) (K.shaped keeper.new) (K.in_transaction keeper.new) (K.marks keeper.new) (K.visited keeper.new) (K.loan keeper.new)) }
     ensures cause { HasCause (K.marks keeper.old) (K.marks keeper.new) result }
 {
     fitting_holds();
-    let view = view_of(alloc, app, session, keeper, moment, steps)?;
+    let view = view_of(alloc, app, session, cache, keeper, moment, steps)?;
     Ok(view_reply(alloc, &view)?)
 }
 
@@ -90,45 +80,15 @@ fn view_reply(alloc: Global, view: &View) -> Result<Reply, Memory>
 }
 
 /// Shows a live session the items of a gallery from a position on, of which 0 counts as 1, over the rows of a keeper at a
-/// moment in seconds since 1970-01-01 UTC: a hundred at most. It is refused of no such session (11), of no such gallery (15),
-/// and of one that isn't on the current screen or isn't visible (17). `Failed` only where the keeper counted a fault.
-#[tactic(auto, using(recalc::proofs::Asked::read_none))]
+/// moment in seconds since 1970-01-01 UTC: a hundred at most. It is refused of no such gallery (15), and of one that isn't on the
+/// current screen or isn't visible (17). What is kept for it is right afterwards, also where it stops; the cells to which the items
+/// look are then clean, and what was clean stays so. `Failed` only where the keeper counted a fault.
+#[tactic(auto, using(recalc::proofs::Asked::read_none, crate::proofs::Needing::leaves_none))]
 pub fn show_items<K: Keeper, L: Ledger>(
     alloc: Global,
     app: &App,
-    sessions: &[Named<Session>],
-    keeper: &mut K,
-    name: &Words,
-    gallery: &Words,
-    from: u32,
-    moment: u64,
-    steps: &mut Steps<L>,
-) -> Result<Reply, KeeperEnd>
-    requires sound { IsSound app.now }
-    requires fit { AreFit app.now.names sessions.now }
-    requires shaped { K.shaped keeper.old ≡ Some app.now.names.schema }
-    ensures done { IfOk result (λ r. ShowsItems (IsLost (K.marks keeper.old) (K.marks keeper.new)) moment app.now name.now gallery.now from sessions.now (K.told keeper.old) (said r) (K.told keeper.new)) }
-    ensures whole { IfOk result IsReply }
-    ensures reached { IsErrOf result Failed → ReachesItems app.now name.now gallery.now sessions.now }
-    ensures read { HasRead (keeping (K.told keeper.old) (K.began keeper.old) (K.shaped keeper.old) (K.in_transaction keeper.old) (K.marks keeper.old) (K.visited keeper.old) (K.loan keeper.old))
-        (keeping (K.told keeper.new) (K.began keeper.new) (K.shaped keeper.new) (K.in_transaction keeper.new) (K.marks keeper.new) (K.visited keeper.new) (K.loan keeper.new)) }
-    ensures cause { HasCause (K.marks keeper.old) (K.marks keeper.new) result }
-{
-    match place_of(sessions, name) {
-        Some(place) => {
-            let session = &sessions[place].it;
-            show_items_to(alloc, app, session, keeper, gallery, from, moment, steps)
-        }
-        None => Ok(Reply::refuse_plain(alloc, 11)?),
-    }
-}
-
-// The same, to this session.
-#[tactic(auto, using(recalc::proofs::Asked::read_none))]
-fn show_items_to<K: Keeper, L: Ledger>(
-    alloc: Global,
-    app: &App,
     session: &Session,
+    cache: &mut Cache,
     keeper: &mut K,
     gallery: &Words,
     from: u32,
@@ -138,15 +98,26 @@ fn show_items_to<K: Keeper, L: Ledger>(
     requires sound { IsSound app.now }
     requires fits { FitsNames app.now.names session.now }
     requires shaped { K.shaped keeper.old ≡ Some app.now.names.schema }
-    ensures done { IfOk result (λ r. SaysItems (IsLost (K.marks keeper.old) (K.marks keeper.new)) (present app.now session.now (rows_told (K.told keeper.new)) moment) gallery.now from (K.told keeper.old) (said r) (K.told keeper.new)) }
+    requires day { IsToday moment cache.old.values.day }
+    requires order { IsInOrder app.now cache.old }
+    requires right { ∥ IsRightOver app.now session.now (K.told keeper.old) moment cache.old ∥₁ }
+    ensures done { IfOk result (λ r. ShowsItemsTo (IsLost (K.marks keeper.old) (K.marks keeper.new)) app.now moment gallery.now from (Some session.now) (K.told keeper.old) (said r) (K.told keeper.new)) }
     ensures whole { IfOk result IsReply }
     ensures reached { IsErrOf result Failed → IsSome (named_gallery gallery.now app.now.names) }
+    ensures order { IsInOrder app.now cache.new }
+    ensures right { ∥ IsRightOver app.now session.now (K.told keeper.new) moment cache.new ∥₁ }
+    ensures day { cache.new.values.day ≡ cache.old.values.day }
+    ensures left { HasRoom cache.old.last → Leaves app.now cache.old cache.new }
+    ensures made { OnOk result (MakesItems app.now (named_gallery gallery.now app.now.names) cache.new) }
+    ensures ticks { IfOk result (λ r. HasRoom cache.old.last → CostsItems app.now (named_gallery gallery.now app.now.names) cache.old cache.new steps.old steps.new (said r)) }
     ensures read { HasRead (keeping (K.told keeper.old) (K.began keeper.old) (K.shaped keeper.old) (K.in_transaction keeper.old) (K.marks keeper.old) (K.visited keeper.old) (K.loan keeper.old))
         (keeping (K.told keeper.new) (K.began keeper.new) (K.shaped keeper.new) (K.in_transaction keeper.new) (K.marks keeper.new) (K.visited keeper.new) (K.loan keeper.new)) }
     ensures cause { HasCause (K.marks keeper.old) (K.marks keeper.new) result }
 {
     match gallery_named(&app.names, gallery) {
-        Some(number) => show_items_of(alloc, app, session, keeper, number, from, moment, steps),
+        Some(number) => show_items_of(
+            alloc, app, session, cache, keeper, number, from, moment, steps,
+        ),
         None => Ok(Reply::refuse_plain(alloc, 15)?),
     }
 }
@@ -156,6 +127,7 @@ fn show_items_of<K: Keeper, L: Ledger>(
     alloc: Global,
     app: &App,
     session: &Session,
+    cache: &mut Cache,
     keeper: &mut K,
     gallery: u32,
     from: u32,
@@ -166,14 +138,25 @@ fn show_items_of<K: Keeper, L: Ledger>(
     requires fits { FitsNames app.now.names session.now }
     requires gallery { IsGalleryOf app.now.names gallery }
     requires shaped { K.shaped keeper.old ≡ Some app.now.names.schema }
+    requires day { IsToday moment cache.old.values.day }
+    requires order { IsInOrder app.now cache.old }
+    requires right { ∥ IsRightOver app.now session.now (K.told keeper.old) moment cache.old ∥₁ }
     ensures done { IfOk result (λ r. SaysItemsOf (IsLost (K.marks keeper.old) (K.marks keeper.new)) (present app.now session.now (rows_told (K.told keeper.new)) moment) from (Some gallery) (K.told keeper.old) (said r) (K.told keeper.new)) }
     ensures whole { IfOk result IsReply }
+    ensures order { IsInOrder app.now cache.new }
+    ensures right { ∥ IsRightOver app.now session.now (K.told keeper.new) moment cache.new ∥₁ }
+    ensures day { cache.new.values.day ≡ cache.old.values.day }
+    ensures left { HasRoom cache.old.last → Leaves app.now cache.old cache.new }
+    ensures made { OnOk result (MakesItems app.now (Some gallery) cache.new) }
+    ensures ticks { IfOk result (λ r. HasRoom cache.old.last → CostsItems app.now (Some gallery) cache.old cache.new steps.old steps.new (said r)) }
     ensures read { HasRead (keeping (K.told keeper.old) (K.began keeper.old) (K.shaped keeper.old) (K.in_transaction keeper.old) (K.marks keeper.old) (K.visited keeper.old) (K.loan keeper.old))
         (keeping (K.told keeper.new) (K.began keeper.new) (K.shaped keeper.new) (K.in_transaction keeper.new) (K.marks keeper.new) (K.visited keeper.new) (K.loan keeper.new)) }
     ensures cause { HasCause (K.marks keeper.old) (K.marks keeper.new) result }
 {
     fitting_holds();
-    let items = items_of(alloc, app, session, keeper, moment, gallery, from, steps)?;
+    let items = items_of(
+        alloc, app, session, cache, keeper, moment, gallery, from, steps,
+    )?;
     Ok(items_reply(alloc, items)?)
 }
 

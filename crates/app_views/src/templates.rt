@@ -1,5 +1,5 @@
 // The controls of a template, as they are for an item.
-ghost use Rattle.std.specs.Prelude.{◌≡◌, ◌++◌, ◌∷◌, [], ℕ, true, IfOk, OnOk, Some, codes, slice_get};
+ghost use Rattle.std.specs.Prelude.{◌≡◌, ◌≤◌, ◌+◌, ◌++◌, ◌∷◌, [], ℕ, true, IfOk, OnOk, Some, codes, slice_get};
 ghost use Rattle.recalc.specs.app_semantics.Present.{present};
 ghost use Rattle.recalc.specs.app_semantics.Properties.{IsPropertyForItem};
 ghost use Rattle.app_views.specs.Ready.{CanShow, IsItemOf};
@@ -9,7 +9,11 @@ ghost use Rattle.fx_data.specs.Values.{text as text_data};
 ghost use Rattle.fx_scalar.specs.ScalarFunctions.{IsToday};
 ghost use Rattle.recalc.specs.fx_semantics.Around.{record_of};
 ghost use Rattle.recalc.specs.Asking.{HasRead, IsHeardOf, ToldRows, keeping};
+ghost use Rattle.recalc.specs.Templates.{steps_of};
 ghost use Rattle.recalc.specs.Values.{value_of};
+ghost use Rattle.recalc.specs.app_cells.Leaning.{cell_of_property};
+ghost use Rattle.app_views.specs.Bounds.{control_steps, formulas_for};
+ghost use Rattle.app_views.specs.Looking.{is_it};
 ghost use Rattle.row_keeper.specs.Causes.{HasCause};
 
 use crate::app_cells::App;
@@ -65,6 +69,7 @@ fn text_for<K: Keeper, L: Ledger>(
     requires shaped { K.shaped keeper.old ≡ Some app.now.names.schema }
     ensures shows { IfOk result (λ v. (moment : ℕ) (tables : ToldRows) → IsToday moment valued.now.day → IsHeardOf (K.told keeper.new) tables →
         IsPropertyForItem (present app.now session.now tables moment) (value_of valued.now) (record_of row.now) number (codes "Text") (text_data []) (view v)) }
+    ensures ticks { IfOk result (λ v. steps.new ≡ steps.old + steps_of (cell_of_property app.now.names number (codes "Text"))) }
     ensures read { HasRead (keeping (K.told keeper.old) (K.began keeper.old) (K.shaped keeper.old) (K.in_transaction keeper.old) (K.marks keeper.old) (K.visited keeper.old) (K.loan keeper.old))
         (keeping (K.told keeper.new) (K.began keeper.new) (K.shaped keeper.new) (K.in_transaction keeper.new) (K.marks keeper.new) (K.visited keeper.new) (K.loan keeper.new)) }
     ensures cause { HasCause (K.marks keeper.old) (K.marks keeper.new) result }
@@ -111,6 +116,7 @@ fn template_control<K: Keeper, L: Ledger>(
     requires row { IsItemOf app.now.names gallery row.now }
     requires shaped { K.shaped keeper.old ≡ Some app.now.names.schema }
     ensures shows { IfOk result (λ o. (moment : ℕ) (tables : ToldRows) → IsToday moment valued.now.day → IsHeardOf (K.told keeper.new) tables → IsShownFor (present app.now session.now tables moment) (value_of valued.now) gallery (record_of row.now) number control.now o) }
+    ensures ticks { IfOk result (λ o. steps.new ≤ steps.old + control_steps app.now.names number true) }
     ensures read { HasRead (keeping (K.told keeper.old) (K.began keeper.old) (K.shaped keeper.old) (K.in_transaction keeper.old) (K.marks keeper.old) (K.visited keeper.old) (K.loan keeper.old))
         (keeping (K.told keeper.new) (K.began keeper.new) (K.shaped keeper.new) (K.in_transaction keeper.new) (K.marks keeper.new) (K.visited keeper.new) (K.loan keeper.new)) }
     ensures cause { HasCause (K.marks keeper.old) (K.marks keeper.new) result }
@@ -148,6 +154,7 @@ fn item_control<K: Keeper, L: Ledger>(
     requires row { IsItemOf app.now.names gallery row.now }
     requires shaped { K.shaped keeper.old ≡ Some app.now.names.schema }
     ensures shows { IfOk result (λ o. (moment : ℕ) (tables : ToldRows) → IsToday moment valued.now.day → IsHeardOf (K.told keeper.new) tables → IsShownFor (present app.now session.now tables moment) (value_of valued.now) gallery (record_of row.now) number control.now o) }
+    ensures ticks { IfOk result (λ o. steps.new ≤ steps.old + control_steps app.now.names number (is_in_of gallery control.now.gallery)) }
     ensures read { HasRead (keeping (K.told keeper.old) (K.began keeper.old) (K.shaped keeper.old) (K.in_transaction keeper.old) (K.marks keeper.old) (K.visited keeper.old) (K.loan keeper.old))
         (keeping (K.told keeper.new) (K.began keeper.new) (K.shaped keeper.new) (K.in_transaction keeper.new) (K.marks keeper.new) (K.visited keeper.new) (K.loan keeper.new)) }
     ensures cause { HasCause (K.marks keeper.old) (K.marks keeper.new) result }
@@ -177,6 +184,7 @@ pub(crate) fn item_controls<K: Keeper, L: Ledger>(
     requires row { IsItemOf app.now.names gallery row.now }
     requires shaped { K.shaped keeper.old ≡ Some app.now.names.schema }
     ensures shows { IfOk result (λ l. (moment : ℕ) (tables : ToldRows) → IsToday moment valued.now.day → IsHeardOf (K.told keeper.new) tables → AreGiven (IsShownFor (present app.now session.now tables moment) (value_of valued.now) gallery (record_of row.now)) 0 app.now.names.controls l) }
+    ensures ticks { IfOk result (λ l. steps.new ≤ steps.old + formulas_for app.now.names (is_it gallery)) }
     ensures read { HasRead (keeping (K.told keeper.old) (K.began keeper.old) (K.shaped keeper.old) (K.in_transaction keeper.old) (K.marks keeper.old) (K.visited keeper.old) (K.loan keeper.old))
         (keeping (K.told keeper.new) (K.began keeper.new) (K.shaped keeper.new) (K.in_transaction keeper.new) (K.marks keeper.new) (K.visited keeper.new) (K.loan keeper.new)) }
     ensures cause { HasCause (K.marks keeper.old) (K.marks keeper.new) result }

@@ -1,23 +1,29 @@
 //! What a session shows.
-ghost use Rattle.std.specs.Prelude.{◌≡◌, ◌<◌, ℕ, IfOk, Some, length, slice_get};
+ghost use Rattle.std.specs.Prelude.{◌≡◌, ◌+◌, ◌<◌, ◌≤◌, ◌∷◌, [], ℕ, IfOk, OnOk, Some, length, slice_get};
 ghost use Rattle.recalc.specs.app_semantics.Holding.{HoldsFitting};
 ghost use Rattle.recalc.specs.app_semantics.Present.{present};
 ghost use Rattle.recalc.specs.app_semantics.Sound.{IsSound};
+ghost use Rattle.app_views.specs.Bounds.{AreMade, AreSteps, items_steps, shown_steps};
+ghost use Rattle.app_views.specs.Looking.{is_on};
 ghost use Rattle.app_views.specs.Ready.{CanShow};
-ghost use Rattle.app_views.specs.Views.{AreGiven, IsFreshView, IsShown, IsShownControl, IsView, ShowsFirstItems, is_shown as is_shown_of};
+ghost use Rattle.app_views.specs.Views.{AreGiven, IsFreshView, IsShown, IsShownControl, IsView, ShowsFirstItems, is_shown as is_shown_of, put};
 ghost use Rattle.fx_scalar.specs.ScalarFunctions.{IsToday};
 ghost use Rattle.recalc.specs.Asking.{HasRead, IsHeardOf, ToldRows, keeping};
 ghost use Rattle.recalc.specs.Values.{value_of};
+ghost use Rattle.recalc.specs.Kept.{HasRoom, IsInOrder};
+ghost use Rattle.recalc.specs.Outcomes.{IsRightOver};
+ghost use Rattle.recalc.specs.Steps.{Leaves};
 ghost use Rattle.row_keeper.specs.Causes.{HasCause};
 
 use crate::app_cells::App;
 use crate::displaying::{displayed, is_seen};
 use crate::items::{is_gallery, items_from};
+use crate::roots::{Part, roots_of};
 use crate::templates::add;
 use fx_base::{InOrder, Memory};
 use fx_trees::Names;
 use fx_trees::names::ControlName;
-use recalc::{Steps, Valued, evaluate};
+use recalc::{Cache, Steps, Valued};
 use row_keeper::{Keeper, KeeperEnd};
 use session_state::Session;
 use std::alloc::Global;
@@ -25,12 +31,14 @@ use std::sync::ledger::Ledger;
 use view_text::{Items, Shown, ShownList, View};
 
 /// What a session shows at a moment, in seconds since 1970-01-01 UTC: its screen, and the controls that are shown on it, in
-/// the order of the app.
-#[tactic(auto, using(recalc::proofs::Asked::read_none, recalc::proofs::Asked::read_on))]
+/// the order of the app. What was kept right stays so, also where it stops; the cells that are looked at are clean afterwards, and
+/// what was clean stays so. `Failed` only where the keeper counted a fault.
+#[tactic(auto, using(recalc::proofs::Asked::read_none, recalc::proofs::Asked::read_on, crate::proofs::Needing::leaves_none))]
 pub fn view_of<K: Keeper, L: Ledger>(
     alloc: Global,
     app: &App,
     session: &Session,
+    cache: &mut Cache,
     keeper: &mut K,
     moment: u64,
     steps: &mut Steps<L>,
@@ -39,13 +47,23 @@ pub fn view_of<K: Keeper, L: Ledger>(
     requires holds { HoldsFitting app.now.names session.now }
     requires screen { session.now.screen < length app.now.names.screens }
     requires shaped { K.shaped keeper.old ≡ Some app.now.names.schema }
-    ensures shows { IfOk result (λ v. (tables : ToldRows) → IsHeardOf (K.told keeper.new) tables → IsFreshView (present app.now session.now tables moment) v) }
+    requires day { IsToday moment cache.old.values.day }
+    requires order { IsInOrder app.now cache.old }
+    ensures shows { IfOk result (λ v. IsRightOver app.now session.now (K.told keeper.old) moment cache.old → (tables : ToldRows) → IsHeardOf (K.told keeper.new) tables → IsFreshView (present app.now session.now tables moment) v) }
+    ensures order { IsInOrder app.now cache.new }
+    ensures right { IsRightOver app.now session.now (K.told keeper.old) moment cache.old → IsRightOver app.now session.now (K.told keeper.new) moment cache.new }
+    ensures day { cache.new.values.day ≡ cache.old.values.day }
+    ensures left { HasRoom cache.old.last → Leaves app.now cache.old cache.new }
+    ensures made { OnOk result (AreMade app.now (is_on app.now.names session.now.screen) cache.new) }
+    ensures ticks { IfOk result (λ v. HasRoom cache.old.last → AreSteps app.now (is_on app.now.names session.now.screen) cache.old cache.new (shown_steps app.now.names v.shown) steps.old steps.new) }
     ensures read { HasRead (keeping (K.told keeper.old) (K.began keeper.old) (K.shaped keeper.old) (K.in_transaction keeper.old) (K.marks keeper.old) (K.visited keeper.old) (K.loan keeper.old))
         (keeping (K.told keeper.new) (K.began keeper.new) (K.shaped keeper.new) (K.in_transaction keeper.new) (K.marks keeper.new) (K.visited keeper.new) (K.loan keeper.new)) }
     ensures cause { HasCause (K.marks keeper.old) (K.marks keeper.new) result }
 {
-    let valued = evaluate(alloc, app, session, keeper, moment, steps)?;
-    view_by(alloc, app, session, keeper, &valued, steps)
+    let part = Part::Screen(session.screen());
+    let roots = roots_of(alloc, app, part)?;
+    cache.refresh(alloc, app, session, keeper, moment, &roots, steps)?;
+    view_by(alloc, app, session, keeper, cache.valued(), steps)
 }
 
 // The same, by the values of cells.
@@ -62,6 +80,7 @@ fn view_by<K: Keeper, L: Ledger>(
     requires screen { session.now.screen < length app.now.names.screens }
     requires shaped { K.shaped keeper.old ≡ Some app.now.names.schema }
     ensures shows { IfOk result (λ v. (moment : ℕ) (tables : ToldRows) → IsToday moment valued.now.day → IsHeardOf (K.told keeper.new) tables → IsView (present app.now session.now tables moment) (value_of valued.now) v) }
+    ensures ticks { IfOk result (λ v. steps.new ≤ steps.old + shown_steps app.now.names v.shown) }
     ensures read { HasRead (keeping (K.told keeper.old) (K.began keeper.old) (K.shaped keeper.old) (K.in_transaction keeper.old) (K.marks keeper.old) (K.visited keeper.old) (K.loan keeper.old))
         (keeping (K.told keeper.new) (K.began keeper.new) (K.shaped keeper.new) (K.in_transaction keeper.new) (K.marks keeper.new) (K.visited keeper.new) (K.loan keeper.new)) }
     ensures cause { HasCause (K.marks keeper.old) (K.marks keeper.new) result }
@@ -90,6 +109,7 @@ fn all_shown<K: Keeper, L: Ledger>(
     requires ready { CanShow app.now session.now valued.now }
     requires shaped { K.shaped keeper.old ≡ Some app.now.names.schema }
     ensures shows { IfOk result (λ l. (moment : ℕ) (tables : ToldRows) → IsToday moment valued.now.day → IsHeardOf (K.told keeper.new) tables → AreGiven (IsShown (present app.now session.now tables moment) (value_of valued.now)) 0 app.now.names.controls l) }
+    ensures ticks { IfOk result (λ l. steps.new ≤ steps.old + shown_steps app.now.names l) }
     ensures read { HasRead (keeping (K.told keeper.old) (K.began keeper.old) (K.shaped keeper.old) (K.in_transaction keeper.old) (K.marks keeper.old) (K.visited keeper.old) (K.loan keeper.old))
         (keeping (K.told keeper.new) (K.began keeper.new) (K.shaped keeper.new) (K.in_transaction keeper.new) (K.marks keeper.new) (K.visited keeper.new) (K.loan keeper.new)) }
     ensures cause { HasCause (K.marks keeper.old) (K.marks keeper.new) result }
@@ -134,6 +154,7 @@ fn shown_control<K: Keeper, L: Ledger>(
     requires control { slice_get app.now.names.controls number ≡ Some control.now }
     requires shaped { K.shaped keeper.old ≡ Some app.now.names.schema }
     ensures shows { IfOk result (λ o. (moment : ℕ) (tables : ToldRows) → IsToday moment valued.now.day → IsHeardOf (K.told keeper.new) tables → IsShown (present app.now session.now tables moment) (value_of valued.now) number control.now o) }
+    ensures ticks { IfOk result (λ o. steps.new ≤ steps.old + shown_steps app.now.names (put o [])) }
     ensures read { HasRead (keeping (K.told keeper.old) (K.began keeper.old) (K.shaped keeper.old) (K.in_transaction keeper.old) (K.marks keeper.old) (K.visited keeper.old) (K.loan keeper.old))
         (keeping (K.told keeper.new) (K.began keeper.new) (K.shaped keeper.new) (K.in_transaction keeper.new) (K.marks keeper.new) (K.visited keeper.new) (K.loan keeper.new)) }
     ensures cause { HasCause (K.marks keeper.old) (K.marks keeper.new) result }
@@ -162,6 +183,7 @@ fn shown_with<K: Keeper, L: Ledger>(
     requires control { slice_get app.now.names.controls number ≡ Some control.now }
     requires shaped { K.shaped keeper.old ≡ Some app.now.names.schema }
     ensures shows { IfOk result (λ s. (moment : ℕ) (tables : ToldRows) → IsToday moment valued.now.day → IsHeardOf (K.told keeper.new) tables → IsShownControl (present app.now session.now tables moment) (value_of valued.now) number control.now s) }
+    ensures ticks { IfOk result (λ s. steps.new ≤ steps.old + shown_steps app.now.names (s ∷ [])) }
     ensures read { HasRead (keeping (K.told keeper.old) (K.began keeper.old) (K.shaped keeper.old) (K.in_transaction keeper.old) (K.marks keeper.old) (K.visited keeper.old) (K.loan keeper.old))
         (keeping (K.told keeper.new) (K.began keeper.new) (K.shaped keeper.new) (K.in_transaction keeper.new) (K.marks keeper.new) (K.visited keeper.new) (K.loan keeper.new)) }
     ensures cause { HasCause (K.marks keeper.old) (K.marks keeper.new) result }
@@ -194,6 +216,7 @@ fn shown_items<K: Keeper, L: Ledger>(
     requires control { slice_get app.now.names.controls number ≡ Some control.now }
     requires shaped { K.shaped keeper.old ≡ Some app.now.names.schema }
     ensures shows { IfOk result (λ o. (moment : ℕ) (tables : ToldRows) → IsToday moment valued.now.day → IsHeardOf (K.told keeper.new) tables → ShowsFirstItems (present app.now session.now tables moment) (value_of valued.now) number control.now.kind o) }
+    ensures ticks { IfOk result (λ o. steps.new ≤ steps.old + items_steps app.now.names number o) }
     ensures read { HasRead (keeping (K.told keeper.old) (K.began keeper.old) (K.shaped keeper.old) (K.in_transaction keeper.old) (K.marks keeper.old) (K.visited keeper.old) (K.loan keeper.old))
         (keeping (K.told keeper.new) (K.began keeper.new) (K.shaped keeper.new) (K.in_transaction keeper.new) (K.marks keeper.new) (K.visited keeper.new) (K.loan keeper.new)) }
     ensures cause { HasCause (K.marks keeper.old) (K.marks keeper.new) result }

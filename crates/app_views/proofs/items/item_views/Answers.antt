@@ -1,15 +1,19 @@
-use Rattle.std.proofs.Common.{Some, arith, refl}
+use Rattle.std.proofs.Common.{◌*◌, Some, arith, length, refl}
 use Rattle.recalc.specs.app_semantics.Present.{present}
+use Rattle.app_views.specs.Bounds.{formulas_for}
+use Rattle.app_views.specs.Looking.{is_it}
 use Rattle.app_views.specs.Views.{IsItemAt}
 use Rattle.recalc.proofs.Asked.{heard_before, read_none, read_on}
 use Rattle.recalc.specs.Asking.{Keeping, keeping}
 use Rattle.recalc.specs.Values.{value_of}
+use Rattle.app_views.proofs.Counts.{at_least, items_more}
 use Rattle.app_views.proofs.Giving.{all_given, at_place, none_given, one_given}
 use Rattle.app_views.proofs.items.item_views.Goals as goal
 
 pub loop-row-init : goal.loop-row-init
 loop-row-init g c = record {
   at = omega arith;
+  ticks = at_least c.args.steps.now (length c.new-list.result * formulas_for c.args.app.now.names (is_it c.args.gallery));
   given = λ moment tables today heard. none_given (IsItemAt (present c.args.app.now c.args.session.now tables moment) (value_of c.args.valued.now) c.args.gallery) c.args.first 0 c.args.rows.now c.new-list.result refl c.new-list.ensures;
   read = read_none (keeping (g.K.Keeper.told c.args.keeper.now) (g.K.Keeper.began c.args.keeper.now) (g.K.Keeper.shaped c.args.keeper.now) (g.K.Keeper.in_transaction c.args.keeper.now) (g.K.Keeper.marks c.args.keeper.now) (g.K.Keeper.visited c.args.keeper.now) (g.K.Keeper.loan c.args.keeper.now));
 }
@@ -26,6 +30,7 @@ loop-row-preserved g c =
     let after : Keeping = keeping (g.K.Keeper.told c.item_view.new.keeper) (g.K.Keeper.began c.item_view.new.keeper) (g.K.Keeper.shaped c.item_view.new.keeper) (g.K.Keeper.in_transaction c.item_view.new.keeper) (g.K.Keeper.marks c.item_view.new.keeper) (g.K.Keeper.visited c.item_view.new.keeper) (g.K.Keeper.loan c.item_view.new.keeper) in
     record {
       at = omega (arith, c.loop-row.invariant.at);
+      ticks = items_more c.loop-row.list c.push.new.self c.in_ok-item.item (formulas_for c.args.app.now.names (is_it c.args.gallery)) c.args.steps.now c.loop-row.steps c.item_view.new.steps c.in_ok-push.ensures.ok c.in_ok-item.ensures.ticks c.loop-row.invariant.ticks;
       given = λ moment tables today heard.
           one_given (IsItemAt (present c.args.app.now c.args.session.now tables moment) (value_of c.args.valued.now) c.args.gallery) c.args.first c.loop-row.at c.loop-row.row-index c.args.rows.now c.args.rows.now c.row-item.result (Some c.in_ok-item.item) c.loop-row.list c.push.new.self
           c.loop-row.invariant.at refl c.loop-row-test.true c.row-item.is (c.in_ok-item.ensures.shows moment tables today heard) c.in_ok-push.ensures.ok (c.loop-row.invariant.given moment tables today (heard_before before after c.in_ok-item.ensures.read tables heard));

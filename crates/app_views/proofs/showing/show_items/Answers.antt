@@ -1,26 +1,37 @@
-use Rattle.std.proofs.Common.{Option, refl, subst, sym}
+use Rattle.std.proofs.Common.{Option, refl, subst, ℕ}
 use Rattle.std.proofs.lemmas.Result.{IfOk-weaker}
+use Rattle.recalc.specs.app_semantics.Present.{present}
+use Rattle.app_views.specs.Shows.{CostsItems, MakesItems, SaysItemsOf}
 use Rattle.fx_base.specs.Silence.{IsLost}
 use Rattle.request_checks.specs.Replies.{said}
-use Rattle.session_state.specs.Sessions.{SessionState}
-use Rattle.app_views.specs.Shows.{ShowsItemsTo}
-use Rattle.app_views.proofs.Places.{fits_there, found_there, nobody_there}
+use Rattle.row_keeper.specs.Tables.{rows_told}
 use Rattle.app_views.proofs.showing.show_items.Goals as goal
 
-pub show_items_to-requires-clause-fits : goal.show_items_to-requires-clause-fits
-show_items_to-requires-clause-fits g c = fits_there c.args.app.now.names c.args.sessions.now c.in-Some.place c.index-sessions-place.result c.requires.fit c.in-Some.ensures.within
+pub gallery_named-requires : goal.gallery_named-requires
+gallery_named-requires g c = c.requires.sound.names.controls.0
 
 pub returns-in-Some-clause-done : goal.returns-in-Some-clause-done
 returns-in-Some-clause-done g c =
-    let lost = IsLost (g.K.Keeper.marks c.args.keeper.now) (g.K.Keeper.marks c.show_items_to.new.keeper) in
-    IfOk-weaker c.show_items_to.result _ _ (λ r h.
-    subst (λ (o : Option SessionState). ShowsItemsTo lost c.args.app.now c.args.moment c.args.gallery.now c.args.from o (g.K.Keeper.told c.args.keeper.now) (said r) (g.K.Keeper.told c.show_items_to.new.keeper))
-    (sym (found_there c.args.name.now c.args.sessions.now c.in-Some.place c.index-sessions-place.result c.in-Some.ensures.place c.in-Some.ensures.within)) h)
-    c.show_items_to.ensures.done
+    let was = g.K.Keeper.told c.args.keeper.now in
+    let told = g.K.Keeper.told c.show_items_of.new.keeper in
+    let lost = IsLost (g.K.Keeper.marks c.args.keeper.now) (g.K.Keeper.marks c.show_items_of.new.keeper) in
+    IfOk-weaker c.show_items_of.result _ _ (λ r h.
+    subst (λ (o : Option ℕ). SaysItemsOf lost (present c.args.app.now c.args.session.now (rows_told told) c.args.moment) c.args.from o was (said r) told) c.in-Some.ensures.place h)
+    c.show_items_of.ensures.done
 
 pub returns-in_ok-refuse_plain-in-None-clause-done : goal.returns-in_ok-refuse_plain-in-None-clause-done
 returns-in_ok-refuse_plain-in-None-clause-done g c =
     let told = g.K.Keeper.told c.args.keeper.now in
     let lost = IsLost (g.K.Keeper.marks c.args.keeper.now) (g.K.Keeper.marks c.args.keeper.now) in
-    subst (λ (o : Option SessionState). ShowsItemsTo lost c.args.app.now c.args.moment c.args.gallery.now c.args.from o told (said c.in_ok-refuse_plain-in-None.field-0) told)
-    (sym (nobody_there c.args.name.now c.args.sessions.now c.in-None.ensures.place)) (c.in_ok-refuse_plain-in-None.ensures.said, refl)
+    subst (λ (o : Option ℕ). SaysItemsOf lost (present c.args.app.now c.args.session.now (rows_told told) c.args.moment) c.args.from o told (said c.in_ok-refuse_plain-in-None.field-0) told)
+    c.in-None.ensures.place (c.in_ok-refuse_plain-in-None.ensures.said, refl)
+
+pub returns-in-Some-clause-made : goal.returns-in-Some-clause-made
+returns-in-Some-clause-made g c =
+    IfOk-weaker c.show_items_of.result _ _ (λ r h. subst (λ (o : Option ℕ). MakesItems c.args.app.now o c.show_items_of.new.cache) c.in-Some.ensures.place h) c.show_items_of.ensures.made
+
+pub returns-in-Some-clause-ticks : goal.returns-in-Some-clause-ticks
+returns-in-Some-clause-ticks g c =
+    IfOk-weaker c.show_items_of.result _ _ (λ r h room.
+    subst (λ (o : Option ℕ). CostsItems c.args.app.now o c.args.cache.now c.show_items_of.new.cache c.args.steps.now c.show_items_of.new.steps (said r)) c.in-Some.ensures.place (h room))
+    c.show_items_of.ensures.ticks

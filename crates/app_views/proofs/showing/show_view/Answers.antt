@@ -1,26 +1,18 @@
-use Rattle.std.proofs.Common.{Option, refl, subst, sym}
-use Rattle.std.proofs.lemmas.Result.{IfOk-weaker}
-use Rattle.fx_base.specs.Silence.{IsLost}
-use Rattle.request_checks.specs.Replies.{said}
-use Rattle.session_state.specs.Sessions.{SessionState}
-use Rattle.app_views.specs.Shows.{ShowsViewTo}
-use Rattle.app_views.proofs.Places.{fits_there, found_there, nobody_there}
+use Rattle.std.proofs.Math.Logic.{∥∥₁_map}
+use Rattle.recalc.proofs.Asked.{heard_told}
+use Rattle.row_keeper.specs.Tables.{rows_told}
 use Rattle.app_views.proofs.showing.show_view.Goals as goal
 
-pub show_view_to-requires-clause-fits : goal.show_view_to-requires-clause-fits
-show_view_to-requires-clause-fits g c = fits_there c.args.app.now.names c.args.sessions.now c.in-Some.place c.index-sessions-place.result c.requires.fit c.in-Some.ensures.within
+pub returns-clause-done : goal.returns-clause-done
+returns-clause-done g c =
+    let told = g.K.Keeper.told c.view_of.new.keeper in
+    ((c.in_ok-view.view, ∥∥₁_map c.requires.right (λ right. c.in_ok-view.ensures.shows right (rows_told told) (heard_told told)), c.in_ok-view_reply.ensures.done), c.in_ok-view.ensures.read.told)
 
-pub returns-in-Some-clause-done : goal.returns-in-Some-clause-done
-returns-in-Some-clause-done g c =
-    let lost = IsLost (g.K.Keeper.marks c.args.keeper.now) (g.K.Keeper.marks c.show_view_to.new.keeper) in
-    IfOk-weaker c.show_view_to.result _ _ (λ r h.
-    subst (λ (o : Option SessionState). ShowsViewTo lost c.args.app.now c.args.moment o (g.K.Keeper.told c.args.keeper.now) (said r) (g.K.Keeper.told c.show_view_to.new.keeper))
-    (sym (found_there c.args.name.now c.args.sessions.now c.in-Some.place c.index-sessions-place.result c.in-Some.ensures.place c.in-Some.ensures.within)) h)
-    c.show_view_to.ensures.done
+pub returns-clause-right : goal.returns-clause-right
+returns-clause-right g c = ∥∥₁_map c.requires.right c.view_of.ensures.right
 
-pub returns-in_ok-refuse_plain-in-None-clause-done : goal.returns-in_ok-refuse_plain-in-None-clause-done
-returns-in_ok-refuse_plain-in-None-clause-done g c =
-    let told = g.K.Keeper.told c.args.keeper.now in
-    let lost = IsLost (g.K.Keeper.marks c.args.keeper.now) (g.K.Keeper.marks c.args.keeper.now) in
-    subst (λ (o : Option SessionState). ShowsViewTo lost c.args.app.now c.args.moment o told (said c.in_ok-refuse_plain-in-None.field-0) told)
-    (sym (nobody_there c.args.name.now c.args.sessions.now c.in-None.ensures.place)) (c.in_ok-refuse_plain-in-None.ensures.said, refl)
+pub returns-in_err-view-clause-right : goal.returns-in_err-view-clause-right
+returns-in_err-view-clause-right g c = ∥∥₁_map c.requires.right c.view_of.ensures.right
+
+pub returns-in_err-view_reply-clause-right : goal.returns-in_err-view_reply-clause-right
+returns-in_err-view_reply-clause-right g c = ∥∥₁_map c.requires.right c.view_of.ensures.right

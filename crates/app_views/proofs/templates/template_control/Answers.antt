@@ -1,4 +1,4 @@
-use Rattle.std.proofs.Common.{sym, ◌∙◌}
+use Rattle.std.proofs.Common.{arith, sym, ◌∙◌}
 use Rattle.fx_data.specs.ValueView.{view}
 use Rattle.recalc.proofs.Asked.{heard_before}
 use Rattle.recalc.specs.Asking.{Keeping, keeping}
@@ -31,3 +31,9 @@ pub returns-else-visible-clause-shows : goal.returns-else-visible-clause-shows
 returns-else-visible-clause-shows g c = λ moment tables today heard.
     let seen = c.in_ok-visible.ensures.shows moment tables today heard in
     λ within. (seen.0, seen.1, sym seen.2 ∙ c.if-visible.false)
+
+pub returns-in_ok-shown-clause-ticks : goal.returns-in_ok-shown-clause-ticks
+returns-in_ok-shown-clause-ticks g c = omega (arith, c.in_ok-visible.ensures.steps, c.in_ok-text.ensures.ticks)
+
+pub returns-else-visible-clause-ticks : goal.returns-else-visible-clause-ticks
+returns-else-visible-clause-ticks g c = omega (arith, c.in_ok-visible.ensures.steps)

@@ -20,3 +20,6 @@ returns-clause-shows g c =
     IfOk-weaker c.property_for_item.result _ _ (λ v h moment tables today heard.
     subst (λ (d : Data). IsPropertyForItem (present c.args.app.now c.args.session.now tables moment) (value_of c.args.valued.now) (record_of c.args.row.now) c.args.number (codes "Text") d (view v)) c.in_ok-unwritten.ensures (h moment tables today heard))
     c.property_for_item.ensures.shows
+
+pub returns-clause-ticks : goal.returns-clause-ticks
+returns-clause-ticks g c = c.property_for_item.ensures.steps

@@ -1,15 +1,18 @@
 use Rattle.std.proofs.Common.{◌≡◌, ◌+◌, ap, arith, length, refl}
 use Rattle.recalc.specs.app_semantics.Present.{present}
+use Rattle.app_views.specs.Bounds.{shown_steps}
 use Rattle.app_views.specs.Views.{IsShown}
 use Rattle.recalc.proofs.Asked.{heard_before, read_none, read_on}
 use Rattle.recalc.specs.Asking.{Keeping, keeping}
 use Rattle.recalc.specs.Values.{value_of}
+use Rattle.app_views.proofs.Counts.{at_least, shown_more}
 use Rattle.app_views.proofs.Giving.{all_given, at_place, none_given, one_given}
 use Rattle.app_views.proofs.view.all_shown.Goals as goal
 
 pub loop-control-init : goal.loop-control-init
 loop-control-init g c = record {
   number = refl;
+  ticks = at_least c.args.steps.now (shown_steps c.args.app.now.names c.new-shown.result);
   given = λ moment tables today heard. none_given (IsShown (present c.args.app.now c.args.session.now tables moment) (value_of c.args.valued.now)) 0 0 c.args.app.now.names.controls c.new-shown.result refl c.new-shown.ensures;
   read = read_none (keeping (g.K.Keeper.told c.args.keeper.now) (g.K.Keeper.began c.args.keeper.now) (g.K.Keeper.shaped c.args.keeper.now) (g.K.Keeper.in_transaction c.args.keeper.now) (g.K.Keeper.marks c.args.keeper.now) (g.K.Keeper.visited c.args.keeper.now) (g.K.Keeper.loan c.args.keeper.now));
 }
@@ -32,6 +35,7 @@ loop-control-preserved g c =
     let place : c.loop-control.number ≡ 0 + c.loop-control.control-index = omega (arith, c.loop-control.invariant.number) in
     record {
       number = omega (arith, c.loop-control.invariant.number);
+      ticks = shown_more c.args.app.now.names c.loop-control.shown c.add.new.list c.in_ok-given.given c.args.steps.now c.loop-control.steps c.shown_control.new.steps c.in_ok-add.ensures c.in_ok-given.ensures.ticks c.loop-control.invariant.ticks;
       given = λ moment tables today heard.
           one_given (IsShown (present c.args.app.now c.args.session.now tables moment) (value_of c.args.valued.now)) 0 c.loop-control.number c.loop-control.control-index c.as_slice-controls.result.now c.args.app.now.names.controls c.control-item.result c.in_ok-given.given c.loop-control.shown c.add.new.list
           place c.as_slice-controls.ensures c.loop-control-test.true c.control-item.is (c.in_ok-given.ensures.shows moment tables today heard) c.in_ok-add.ensures (c.loop-control.invariant.given moment tables today (heard_before before after c.in_ok-given.ensures.read tables heard));

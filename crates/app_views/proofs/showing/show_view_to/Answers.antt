@@ -1,8 +1,0 @@
-use Rattle.row_keeper.specs.Tables.{rows_told}
-use Rattle.recalc.proofs.Asked.{heard_told}
-use Rattle.app_views.proofs.showing.show_view_to.Goals as goal
-
-pub returns-clause-done : goal.returns-clause-done
-returns-clause-done g c =
-    let told = g.K.Keeper.told c.view_of.new.keeper in
-    ((c.in_ok-view.view, c.in_ok-view.ensures.shows (rows_told told) (heard_told told), c.in_ok-view_reply.ensures.done), c.in_ok-view.ensures.read.told)
