@@ -15,7 +15,7 @@ use Rattle.session_requests.specs.Triggers.{cell_at}
 use Rattle.session_requests.specs.declared.trigger.Trigger.{Trigger}
 
 -- what it says of all that are told
-goes_as : (lost : Type 0) (P R : Tables → Tables → Type 0) → ((t u : Tables) → P t u → R t u) → (x y : Option Tables) → Goes lost P x y → Goes lost R x y
+pub goes_as : (lost : Type 0) (P R : Tables → Tables → Type 0) → ((t u : Tables) → P t u → R t u) → (x y : Option Tables) → Goes lost P x y → Goes lost R x y
 goes_as lost P R see None y h = h
 goes_as lost P R see (Some t) None h = h
 goes_as lost P R see (Some t) (Some u) h = see t u h

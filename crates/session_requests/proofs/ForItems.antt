@@ -23,14 +23,14 @@ use Rattle.session_requests.specs.declared.target.Target.{Target}
 -- ---- the item of a target
 
 -- a target's item is one of its control's gallery
-item_is : (n : Names) (values : ℕ → Data) (t : Target) (i : Item) (h : IsTarget n values t) → t.item ≡ Some i → IsItemOf n values (gallery_of t.control h.control) i
+pub item_is : (n : Names) (values : ℕ → Data) (t : Target) (i : Item) (h : IsTarget n values t) → t.item ≡ Some i → IsItemOf n values (gallery_of t.control h.control) i
 item_is n values t i h e = subst (λ o. IfSome o (IsItemOf n values (gallery_of t.control h.control))) e h.item
 
-in_same : (o : Option ℕ) (own : Bool) (k g j : ℕ) → o ≡ Some g → item_or o own k ≡ Some j → g ≡ j
+pub in_same : (o : Option ℕ) (own : Bool) (k g j : ℕ) → o ≡ Some g → item_or o own k ≡ Some j → g ≡ j
 in_same None own k g j e f = absurd cc
 in_same (Some h) own k g j e f = cc
 
-around : (n : Names) (k : ℕ) (c : ControlName) → slice_get n.controls k ≡ Some c → option_and_then (λ (x : ControlName). x.gallery) (slice_get n.controls k) ≡ c.gallery
+pub around : (n : Names) (k : ℕ) (c : ControlName) → slice_get n.controls k ≡ Some c → option_and_then (λ (x : ControlName). x.gallery) (slice_get n.controls k) ≡ c.gallery
 around n k c there = ap (option_and_then (λ (x : ControlName). x.gallery)) there
 
 -- the gallery that the control stands in is that of the item

@@ -50,7 +50,7 @@ moved_ok (Some g) id it t e = by (same_id g id) e
     by true h = cc
     by false h = absurd cc
 
-row_ok : (k g : ℕ) (p : Place) (o : Option Row) (t : Target) → with_row k g p o ≡ Ok t → (r : Row) × (o ≡ Some r) × (at_row k g p.at r ≡ t)
+pub row_ok : (k g : ℕ) (p : Place) (o : Option Row) (t : Target) → with_row k g p o ≡ Ok t → (r : Row) × (o ≡ Some r) × (at_row k g p.at r ≡ t)
 row_ok k g p None t e = absurd cc
 row_ok k g p (Some r) t e = (r, refl, moved_ok p.id (item_id r) (at_row k g p.at r) t e)
 

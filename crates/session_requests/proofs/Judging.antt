@@ -91,7 +91,7 @@ pub or_ok : (T : Type 0) (b : Bool) (code : ℕ) (r : Result T Refusal) (it : T)
 or_ok T true code r it e = (refl, e)
 or_ok T false code r it e = absurd cc
 
-given_ok : (k : ℕ) (r : Result (Option Data) Refusal) (g : Given) → given_to k r ≡ Ok g → (g.0 ≡ k) × (r ≡ Ok g.1)
+pub given_ok : (k : ℕ) (r : Result (Option Data) Refusal) (g : Given) → given_to k r ≡ Ok g → (g.0 ≡ k) × (r ≡ Ok g.1)
 given_ok k (Ok v) g e = let is : (k, v) ≡ g = cc in (ap (λ (x : Given). x.0) (sym is), ap (λ (x : Given). Ok x.1) is)
 given_ok k (Err r) g e = absurd cc
 

@@ -12,7 +12,7 @@ pub use Rattle.recalc.proofs as of_recalc
 pub mod WorldTelling
 pub mod Readying
 pub mod Changing
-pub mod Needs
+pub mod Anchoring
 pub mod WorldEnding
 pub mod Keeping
 pub mod Beginnings
@@ -21,3 +21,9 @@ pub mod Chains
 pub mod RequestFitting
 pub mod Placed
 pub mod SingleEvents
+pub mod Caches
+pub mod CellsBehind
+pub mod Undone
+pub mod Looked
+pub mod Resting
+pub mod Giving

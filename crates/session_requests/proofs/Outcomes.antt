@@ -1,11 +1,11 @@
 -- What a session sends has one outcome.
-use Rattle.std.proofs.Common.{◌≡◌, ℕ, zero, suc, Bool, true, List, [], ◌∷◌, Option, Some, None, Result, Ok, Err, refl, ap, sym, ◌∙◌, subst}
+use Rattle.std.proofs.Common.{◌≡◌, ℕ, zero, suc, Bool, true, false, List, [], ◌∷◌, Option, Some, None, Result, Ok, Err, refl, ap, sym, ◌∙◌, subst}
 use Rattle.std.specs.Prelude.{codes}
 use Rattle.std.specs.List.{All}
 use Rattle.recalc.specs.app_cells.declared.app.App.{App}
-use Rattle.recalc.specs.app_semantics.Fresh.{AreKnown, IsFresh}
+use Rattle.recalc.specs.app_semantics.Fresh.{AreKnown}
 use Rattle.recalc.specs.app_semantics.Holding.{FittingHolds, HoldRows, HoldsFitting}
-use Rattle.recalc.specs.app_semantics.Laws.{FreshFits, OneFresh}
+use Rattle.recalc.specs.app_semantics.Laws.{OneFreshAt}
 use Rattle.recalc.specs.app_semantics.Present.{Present, present}
 use Rattle.recalc.specs.app_semantics.Properties.{IsPropertyForItem, is_true}
 use Rattle.recalc.specs.app_semantics.Sound.{IsSound}
@@ -27,7 +27,16 @@ use Rattle.view_text.specs.declared.refused.Refusal.{Refusal}
 use Rattle.request_checks.specs.Checks.{checks, if_live, session_of}
 use Rattle.request_checks.specs.Directory.{find, put}
 use Rattle.request_checks.specs.declared.directory.Named.{Named}
+use Rattle.recalc.specs.Values.{CellsFit}
+use Rattle.fx_data.specs.ValueCode.{data_code}
+use Rattle.std.proofs.Math.Bool.{Bool-set}
+use Rattle.std.proofs.Math.Logic.{∥∥₁_elim}
+use Rattle.std.proofs.Props.{props}
+use Rattle.std.specs.Coded.{Coded-set}
+use Rattle.session_requests.specs.Caching.{AreFreshAt}
 use Rattle.session_requests.specs.EventLaws.{OneRunning}
+use Rattle.session_requests.proofs.Items.{target_is}
+use Rattle.session_requests.proofs.Looked.{agrees, event_number, event_same, input_same, seen_same, shown_over, trigger_same}
 use Rattle.session_requests.specs.Requests.{accepted_reply}
 use Rattle.session_requests.specs.Scenes.{Scene, begun, quiet, scene}
 use Rattle.session_requests.specs.declared.trigger.Trigger.{Trigger}
@@ -36,7 +45,7 @@ use Rattle.session_requests.specs.Acting.{EndsEvent, EndsInput, TakesEffect, ans
 use Rattle.session_requests.specs.Bodies.{event_in, input_in}
 use Rattle.session_requests.specs.Laws.{IsOneOutcome}
 use Rattle.recalc.proofs.ForItems.{Ground, property_one}
-use Rattle.session_requests.specs.Posting.{IsShownFor, IsVerdict, IsVisibleFor, PostsEventChecked, PostsInputChecked, SendsEvent, SendsInput, gallery_around}
+use Rattle.session_requests.specs.Posting.{EventLooksAt, InputLooksAt, IsShownFor, IsVerdict, IsVisibleFor, PostsEventChecked, PostsInputChecked, SendsEvent, SendsInput, gallery_around}
 use Rattle.session_requests.specs.Targets.{Given, event_target, input_target, or_refused}
 use Rattle.session_requests.specs.declared.event.Event.{Event}
 use Rattle.session_requests.specs.declared.input.Input.{Input}
@@ -55,28 +64,71 @@ record IsGood (p : Present) : Type 0 where
 
 -- ---- a control is visible or not
 
-one_visible : OneValue → FreshFits → (p : Present) (values : ℕ → Data) (k g at : ℕ) (b b' : Bool) → IsGood p → IsFresh p values
+one_visible : OneValue → (p : Present) (values : ℕ → Data) (k g at : ℕ) (b b' : Bool) → IsGood p → CellsFit p.app values
     → IsVisibleFor p values k g at b → IsVisibleFor p values k g at b' → b ≡ b'
-one_visible one fit p values k g at b b' good fresh x y =
+one_visible one p values k g at b b' good fits x y =
     let both : Some x.row ≡ Some y.row = sym x.there ∙ y.there in
     let same : y.row ≡ x.row = cc in
-    let ground : Ground p values = record { one = one; sound = good.sound; holds = good.holds; known = good.known; fits = fit p values good.sound good.holds good.known.fit fresh } in
+    let ground : Ground p values = record { one = one; sound = good.sound; holds = good.holds; known = good.known; fits = fits } in
     let value = property_one p values (record_of x.row) k (codes "Visible") (boolean true) x.value y.value ground x.is_value
     (subst (λ (r : Row). IsPropertyForItem p values (record_of r) k (codes "Visible") (boolean true) y.value) same y.is_value) in
     x.is ∙ ap is_true value ∙ sym y.is
 
-one_shown : OneValue → FreshFits → (p : Present) (values : ℕ → Data) (k : ℕ) (gallery : Option ℕ) (item : Option Item) (b b' : Bool) → IsGood p → IsFresh p values
+one_shown : OneValue → (p : Present) (values : ℕ → Data) (k : ℕ) (gallery : Option ℕ) (item : Option Item) (b b' : Bool) → IsGood p → CellsFit p.app values
     → IsShownFor p values k gallery item b → IsShownFor p values k gallery item b' → b ≡ b'
-one_shown one fit p values k (Some g) (Some i) b b' good fresh x y = one_visible one fit p values k g i.at b b' good fresh x y
-one_shown one fit p values k (Some g) None b b' good fresh x y = x ∙ sym y
-one_shown one fit p values k None item b b' good fresh x y = x ∙ sym y
+one_shown one p values k (Some g) (Some i) b b' good fits x y = one_visible one p values k g i.at b b' good fits x y
+one_shown one p values k (Some g) None b b' good fits x y = x ∙ sym y
+one_shown one p values k None item b b' good fits x y = x ∙ sym y
 
 -- ---- one verdict
 
-one_verdict : OneValue → FreshFits → (p : Present) (values : ℕ → Data) (r v w : Result Target Refusal) → IsGood p → IsFresh p values → IsVerdict p values r v → IsVerdict p values r w → v ≡ w
-one_verdict one fit p values (Err r) v w good fresh x y = x ∙ sym y
-one_verdict one fit p values (Ok t) v w good fresh x y =
-    x.2 ∙ ap (λ (b : Bool). or_refused b 17 (Ok t)) (one_shown one fit p values t.control (gallery_around p.app t.control) t.item x.0 y.0 good fresh x.1 y.1) ∙ sym y.2
+one_verdict : OneValue → (p : Present) (values : ℕ → Data) (r v w : Result Target Refusal) → IsGood p → CellsFit p.app values → IsVerdict p values r v → IsVerdict p values r w → v ≡ w
+one_verdict one p values (Err r) v w good fits x y = x ∙ sym y
+one_verdict one p values (Ok t) v w good fits x y =
+    x.2 ∙ ap (λ (b : Bool). or_refused b 17 (Ok t)) (one_shown one p values t.control (gallery_around p.app t.control) t.item x.0 y.0 good fits x.1 y.1) ∙ sym y.2
+
+-- what is let through at last was so before
+abbrev let_in : Target → Result Target Refusal
+let_in t = Ok t
+
+verdict_ok : (p : Present) (values : ℕ → Data) (r : Result Target Refusal) (t : Target) → IsVerdict p values r (Ok t) → r ≡ Ok t
+verdict_ok p values (Err f) t h = absurd cc
+verdict_ok p values (Ok u) t h = by h.0 h.2
+  where
+    by : (b : Bool) → let_in t ≡ or_refused b 17 (let_in u) → let_in u ≡ let_in t
+    by true e = sym e
+    by false e = absurd cc
+
+-- ---- what is looked at decides
+
+module _ (p : Present) (values others : ℕ → Data) where
+  verdict_over : (s : SessionState) (e : Event) (r v : Result Target Refusal) → event_target p.app.names s values e ≡ r → ((d : ℕ) → EventLooksAt p.app e d → others d ≡ values d) → IsVerdict p others r v → IsVerdict p values r v
+  verdict_over s e (Err f) v is h x = x
+  verdict_over s e (Ok t) v is h x = (x.0, shown_over p values others e t.control t.item x.0 (event_number p.app.names s values e t is) h x.1, x.2)
+
+  inputs_over : (lost : Type 0) (moment : ℕ) (name body : List ℕ) (seq : ℕ) (s : SessionState) (i : Input) (r : Result Given Refusal) (told told' : Option Tables) (sessions sessions' : List (Named SessionState)) (said : List ℕ)
+      → input_target p.app.names s values i ≡ r → ((d : ℕ) → InputLooksAt p.app i d → others d ≡ values d)
+      → EndsInput lost p.app moment name body seq s others r told sessions said told' sessions' → EndsInput lost p.app moment name body seq s values r told sessions said told' sessions'
+  inputs_over lost moment name body seq s i (Err f) told told' sessions sessions' said is h x = x
+  inputs_over lost moment name body seq s i (Ok g) told told' sessions sessions' said is h x =
+      subst (λ (t : Trigger). TakesEffect lost p.app moment t None name body seq (with_input g s) told sessions said told' sessions') (trigger_same p.app s (with_input g s) values others i g is h) x
+
+  events_over : (lost : Type 0) (moment : ℕ) (name body : List ℕ) (seq : ℕ) (s : SessionState) (e : Event) (r : Result Target Refusal) (told told' : Option Tables) (sessions sessions' : List (Named SessionState)) (said : List ℕ)
+      → IsVerdict p values (event_target p.app.names s values e) r → ((d : ℕ) → EventLooksAt p.app e d → others d ≡ values d)
+      → EndsEvent lost p.app moment name body seq s others r told sessions said told' sessions' → EndsEvent lost p.app moment name body seq s values r told sessions said told' sessions'
+  events_over lost moment name body seq s e (Err f) told told' sessions sessions' said is h x = x
+  events_over lost moment name body seq s e (Ok t) told told' sessions sessions' said is h x =
+      let through = verdict_ok p values (event_target p.app.names s values e) t is in
+      subst (λ (o : Option Data). TakesEffect lost p.app moment (OnSelect t.control) o name body seq (with_target t s) told sessions said told' sessions')
+      (seen_same p.app values others e t (target_is p.app.names s values e t through) (event_number p.app.names s values e t through) h) x
+
+-- values that are fresh where they are looked at agree there
+agreed : OneFreshAt → (p : Present) (looked : ℕ → Type 0) (values others : ℕ → Data) → IsGood p → ∥ AreFreshAt p looked values ∥₁ → ∥ AreFreshAt p looked others ∥₁ → (k : ℕ) → looked k → others k ≡ values k
+agreed one p looked values others good x y k l =
+    ∥∥₁_elim x (Coded-set data_code (others k) (values k)) (λ f. ∥∥₁_elim y (Coded-set data_code (others k) (values k)) (λ g. agrees one p looked values others good.sound good.holds good.known f g k l))
+
+all_fit : (p : Present) (looked : ℕ → Type 0) (values : ℕ → Data) → ∥ AreFreshAt p looked values ∥₁ → CellsFit p.app values
+all_fit p looked values x = ∥∥₁_elim x (hlevel (Bool-set, props)) (λ f. f.fits)
 
 -- ---- tables that are told
 
@@ -149,8 +201,7 @@ module _ (running : OneRunning) (lost lost' : Type 0) (app : App) (moment : ℕ)
 -- the laws that are used
 pub record Uses : Type 1 where
   pub value : OneValue
-  pub fit : FreshFits
-  pub fresh : OneFresh
+  pub fresh : OneFreshAt
   pub holds : FittingHolds
   pub running : OneRunning
 
@@ -166,16 +217,17 @@ module _ (laws : Uses) (lost lost' : Type 0) (app : App) (moment : ℕ) (name bo
       let first : x.seen ≡ Some t = seen_is lost t u x.seen (Some u) refl (input_quiet laws.running lost lost' app moment name body i.seq x.session x.values (input_target app.names x.session x.values i) x.seen (Some u) a a' said x.ends) x.stays in
       let second : y.seen ≡ Some t = seen_is lost' t v y.seen (Some v) refl (input_quiet laws.running lost' lost app moment name body i.seq y.session y.values (input_target app.names y.session y.values i) y.seen (Some v) b b' said' y.ends) y.stays in
       let one : y.session ≡ x.session = one_session name a b x.session y.session same x.found y.found in
-      let fresh : IsFresh p x.values = subst (λ (o : Option Tables). IsFresh (present app x.session (rows_told o) moment) x.values) first x.fresh in
-      let again : IsFresh p y.values =
-      subst (λ (s : SessionState). IsFresh (present app s (rows_told (Some t)) moment) y.values) one (subst (λ (o : Option Tables). IsFresh (present app y.session (rows_told o) moment) y.values) second y.fresh) in
-      let g = good x.session x.found in
-      let values : y.values ≡ x.values = laws.fresh p y.values x.values g.sound g.holds g.known again fresh in
+      let looked : ℕ → Type 0 = InputLooksAt app i in
+      let fresh : ∥ AreFreshAt p looked x.values ∥₁ = subst (λ (o : Option Tables). ∥ AreFreshAt (present app x.session (rows_told o) moment) looked x.values ∥₁) first x.fresh in
+      let again : ∥ AreFreshAt p looked y.values ∥₁ =
+      subst (λ (s : SessionState). ∥ AreFreshAt (present app s (rows_told (Some t)) moment) looked y.values ∥₁) one (subst (λ (o : Option Tables). ∥ AreFreshAt (present app y.session (rows_told o) moment) looked y.values ∥₁) second y.fresh) in
+      let same = agreed laws.fresh p looked x.values y.values (good x.session x.found) fresh again in
       input_ends laws.running lost lost' app moment name body i.seq x.session x.values (input_target app.names x.session x.values i) t u v a a' b b' said said'
       (subst (λ (o : Option Tables). EndsInput lost app moment name body i.seq x.session x.values (input_target app.names x.session x.values i) o a said (Some u) a') first x.ends)
-      (subst (λ (w : ℕ → Data). EndsInput lost' app moment name body i.seq x.session w (input_target app.names x.session w i) (Some t) b said' (Some v) b') values
+      (inputs_over p x.values y.values lost' moment name body i.seq x.session i (input_target app.names x.session x.values i) (Some t) (Some v) b b' said' refl same
+      (subst (λ (r : Result Given Refusal). EndsInput lost' app moment name body i.seq x.session y.values r (Some t) b said' (Some v) b') (input_same app x.session x.values y.values i same)
       (subst (λ (s : SessionState). EndsInput lost' app moment name body i.seq s y.values (input_target app.names s y.values i) (Some t) b said' (Some v) b') one
-      (subst (λ (o : Option Tables). EndsInput lost' app moment name body i.seq y.session y.values (input_target app.names y.session y.values i) o b said' (Some v) b') second y.ends)))
+      (subst (λ (o : Option Tables). EndsInput lost' app moment name body i.seq y.session y.values (input_target app.names y.session y.values i) o b said' (Some v) b') second y.ends))))
 
   events_alike : (r : Result Event (List ℕ)) → PostsEventChecked lost app moment name body r (Some t) a said (Some u) a' → PostsEventChecked lost' app moment name body r (Some t) b said' (Some v) b' → Alike said said' u v a a' b b'
   events_alike (Err words) x y = refused_alike t u v words words said said' a a' b b' refl x y
@@ -184,22 +236,24 @@ module _ (laws : Uses) (lost lost' : Type 0) (app : App) (moment : ℕ) (name bo
       let first : x.seen ≡ Some t = seen_is lost t u x.seen (Some u) refl (event_quiet laws.running lost lost' app moment name body e.seq x.session x.values x.verdict x.seen (Some u) a a' said x.ends) x.stays in
       let second : y.seen ≡ Some t = seen_is lost' t v y.seen (Some v) refl (event_quiet laws.running lost' lost app moment name body e.seq y.session y.values y.verdict y.seen (Some v) b b' said' y.ends) y.stays in
       let one : y.session ≡ x.session = one_session name a b x.session y.session same x.found y.found in
-      let fresh : IsFresh p x.values = subst (λ (o : Option Tables). IsFresh (present app x.session (rows_told o) moment) x.values) first x.fresh in
-      let again : IsFresh p y.values =
-      subst (λ (s : SessionState). IsFresh (present app s (rows_told (Some t)) moment) y.values) one (subst (λ (o : Option Tables). IsFresh (present app y.session (rows_told o) moment) y.values) second y.fresh) in
+      let looked : ℕ → Type 0 = EventLooksAt app e in
+      let fresh : ∥ AreFreshAt p looked x.values ∥₁ = subst (λ (o : Option Tables). ∥ AreFreshAt (present app x.session (rows_told o) moment) looked x.values ∥₁) first x.fresh in
+      let again : ∥ AreFreshAt p looked y.values ∥₁ =
+      subst (λ (s : SessionState). ∥ AreFreshAt (present app s (rows_told (Some t)) moment) looked y.values ∥₁) one (subst (λ (o : Option Tables). ∥ AreFreshAt (present app y.session (rows_told o) moment) looked y.values ∥₁) second y.fresh) in
       let g = good x.session x.found in
-      let values : y.values ≡ x.values = laws.fresh p y.values x.values g.sound g.holds g.known again fresh in
+      let same = agreed laws.fresh p looked x.values y.values g fresh again in
       let judged : IsVerdict p x.values (event_target app.names x.session x.values e) x.verdict =
       subst (λ (o : Option Tables). IsVerdict (present app x.session (rows_told o) moment) x.values (event_target app.names x.session x.values e) x.verdict) first x.judged in
       let judged_again : IsVerdict p x.values (event_target app.names x.session x.values e) y.verdict =
-      subst (λ (w : ℕ → Data). IsVerdict p w (event_target app.names x.session w e) y.verdict) values
+      verdict_over p x.values y.values x.session e (event_target app.names x.session x.values e) y.verdict refl same
+      (subst (λ (r : Result Target Refusal). IsVerdict p y.values r y.verdict) (event_same app x.session x.values y.values e same)
       (subst (λ (s : SessionState). IsVerdict (present app s (rows_told (Some t)) moment) y.values (event_target app.names s y.values e) y.verdict) one
-      (subst (λ (o : Option Tables). IsVerdict (present app y.session (rows_told o) moment) y.values (event_target app.names y.session y.values e) y.verdict) second y.judged)) in
-      let verdict : y.verdict ≡ x.verdict = one_verdict laws.value laws.fit p x.values (event_target app.names x.session x.values e) y.verdict x.verdict g fresh judged_again judged in
+      (subst (λ (o : Option Tables). IsVerdict (present app y.session (rows_told o) moment) y.values (event_target app.names y.session y.values e) y.verdict) second y.judged))) in
+      let verdict : y.verdict ≡ x.verdict = one_verdict laws.value p x.values (event_target app.names x.session x.values e) y.verdict x.verdict g (all_fit p looked x.values fresh) judged_again judged in
       event_ends laws.running lost lost' app moment name body e.seq x.session x.values x.verdict t u v a a' b b' said said'
       (subst (λ (o : Option Tables). EndsEvent lost app moment name body e.seq x.session x.values x.verdict o a said (Some u) a') first x.ends)
       (subst (λ (r : Result Target Refusal). EndsEvent lost' app moment name body e.seq x.session x.values r (Some t) b said' (Some v) b') verdict
-      (subst (λ (w : ℕ → Data). EndsEvent lost' app moment name body e.seq x.session w y.verdict (Some t) b said' (Some v) b') values
+      (events_over p x.values y.values lost' moment name body e.seq x.session e y.verdict (Some t) (Some v) b b' said' judged_again same
       (subst (λ (s : SessionState). EndsEvent lost' app moment name body e.seq s y.values y.verdict (Some t) b said' (Some v) b') one
       (subst (λ (o : Option Tables). EndsEvent lost' app moment name body e.seq y.session y.values y.verdict o b said' (Some v) b') second y.ends))))
 

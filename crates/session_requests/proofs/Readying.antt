@@ -1,12 +1,12 @@
 -- What stays where nothing changes, and what is ready.
-use Rattle.std.proofs.Common.{◌≡◌, ℕ, true, false, List, Option, None, Some, inl, inr, refl, sym, subst, ap, ◌∙◌}
+use Rattle.std.proofs.Common.{◌≡◌, ℕ, Bool, true, false, List, Option, None, Some, refl, sym, subst, ap, ◌∙◌}
 use Rattle.std.proofs.Math.Logic.{∥∥₁_elim, ∥∥₁_map, ∥∥₁_prop}
-use Rattle.std.specs.Prelude.{◌⊎◌, IsSome, option_map}
+use Rattle.std.specs.Prelude.{IsSome, option_map, unwrap_or}
 use Rattle.std.specs.List.{slice_get}
 use Rattle.fx_base.specs.Silence.{Goes}
 use Rattle.fx_base.specs.Telling.{Stays}
 use Rattle.fx_data.specs.Types.{Shape, tables}
-use Rattle.fx_data.specs.Values.{Data}
+use Rattle.fx_data.specs.Values.{Data, blank}
 use Rattle.fx_deeds.specs.State.{AreReady, State}
 use Rattle.fx_env.specs.Telling.{values_told}
 use Rattle.fx_scalar.specs.ScalarFunctions.{IsToday}
@@ -16,21 +16,24 @@ use Rattle.fx_trees.specs.declared.schema.Schema.{Schema}
 use Rattle.fx_trees.specs.declared.schema.TableShape.{TableShape}
 use Rattle.fx_trees.specs.declared.sources.Source.{Source}
 use Rattle.fx_trees.specs.declared.sources.Source.TheVariants as source
-use Rattle.recalc.specs.app_semantics.Fresh.{IsFresh}
-use Rattle.recalc.specs.app_semantics.Present.{Gives, IsTable, present}
+use Rattle.recalc.specs.Asking.{IsHeardOf, ToldRows}
+use Rattle.recalc.specs.app_cells.Leaning.{cell_behind}
+use Rattle.recalc.specs.app_cells.declared.app.CellInfo.{CellInfo}
+use Rattle.recalc.specs.app_semantics.Fresh.{IsByItself, IsCellValue, IsValueOf}
+use Rattle.recalc.specs.app_semantics.Needed.{IsFreshAt, Needs, further, is_alone, itself, stands_alone, stands_by}
+use Rattle.recalc.specs.app_semantics.Present.{Gives, IsTable, Present, present}
 use Rattle.recalc.specs.app_semantics.Sound.{IsSound}
 use Rattle.recalc.specs.app_semantics.Telling.{table_told, told_on}
 use Rattle.recalc.specs.app_cells.declared.app.App.{App}
 use Rattle.recalc.specs.Reading.{cell_value}
-use Rattle.recalc.specs.Values.{Values}
 use Rattle.row_keeper.specs.Tables.{AreStatesOf, Tables, rows_of}
 use Rattle.row_queries.specs.declared.rows.Row.{Row}
 use Rattle.row_requests.specs.Sound.{AreSound}
 use Rattle.session_state.specs.Changes.{FitsNames}
 use Rattle.session_state.specs.Sessions.{SessionState}
-use Rattle.session_requests.specs.Grounds.{Grounds, IsFit, gives, grounds, hangs_on_cells, state_on}
+use Rattle.session_requests.specs.Grounds.{Grounds, IsFit, IsFreshBehind, gives, grounds, state_on}
 use Rattle.session_requests.specs.WorldLaws.{state_told}
-use Rattle.session_requests.specs.Worlds.{AreFreshOver, NoneHangs, cells_of, told_in}
+use Rattle.session_requests.specs.Worlds.{told_in}
 
 -- ---- calls that read
 -- what is heard is told
@@ -59,19 +62,6 @@ state_stays lost day a moment s values others ws (Some p) None (Some t) (Some u)
 state_stays lost day a moment s values others ws (Some p) (Some q) (Some t) (Some u) heard h k =
     ap (λ (z : Tables). state_on (grounds a moment (Some z)) u s ws) k ∙ ap (λ (z : Tables). state_on (grounds a moment (Some p)) z s ws) h
 
--- what was fresh over what was told is so over what is told still
-pub fresh_stays : (lost : Type 0) (a : App) (moment : ℕ) (s : SessionState) (x y : Option Tables) (cells : Option Values) → Goes lost Stays x y → ∥ AreFreshOver a moment s x cells ∥₁ → ∥ AreFreshOver a moment s y cells ∥₁
-fresh_stays lost a moment s x y cells h f = ∥∥₁_map f (λ g. by cells g)
-  where
-    back : (t : Tables) (x y : Option Tables) → Goes lost Stays x y → y ≡ Some t → x ≡ Some t
-    back t None y h e = let no : None ≡ Some t = sym h ∙ e in absurd cc
-    back t (Some u) None h e = absurd cc
-    back t (Some u) (Some w) h e = ap Some (sym h) ∙ e
-
-    by : (cells : Option Values) → AreFreshOver a moment s x cells → AreFreshOver a moment s y cells
-    by None g = tt
-    by (Some v) g = λ t e. g t (back t x y h e)
-
 -- tables that fit do so still
 pub sound_stays : (lost : Type 0) (s : Schema) (x y : Option Tables) → Goes lost Stays x y → AreSound s x → AreSound s y
 sound_stays lost s None y h f = subst (λ (o : Option Tables). AreSound s o) (sym h) f
@@ -79,10 +69,6 @@ sound_stays lost s (Some t) None h f = tt
 sound_stays lost s (Some t) (Some u) h f = subst (λ (z : Tables). AreStatesOf s.tables z.states) (sym h) f
 
 -- ---- what is ready
--- values of cells are kept, or the sources hang on none
-abbrev pub NeedNone : Option Values → List Source → Type 0
-NeedNone cells reads = IsSome cells ⊎ NoneHangs reads
-
 given_now : (a : App) (moment : ℕ) (day : Data) (s : SessionState) (rows : List (List Row)) (values : ℕ → Data) (x : Source) (t : Shape) → IsToday moment day → sources a.names x ≡ Some t →
     Gives (present a s (Some rows) moment) values x (told_on day a.names s (Some rows) values x)
 given_now a moment day s rows values (source.Table k) t is e = by (slice_get a.names.schema.tables k) e
@@ -98,27 +84,61 @@ given_now a moment day s rows values (source.Input k) t is e = refl
 given_now a moment day s rows values (source.Chosen k) t is e = refl
 given_now a moment day s rows values source.Today t is e = is
 
-are_fresh : (g : Grounds) (s : SessionState) (reads : List Source) (t : Tables) (x : Source) (cells : Option Values) → AreFreshOver g.app g.moment s (Some t) cells → NeedNone cells reads → IsAmong x reads → hangs_on_cells x ≡ true →
-    IsFresh (present g.app s (Some (rows_of t.states)) g.moment) (cell_value (cells_of cells))
-are_fresh g s reads t x (Some v) f n among hangs = f t refl
-are_fresh g s reads t x None f (inl h) among hangs = absurd cc
-are_fresh g s reads t x None f (inr h) among hangs = let both : true ≡ false = sym hangs ∙ h x among in absurd cc
+-- values are fresh behind each of these sources, over all that is heard of the rows of tables
+abbrev pub AreFreshBehind : App → SessionState → Option Tables → ℕ → (ℕ → Data) → List Source → Type 0
+AreFreshBehind a s told m values reads = (tables : ToldRows) (x : Source) → IsHeardOf told tables → IsAmong x reads → IsFreshBehind (present a s tables m) values x
 
-pub ready_now : (day : Data) (g : Grounds) (s : SessionState) (ws : List Source) (reads : List Source) (y : Option Tables) (cells : Option Values) →
-    IsSound g.app → FitsNames g.app.names s → AreSound g.app.names.schema y → ∥ IsToday g.moment day ∥₁ → ∥ AreFreshOver g.app g.moment s y cells ∥₁ → NeedNone cells reads →
-    AreReady (sources g.app.names) gives reads (state_told (option_map (told_in day g s (cells_of cells) ws) y)) (values_told (option_map (told_in day g s (cells_of cells) ws) y))
-ready_now day g s ws reads y cells accepted fits sound today fresh need = by y sound fresh
+pub ready_now : (day : Data) (g : Grounds) (s : SessionState) (values : List Data) (ws : List Source) (reads : List Source) (y : Option Tables) →
+    IsSound g.app → FitsNames g.app.names s → AreSound g.app.names.schema y → ∥ IsToday g.moment day ∥₁ → ∥ AreFreshBehind g.app s y g.moment (cell_value values) reads ∥₁ →
+    AreReady (sources g.app.names) gives reads (state_told (option_map (told_in day g s values ws) y)) (values_told (option_map (told_in day g s values ws) y))
+ready_now day g s values ws reads y accepted fits sound today fresh = by y sound fresh
   where
-    one : (t : Tables) (x : Source) (u : Shape) → IsFit g.app s t → ∥ AreFreshOver g.app g.moment s (Some t) cells ∥₁ → IsAmong x reads → sources g.app.names x ≡ Some u →
-        gives (state_on g t s ws) x (told_on day g.app.names s (Some (rows_of t.states)) (cell_value (cells_of cells)) x)
+    one : (t : Tables) (x : Source) (u : Shape) → IsFit g.app s t → ∥ AreFreshBehind g.app s (Some t) g.moment (cell_value values) reads ∥₁ → IsAmong x reads → sources g.app.names x ≡ Some u →
+        gives (state_on g t s ws) x (told_on day g.app.names s (Some (rows_of t.states)) (cell_value values) x)
     one t x u fit f among e =
         ∥∥₁_elim today ∥∥₁_prop (λ is. ∥∥₁_map f (λ h.
-        (fit, cell_value (cells_of cells), (λ hangs. are_fresh g s reads t x cells h need among hangs), given_now g.app g.moment day s (rows_of t.states) (cell_value (cells_of cells)) x u is e)))
+        (fit, cell_value values, h (Some (rows_of t.states)) x refl among, given_now g.app g.moment day s (rows_of t.states) (cell_value values) x u is e)))
 
-    by : (y : Option Tables) → AreSound g.app.names.schema y → ∥ AreFreshOver g.app g.moment s y cells ∥₁ →
-        AreReady (sources g.app.names) gives reads (state_told (option_map (told_in day g s (cells_of cells) ws) y)) (values_told (option_map (told_in day g s (cells_of cells) ws) y))
-    by None k f st values p q x u among e = absurd cc
-    by (Some t) k f st values p q x u among e =
+    by : (y : Option Tables) → AreSound g.app.names.schema y → ∥ AreFreshBehind g.app s y g.moment (cell_value values) reads ∥₁ →
+        AreReady (sources g.app.names) gives reads (state_told (option_map (told_in day g s values ws) y)) (values_told (option_map (told_in day g s values ws) y))
+    by None k f st told p q x u among e = absurd cc
+    by (Some t) k f st told p q x u among e =
         let p' : state_on g t s ws ≡ st = cc in
-        let q' : told_on day g.app.names s (Some (rows_of t.states)) (cell_value (cells_of cells)) ≡ values = cc in
-        subst (λ (z : State Grounds). gives z x (values x)) p' (subst (λ (f : Source → Data). gives (state_on g t s ws) x (f x)) q' (one t x u (record { accepted = accepted; session = fits; tables = k }) f among e))
+        let q' : told_on day g.app.names s (Some (rows_of t.states)) (cell_value values) ≡ told = cc in
+        subst (λ (z : State Grounds). gives z x (told x)) p' (subst (λ (f : Source → Data). gives (state_on g t s ws) x (f x)) q' (one t x u (record { accepted = accepted; session = fits; tables = k }) f among e))
+
+-- ---- the cells behind what is read
+-- a formula that has no value by itself needs no other
+needs_none : (a : App) (k d : ℕ) → Needs a k d → is_alone a.cells k ≡ false → d ≡ k
+needs_none a k d (itself j) aside = refl
+needs_none a k d (further j e f c need there alone leans) aside =
+    let at : e ≡ j = needs_none a j e need aside in
+    let yes : is_alone a.cells j ≡ true = subst (λ i. is_alone a.cells i ≡ true) at (ap (λ (o : Option CellInfo). unwrap_or (option_map stands_alone o) false) there ∙ alone) in
+    let both : true ≡ false = sym yes ∙ aside in absurd cc
+
+-- it is fresh where it is blank
+aside_is : (p : Present) (values : ℕ → Data) (c : CellInfo) (v : Data) → stands_alone c ≡ false → v ≡ blank → IsCellValue p values c v
+aside_is p values c v e h = by c.cell.acts c.cell.item e
+  where
+    by : (b : Bool) (o : Option ℕ) → stands_by b o ≡ false → IsByItself b o (IsValueOf p values None c v) v
+    by false None q = absurd cc
+    by false (Some g) q = h
+    by true o q = h
+
+aside_fresh : (p : Present) (values : ℕ → Data) (k : ℕ) → is_alone p.app.cells k ≡ false → values k ≡ blank → IsFreshAt p values k
+aside_fresh p values k aside is d c need there =
+    let same : d ≡ k = needs_none p.app k d need aside in
+    let no : stands_alone c ≡ false = sym (ap (λ (o : Option CellInfo). unwrap_or (option_map stands_alone o) false) there) ∙ subst (λ i. is_alone p.app.cells i ≡ false) (sym same) aside in
+    aside_is p values c (values d) no (ap values same ∙ is)
+
+beyond_aside : (cells : List CellInfo) (k : ℕ) → slice_get cells k ≡ None → is_alone cells k ≡ false
+beyond_aside cells k e = ap (λ (o : Option CellInfo). unwrap_or (option_map stands_alone o) false) e
+
+-- values that are fresh at the cells that have one by themselves, and blank at the others, are fresh behind a source
+pub fresh_behind : (p : Present) (values : ℕ → Data) (x : Source) → ((k : ℕ) → is_alone p.app.cells k ≡ false → values k ≡ blank) →
+    ((k : ℕ) → cell_behind p.app.names x ≡ Some k → is_alone p.app.cells k ≡ true → IsFreshAt p values k) → IsFreshBehind p values x
+fresh_behind p values x bare fresh k behind = (by (is_alone p.app.cells k) refl, λ beyond. bare k (beyond_aside p.app.cells k beyond))
+  where
+    by : (b : Bool) → is_alone p.app.cells k ≡ b → IsFreshAt p values k
+    by true e = fresh k behind e
+    by false e = aside_fresh p values k e (bare k e)

@@ -38,7 +38,7 @@ still_holds b k ns s (source.Chosen j) h = h
 still_holds b k ns s (source.Table j) h = h
 still_holds b k ns s source.Today h = h
 
-still_held : (b : Bool) (k : Kept) (ns : List (List ℕ)) (s : SessionState) (x : Source) → held (with_rest b k ns s) x ≡ held s x
+pub still_held : (b : Bool) (k : Kept) (ns : List (List ℕ)) (s : SessionState) (x : Source) → held (with_rest b k ns s) x ≡ held s x
 still_held b k ns s (source.Global j) = refl
 still_held b k ns s (source.Context j) = refl
 still_held b k ns s (source.Gathered j) = refl

@@ -1,38 +1,45 @@
 -- What is known of a session and a keeper after a performing over them, by what their world told.
-use Rattle.std.proofs.Common.{◌≡◌, ℕ, ◌<◌, Bool, List, [], length, Option, None, Some, Result, Ok, Err, refl, sym, subst, ap, ◌∙◌}
-use Rattle.std.specs.Prelude.{IsErrOf, option_map}
-use Rattle.fx_base.specs.Faults.{Rose}
-use Rattle.fx_base.specs.Silence.{Goes, IsLater, IsLost, Marks}
+use Rattle.std.proofs.Common.{◌≡◌, ℕ, List, [], ◌∷◌, ◌++◌, length, Option, None, Some, Result, Ok, Err, inl, inr, refl, sym, subst, ap, ◌∙◌}
+use Rattle.std.specs.List.{slice_get}
+use Rattle.std.specs.Prelude.{drop, option_map, take, unwrap_or}
+use Rattle.std.proofs.lemmas.List.{take-append-drop}
+use Rattle.fx_base.specs.Silence.{Goes}
 use Rattle.fx_base.specs.Telling.{Stays}
-use Rattle.fx_behave.specs.Actable.{CanAct, IsActable}
+use Rattle.fx_behave.specs.Actable.{IsActable}
 use Rattle.fx_behave.specs.Perform.{Performs}
 use Rattle.fx_data.specs.TypeView.{shape}
-use Rattle.fx_data.specs.Types.{Shape}
 use Rattle.fx_data.specs.Values.{Data}
 use Rattle.fx_deeds.specs.State.{State}
+use Rattle.fx_deeds.specs.Within as deeds
 use Rattle.fx_deeds.specs.Within.{Within}
-use Rattle.fx_env.specs.Scopes.{Fixed, Held}
+use Rattle.fx_env.specs.Scopes.{Held}
 use Rattle.fx_env.specs.declared.environment.Stop.{Stop}
 use Rattle.fx_env.specs.declared.environment.Stop.TheVariants as stop
 use Rattle.fx_semantics.specs.Sound.{IsItemFit}
+use Rattle.fx_scalar.specs.ScalarFunctions.{IsToday}
+use Rattle.fx_trees.specs.Reads.{IsAmong}
 use Rattle.fx_trees.specs.SourceTypes.{sources}
-use Rattle.fx_trees.specs.declared.schema.Schema.{Schema}
 use Rattle.fx_trees.specs.declared.sources.Source.{Source}
+use Rattle.fx_trees.specs.declared.sources.Source.TheVariants as source
 use Rattle.fx_typing.specs.Typing.{item_of}
 use Rattle.recalc.specs.app_semantics.Sound.{context_at}
 use Rattle.recalc.specs.app_cells.declared.app.App.{App}
 use Rattle.recalc.specs.app_cells.declared.app.CellInfo.{CellInfo}
+use Rattle.recalc.proofs.of_app_semantics.Typings.{among_left, among_right}
 use Rattle.recalc.specs.Stops.{end_of}
-use Rattle.row_keeper.specs.Tables.{Tables}
+use Rattle.recalc.specs.Kept.{IsInOrder, Kept}
+use Rattle.recalc.specs.Outcomes.{IsRightOver}
+use Rattle.row_keeper.specs.Tables.{TableState, Tables, no_rows}
 use Rattle.row_keeper.specs.declared.keeper.KeeperEnd.{KeeperEnd}
 use Rattle.row_keeper.specs.declared.keeper.KeeperEnd.TheVariants as end
-use Rattle.row_requests.specs.Sound.{AreSound}
-use Rattle.session_state.specs.Changes.{FitsNames, IsOwn}
-use Rattle.session_state.specs.Sessions.{Holds, SessionState}
+use Rattle.row_requests.specs.Written.{AreTablesBut}
+use Rattle.session_state.specs.Sessions.{SessionState}
+use Rattle.session_requests.proofs.Caches.{day_of}
+use Rattle.session_requests.specs.Caching.{AreLater, IsCached}
 use Rattle.session_requests.specs.Performing.{Acts, IsActing, Leaves, outermost}
 use Rattle.session_requests.specs.Grounds.{Grounds, ground_of, grounds, state_on}
 use Rattle.session_requests.specs.WorldLaws.{state_told}
-use Rattle.session_requests.specs.Worlds.{fixed_in, told_in}
+use Rattle.session_requests.specs.Worlds.{told_in}
 
 -- ---- before
 -- a formula that can be performed can be so over the types of the app's names
@@ -44,47 +51,6 @@ can_act a c item h fit = record {
   lawful = h.lawful;
   placed = h.placed;
 }
-
--- ---- what is fixed
-screens_same : (a b : App) (i j p k l q : ℕ) (x y : Option ℕ) (m n : Bool) → fixed_in b i j p x m ≡ fixed_in a k l q y n → length b.names.screens ≡ length a.names.screens
-screens_same a b i j p k l q x y m n e = let both = ap (λ (f : Fixed). f.loans) e in cc
-
-controls_same : (a b : App) (i j p k l q : ℕ) (x y : Option ℕ) (m n : Bool) → fixed_in b i j p x m ≡ fixed_in a k l q y n → length b.names.controls ≡ length a.names.controls
-controls_same a b i j p k l q x y m n e = let both = ap (λ (f : Fixed). f.loans) e in cc
-
-pub loan_same : (a b : App) (i j p k l q : ℕ) (x y : Option ℕ) (m n : Bool) → fixed_in b i j p x m ≡ fixed_in a k l q y n → x ≡ y
-loan_same a b i j p k l q x y m n e = let both = ap (λ (f : Fixed). f.loans) e in cc
-
--- the loans are those that were lent
-pub session_same : (a b : App) (i j p k l q : ℕ) (x y : Option ℕ) (m n : Bool) → fixed_in b i j p x m ≡ fixed_in a k l q y n → i ≡ k
-session_same a b i j p k l q x y m n e = let both = ap (λ (f : Fixed). f.loans) e in cc
-
-pub wrote_same : (a b : App) (i j p k l q : ℕ) (x y : Option ℕ) (m n : Bool) → fixed_in b i j p x m ≡ fixed_in a k l q y n → p ≡ q
-wrote_same a b i j p k l q x y m n e = let both = ap (λ (f : Fixed). f.loans) e in cc
-
-pub keeper_same : (a b : App) (i j p k l q : ℕ) (x y : Option ℕ) (m n : Bool) → fixed_in b i j p x m ≡ fixed_in a k l q y n → j ≡ l
-keeper_same a b i j p k l q x y m n e = let both = ap (λ (f : Fixed). f.loans) e in cc
-
-schema_same : (a b : App) (i j p k l q : ℕ) (x y : Option ℕ) (m n : Bool) → fixed_in b i j p x m ≡ fixed_in a k l q y n → b.names.schema ≡ a.names.schema
-schema_same a b i j p k l q x y m n e = ap (λ (f : Fixed). f.schema) e
-
-pub fits_still : (a b : App) (i j p k l q : ℕ) (x y : Option ℕ) (m n : Bool) (s : SessionState) → fixed_in b i j p x m ≡ fixed_in a k l q y n → FitsNames b.names s → FitsNames a.names s
-fits_still a b i j p k l q x y m n s e f =
-    let types : sources b.names ≡ sources a.names = ap (λ (g : Fixed). g.types) e in
-    let back : (z : Source) (t : Shape) → sources a.names z ≡ Some t → sources b.names z ≡ Some t = λ z t h. ap (λ (g : Source → Option Shape). g z) types ∙ h in
-    record {
-      screen = subst (λ (z : ℕ). s.screen < z) (screens_same a b i j p k l q x y m n e) f.screen;
-      controls = f.controls ∙ controls_same a b i j p k l q x y m n e;
-      sources_held = λ z t own h. f.sources_held z t own (back z t h);
-      values_fit = λ z t own h. f.values_fit z t own (back z t h);
-      spare = f.spare;
-    }
-
-pub shaped_still : (a b : App) (i j p k l q : ℕ) (x y : Option ℕ) (m n : Bool) (o : Option Schema) → fixed_in b i j p x m ≡ fixed_in a k l q y n → o ≡ Some b.names.schema → o ≡ Some a.names.schema
-shaped_still a b i j p k l q x y m n o e h = h ∙ ap Some (schema_same a b i j p k l q x y m n e)
-
-pub sound_still : (a b : App) (i j p k l q : ℕ) (x y : Option ℕ) (m n : Bool) (told : Option Tables) → fixed_in b i j p x m ≡ fixed_in a k l q y n → AreSound b.names.schema told → AreSound a.names.schema told
-sound_still a b i j p k l q x y m n told e h = subst (λ (s : Schema). AreSound s told) (schema_same a b i j p k l q x y m n e) h
 
 -- ---- what is told
 -- the state before and after, by what is told
@@ -153,6 +119,41 @@ acts_from lost a b moment c item scope v began day other h s r values others ws 
     (subst (λ (zs : List Source). Goes lost (Performs (ground_of a) c.core (outermost item) v) (told_state day (grounds a moment began) s values zs x) (told_state other h r others us y)) n
     (subst (λ (z : App). Goes lost (Performs (ground_of z) c.core (outermost item) v) (told_state day (grounds z moment began) s values ws x) (told_state other h r others us y)) e
     (subst (λ (z : Held). Goes lost (Performs (ground_of b) c.core z v) (told_state day (grounds b moment began) s values ws x) (told_state other h r others us y)) k p)))
+
+-- the tables are those with which the transaction began, but for what was written
+sources_same : (x : Source) (ws : List Source) → deeds.IsAmong x ws → IsAmong x ws
+sources_same x [] h = h
+sources_same x (w ∷ ws) (inl e) = inl e
+sources_same x (w ∷ ws) (inr h) = inr (sources_same x ws h)
+
+later_than : (ws us : List Source) (t u v : Tables) → AreTablesBut ws t u → ((k : ℕ) → (deeds.IsAmong (source.Table k) us → ⊥) → slice_get v.states k ≡ slice_get u.states k) → AreTablesBut (ws ++ us) t v
+later_than ws us t u v before after k far =
+    ap (λ (o : Option TableState). unwrap_or o no_rows) (after k (λ h. far (among_right (source.Table k) ws us (sources_same (source.Table k) us h)))) ∙ before k (λ h. far (among_left (source.Table k) ws us h))
+
+pub later_goes : (lost : Type 0) (day other : Data) (g h : Grounds) (s r : SessionState) (values others : List Data) (ws us : List Source) (x y : Option Tables) →
+    Goes lost Within (told_state day g s values [] x) (told_state other h r others us y) → AreLater ws g.began x → AreLater (ws ++ us) h.began y
+later_goes lost day other g h s r values others ws us None y e before t u p q = let none = silent other h r others us y e in let no : None ≡ Some u = sym none ∙ q in absurd cc
+later_goes lost day other g h s r values others ws us (Some v) None e before t u p q = absurd cc
+later_goes lost day other g h s r values others ws us (Some v) (Some w) e before t u p q =
+    let same : w ≡ u = cc in
+    subst (λ (z : Tables). AreTablesBut (ws ++ us) t z) same
+    (subst (λ (zs : List Source). AreTablesBut (ws ++ zs) t w) (sym e.wrote)
+    (later_than ws e.more t v w (before t v (ap (λ (z : Grounds). z.began) (sym e.same.app) ∙ p) refl) e.same.tables))
+
+-- the same of one whose app and list of writes are as they are made, and which began with this many
+pub later_from : (lost : Type 0) (day other : Data) (g h : Grounds) (s r : SessionState) (values others : List Data) (ws us zs : List Source) (n : ℕ) (x y : Option Tables) → n ≡ length ws → take n us ≡ ws → zs ≡ [] →
+    Goes lost Within (told_state day g s values zs x) (told_state other h r others (drop n us) y) → AreLater ws g.began x → AreLater us h.began y
+later_from lost day other g h s r values others ws us zs n x y count front none e before =
+    subst (λ (xs : List Source). AreLater xs h.began y) (ap (λ (xs : List Source). xs ++ drop n us) (sym front) ∙ take-append-drop n us)
+    (later_goes lost day other g h s r values others ws (drop n us) x y (subst (λ (xs : List Source). Goes lost Within (told_state day g s values xs x) (told_state other h r others (drop n us) y)) none e) before)
+
+-- the cache that is left
+pub cached_from : (a b : App) (s : SessionState) (told : Option Tables) (m n : ℕ) (c : Kept) → b ≡ a → n ≡ m → IsInOrder b c → ∥ IsRightOver b s told n c ∥₁ → ∥ IsToday n c.values.day ∥₁ → IsCached a s told m c
+cached_from a b s told m n c e k order right day = record {
+  order = subst (λ (z : App). IsInOrder z c) e order;
+  right = subst (λ (z : App). ∥ IsRightOver z s told m c ∥₁) e (subst (λ i. ∥ IsRightOver b s told i c ∥₁) k right);
+  day = day_of a s m c.values.day (subst (λ i. ∥ IsToday i c.values.day ∥₁) k day);
+}
 
 -- where nothing was done
 pub left_alone : (lost : Type 0) (a : App) (moment : ℕ) (s : SessionState) (x : Option Tables) → Goes lost (λ t u. Leaves a moment t s u s) x x

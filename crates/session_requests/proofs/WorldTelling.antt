@@ -36,8 +36,9 @@ use Rattle.row_queries.specs.TableRows.{table_of}
 use Rattle.row_queries.specs.declared.rows.Row.{Row}
 use Rattle.session_state.specs.Changes.{FitsNames, IsOwn}
 use Rattle.session_state.specs.Sessions.{Holds, SessionState}
-use Rattle.session_requests.specs.Grounds.{Grounds}
-use Rattle.session_requests.specs.Worlds.{FitsAll, IsNoTable, cells_of, fixed_in, told_in}
+use Rattle.session_requests.specs.Anchors.{Anchor}
+use Rattle.session_requests.specs.Grounds.{Grounds, grounds}
+use Rattle.session_requests.specs.Worlds.{FitsAll, IsNoTable, fixed_in, told_in}
 
 -- ---- what sources are worth fits
 pub holding : (n : Names) (s : SessionState) → FitsNames n s → HoldsFitting n s
@@ -48,10 +49,6 @@ all_fit a sound s moment day values x t fits cells today apart e =
     ∥∥₁_elim today (Bool-set _ _) (λ is.
     given_fits (present a s None moment) (cell_value values) x t (told_on day a.names s None (cell_value values) x) sound (holding a.names s fits) tt (λ d c behind there. cells d c there) e
     (told_given (present a s None moment) (cell_value values) day x is apart))
-
--- no cell is kept: each counts as blank
-pub blanks_fit : (a : App) → CellsFit a (cell_value (cells_of None))
-blanks_fit a k c there = refl
 
 -- ---- reads
 pub own_held : (n : Names) (s : SessionState) (x : Source) → FitsNames n s → IsSome (sources n x) → IsOwn x → Holds s x
@@ -74,19 +71,19 @@ tables_in day g s values ws None = refl
 tables_in day g s values ws (Some t) = refl
 
 -- each table may be read, and its value is that of its rows
-pub keeps_tables : (day : Data) (g : Grounds) (s : SessionState) (values : List Data) (ws : List Source) (i j p : ℕ) (loan : Option ℕ) (mode : Bool) (y : Option Tables) →
-    IsLawfulSchema g.app.names.schema → KeepsTables (fixed_in g.app i j p loan mode) (option_map (told_in day g s values ws) y)
-keeps_tables day g s values ws i j p loan mode y lawful = record {
+pub keeps_tables : (h : Anchor) (day : Data) (began : Option Tables) (s : SessionState) (values : List Data) (ws : List Source) (i c j p : ℕ) (loan : Option ℕ) (mode : Bool) (y : Option Tables) →
+    IsLawfulSchema h.app.names.schema → KeepsTables (fixed_in h i c j p loan mode) (option_map (told_in day (grounds h.app h.moment began) s values ws) y)
+keeps_tables h day began s values ws i c j p loan mode y lawful = record {
   lawful = lawful;
   read = λ k t e. ap (λ (o : Option TableShape). option_map (λ (x : TableShape). tables (columns_of x)) o) e;
   values = λ w e. by y w e;
 }
   where
-    by : (y : Option Tables) (w : Told (State Grounds)) → option_map (told_in day g s values ws) y ≡ Some w → AreValuesOf g.app.names.schema.tables w.values w.tables
+    by : (y : Option Tables) (w : Told (State Grounds)) → option_map (told_in day (grounds h.app h.moment began) s values ws) y ≡ Some w → AreValuesOf h.app.names.schema.tables w.values w.tables
     by None w e = absurd cc
     by (Some a) w e =
-        let same : told_in day g s values ws a ≡ w = cc in
-        subst (λ (x : Told (State Grounds)). AreValuesOf g.app.names.schema.tables x.values x.tables) same (λ k t there. ap (λ (o : Option TableShape). table_told o (Some (rows_of a.states)) k) there)
+        let same : told_in day (grounds h.app h.moment began) s values ws a ≡ w = cc in
+        subst (λ (x : Told (State Grounds)). AreValuesOf h.app.names.schema.tables x.values x.tables) same (λ k t there. ap (λ (o : Option TableShape). table_told o (Some (rows_of a.states)) k) there)
 
 -- what a table gives
 pub table_given : RowsFit → (day : Data) (g : Grounds) (s : SessionState) (values : List Data) (ws : List Source) (y : Option Tables) (k : ℕ) (x : Source) (v : Data) →

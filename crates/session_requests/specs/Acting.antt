@@ -1,5 +1,5 @@
 -- What an event or an input that passed its checks does to its session and to tables.
-use Rattle.std.specs.Prelude.{◌≡◌, ◌<◌, ℕ, Bool, true, false, List, length, slice_get, slice_set, Option, Some, None, Result, Ok, Err, option_and_then, option_map}
+use Rattle.std.specs.Prelude.{◌≡◌, ◌<◌, ℕ, Bool, true, false, List, [], ◌∷◌, length, slice_get, slice_set, Option, Some, None, Result, Ok, Err, option_and_then, option_map}
 use Rattle.std.specs.List.{position}
 use Rattle.fx_data.specs.Values.{Data}
 use Rattle.fx_data.specs.declared.controls.Control.{Control}
@@ -12,10 +12,14 @@ use Rattle.recalc.specs.app_semantics.Present.{input_of, items_of}
 use Rattle.recalc.specs.app_semantics.Properties.{is_true}
 use Rattle.recalc.specs.fx_semantics.Around.{record_of}
 use Rattle.recalc.specs.fx_semantics.Rows.{rows_in}
-use Rattle.request_checks.specs.Directory.{is_named, put}
+use Rattle.fx_trees.specs.declared.sources.Source.{Source}
+use Rattle.fx_trees.specs.declared.sources.Source.TheVariants as source
+use Rattle.recalc.specs.Kept.{Kept}
+use Rattle.request_checks.specs.Directory.{find, is_named, put}
 use Rattle.request_checks.specs.Replies.{refusal_reply}
 use Rattle.request_checks.specs.declared.directory.Named.{Named}
 use Rattle.row_keeper.specs.Tables.{Tables}
+use Rattle.session_requests.specs.Caching.{AreSessionsBut, IsCached}
 use Rattle.session_requests.specs.Requests.{Accepts}
 use Rattle.session_requests.specs.declared.trigger.Trigger.{Trigger}
 use Rattle.session_requests.specs.declared.trigger.Trigger.TheVariants.{OnChange, OnCheck, OnSelect, OnUncheck}
@@ -45,6 +49,13 @@ pub record TakesEffect (lost : Type 0) (app : App) (moment : ℕ) (trigger : Tri
 abbrev pub IsRefused : Refusal → Option Tables → List (Named SessionState) → List ℕ → Option Tables → List (Named SessionState) → Type 0
 IsRefused r told sessions said told' sessions' = (said ≡ refusal_reply r) × (sessions' ≡ sessions) × (told' ≡ told)
 
+-- a session is the one that is kept under this name but in these sources, and of that one the cache stands
+pub record IsBefore (app : App) (name : List ℕ) (ws : List Source) (s : SessionState) (told : Option Tables) (moment : ℕ) (c : Kept) (sessions : List (Named SessionState)) : Type 0 where
+  pub before : SessionState
+  pub found : find name sessions ≡ Some before
+  pub cached : IsCached app before told moment c
+  pub but : AreSessionsBut app.names ws before s
+
 -- ---- inputs
 
 -- a user gives a value, or takes it away
@@ -72,6 +83,11 @@ EndsInput lost app moment name body seq s values (Ok g) told sessions said told'
     TakesEffect lost app moment (input_trigger app.names (with_input g s) values g.0) None name body seq (with_input g s) told sessions said told' sessions'
 
 -- ---- events
+
+-- what is chosen where an item is
+abbrev pub chosen_by : Option Item → List Source
+chosen_by None = []
+chosen_by (Some i) = source.Chosen i.gallery ∷ []
 
 -- an item becomes the chosen one of its gallery
 abbrev pub with_item_chosen : Option Item → SessionState → SessionState

@@ -1,11 +1,11 @@
 -- What the behaviour formulas of an app are performed over, and what their sources then give.
-use Rattle.std.specs.Prelude.{◌≡◌, ℕ, List, Bool, true, false, Option, Some}
-use Rattle.fx_data.specs.Values.{Data}
+use Rattle.std.specs.Prelude.{◌≡◌, ℕ, List, Option, Some, None, slice_get}
+use Rattle.fx_data.specs.Values.{Data, blank}
 use Rattle.fx_deeds.specs.State.{Frame, Giving, Ground, State}
 use Rattle.fx_trees.specs.SourceTypes.{sources}
 use Rattle.fx_trees.specs.declared.sources.Source.{Source}
-use Rattle.fx_trees.specs.declared.sources.Source.TheVariants as source
-use Rattle.recalc.specs.app_semantics.Fresh.{IsFresh}
+use Rattle.recalc.specs.app_cells.Leaning.{cell_behind}
+use Rattle.recalc.specs.app_semantics.Needed.{IsFreshAt}
 use Rattle.recalc.specs.app_semantics.Present.{Gives, Present, present}
 use Rattle.recalc.specs.app_semantics.Sound.{IsSound}
 use Rattle.recalc.specs.app_cells.declared.app.App.{App}
@@ -31,12 +31,9 @@ state_on g t s ws = record { app = g; tables = t; session = s; wrote = ws }
 abbrev pub present_in : State Grounds → Present
 present_in s = present s.app.app s.session (Some (rows_of s.tables.states)) s.app.moment
 
--- what a source gives may hang on the values of cells
-abbrev pub hangs_on_cells : Source → Bool
-hangs_on_cells (source.Cell k) = true
-hangs_on_cells (source.Input k) = true
-hangs_on_cells (source.Chosen k) = true
-hangs_on_cells x = false
+-- Values are fresh at the cell on which leans who reads a source, if there is one. A cell that isn't there is blank.
+abbrev pub IsFreshBehind : Present → (ℕ → Data) → Source → Type 0
+IsFreshBehind p values x = (k : ℕ) → cell_behind p.app.names x ≡ Some k → IsFreshAt p values k × (slice_get p.app.cells k ≡ None → values k ≡ blank)
 
 -- a state is one of an accepted app, which its session and its tables fit
 pub record IsFit (a : App) (s : SessionState) (t : Tables) : Type 0 where
@@ -44,10 +41,9 @@ pub record IsFit (a : App) (s : SessionState) (t : Tables) : Type 0 where
   pub session : FitsNames a.names s
   pub tables : AreSound a.names.schema (Some t)
 
--- WHAT A SOURCE GIVES in a state that fits: what it gives where the cells have fresh values. Where it hangs on no cell, their
--- values are nothing to it.
+-- WHAT A SOURCE GIVES in a state that fits: what it gives where the cell on which it leans has its fresh value
 abbrev pub gives : Giving Grounds
-gives s x d = ∥ ((fit : IsFit s.app.app s.session s.tables) × (values : ℕ → Data) × (hangs_on_cells x ≡ true → IsFresh (present_in s) values) × Gives (present_in s) values x d) ∥₁
+gives s x d = ∥ ((fit : IsFit s.app.app s.session s.tables) × (values : ℕ → Data) × IsFreshBehind (present_in s) values x × Gives (present_in s) values x d) ∥₁
 
 -- the types of an app's sources, its tables and its row limit
 abbrev pub frame : App → Frame

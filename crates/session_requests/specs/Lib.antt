@@ -1,5 +1,6 @@
 pub mod Acting
 pub mod Bodies
+pub mod Caching
 pub mod Laws
 pub mod Posting
 pub mod Shown
@@ -17,3 +18,4 @@ pub mod Running
 pub mod Requests
 pub mod Opening
 pub mod EventLaws
+pub mod Anchors

@@ -1,9 +1,10 @@
 -- A session sends events and inputs.
-use Rattle.std.specs.Prelude.{◌≡◌, ℕ, Bool, true, List, codes, Option, Some, None, Result, Ok, Err, slice_get, option_and_then}
+use Rattle.std.specs.Prelude.{◌≡◌, ◌⊎◌, ℕ, Bool, true, List, codes, Option, Some, None, Result, Ok, Err, slice_get, option_and_then, unwrap_or}
 use Rattle.std.specs.List.{AllByRecursion}
+use Rattle.recalc.specs.app_cells.Leaning.{LeansOn, cell_of_property, default_cell}
 use Rattle.recalc.specs.app_cells.declared.app.App.{App}
+use Rattle.recalc.specs.app_cells.declared.app.CellInfo.{CellInfo}
 use Rattle.recalc.specs.app_semantics.Chosen.{row_at}
-use Rattle.recalc.specs.app_semantics.Fresh.{IsFresh}
 use Rattle.recalc.specs.app_semantics.Present.{Present, items_of, present}
 use Rattle.recalc.specs.app_semantics.Properties.{IsPropertyForItem, is_true}
 use Rattle.fx_data.specs.Values.{Data, boolean}
@@ -23,6 +24,8 @@ use Rattle.session_state.specs.Sessions.{SessionState}
 use Rattle.view_text.specs.declared.refused.Refusal.{Refusal}
 use Rattle.session_requests.specs.Acting.{EndsEvent, EndsInput}
 use Rattle.session_requests.specs.Bodies.{event_in, input_in}
+use Rattle.session_requests.specs.Caching.{AreFreshAt}
+use Rattle.session_requests.specs.Shown.{control_named}
 use Rattle.session_requests.specs.Targets.{event_target, input_target, or_refused}
 use Rattle.session_requests.specs.declared.event.Event.{Event}
 use Rattle.session_requests.specs.declared.input.Input.{Input}
@@ -33,17 +36,48 @@ use Rattle.session_requests.specs.declared.target.Target.{Target}
 abbrev pub SessionsFit : Names → List (Named SessionState) → Type 0
 SessionsFit n sessions = AllByRecursion (λ (x : Named SessionState). FitsNames n x.it) sessions
 
+-- ---- what checks look at
+
+-- the gallery that a control stands in
+abbrev pub gallery_around : App → ℕ → Option ℕ
+gallery_around app k = option_and_then (λ (c : ControlName). c.gallery) (slice_get app.names.controls k)
+
+-- what a control is shown by: the gallery in which it stands, and else the control itself
+abbrev pub shown_by : App → ℕ → ℕ
+shown_by app k = unwrap_or (gallery_around app k) k
+
+-- the formula of a control's property stands in this cell
+abbrev pub IsPropertyAt : App → ℕ → List ℕ → ℕ → Type 0
+IsPropertyAt app k name d = cell_of_property app.names k name ≡ Some d
+
+-- the formula that says whether a control is visible leans on this cell
+abbrev pub VisibleLeansOn : App → ℕ → ℕ → Type 0
+VisibleLeansOn app k d = (j : ℕ) × (c : CellInfo) × IsPropertyAt app k (codes "Visible") j × (slice_get app.cells j ≡ Some c) × LeansOn app.names c d
+
+-- The checks of an input look at whether its control is shown, at the bounds of it, and at its default.
+abbrev pub InputLooksAt : App → Input → ℕ → Type 0
+InputLooksAt app i d =
+    (k : ℕ) × (control_named i.control app.names ≡ Some k)
+    × (IsPropertyAt app (shown_by app k) (codes "Visible") d ⊎ (IsPropertyAt app k (codes "Min") d ⊎ (IsPropertyAt app k (codes "Max") d ⊎ (default_cell app.names k ≡ Some d))))
+
+-- The checks of an event look at whether its control is shown, at the items of its gallery, and for an item at what says whether
+-- the control is visible.
+abbrev pub EventLooksAt : App → Event → ℕ → Type 0
+EventLooksAt app e d =
+    (k : ℕ) × (control_named e.control app.names ≡ Some k)
+    × (IsPropertyAt app (shown_by app k) (codes "Visible") d ⊎ (IsPropertyAt app (shown_by app k) (codes "Items") d ⊎ VisibleLeansOn app k d))
+
 -- ---- inputs
 
 -- An input that passed the checks of numbered requests: its session is live. `seen` is told as the other checks are made, in which
--- formulas have fresh values.
+-- the formulas have fresh values that these look at.
 pub record SendsInput (lost : Type 0) (app : App) (moment : ℕ) (name body : List ℕ) (i : Input) (told : Option Tables) (sessions : List (Named SessionState)) (said : List ℕ) (told' : Option Tables) (sessions' : List (Named SessionState)) : Type 0 where
   pub session : SessionState
   pub found : find name sessions ≡ Some session
   pub seen : Option Tables
   pub stays : Goes lost Stays told seen
   pub values : ℕ → Data
-  pub fresh : IsFresh (present app session (rows_told seen) moment) values
+  pub fresh : ∥ AreFreshAt (present app session (rows_told seen) moment) (InputLooksAt app i) values ∥₁
   pub ends : EndsInput lost app moment name body i.seq session values (input_target app.names session values i) seen sessions said told' sessions'
 
 abbrev pub PostsInputChecked : Type 0 → App → ℕ → List ℕ → List ℕ → Result Input (List ℕ) → Option Tables → List (Named SessionState) → List ℕ → Option Tables → List (Named SessionState) → Type 0
@@ -75,10 +109,6 @@ IsShownFor p values k (Some gallery) (Some item) b = IsVisibleFor p values k gal
 IsShownFor p values k (Some gallery) None b = b ≡ true
 IsShownFor p values k None item b = b ≡ true
 
--- the gallery that a control stands in
-abbrev pub gallery_around : App → ℕ → Option ℕ
-gallery_around app k = option_and_then (λ (c : ControlName). c.gallery) (slice_get app.names.controls k)
-
 -- the last check of an event: the control is shown for the item (17)
 abbrev pub IsVerdict : Present → (ℕ → Data) → Result Target Refusal → Result Target Refusal → Type 0
 IsVerdict p values (Err r) v = v ≡ Err r
@@ -91,7 +121,7 @@ pub record SendsEvent (lost : Type 0) (app : App) (moment : ℕ) (name body : Li
   pub seen : Option Tables
   pub stays : Goes lost Stays told seen
   pub values : ℕ → Data
-  pub fresh : IsFresh (present app session (rows_told seen) moment) values
+  pub fresh : ∥ AreFreshAt (present app session (rows_told seen) moment) (EventLooksAt app e) values ∥₁
   pub verdict : Result Target Refusal
   pub judged : IsVerdict (present app session (rows_told seen) moment) values (event_target app.names session values e) verdict
   pub ends : EndsEvent lost app moment name body e.seq session values verdict seen sessions said told' sessions'

@@ -1,41 +1,29 @@
 -- What a session tells over the rows of a keeper.
-use Rattle.std.specs.Prelude.{◌≡◌, ℕ, ◌∷◌, List, [], Bool, true, false, length, Option, Some, None}
+use Rattle.std.specs.Prelude.{◌≡◌, ℕ, ◌∷◌, List, [], Bool, true, false, Option, Some, None}
 use Rattle.fx_data.specs.Types.{Shape}
 use Rattle.fx_data.specs.Values.{Data}
 use Rattle.fx_deeds.specs.State.{State}
 use Rattle.fx_env.specs.Scopes.{Fixed}
 use Rattle.fx_env.specs.Telling.{Told}
 use Rattle.fx_scalar.specs.ScalarFunctions.{IsToday}
-use Rattle.fx_trees.specs.Reads.{IsAmong}
 use Rattle.fx_trees.specs.SourceTypes.{sources}
 use Rattle.fx_trees.specs.declared.sources.Source.{Source}
 use Rattle.fx_trees.specs.declared.sources.Source.TheVariants as source
 use Rattle.fx_value.specs.Fits.{fits_in}
-use Rattle.recalc.specs.app_semantics.Fresh.{IsFresh}
-use Rattle.recalc.specs.app_semantics.Present.{present}
 use Rattle.recalc.specs.app_semantics.Telling.{told_on}
 use Rattle.recalc.specs.app_cells.declared.app.App.{App}
 use Rattle.recalc.specs.Reading.{cell_value}
-use Rattle.recalc.specs.Values.{CellsFit, Values, value_of}
+use Rattle.recalc.specs.Values.{CellsFit}
 use Rattle.row_keeper.specs.Tables.{Tables, rows_of}
 use Rattle.row_keeper.specs.declared.rows.Put.{Put}
 use Rattle.row_keeper.specs.declared.rows.Put.TheVariants.{Id}
 use Rattle.session_state.specs.Changes.{FitsNames}
 use Rattle.session_state.specs.Sessions.{SessionState}
-use Rattle.session_requests.specs.Grounds.{Grounds, hangs_on_cells, state_on}
+use Rattle.session_requests.specs.Anchors.{Anchor, numbered}
+use Rattle.session_requests.specs.Grounds.{Grounds, state_on}
 
 abbrev pub IsNoTable : Source → Type 0
 IsNoTable x = (k : ℕ) → x ≡ source.Table k → ⊥
-
--- the values of cells that are kept; without any, each cell counts as blank
-abbrev pub cells_of : Option Values → List Data
-cells_of None = []
-cells_of (Some v) = v.cells
-
--- kept values are fresh, where the keeper tells its rows
-abbrev pub AreFreshOver : App → ℕ → SessionState → Option Tables → Option Values → Type 0
-AreFreshOver a moment s told None = Unit {0}
-AreFreshOver a moment s told (Some v) = (t : Tables) → told ≡ Some t → IsFresh (present a s (Some (rows_of t.states)) moment) (value_of v)
 
 -- what a source that is no table is worth fits its type, where what is held and the values of cells fit
 abbrev pub FitsAll : App → Type 0
@@ -43,13 +31,13 @@ FitsAll a =
     (s : SessionState) (moment : ℕ) (day : Data) (values : List Data) (x : Source) (t : Shape) → FitsNames a.names s → CellsFit a (cell_value values) → ∥ IsToday moment day ∥₁ →
     IsNoTable x → sources a.names x ≡ Some t → fits_in (told_on day a.names s None (cell_value values) x) t ≡ true
 
--- What no call changes. Beside the loans of session, keeper and list of writes stand how many screens and controls there are.
-abbrev pub fixed_in : App → ℕ → ℕ → ℕ → Option ℕ → Bool → Fixed
-fixed_in a session keeper wrote loan in_transaction = record {
-  types = sources a.names;
-  schema = a.names.schema;
-  limit = a.limit;
-  loans = Some session ∷ Some keeper ∷ Some wrote ∷ loan ∷ Some (length a.names.screens) ∷ Some (length a.names.controls) ∷ [];
+-- What no call changes. Beside the loans of session, cache, keeper and list of writes stands all on which the performing does.
+abbrev pub fixed_in : Anchor → ℕ → ℕ → ℕ → ℕ → Option ℕ → Bool → Fixed
+fixed_in h session cache keeper wrote loan in_transaction = record {
+  types = sources h.app.names;
+  schema = h.app.names.schema;
+  limit = h.app.limit;
+  loans = Some session ∷ Some cache ∷ Some keeper ∷ Some wrote ∷ loan ∷ numbered h;
   in_transaction = in_transaction;
 }
 
@@ -70,7 +58,3 @@ written_by p k = []
 abbrev pub when : Bool → Option Source → Option Source
 when true o = o
 when false o = None
-
--- none of these sources hangs on the values of cells
-abbrev pub NoneHangs : List Source → Type 0
-NoneHangs xs = (x : Source) → IsAmong x xs → hangs_on_cells x ≡ false

@@ -1,11 +1,11 @@
 //! What an event or an input that passed its checks does.
-ghost use Rattle.std.specs.Prelude.{◌≡◌, ◌<◌, IfErr, IfOk, IfSome, OnErr, Some, false, length, option_map, vec_capacity, vec_len};
+ghost use Rattle.std.specs.Option.{option_to_list};
+ghost use Rattle.std.specs.Prelude.{◌≡◌, ◌<◌, ◌++◌, [], IfErr, IfOk, IfSome, IsSome, OnErr, OnOk, Some, false, length, option_map, vec_capacity, vec_len};
 ghost use Rattle.fx_base.specs.Silence.{Goes, IsLost};
 ghost use Rattle.fx_base.specs.Telling.{Stays};
 ghost use Rattle.fx_data.specs.ValueView.{view};
 ghost use Rattle.fx_trees.specs.declared.sources.Source.TheVariants as source;
 ghost use Rattle.recalc.specs.app_semantics.Sound.{IsSound};
-ghost use Rattle.recalc.specs.Values.{CellsFit, value_of};
 ghost use Rattle.request_checks.specs.Checked.{SessionsKeepReplies};
 ghost use Rattle.request_checks.specs.Directory.{put as put_into};
 ghost use Rattle.request_checks.specs.Replies.{IsReply, said};
@@ -14,7 +14,13 @@ ghost use Rattle.row_requests.specs.Sound.{AreSound};
 ghost use Rattle.session_requests.specs.Triggers.{ItemFits};
 ghost use Rattle.session_state.specs.Changes.{FitsNames};
 ghost use Rattle.session_state.specs.Sessions.{Holds};
-ghost use Rattle.session_requests.specs.Acting.{EndsEvent, EndsInput, TakesEffect, answered, input_trigger as input_trigger_of, item_seen as item_seen_of, trigger_of as trigger_of_kind, with_input, with_target};
+ghost use Rattle.row_requests.specs.Written.{AreTablesBut};
+ghost use Rattle.recalc.specs.Kept.{place_of as place_of_source, value_of};
+ghost use Rattle.request_checks.specs.Directory.{find};
+ghost use Rattle.recalc.specs.app_cells.declared.app.App.{App as AnApp};
+ghost use Rattle.session_state.specs.Sessions.{SessionState};
+ghost use Rattle.session_requests.specs.Caching.{AreSources, IsCached, IsTouchedIf};
+ghost use Rattle.session_requests.specs.Acting.{EndsEvent, EndsInput, TakesEffect, answered, IsBefore, chosen_by as chosen_by_item, input_trigger as input_trigger_of, item_seen as item_seen_of, trigger_of as trigger_of_kind, with_input, with_target};
 ghost use Rattle.session_requests.specs.Posting.{SessionsFit};
 ghost use Rattle.session_requests.specs.Shown.{cell_values};
 ghost use Rattle.session_requests.specs.Targets.{IsTarget, input_target};
@@ -27,11 +33,12 @@ use crate::shown::item_row;
 use crate::target::{Item, Target};
 use crate::transaction::{Accepted, accept_request};
 use crate::trigger::Trigger;
+use crate::writing::note;
 use fx_base::Memory;
 use fx_data::{Control, Value, Words};
-use fx_trees::Names;
-use recalc::{Steps, Valued, is_true};
-use request_checks::{Named, Reply, put};
+use fx_trees::{Names, Source};
+use recalc::{Cache, Steps, is_true};
+use request_checks::{Named, Reply, place_of, put};
 use row_keeper::{Keeper, KeeperEnd};
 use session_state::{Change, Session};
 use std::alloc::Global;
@@ -62,6 +69,28 @@ fn choose(session: &mut Session, target: Target)
     }
 }
 
+/// The choice that an event makes, if it makes one.
+fn chosen_by(target: Target) -> Option<Source>
+    ensures { option_to_list result ≡ chosen_by_item target.item }
+{
+    match target.item {
+        Some(item) => Some(Source::Chosen(item.gallery)),
+        None => None,
+    }
+}
+
+/// Notes what was given or chosen as written, and tells the cache of it.
+fn tell(cache: &mut Cache, wrote: &mut Vec<Source>, given: Option<Source>) -> Result<(), Memory>
+    requires { IfSome given (λ x. place_of_source x < length cache.old.versions) }
+    ensures wrote { OnOk result (wrote.new.items ≡ wrote.old.items ++ option_to_list given) }
+    ensures told { OnOk result ((a : AnApp) → IsTouchedIf a given cache.old cache.new) }
+    ensures stopped { OnErr result ((wrote.new.items ≡ wrote.old.items) × (cache.new ≡ cache.old)) }
+{
+    wrote.reserve(1)?;
+    note(wrote, cache, given);
+    Ok(())
+}
+
 /// What acts as something is given to a control of a kind.
 fn trigger_of(kind: Control, control: u32, checked: bool) -> Trigger
     ensures { result ≡ trigger_of_kind kind control checked }
@@ -78,13 +107,13 @@ fn input_trigger(
     alloc: Global,
     names: &Names,
     session: &Session,
-    valued: &Valued,
+    cache: &Cache,
     control: u32,
 ) -> Result<Trigger, Memory>
     requires { Holds session.now (source.Input control) }
-    ensures { IfOk result (λ t. t ≡ input_trigger_of names.now session.now (value_of valued.now) control) }
+    ensures { IfOk result (λ t. t ≡ input_trigger_of names.now session.now (value_of cache.now) control) }
 {
-    let value = valued.input(alloc, names, session, control)?;
+    let value = cache.valued().input(alloc, names, session, control)?;
     let checked = is_true(Some(&value));
     match names.controls.get(control as usize) {
         Some(found) => Ok(trigger_of(found.kind, control, checked)),
@@ -117,12 +146,12 @@ fn row_of(
 fn item_seen(
     alloc: Global,
     names: &Names,
-    valued: &Valued,
+    cache: &Cache,
     item: Option<Item>,
 ) -> Result<Option<Value>, Memory>
-    ensures { IfOk result (λ o. option_map view o ≡ item_seen_of names.now (value_of valued.now) item) }
+    ensures { IfOk result (λ o. option_map view o ≡ item_seen_of names.now (value_of cache.now) item) }
 {
-    row_of(alloc, names, valued.as_slice(), item)
+    row_of(alloc, names, cache.valued().as_slice(), item)
 }
 
 /// Ends an input of a session whose formulas have these values: what is accepted acts, and what is refused leaves all.
@@ -130,26 +159,30 @@ pub(crate) fn end_input<K: Keeper, L: Ledger>(
     alloc: Global,
     app: &App,
     sessions: &mut Vec<Named<Session>>,
+    cache: &mut Cache,
     keeper: &mut K,
     name: &Words,
     body: &[u8],
     seq: u32,
     mut session: Session,
-    valued: &Valued,
     verdict: Result<(u32, Given), Refusal>,
     moment: u64,
+    wrote: &mut Vec<Source>,
     steps: &mut Steps<L>,
 ) -> Result<Reply, KeeperEnd>
     requires sound { IsSound app.now }
     requires fits { FitsNames app.now.names session }
-    requires verdict { (i : Asked) × (verdict ≡ input_target app.now.names session (value_of valued.now) i) }
+    requires verdict { (i : Asked) × (verdict ≡ input_target app.now.names session (value_of cache.old) i) }
     requires detail { IfErr verdict (λ r. Fits r.code r.detail) }
     requires fit { SessionsFit app.now.names sessions.old.items }
     requires kept { SessionsKeepReplies sessions.old.items }
     requires shaped { K.shaped keeper.old ≡ Some app.now.names.schema }
     requires rows { AreSound app.now.names.schema (K.told keeper.old) }
     requires idle { K.in_transaction keeper.old ≡ false }
-    ensures done { IfOk result (λ r. EndsInput (IsLost (K.marks keeper.old) (K.marks keeper.new)) app.now moment name.now body.now seq session (value_of valued.now) verdict (K.told keeper.old) sessions.old.items (said r) (K.told keeper.new) sessions.new.items) }
+    requires found { find name.now sessions.old.items ≡ Some session }
+    requires cached { IsCached app.now session (K.told keeper.old) moment cache.old }
+    requires wrote { wrote.old.items ≡ [] }
+    ensures done { IfOk result (λ r. EndsInput (IsLost (K.marks keeper.old) (K.marks keeper.new)) app.now moment name.now body.now seq session (value_of cache.old) verdict (K.told keeper.old) sessions.old.items (said r) (K.told keeper.new) sessions.new.items) }
     ensures whole { IfOk result IsReply }
     ensures stopped { OnErr result (sessions.new.items ≡ sessions.old.items) }
     ensures left { OnErr result (Goes (IsLost (K.marks keeper.old) (K.marks keeper.new)) Stays (K.told keeper.old) (K.told keeper.new)) }
@@ -159,15 +192,19 @@ pub(crate) fn end_input<K: Keeper, L: Ledger>(
     ensures shaped { K.shaped keeper.new ≡ Some app.now.names.schema }
     ensures idle { K.in_transaction keeper.new ≡ false }
     ensures cause { HasCause (K.marks keeper.old) (K.marks keeper.new) result }
+    ensures cached { (s : SessionState) → find name.now sessions.new.items ≡ Some s → IsCached app.now s (K.told keeper.new) moment cache.new }
+    ensures tables { Goes (IsLost (K.marks keeper.old) (K.marks keeper.new)) (AreTablesBut wrote.new.items) (K.told keeper.old) (K.told keeper.new) }
+    ensures sources { AreSources app.now.names wrote.new.items }
     ensures loan { K.loan keeper.new ≡ K.loan keeper.old }
 {
     match verdict {
         Ok((control, given)) => {
             give(&mut session, control, given);
-            let trigger = input_trigger(alloc, &app.names, &session, valued, control)?;
+            let trigger = input_trigger(alloc, &app.names, &session, cache, control)?;
+            let given = Some(Source::Input(control));
             take_effect(
-                alloc, app, sessions, keeper, name, body, seq, session, moment, trigger, None,
-                steps,
+                alloc, app, sessions, cache, keeper, name, body, seq, session, moment, given,
+                trigger, None, wrote, steps,
             )
         }
         Err(refusal) => Ok(Reply::refuse(alloc, &refusal)?),
@@ -179,27 +216,30 @@ pub(crate) fn end_event<K: Keeper, L: Ledger>(
     alloc: Global,
     app: &App,
     sessions: &mut Vec<Named<Session>>,
+    cache: &mut Cache,
     keeper: &mut K,
     name: &Words,
     body: &[u8],
     seq: u32,
     mut session: Session,
-    valued: &Valued,
     verdict: Result<Target, Refusal>,
     moment: u64,
+    wrote: &mut Vec<Source>,
     steps: &mut Steps<L>,
 ) -> Result<Reply, KeeperEnd>
     requires sound { IsSound app.now }
     requires fits { FitsNames app.now.names session }
-    requires cells { CellsFit app.now (value_of valued.now) }
-    requires verdict { IfOk verdict (λ t. IsTarget app.now.names (value_of valued.now) t) }
+    requires verdict { IfOk verdict (λ t. IsTarget app.now.names (value_of cache.old) t) }
     requires detail { IfErr verdict (λ r. Fits r.code r.detail) }
     requires fit { SessionsFit app.now.names sessions.old.items }
     requires kept { SessionsKeepReplies sessions.old.items }
     requires shaped { K.shaped keeper.old ≡ Some app.now.names.schema }
     requires rows { AreSound app.now.names.schema (K.told keeper.old) }
     requires idle { K.in_transaction keeper.old ≡ false }
-    ensures done { IfOk result (λ r. EndsEvent (IsLost (K.marks keeper.old) (K.marks keeper.new)) app.now moment name.now body.now seq session (value_of valued.now) verdict (K.told keeper.old) sessions.old.items (said r) (K.told keeper.new) sessions.new.items) }
+    requires found { find name.now sessions.old.items ≡ Some session }
+    requires cached { IsCached app.now session (K.told keeper.old) moment cache.old }
+    requires wrote { wrote.old.items ≡ [] }
+    ensures done { IfOk result (λ r. EndsEvent (IsLost (K.marks keeper.old) (K.marks keeper.new)) app.now moment name.now body.now seq session (value_of cache.old) verdict (K.told keeper.old) sessions.old.items (said r) (K.told keeper.new) sessions.new.items) }
     ensures whole { IfOk result IsReply }
     ensures stopped { OnErr result (sessions.new.items ≡ sessions.old.items) }
     ensures left { OnErr result (Goes (IsLost (K.marks keeper.old) (K.marks keeper.new)) Stays (K.told keeper.old) (K.told keeper.new)) }
@@ -209,36 +249,54 @@ pub(crate) fn end_event<K: Keeper, L: Ledger>(
     ensures shaped { K.shaped keeper.new ≡ Some app.now.names.schema }
     ensures idle { K.in_transaction keeper.new ≡ false }
     ensures cause { HasCause (K.marks keeper.old) (K.marks keeper.new) result }
+    ensures cached { (s : SessionState) → find name.now sessions.new.items ≡ Some s → IsCached app.now s (K.told keeper.new) moment cache.new }
+    ensures tables { Goes (IsLost (K.marks keeper.old) (K.marks keeper.new)) (AreTablesBut wrote.new.items) (K.told keeper.old) (K.told keeper.new) }
+    ensures sources { AreSources app.now.names wrote.new.items }
     ensures loan { K.loan keeper.new ≡ K.loan keeper.old }
 {
     match verdict {
         Ok(target) => {
-            let item = item_seen(alloc, &app.names, valued, target.item)?;
+            let item = item_seen(alloc, &app.names, cache, target.item)?;
             choose(&mut session, target);
+            let chosen = chosen_by(target);
             let trigger = Trigger::OnSelect(target.control);
             take_effect(
-                alloc, app, sessions, keeper, name, body, seq, session, moment, trigger, item,
-                steps,
+                alloc, app, sessions, cache, keeper, name, body, seq, session, moment, chosen,
+                trigger, item, wrote, steps,
             )
         }
         Err(refusal) => Ok(Reply::refuse(alloc, &refusal)?),
     }
 }
 
+/// The session of a name, which is live.
+fn session_of<'a>(sessions: &'a [Named<Session>], name: &Words) -> &'a Session
+    requires { IsSome (find name.now sessions.now) }
+    ensures { find name.now sessions.now ≡ Some result.now }
+{
+    match place_of(sessions, name) {
+        Some(place) => &sessions[place].it,
+        None => unreachable!(),
+    }
+}
+
 /// Does what an accepted request does to its session, in which what is given or chosen stands already: it acts, is answered and
-/// is kept. What stops leaves the sessions and the tables.
+/// is kept. What stops leaves the sessions and the tables, and the cache of the session then stands as it was.
 fn take_effect<K: Keeper, L: Ledger>(
     alloc: Global,
     app: &App,
     sessions: &mut Vec<Named<Session>>,
+    cache: &mut Cache,
     keeper: &mut K,
     name: &Words,
     body: &[u8],
     seq: u32,
     session: Session,
     moment: u64,
+    given: Option<Source>,
     trigger: Trigger,
     item: Option<Value>,
+    wrote: &mut Vec<Source>,
     steps: &mut Steps<L>,
 ) -> Result<Reply, KeeperEnd>
     requires sound { IsSound app.now }
@@ -249,6 +307,9 @@ fn take_effect<K: Keeper, L: Ledger>(
     requires shaped { K.shaped keeper.old ≡ Some app.now.names.schema }
     requires rows { AreSound app.now.names.schema (K.told keeper.old) }
     requires idle { K.in_transaction keeper.old ≡ false }
+    requires before { IsBefore app.now name.now (option_to_list given) session (K.told keeper.old) moment cache.old sessions.old.items }
+    requires given { AreSources app.now.names (option_to_list given) }
+    requires wrote { wrote.old.items ≡ [] }
     ensures done { IfOk result (λ r. TakesEffect (IsLost (K.marks keeper.old) (K.marks keeper.new)) app.now moment trigger (option_map view item) name.now body.now seq session (K.told keeper.old) sessions.old.items (said r) (K.told keeper.new) sessions.new.items) }
     ensures whole { IfOk result IsReply }
     ensures stopped { OnErr result (sessions.new.items ≡ sessions.old.items) }
@@ -259,15 +320,20 @@ fn take_effect<K: Keeper, L: Ledger>(
     ensures shaped { K.shaped keeper.new ≡ Some app.now.names.schema }
     ensures idle { K.in_transaction keeper.new ≡ false }
     ensures cause { HasCause (K.marks keeper.old) (K.marks keeper.new) result }
+    ensures cached { (s : SessionState) → find name.now sessions.new.items ≡ Some s → IsCached app.now s (K.told keeper.new) moment cache.new }
+    ensures tables { Goes (IsLost (K.marks keeper.old) (K.marks keeper.new)) (AreTablesBut wrote.new.items) (K.told keeper.old) (K.told keeper.new) }
+    ensures sources { AreSources app.now.names wrote.new.items }
     ensures loan { K.loan keeper.new ≡ K.loan keeper.old }
 {
     let body = Vec::from_slice(alloc, body)?;
-    let name = name.copy(alloc)?;
+    let kept = name.copy(alloc)?;
     sessions.reserve(1)?;
+    tell(cache, wrote, given)?;
+    let before = session_of(sessions.as_slice(), name);
     match accept_request(
-        alloc, app, session, keeper, moment, trigger, item, seq, steps,
+        alloc, app, before, session, cache, keeper, moment, trigger, item, seq, wrote, steps,
     ) {
-        Ok(accepted) => Ok(keep(sessions, name, seq, body, accepted)),
+        Ok(accepted) => Ok(keep(sessions, kept, seq, body, accepted)),
         Err(end) => Err(end),
     }
 }

@@ -1,7 +1,7 @@
 //! Laws of behaviour formulas.
 ghost use Rattle.session_requests.specs.OneActing.{OneActing};
 
-use crate::app_semantics::{fitting_holds, one_fresh};
+use crate::app_semantics::{fitting_holds, one_fresh_at};
 use fx_tables::row_calls::{
     count_if_once, count_once, greatest_once, least_once, sort_once, sum_once,
 };
@@ -10,7 +10,7 @@ use fx_tables::row_calls::{
 pub fn one_acting()
     ensures { OneActing }
 {
-    one_fresh();
+    one_fresh_at();
     fitting_holds();
     sum_once();
     least_once();

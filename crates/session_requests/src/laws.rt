@@ -1,7 +1,7 @@
 //! Laws of sessions' requests.
 ghost use Rattle.session_requests.specs.Laws.{ActsOnce, IsOneOutcome, LeavesOthers};
 
-use crate::app_semantics::{fitting_holds, fresh_fits, one_fresh};
+use crate::app_semantics::{fitting_holds, one_fresh_at};
 use crate::event_laws::one_running;
 use crate::fx_semantics::one_value;
 
@@ -20,8 +20,7 @@ pub fn one_outcome()
     ensures { IsOneOutcome }
 {
     fitting_holds();
-    fresh_fits();
-    one_fresh();
+    one_fresh_at();
     one_value();
     one_running();
 }

@@ -1,15 +1,19 @@
 //! Sessions are opened, each in one transaction.
-ghost use Rattle.std.specs.Prelude.{◌≡◌, IfOk, OnErr, Some, false, true};
+ghost use Rattle.std.specs.Prelude.{◌≡◌, [], IfOk, OnErr, Some, false, true};
 ghost use Rattle.fx_base.specs.Silence.{Goes, IsLost};
 ghost use Rattle.fx_base.specs.Telling.{Stays};
 ghost use Rattle.recalc.specs.app_semantics.Sound.{IsSound};
 ghost use Rattle.row_keeper.specs.Causes.{HasCause};
 ghost use Rattle.row_requests.specs.Sound.{AreSound};
+ghost use Rattle.row_requests.specs.Written.{AreTablesBut};
+ghost use Rattle.session_state.specs.Sessions.{opened};
+ghost use Rattle.session_requests.specs.Caching.{AreLater, AreSources, IsCached};
 ghost use Rattle.session_requests.specs.Opening.{CanOpen, OpensNew};
 
 use crate::app_cells::App;
 use crate::running::open;
-use recalc::Steps;
+use fx_trees::Source;
+use recalc::{Cache, Steps};
 use row_keeper::{Keeper, KeeperEnd};
 use row_requests::settle;
 use session_state::Session;
@@ -20,8 +24,10 @@ use std::sync::ledger::Ledger;
 fn prepare_session<K: Keeper, L: Ledger>(
     alloc: Global,
     app: &App,
+    cache: &mut Cache,
     keeper: &mut K,
     moment: u64,
+    wrote: &mut Vec<Source>,
     steps: &mut Steps<L>,
 ) -> Result<Session, KeeperEnd>
     requires sound { IsSound app.now }
@@ -29,29 +35,49 @@ fn prepare_session<K: Keeper, L: Ledger>(
     requires shaped { K.shaped keeper.old ≡ Some app.now.names.schema }
     requires rows { AreSound app.now.names.schema (K.told keeper.old) }
     requires begun { K.in_transaction keeper.old ≡ true }
+    requires cached { IsCached app.now (opened app.now.names) (K.told keeper.old) moment cache.old }
+    requires began { K.began keeper.old ≡ K.told keeper.old }
+    requires wrote { wrote.old.items ≡ [] }
     ensures opens { IfOk result (λ s. OpensNew (IsLost (K.marks keeper.old) (K.marks keeper.new)) app.now moment (K.told keeper.old) (K.told keeper.new) s) }
     ensures rows { AreSound app.now.names.schema (K.told keeper.new) }
     ensures began { Goes (IsLost (K.marks keeper.old) (K.marks keeper.new)) Stays (K.began keeper.old) (K.began keeper.new) }
     ensures shaped { K.shaped keeper.new ≡ Some app.now.names.schema }
     ensures open { K.in_transaction keeper.new ≡ true }
+    ensures cached { IfOk result (λ s. IsCached app.now s (K.told keeper.new) moment cache.new) }
+    ensures later { AreLater wrote.new.items (K.began keeper.new) (K.told keeper.new) }
+    ensures sources { AreSources app.now.names wrote.new.items }
     ensures cause { HasCause (K.marks keeper.old) (K.marks keeper.new) result }
     ensures loan { K.loan keeper.new ≡ K.loan keeper.old }
 {
+    let before = Session::new(alloc, &app.names)?;
     let mut session = Session::new(alloc, &app.names)?;
-    open(alloc, app, &mut session, keeper, moment, steps)?;
+    open(
+        alloc,
+        app,
+        &before,
+        &mut session,
+        cache,
+        keeper,
+        moment,
+        wrote,
+        steps,
+    )?;
     session.take_notices();
     // No request was accepted yet, whatever the keeper tells.
     session.keep(0, Vec::new(alloc), Vec::new(alloc));
     Ok(session)
 }
 
-/// Opens a session, in one transaction: `App.OnStart` acts, and then the `OnVisible` of the screen that is then current, once. All
-/// memory is taken before the transaction ends. What stops leaves the tables.
+/// Opens a session, in one transaction: `App.OnStart` acts, and then the `OnVisible` of the screen that is then current, once. Its
+/// cache stands for a session at first, and then for what it has become. `wrote` is told the sources that were written. All memory
+/// is taken before the transaction ends. What stops leaves the tables.
 pub fn open_session<K: Keeper, L: Ledger>(
     alloc: Global,
     app: &App,
+    cache: &mut Cache,
     keeper: &mut K,
     moment: u64,
+    wrote: &mut Vec<Source>,
     steps: &mut Steps<L>,
 ) -> Result<Session, KeeperEnd>
     requires sound { IsSound app.now }
@@ -59,11 +85,16 @@ pub fn open_session<K: Keeper, L: Ledger>(
     requires shaped { K.shaped keeper.old ≡ Some app.now.names.schema }
     requires rows { AreSound app.now.names.schema (K.told keeper.old) }
     requires idle { K.in_transaction keeper.old ≡ false }
+    requires cached { IsCached app.now (opened app.now.names) (K.told keeper.old) moment cache.old }
+    requires wrote { wrote.old.items ≡ [] }
     ensures opens { IfOk result (λ s. OpensNew (IsLost (K.marks keeper.old) (K.marks keeper.new)) app.now moment (K.told keeper.old) (K.told keeper.new) s) }
     ensures stopped { OnErr result (Goes (IsLost (K.marks keeper.old) (K.marks keeper.new)) Stays (K.told keeper.old) (K.told keeper.new)) }
     ensures rows { AreSound app.now.names.schema (K.told keeper.new) }
     ensures shaped { K.shaped keeper.new ≡ Some app.now.names.schema }
     ensures idle { K.in_transaction keeper.new ≡ false }
+    ensures cached { IfOk result (λ s. IsCached app.now s (K.told keeper.new) moment cache.new) }
+    ensures tables { Goes (IsLost (K.marks keeper.old) (K.marks keeper.new)) (AreTablesBut wrote.new.items) (K.told keeper.old) (K.told keeper.new) }
+    ensures sources { AreSources app.now.names wrote.new.items }
     ensures cause { HasCause (K.marks keeper.old) (K.marks keeper.new) result }
     ensures loan { K.loan keeper.new ≡ K.loan keeper.old }
 {
@@ -71,7 +102,7 @@ pub fn open_session<K: Keeper, L: Ledger>(
         Ok(()) => {}
         Err(end) => return Err(end),
     }
-    match prepare_session(alloc, app, keeper, moment, steps) {
+    match prepare_session(alloc, app, cache, keeper, moment, wrote, steps) {
         Ok(session) => match settle(keeper, true) {
             Ok(()) => Ok(session),
             Err(end) => Err(end),

@@ -1,5 +1,5 @@
 //! Performing a behaviour formula of an app.
-ghost use Rattle.std.specs.Prelude.{◌≡◌, ◌≤◌, [], None, Some, IfOk, option_map, true};
+ghost use Rattle.std.specs.Prelude.{◌≡◌, ◌≤◌, Some, IfOk, drop, length, option_map, take, true};
 ghost use Rattle.fx_base.specs.Silence.{Goes, IsLost};
 ghost use Rattle.fx_base.specs.Telling.{Stays};
 ghost use Rattle.fx_data.specs.TypeView.{shape};
@@ -12,43 +12,40 @@ ghost use Rattle.recalc.specs.app_semantics.Sound.{IsSound};
 ghost use Rattle.row_keeper.specs.Causes.{HasCause};
 ghost use Rattle.row_requests.specs.Sound.{AreSound};
 ghost use Rattle.session_state.specs.Changes.{FitsNames};
+ghost use Rattle.session_requests.specs.Caching.{AreLater, AreSessionsBut, AreSources, IsCached};
 ghost use Rattle.session_requests.specs.Performing.{Acts, IsActing, Leaves};
 
 use crate::accepted::{Accepted, SoundApp};
 use crate::app_cells::{App, CellInfo};
 use crate::world::SessionWorld;
-use fx_base::Memory;
 use fx_behave::act;
 use fx_data::Value;
 use fx_env::Steps;
 use fx_eval::Scope;
 use fx_scalar::today;
 use fx_trees::Source;
-use recalc::{Valued, end_of};
+use recalc::{Cache, end_of};
 use row_keeper::{Keeper, KeeperEnd};
 use session_state::Session;
 use std::alloc::Global;
 use std::sync::ledger::Ledger;
 
-/// What became of a behaviour formula: its value, and the sources that it wrote, one after another.
-#[derive(Drop)]
-pub struct Acted {
-    pub value: Value,
-    pub wrote: Vec<Source>,
-}
-
 /// Performs a behaviour formula of an app over a session and the tables of a keeper, at a moment in seconds since 1970-01-01
-/// UTC, and for an item where it sees one. Where it gives no answer, a part of it may have been done.
+/// UTC, and for an item where it sees one. `before` is the session as the request found it, and `wrote` are the sources that
+/// were written since; the cache is told of each at once. Where it gives no answer, a part of it may have been done.
 pub fn perform<K: Keeper, L: Ledger>(
     alloc: Global,
     app: &App,
+    before: &Session,
     session: &mut Session,
+    cache: &mut Cache,
     keeper: &mut K,
     moment: u64,
     info: &CellInfo,
     item: Option<Value>,
+    wrote: &mut Vec<Source>,
     steps: &mut Steps<L>,
-) -> Result<Acted, KeeperEnd>
+) -> Result<Value, KeeperEnd>
     requires sound { IsSound app.now }
     requires acting { IsActing app.now info.now }
     requires fits { FitsNames app.now.names session.old }
@@ -56,11 +53,20 @@ pub fn perform<K: Keeper, L: Ledger>(
     requires shaped { K.shaped keeper.old ≡ Some app.now.names.schema }
     requires rows { AreSound app.now.names.schema (K.told keeper.old) }
     requires begun { K.in_transaction keeper.old ≡ true }
-    ensures acted { IfOk result (λ r. Goes (IsLost (K.marks keeper.old) (K.marks keeper.new))
-        (λ t u. Acts app.now moment info.now (option_map view item) t session.old (view r.value) u session.new r.wrote.items) (K.told keeper.old) (K.told keeper.new)) }
+    requires cached { IsCached app.now session.old (K.told keeper.old) moment cache.old }
+    requires sources { AreSources app.now.names wrote.old.items }
+    requires but { AreSessionsBut app.now.names wrote.old.items before.now session.old }
+    requires later { AreLater wrote.old.items (K.began keeper.old) (K.told keeper.old) }
+    ensures acted { IfOk result (λ v. Goes (IsLost (K.marks keeper.old) (K.marks keeper.new))
+        (λ t u. Acts app.now moment info.now (option_map view item) t session.old (view v) u session.new (drop (length wrote.old.items) wrote.new.items)) (K.told keeper.old) (K.told keeper.new)) }
+    ensures prefix { take (length wrote.old.items) wrote.new.items ≡ wrote.old.items }
+    ensures cached { IsCached app.now session.new (K.told keeper.new) moment cache.new }
+    ensures sources { AreSources app.now.names wrote.new.items }
+    ensures but { AreSessionsBut app.now.names wrote.new.items before.now session.new }
+    ensures later { AreLater wrote.new.items (K.began keeper.new) (K.told keeper.new) }
     ensures leaves { Goes (IsLost (K.marks keeper.old) (K.marks keeper.new)) (λ t u. Leaves app.now moment t session.old u session.new) (K.told keeper.old) (K.told keeper.new) }
     ensures fits { FitsNames app.now.names session.new }
-    ensures value { IfOk result (λ r. fits_in (view r.value) (shape info.now.ty) ≡ true) }
+    ensures value { IfOk result (λ v. fits_in (view v) (shape info.now.ty) ≡ true) }
     ensures rows { AreSound app.now.names.schema (K.told keeper.new) }
     ensures began { Goes (IsLost (K.marks keeper.old) (K.marks keeper.new)) Stays (K.began keeper.old) (K.began keeper.new) }
     ensures shaped { K.shaped keeper.new ≡ Some app.now.names.schema }
@@ -71,40 +77,49 @@ pub fn perform<K: Keeper, L: Ledger>(
 {
     let day = today(alloc, moment)?;
     let accepted = Accepted::new(app);
-    let mut cells = None;
-    let mut wrote = Vec::new(alloc);
-    let value = perform_over(
-        alloc, &accepted, session, keeper, moment, &day, &mut cells, &mut wrote, info, item, steps,
-    )?;
-    Ok(Acted { value, wrote })
+    let earlier = wrote.len();
+    perform_over(
+        alloc, &accepted, before, session, cache, keeper, moment, &day, info, item, wrote, earlier,
+        steps,
+    )
 }
 
-// The same on the day of the moment, where no cell was evaluated yet and nothing was written. The world holds references alone, so
-// that what it leaves of each is known.
+// The same on the day of the moment, where so many sources were written earlier. The world holds references alone, so that what
+// it leaves of each is known.
 fn perform_over<'a, A: SoundApp, K: Keeper, L: Ledger>(
     alloc: Global,
     app: &'a A,
+    before: &'a Session,
     session: &'a mut Session,
+    cache: &'a mut Cache,
     keeper: &'a mut K,
     moment: u64,
     day: &'a Value,
-    cells: &'a mut Option<Valued>,
-    wrote: &'a mut Vec<Source>,
     info: &CellInfo,
     item: Option<Value>,
+    wrote: &'a mut Vec<Source>,
+    earlier: usize,
     steps: &mut Steps<L>,
 ) -> Result<Value, KeeperEnd>
     requires day { IsToday moment (view day.now) }
-    requires cells { cells.old ≡ None }
-    requires wrote { wrote.old.items ≡ [] }
+    requires earlier { earlier ≡ length wrote.old.items }
     requires acting { IsActing (A.app app.now) info.now }
     requires fits { FitsNames (A.app app.now).names session.old }
     requires item { IsItemFit (option_map view item) (item_of (A.app app.now).names info.now.cell.item) }
     requires shaped { K.shaped keeper.old ≡ Some (A.app app.now).names.schema }
     requires rows { AreSound (A.app app.now).names.schema (K.told keeper.old) }
     requires begun { K.in_transaction keeper.old ≡ true }
+    requires cached { IsCached (A.app app.now) session.old (K.told keeper.old) moment cache.old }
+    requires sources { AreSources (A.app app.now).names wrote.old.items }
+    requires but { AreSessionsBut (A.app app.now).names wrote.old.items before.now session.old }
+    requires later { AreLater wrote.old.items (K.began keeper.old) (K.told keeper.old) }
     ensures acted { IfOk result (λ v. Goes (IsLost (K.marks keeper.old) (K.marks keeper.new))
-        (λ t u. Acts (A.app app.now) moment info.now (option_map view item) t session.old (view v) u session.new wrote.new.items) (K.told keeper.old) (K.told keeper.new)) }
+        (λ t u. Acts (A.app app.now) moment info.now (option_map view item) t session.old (view v) u session.new (drop (length wrote.old.items) wrote.new.items)) (K.told keeper.old) (K.told keeper.new)) }
+    ensures prefix { take (length wrote.old.items) wrote.new.items ≡ wrote.old.items }
+    ensures cached { IsCached (A.app app.now) session.new (K.told keeper.new) moment cache.new }
+    ensures sources { AreSources (A.app app.now).names wrote.new.items }
+    ensures but { AreSessionsBut (A.app app.now).names wrote.new.items before.now session.new }
+    ensures later { AreLater wrote.new.items (K.began keeper.new) (K.told keeper.new) }
     ensures leaves { Goes (IsLost (K.marks keeper.old) (K.marks keeper.new)) (λ t u. Leaves (A.app app.now) moment t session.old u session.new) (K.told keeper.old) (K.told keeper.new) }
     ensures fits { FitsNames (A.app app.now).names session.new }
     ensures value { IfOk result (λ v. fits_in (view v) (shape info.now.ty) ≡ true) }
@@ -123,10 +138,12 @@ fn perform_over<'a, A: SoundApp, K: Keeper, L: Ledger>(
         app,
         moment,
         day,
+        before,
         session,
+        cache,
         keeper,
-        cells,
         wrote,
+        earlier,
     };
     let mut scope = Scope {
         rows: Vec::new(alloc),

@@ -1,22 +1,25 @@
 //! A session sends events and inputs.
-ghost use Rattle.std.specs.Prelude.{◌≡◌, ℕ, IfErr, IfOk, IsErrOf, IsSome, Ok, OnErr, Some, false};
+ghost use Rattle.std.specs.Prelude.{◌≡◌, [], ℕ, IfErr, IfOk, IsSome, Ok, OnErr, OnOk, Some, false};
 ghost use Rattle.fx_base.specs.Silence.{Goes, IsLost};
 ghost use Rattle.fx_base.specs.Telling.{Stays};
 ghost use Rattle.fx_scalar.specs.ScalarFunctions.{IsToday};
 ghost use Rattle.recalc.specs.app_semantics.Present.{present};
 ghost use Rattle.recalc.specs.app_semantics.Sound.{IsSound};
-ghost use Rattle.recalc.specs.Asking.{HasRead, keeping};
-ghost use Rattle.recalc.specs.Values.{CellsFit, value_of};
+ghost use Rattle.recalc.specs.Asking.{HasRead, IsHeardOf, ToldRows, keeping};
+ghost use Rattle.recalc.specs.Values.{CellsFit, value_of as value_of_cells};
 ghost use Rattle.request_checks.specs.Checked.{SessionsKeepReplies};
 ghost use Rattle.request_checks.specs.Directory.{find};
 ghost use Rattle.request_checks.specs.Replies.{IsReply, said};
 ghost use Rattle.row_keeper.specs.Causes.{HasCause};
 ghost use Rattle.row_keeper.specs.Tables.{rows_told};
-ghost use Rattle.row_keeper.specs.declared.keeper.KeeperEnd.TheVariants.{Failed};
 ghost use Rattle.row_requests.specs.Sound.{AreSound};
+ghost use Rattle.row_requests.specs.Written.{AreTablesBut};
+ghost use Rattle.recalc.specs.Kept.{value_of};
 ghost use Rattle.session_state.specs.Changes.{FitsNames};
+ghost use Rattle.session_state.specs.Sessions.{SessionState};
 ghost use Rattle.view_text.specs.RefusalText.{Fits};
-ghost use Rattle.session_requests.specs.Posting.{IsVerdict, PostsEvent, PostsInput, ReachesEvent, ReachesInput, SendsEvent, SendsInput, SessionsFit};
+ghost use Rattle.session_requests.specs.Caching.{AreFreshAt, AreSources, IsCached};
+ghost use Rattle.session_requests.specs.Posting.{EventLooksAt, InputLooksAt, IsVerdict, SendsEvent, SendsInput, SessionsFit};
 ghost use Rattle.session_requests.specs.Targets.{IsTarget, event_target as event_target_of, or_refused};
 
 use crate::acting::{end_event, end_input};
@@ -25,71 +28,36 @@ use crate::app_semantics::fitting_holds;
 use crate::checks::{event_target, input_target, plain};
 use crate::event::Event;
 use crate::input::Input;
+use crate::looking::{event_cells, input_cells};
+use crate::shown::control_named;
 use crate::target::Target;
 use crate::visible::is_shown_for;
 use fx_data::Words;
-use recalc::{Steps, Valued, evaluate, id_name};
-use request_checks::{Checked, Named, Reply, check_session, place_of};
+use fx_trees::Source;
+use recalc::{Cache, Steps, Valued, id_name};
+use request_checks::{Named, Reply, place_of};
 use row_keeper::{Keeper, KeeperEnd};
 use session_state::Session;
 use std::alloc::Global;
 use std::sync::ledger::Ledger;
 use view_text::Refusal;
 
-/// A session sends what its user gave to a control, under a number. It is kept, and then `OnChange` of the control acts, or
-/// `OnCheck` or `OnUncheck` of a box, as one transaction, and the reply is kept; or nothing changes and the reply is a refusal: no
-/// JSON (9), another shape (10), no such session (11), another number (13, 14), no control (15), one that takes no input (16) or
-/// isn't shown (17), or a value that it doesn't take (20). The last request once more gets the kept reply. Null takes away what was
-/// given. No other session changes. What stops leaves the sessions and the tables.
-pub fn post_input<K: Keeper, L: Ledger>(
+/// Sends an input that passed the checks of numbered requests: what its user gave to a control is kept, and then `OnChange` of the
+/// control acts, or `OnCheck` or `OnUncheck` of a box, as one transaction, and the reply is kept; or nothing changes and the reply is
+/// a refusal: no control (15), one that takes no input (16) or isn't shown (17), or a value that it doesn't take (20). Null takes away
+/// what was given. No other session changes. What stops leaves the sessions and the tables. The cache of the session stands
+/// afterwards in all cases, and `wrote` is told the sources that were written. It works on a copy of the session.
+pub fn send_input<K: Keeper, L: Ledger>(
     alloc: Global,
     app: &App,
     sessions: &mut Vec<Named<Session>>,
-    keeper: &mut K,
-    name: &Words,
-    body: &[u8],
-    moment: u64,
-    steps: &mut Steps<L>,
-) -> Result<Reply, KeeperEnd>
-    requires sound { IsSound app.now }
-    requires fit { SessionsFit app.now.names sessions.old.items }
-    requires kept { SessionsKeepReplies sessions.old.items }
-    requires shaped { K.shaped keeper.old ≡ Some app.now.names.schema }
-    requires rows { AreSound app.now.names.schema (K.told keeper.old) }
-    requires idle { K.in_transaction keeper.old ≡ false }
-    ensures done { IfOk result (λ r. PostsInput (IsLost (K.marks keeper.old) (K.marks keeper.new)) app.now moment name.now body.now (K.told keeper.old) sessions.old.items (said r) (K.told keeper.new) sessions.new.items) }
-    ensures whole { IfOk result IsReply }
-    ensures reached { IsErrOf result Failed → ReachesInput name.now body.now sessions.old.items }
-    ensures stopped { OnErr result (sessions.new.items ≡ sessions.old.items) }
-    ensures left { OnErr result (Goes (IsLost (K.marks keeper.old) (K.marks keeper.new)) Stays (K.told keeper.old) (K.told keeper.new)) }
-    ensures fit { SessionsFit app.now.names sessions.new.items }
-    ensures kept { SessionsKeepReplies sessions.new.items }
-    ensures rows { AreSound app.now.names.schema (K.told keeper.new) }
-    ensures shaped { K.shaped keeper.new ≡ Some app.now.names.schema }
-    ensures idle { K.in_transaction keeper.new ≡ false }
-    ensures cause { HasCause (K.marks keeper.old) (K.marks keeper.new) result }
-    ensures loan { K.loan keeper.new ≡ K.loan keeper.old }
-{
-    match check_session::<Input>(alloc, sessions, name, body)? {
-        Checked::Says(reply) => Ok(reply),
-        Checked::Acts(input) => {
-            send_input(
-                alloc, app, sessions, keeper, name, body, input, moment, steps,
-            )
-        }
-    }
-}
-
-/// Sends an input that passed the checks of numbered requests. It works on a copy of the session.
-fn send_input<K: Keeper, L: Ledger>(
-    alloc: Global,
-    app: &App,
-    sessions: &mut Vec<Named<Session>>,
+    cache: &mut Cache,
     keeper: &mut K,
     name: &Words,
     body: &[u8],
     input: Input,
     moment: u64,
+    wrote: &mut Vec<Source>,
     steps: &mut Steps<L>,
 ) -> Result<Reply, KeeperEnd>
     requires sound { IsSound app.now }
@@ -99,6 +67,8 @@ fn send_input<K: Keeper, L: Ledger>(
     requires shaped { K.shaped keeper.old ≡ Some app.now.names.schema }
     requires rows { AreSound app.now.names.schema (K.told keeper.old) }
     requires idle { K.in_transaction keeper.old ≡ false }
+    requires cached { (s : SessionState) → find name.now sessions.old.items ≡ Some s → IsCached app.now s (K.told keeper.old) moment cache.old }
+    requires wrote { wrote.old.items ≡ [] }
     ensures done { IfOk result (λ r. SendsInput (IsLost (K.marks keeper.old) (K.marks keeper.new)) app.now moment name.now body.now input (K.told keeper.old) sessions.old.items (said r) (K.told keeper.new) sessions.new.items) }
     ensures whole { IfOk result IsReply }
     ensures stopped { OnErr result (sessions.new.items ≡ sessions.old.items) }
@@ -109,16 +79,53 @@ fn send_input<K: Keeper, L: Ledger>(
     ensures shaped { K.shaped keeper.new ≡ Some app.now.names.schema }
     ensures idle { K.in_transaction keeper.new ≡ false }
     ensures cause { HasCause (K.marks keeper.old) (K.marks keeper.new) result }
+    ensures cached { (s : SessionState) → find name.now sessions.new.items ≡ Some s → IsCached app.now s (K.told keeper.new) moment cache.new }
+    ensures tables { Goes (IsLost (K.marks keeper.old) (K.marks keeper.new)) (AreTablesBut wrote.new.items) (K.told keeper.old) (K.told keeper.new) }
+    ensures sources { AreSources app.now.names wrote.new.items }
     ensures loan { K.loan keeper.new ≡ K.loan keeper.old }
 {
     match place_of(sessions, name) {
         Some(place) => {
             let session = sessions[place].it.copy()?;
             act_input(
-                alloc, app, sessions, keeper, name, body, input, session, moment, steps,
+                alloc, app, sessions, cache, keeper, name, body, input, session, moment, wrote,
+                steps,
             )
         }
         None => unreachable!(),
+    }
+}
+
+/// Brings up to date what the checks of an input look at.
+#[tactic(auto, using(recalc::proofs::Asked::read_none))]
+fn look_for_input<K: Keeper, L: Ledger>(
+    alloc: Global,
+    app: &App,
+    session: &Session,
+    cache: &mut Cache,
+    keeper: &mut K,
+    input: &Input,
+    moment: u64,
+    steps: &mut Steps<L>,
+) -> Result<(), KeeperEnd>
+    requires sound { IsSound app.now }
+    requires fits { FitsNames app.now.names session.now }
+    requires cached { IsCached app.now session.now (K.told keeper.old) moment cache.old }
+    requires shaped { K.shaped keeper.old ≡ Some app.now.names.schema }
+    ensures cached { IsCached app.now session.now (K.told keeper.new) moment cache.new }
+    ensures fresh { OnOk result ∥ ((tables : ToldRows) → IsHeardOf (K.told keeper.new) tables → AreFreshAt (present app.now session.now tables moment) (InputLooksAt app.now input.now) (value_of cache.new)) ∥₁ }
+    ensures read { HasRead (keeping (K.told keeper.old) (K.began keeper.old) (K.shaped keeper.old) (K.in_transaction keeper.old) (K.marks keeper.old) (K.visited keeper.old) (K.loan keeper.old))
+        (keeping (K.told keeper.new) (K.began keeper.new) (K.shaped keeper.new) (K.in_transaction keeper.new) (K.marks keeper.new) (K.visited keeper.new) (K.loan keeper.new)) }
+    ensures cause { HasCause (K.marks keeper.old) (K.marks keeper.new) result }
+{
+    fitting_holds();
+    match control_named(&app.names, &input.control) {
+        Some(place) => {
+            let cells = input_cells(alloc, app, place as u32)?;
+            cache.refresh(alloc, app, session, keeper, moment, &cells, steps)?;
+            Ok(())
+        }
+        None => Ok(()),
     }
 }
 
@@ -127,12 +134,14 @@ fn act_input<K: Keeper, L: Ledger>(
     alloc: Global,
     app: &App,
     sessions: &mut Vec<Named<Session>>,
+    cache: &mut Cache,
     keeper: &mut K,
     name: &Words,
     body: &[u8],
     input: Input,
     session: Session,
     moment: u64,
+    wrote: &mut Vec<Source>,
     steps: &mut Steps<L>,
 ) -> Result<Reply, KeeperEnd>
     requires sound { IsSound app.now }
@@ -143,6 +152,8 @@ fn act_input<K: Keeper, L: Ledger>(
     requires shaped { K.shaped keeper.old ≡ Some app.now.names.schema }
     requires rows { AreSound app.now.names.schema (K.told keeper.old) }
     requires idle { K.in_transaction keeper.old ≡ false }
+    requires cached { IsCached app.now session (K.told keeper.old) moment cache.old }
+    requires wrote { wrote.old.items ≡ [] }
     ensures done { IfOk result (λ r. SendsInput (IsLost (K.marks keeper.old) (K.marks keeper.new)) app.now moment name.now body.now input (K.told keeper.old) sessions.old.items (said r) (K.told keeper.new) sessions.new.items) }
     ensures whole { IfOk result IsReply }
     ensures stopped { OnErr result (sessions.new.items ≡ sessions.old.items) }
@@ -153,71 +164,39 @@ fn act_input<K: Keeper, L: Ledger>(
     ensures shaped { K.shaped keeper.new ≡ Some app.now.names.schema }
     ensures idle { K.in_transaction keeper.new ≡ false }
     ensures cause { HasCause (K.marks keeper.old) (K.marks keeper.new) result }
+    ensures cached { (s : SessionState) → find name.now sessions.new.items ≡ Some s → IsCached app.now s (K.told keeper.new) moment cache.new }
+    ensures tables { Goes (IsLost (K.marks keeper.old) (K.marks keeper.new)) (AreTablesBut wrote.new.items) (K.told keeper.old) (K.told keeper.new) }
+    ensures sources { AreSources app.now.names wrote.new.items }
     ensures loan { K.loan keeper.new ≡ K.loan keeper.old }
 {
     fitting_holds();
+    look_for_input(alloc, app, &session, cache, keeper, &input, moment, steps)?;
     let seq = input.seq;
-    let valued = evaluate(alloc, app, &session, keeper, moment, steps)?;
-    let verdict = input_target(&app.names, session.screen(), valued.as_slice(), input);
+    let values = cache.valued().as_slice();
+    let verdict = input_target(&app.names, session.screen(), values, input);
     end_input(
-        alloc, app, sessions, keeper, name, body, seq, session, &valued, verdict, moment, steps,
+        alloc, app, sessions, cache, keeper, name, body, seq, session, verdict, moment, wrote,
+        steps,
     )
 }
 
-/// A session sends an event of a control, under a number. It makes the item that it has the chosen one of its gallery, and then
-/// `OnSelect` of the control acts, as one transaction, and the reply is kept; or nothing changes and the reply is a refusal: no JSON
-/// (9), another shape (10), no such session (11), another number (13, 14), no control (15), no such event of it (16), a control that
-/// isn't shown (17), no such item (18), one that has moved (19), or a control in a gallery that isn't visible for the item (17). The
-/// last request once more gets the kept reply. No other session changes. What stops leaves the sessions and the tables.
-pub fn post_event<K: Keeper, L: Ledger>(
+/// Sends an event that passed the checks of numbered requests: the item that it has becomes the chosen one of its gallery, and then
+/// `OnSelect` of the control acts, as one transaction, and the reply is kept; or nothing changes and the reply is a refusal: no
+/// control (15), no such event of it (16), a control that isn't shown (17), no such item (18), one that has moved (19), or a control
+/// in a gallery that isn't visible for the item (17). No other session changes. What stops leaves the sessions and the tables. The
+/// cache of the session stands afterwards in all cases, and `wrote` is told the sources that were written. It works on a copy of the
+/// session.
+pub fn send_event<K: Keeper, L: Ledger>(
     alloc: Global,
     app: &App,
     sessions: &mut Vec<Named<Session>>,
-    keeper: &mut K,
-    name: &Words,
-    body: &[u8],
-    moment: u64,
-    steps: &mut Steps<L>,
-) -> Result<Reply, KeeperEnd>
-    requires sound { IsSound app.now }
-    requires fit { SessionsFit app.now.names sessions.old.items }
-    requires kept { SessionsKeepReplies sessions.old.items }
-    requires shaped { K.shaped keeper.old ≡ Some app.now.names.schema }
-    requires rows { AreSound app.now.names.schema (K.told keeper.old) }
-    requires idle { K.in_transaction keeper.old ≡ false }
-    ensures done { IfOk result (λ r. PostsEvent (IsLost (K.marks keeper.old) (K.marks keeper.new)) app.now moment name.now body.now (K.told keeper.old) sessions.old.items (said r) (K.told keeper.new) sessions.new.items) }
-    ensures whole { IfOk result IsReply }
-    ensures reached { IsErrOf result Failed → ReachesEvent name.now body.now sessions.old.items }
-    ensures stopped { OnErr result (sessions.new.items ≡ sessions.old.items) }
-    ensures left { OnErr result (Goes (IsLost (K.marks keeper.old) (K.marks keeper.new)) Stays (K.told keeper.old) (K.told keeper.new)) }
-    ensures fit { SessionsFit app.now.names sessions.new.items }
-    ensures kept { SessionsKeepReplies sessions.new.items }
-    ensures rows { AreSound app.now.names.schema (K.told keeper.new) }
-    ensures shaped { K.shaped keeper.new ≡ Some app.now.names.schema }
-    ensures idle { K.in_transaction keeper.new ≡ false }
-    ensures cause { HasCause (K.marks keeper.old) (K.marks keeper.new) result }
-    ensures loan { K.loan keeper.new ≡ K.loan keeper.old }
-{
-    match check_session::<Event>(alloc, sessions, name, body)? {
-        Checked::Says(reply) => Ok(reply),
-        Checked::Acts(event) => {
-            send_event(
-                alloc, app, sessions, keeper, name, body, &event, moment, steps,
-            )
-        }
-    }
-}
-
-/// Sends an event that passed the checks of numbered requests. It works on a copy of the session.
-fn send_event<K: Keeper, L: Ledger>(
-    alloc: Global,
-    app: &App,
-    sessions: &mut Vec<Named<Session>>,
+    cache: &mut Cache,
     keeper: &mut K,
     name: &Words,
     body: &[u8],
     event: &Event,
     moment: u64,
+    wrote: &mut Vec<Source>,
     steps: &mut Steps<L>,
 ) -> Result<Reply, KeeperEnd>
     requires sound { IsSound app.now }
@@ -227,6 +206,8 @@ fn send_event<K: Keeper, L: Ledger>(
     requires shaped { K.shaped keeper.old ≡ Some app.now.names.schema }
     requires rows { AreSound app.now.names.schema (K.told keeper.old) }
     requires idle { K.in_transaction keeper.old ≡ false }
+    requires cached { (s : SessionState) → find name.now sessions.old.items ≡ Some s → IsCached app.now s (K.told keeper.old) moment cache.old }
+    requires wrote { wrote.old.items ≡ [] }
     ensures done { IfOk result (λ r. SendsEvent (IsLost (K.marks keeper.old) (K.marks keeper.new)) app.now moment name.now body.now event.now (K.told keeper.old) sessions.old.items (said r) (K.told keeper.new) sessions.new.items) }
     ensures whole { IfOk result IsReply }
     ensures stopped { OnErr result (sessions.new.items ≡ sessions.old.items) }
@@ -237,16 +218,53 @@ fn send_event<K: Keeper, L: Ledger>(
     ensures shaped { K.shaped keeper.new ≡ Some app.now.names.schema }
     ensures idle { K.in_transaction keeper.new ≡ false }
     ensures cause { HasCause (K.marks keeper.old) (K.marks keeper.new) result }
+    ensures cached { (s : SessionState) → find name.now sessions.new.items ≡ Some s → IsCached app.now s (K.told keeper.new) moment cache.new }
+    ensures tables { Goes (IsLost (K.marks keeper.old) (K.marks keeper.new)) (AreTablesBut wrote.new.items) (K.told keeper.old) (K.told keeper.new) }
+    ensures sources { AreSources app.now.names wrote.new.items }
     ensures loan { K.loan keeper.new ≡ K.loan keeper.old }
 {
     match place_of(sessions, name) {
         Some(place) => {
             let session = sessions[place].it.copy()?;
             act_event(
-                alloc, app, sessions, keeper, name, body, event, session, moment, steps,
+                alloc, app, sessions, cache, keeper, name, body, event, session, moment, wrote,
+                steps,
             )
         }
         None => unreachable!(),
+    }
+}
+
+/// Brings up to date what the checks of an event look at.
+#[tactic(auto, using(recalc::proofs::Asked::read_none))]
+fn look_for_event<K: Keeper, L: Ledger>(
+    alloc: Global,
+    app: &App,
+    session: &Session,
+    cache: &mut Cache,
+    keeper: &mut K,
+    event: &Event,
+    moment: u64,
+    steps: &mut Steps<L>,
+) -> Result<(), KeeperEnd>
+    requires sound { IsSound app.now }
+    requires fits { FitsNames app.now.names session.now }
+    requires cached { IsCached app.now session.now (K.told keeper.old) moment cache.old }
+    requires shaped { K.shaped keeper.old ≡ Some app.now.names.schema }
+    ensures cached { IsCached app.now session.now (K.told keeper.new) moment cache.new }
+    ensures fresh { OnOk result ∥ ((tables : ToldRows) → IsHeardOf (K.told keeper.new) tables → AreFreshAt (present app.now session.now tables moment) (EventLooksAt app.now event.now) (value_of cache.new)) ∥₁ }
+    ensures read { HasRead (keeping (K.told keeper.old) (K.began keeper.old) (K.shaped keeper.old) (K.in_transaction keeper.old) (K.marks keeper.old) (K.visited keeper.old) (K.loan keeper.old))
+        (keeping (K.told keeper.new) (K.began keeper.new) (K.shaped keeper.new) (K.in_transaction keeper.new) (K.marks keeper.new) (K.visited keeper.new) (K.loan keeper.new)) }
+    ensures cause { HasCause (K.marks keeper.old) (K.marks keeper.new) result }
+{
+    fitting_holds();
+    match control_named(&app.names, &event.control) {
+        Some(place) => {
+            let cells = event_cells(alloc, app, place as u32)?;
+            cache.refresh(alloc, app, session, keeper, moment, &cells, steps)?;
+            Ok(())
+        }
+        None => Ok(()),
     }
 }
 
@@ -255,12 +273,14 @@ fn act_event<K: Keeper, L: Ledger>(
     alloc: Global,
     app: &App,
     sessions: &mut Vec<Named<Session>>,
+    cache: &mut Cache,
     keeper: &mut K,
     name: &Words,
     body: &[u8],
     event: &Event,
     session: Session,
     moment: u64,
+    wrote: &mut Vec<Source>,
     steps: &mut Steps<L>,
 ) -> Result<Reply, KeeperEnd>
     requires sound { IsSound app.now }
@@ -271,6 +291,8 @@ fn act_event<K: Keeper, L: Ledger>(
     requires shaped { K.shaped keeper.old ≡ Some app.now.names.schema }
     requires rows { AreSound app.now.names.schema (K.told keeper.old) }
     requires idle { K.in_transaction keeper.old ≡ false }
+    requires cached { IsCached app.now session (K.told keeper.old) moment cache.old }
+    requires wrote { wrote.old.items ≡ [] }
     ensures done { IfOk result (λ r. SendsEvent (IsLost (K.marks keeper.old) (K.marks keeper.new)) app.now moment name.now body.now event.now (K.told keeper.old) sessions.old.items (said r) (K.told keeper.new) sessions.new.items) }
     ensures whole { IfOk result IsReply }
     ensures stopped { OnErr result (sessions.new.items ≡ sessions.old.items) }
@@ -281,14 +303,17 @@ fn act_event<K: Keeper, L: Ledger>(
     ensures shaped { K.shaped keeper.new ≡ Some app.now.names.schema }
     ensures idle { K.in_transaction keeper.new ≡ false }
     ensures cause { HasCause (K.marks keeper.old) (K.marks keeper.new) result }
+    ensures cached { (s : SessionState) → find name.now sessions.new.items ≡ Some s → IsCached app.now s (K.told keeper.new) moment cache.new }
+    ensures tables { Goes (IsLost (K.marks keeper.old) (K.marks keeper.new)) (AreTablesBut wrote.new.items) (K.told keeper.old) (K.told keeper.new) }
+    ensures sources { AreSources app.now.names wrote.new.items }
     ensures loan { K.loan keeper.new ≡ K.loan keeper.old }
 {
     fitting_holds();
-    let valued = evaluate(alloc, app, &session, keeper, moment, steps)?;
-    let verdict = judge_event(alloc, app, &session, keeper, &valued, event, steps)?;
+    look_for_event(alloc, app, &session, cache, keeper, event, moment, steps)?;
+    let verdict = judge_event(alloc, app, &session, keeper, cache.valued(), event, steps)?;
     end_event(
-        alloc, app, sessions, keeper, name, body, event.seq, session, &valued, verdict, moment,
-        steps,
+        alloc, app, sessions, cache, keeper, name, body, event.seq, session, verdict, moment,
+        wrote, steps,
     )
 }
 
@@ -305,12 +330,12 @@ fn judge_event<K: Keeper, L: Ledger>(
 ) -> Result<Result<Target, Refusal>, KeeperEnd>
     requires sound { IsSound app.now }
     requires fits { FitsNames app.now.names session.now }
-    requires cells { CellsFit app.now (value_of valued.now) }
+    requires cells { CellsFit app.now (value_of_cells valued.now) }
     requires day { (moment : ℕ) × IsToday moment valued.now.day }
     requires shaped { K.shaped keeper.old ≡ Some app.now.names.schema }
     ensures judged { IfOk result (λ v. (moment : ℕ) → IsToday moment valued.now.day →
-        IsVerdict (present app.now session.now (rows_told (K.told keeper.new)) moment) (value_of valued.now) (event_target_of app.now.names session.now (value_of valued.now) event.now) v) }
-    ensures target { IfOk result (λ v. IfOk v (λ t. IsTarget app.now.names (value_of valued.now) t)) }
+        IsVerdict (present app.now session.now (rows_told (K.told keeper.new)) moment) (value_of_cells valued.now) (event_target_of app.now.names session.now (value_of_cells valued.now) event.now) v) }
+    ensures target { IfOk result (λ v. IfOk v (λ t. IsTarget app.now.names (value_of_cells valued.now) t)) }
     ensures detail { IfOk result (λ v. IfErr v (λ r. Fits r.code r.detail)) }
     ensures read { HasRead (keeping (K.told keeper.old) (K.began keeper.old) (K.shaped keeper.old) (K.in_transaction keeper.old) (K.marks keeper.old) (K.visited keeper.old) (K.loan keeper.old))
         (keeping (K.told keeper.new) (K.began keeper.new) (K.shaped keeper.new) (K.in_transaction keeper.new) (K.marks keeper.new) (K.visited keeper.new) (K.loan keeper.new)) }

@@ -6,6 +6,7 @@ ghost use Rattle.fx_base.specs.Telling.{Stays};
 ghost use Rattle.fx_data.specs.ValueView.{view};
 ghost use Rattle.row_keeper.specs.Causes.{HasCause};
 ghost use Rattle.row_requests.specs.Sound.{AreSound};
+ghost use Rattle.session_requests.specs.Caching.{AreLater, AreSessionsBut, AreSources, IsCached};
 ghost use Rattle.session_requests.specs.Running.{IsShown, IsTriggered, Opens, Runs};
 ghost use Rattle.session_requests.specs.Scenes.{scene};
 ghost use Rattle.session_requests.specs.Triggers.{ItemFits};
@@ -16,7 +17,8 @@ use crate::performing::perform;
 use crate::trigger::{Trigger, cell_at};
 use fx_data::Value;
 use fx_places::all_typings_are_lawful;
-use recalc::Steps;
+use fx_trees::Source;
+use recalc::{Cache, Steps};
 use row_keeper::{Keeper, KeeperEnd};
 use session_state::Session;
 use std::alloc::Global;
@@ -26,11 +28,14 @@ use std::sync::ledger::Ledger;
 fn act<K: Keeper, L: Ledger>(
     alloc: Global,
     app: &App,
+    before: &Session,
     session: &mut Session,
+    cache: &mut Cache,
     keeper: &mut K,
     moment: u64,
     trigger: Trigger,
     item: Option<Value>,
+    wrote: &mut Vec<Source>,
     steps: &mut Steps<L>,
 ) -> Result<Value, KeeperEnd>
     requires sound { IsSound app.now }
@@ -38,6 +43,10 @@ fn act<K: Keeper, L: Ledger>(
     requires shaped { K.shaped keeper.old ≡ Some app.now.names.schema }
     requires rows { AreSound app.now.names.schema (K.told keeper.old) }
     requires begun { K.in_transaction keeper.old ≡ true }
+    requires cached { IsCached app.now session.old (K.told keeper.old) moment cache.old }
+    requires but { AreSessionsBut app.now.names wrote.old.items before.now session.old }
+    requires later { AreLater wrote.old.items (K.began keeper.old) (K.told keeper.old) }
+    requires sources { AreSources app.now.names wrote.old.items }
     requires item { ItemFits app.now trigger (option_map view item) }
     ensures done { IfOk result (λ v. Goes (IsLost (K.marks keeper.old) (K.marks keeper.new))
         (λ t u. IsTriggered app.now moment trigger (option_map view item) (scene t session.old) (view v) (scene u session.new)) (K.told keeper.old) (K.told keeper.new)) }
@@ -47,6 +56,10 @@ fn act<K: Keeper, L: Ledger>(
     ensures shaped { K.shaped keeper.new ≡ Some app.now.names.schema }
     ensures open { K.in_transaction keeper.new ≡ true }
     ensures cause { HasCause (K.marks keeper.old) (K.marks keeper.new) result }
+    ensures cached { IsCached app.now session.new (K.told keeper.new) moment cache.new }
+    ensures but { AreSessionsBut app.now.names wrote.new.items before.now session.new }
+    ensures later { AreLater wrote.new.items (K.began keeper.new) (K.told keeper.new) }
+    ensures sources { AreSources app.now.names wrote.new.items }
     ensures loan { K.loan keeper.new ≡ K.loan keeper.old }
 {
     // The law is called for what it says of formulas that act.
@@ -54,8 +67,9 @@ fn act<K: Keeper, L: Ledger>(
     match cell_at(app, trigger) {
         Some(place) => {
             let info = &app.cells.as_slice()[place];
-            let acted = perform(alloc, app, session, keeper, moment, info, item, steps)?;
-            Ok(acted.value)
+            perform(
+                alloc, app, before, session, cache, keeper, moment, info, item, wrote, steps,
+            )
         }
         None => Ok(Value::Blank),
     }
@@ -65,9 +79,12 @@ fn act<K: Keeper, L: Ledger>(
 fn show<K: Keeper, L: Ledger>(
     alloc: Global,
     app: &App,
+    before: &Session,
     session: &mut Session,
+    cache: &mut Cache,
     keeper: &mut K,
     moment: u64,
+    wrote: &mut Vec<Source>,
     steps: &mut Steps<L>,
 ) -> Result<(), KeeperEnd>
     requires sound { IsSound app.now }
@@ -75,6 +92,10 @@ fn show<K: Keeper, L: Ledger>(
     requires shaped { K.shaped keeper.old ≡ Some app.now.names.schema }
     requires rows { AreSound app.now.names.schema (K.told keeper.old) }
     requires begun { K.in_transaction keeper.old ≡ true }
+    requires cached { IsCached app.now session.old (K.told keeper.old) moment cache.old }
+    requires but { AreSessionsBut app.now.names wrote.old.items before.now session.old }
+    requires later { AreLater wrote.old.items (K.began keeper.old) (K.told keeper.old) }
+    requires sources { AreSources app.now.names wrote.old.items }
     ensures done { OnOk result (Goes (IsLost (K.marks keeper.old) (K.marks keeper.new))
         (λ t u. IsShown app.now moment (scene t session.old) (scene u session.new)) (K.told keeper.old) (K.told keeper.new)) }
     ensures fits { FitsNames app.now.names session.new }
@@ -83,11 +104,17 @@ fn show<K: Keeper, L: Ledger>(
     ensures shaped { K.shaped keeper.new ≡ Some app.now.names.schema }
     ensures open { K.in_transaction keeper.new ≡ true }
     ensures cause { HasCause (K.marks keeper.old) (K.marks keeper.new) result }
+    ensures cached { IsCached app.now session.new (K.told keeper.new) moment cache.new }
+    ensures but { AreSessionsBut app.now.names wrote.new.items before.now session.new }
+    ensures later { AreLater wrote.new.items (K.began keeper.new) (K.told keeper.new) }
+    ensures sources { AreSources app.now.names wrote.new.items }
     ensures loan { K.loan keeper.new ≡ K.loan keeper.old }
 {
     session.take_navigated();
     let screen = Trigger::OnVisible(session.screen());
-    act(alloc, app, session, keeper, moment, screen, None, steps)?;
+    act(
+        alloc, app, before, session, cache, keeper, moment, screen, None, wrote, steps,
+    )?;
     session.take_navigated();
     Ok(())
 }
@@ -97,11 +124,14 @@ fn show<K: Keeper, L: Ledger>(
 pub(crate) fn run<K: Keeper, L: Ledger>(
     alloc: Global,
     app: &App,
+    before: &Session,
     session: &mut Session,
+    cache: &mut Cache,
     keeper: &mut K,
     moment: u64,
     trigger: Trigger,
     item: Option<Value>,
+    wrote: &mut Vec<Source>,
     steps: &mut Steps<L>,
 ) -> Result<Value, KeeperEnd>
     requires sound { IsSound app.now }
@@ -109,6 +139,10 @@ pub(crate) fn run<K: Keeper, L: Ledger>(
     requires shaped { K.shaped keeper.old ≡ Some app.now.names.schema }
     requires rows { AreSound app.now.names.schema (K.told keeper.old) }
     requires begun { K.in_transaction keeper.old ≡ true }
+    requires cached { IsCached app.now session.old (K.told keeper.old) moment cache.old }
+    requires but { AreSessionsBut app.now.names wrote.old.items before.now session.old }
+    requires later { AreLater wrote.old.items (K.began keeper.old) (K.told keeper.old) }
+    requires sources { AreSources app.now.names wrote.old.items }
     requires item { ItemFits app.now trigger (option_map view item) }
     ensures done { IfOk result (λ v. Goes (IsLost (K.marks keeper.old) (K.marks keeper.new))
         (λ t u. Runs app.now moment trigger (option_map view item) (scene t session.old) (view v) (scene u session.new)) (K.told keeper.old) (K.told keeper.new)) }
@@ -118,12 +152,21 @@ pub(crate) fn run<K: Keeper, L: Ledger>(
     ensures shaped { K.shaped keeper.new ≡ Some app.now.names.schema }
     ensures open { K.in_transaction keeper.new ≡ true }
     ensures cause { HasCause (K.marks keeper.old) (K.marks keeper.new) result }
+    ensures cached { IsCached app.now session.new (K.told keeper.new) moment cache.new }
+    ensures but { AreSessionsBut app.now.names wrote.new.items before.now session.new }
+    ensures later { AreLater wrote.new.items (K.began keeper.new) (K.told keeper.new) }
+    ensures sources { AreSources app.now.names wrote.new.items }
     ensures loan { K.loan keeper.new ≡ K.loan keeper.old }
 {
-    let value = act(alloc, app, session, keeper, moment, trigger, item, steps)?;
-    if session.take_navigated() {
-        show(alloc, app, session, keeper, moment, steps)?;
+    let value = act(
+        alloc, app, before, session, cache, keeper, moment, trigger, item, wrote, steps,
+    )?;
+    if !session.take_navigated() {
+        return Ok(value);
     }
+    show(
+        alloc, app, before, session, cache, keeper, moment, wrote, steps,
+    )?;
     Ok(value)
 }
 
@@ -132,9 +175,12 @@ pub(crate) fn run<K: Keeper, L: Ledger>(
 pub(crate) fn open<K: Keeper, L: Ledger>(
     alloc: Global,
     app: &App,
+    before: &Session,
     session: &mut Session,
+    cache: &mut Cache,
     keeper: &mut K,
     moment: u64,
+    wrote: &mut Vec<Source>,
     steps: &mut Steps<L>,
 ) -> Result<(), KeeperEnd>
     requires sound { IsSound app.now }
@@ -142,6 +188,10 @@ pub(crate) fn open<K: Keeper, L: Ledger>(
     requires shaped { K.shaped keeper.old ≡ Some app.now.names.schema }
     requires rows { AreSound app.now.names.schema (K.told keeper.old) }
     requires begun { K.in_transaction keeper.old ≡ true }
+    requires cached { IsCached app.now session.old (K.told keeper.old) moment cache.old }
+    requires but { AreSessionsBut app.now.names wrote.old.items before.now session.old }
+    requires later { AreLater wrote.old.items (K.began keeper.old) (K.told keeper.old) }
+    requires sources { AreSources app.now.names wrote.old.items }
     ensures done { OnOk result (Goes (IsLost (K.marks keeper.old) (K.marks keeper.new))
         (λ t u. Opens app.now moment (scene t session.old) (scene u session.new)) (K.told keeper.old) (K.told keeper.new)) }
     ensures fits { FitsNames app.now.names session.new }
@@ -150,17 +200,26 @@ pub(crate) fn open<K: Keeper, L: Ledger>(
     ensures shaped { K.shaped keeper.new ≡ Some app.now.names.schema }
     ensures open { K.in_transaction keeper.new ≡ true }
     ensures cause { HasCause (K.marks keeper.old) (K.marks keeper.new) result }
+    ensures cached { IsCached app.now session.new (K.told keeper.new) moment cache.new }
+    ensures but { AreSessionsBut app.now.names wrote.new.items before.now session.new }
+    ensures later { AreLater wrote.new.items (K.began keeper.new) (K.told keeper.new) }
+    ensures sources { AreSources app.now.names wrote.new.items }
     ensures loan { K.loan keeper.new ≡ K.loan keeper.old }
 {
     act(
         alloc,
         app,
+        before,
         session,
+        cache,
         keeper,
         moment,
         Trigger::OnStart,
         None,
+        wrote,
         steps,
     )?;
-    show(alloc, app, session, keeper, moment, steps)
+    show(
+        alloc, app, before, session, cache, keeper, moment, wrote, steps,
+    )
 }

@@ -1,5 +1,5 @@
 //! Accepted events and inputs, each in one transaction.
-ghost use Rattle.std.specs.Prelude.{◌≡◌, IfOk, OnErr, Some, false, option_map, true};
+ghost use Rattle.std.specs.Prelude.{◌≡◌, IfOk, OnErr, OnOk, Some, false, option_map, true};
 ghost use Rattle.fx_base.specs.Silence.{Goes, IsLost};
 ghost use Rattle.fx_base.specs.Telling.{Stays};
 ghost use Rattle.fx_data.specs.ValueView.{view};
@@ -7,6 +7,10 @@ ghost use Rattle.recalc.specs.app_semantics.Sound.{IsSound};
 ghost use Rattle.request_checks.specs.Replies.{IsReply, said};
 ghost use Rattle.row_keeper.specs.Causes.{HasCause};
 ghost use Rattle.row_requests.specs.Sound.{AreSound};
+ghost use Rattle.row_requests.specs.Written.{AreTablesBut};
+ghost use Rattle.recalc.specs.app_cells.declared.app.App.{App as AnApp};
+ghost use Rattle.recalc.specs.Kept.{IsInOrder};
+ghost use Rattle.session_requests.specs.Caching.{AreLater, AreSessionsBut, AreSources, AreTouched, IsCached, IsPending};
 ghost use Rattle.session_requests.specs.Requests.{Accepts, accepted_reply};
 ghost use Rattle.session_requests.specs.Scenes.{quiet};
 ghost use Rattle.session_requests.specs.Triggers.{ItemFits};
@@ -17,7 +21,8 @@ use crate::running::run;
 use crate::trigger::Trigger;
 use fx_base::Memory;
 use fx_data::Value;
-use recalc::Steps;
+use fx_trees::Source;
+use recalc::{Cache, Steps};
 use request_checks::Reply;
 use row_keeper::{Keeper, KeeperEnd};
 use row_requests::settle;
@@ -38,12 +43,15 @@ pub struct Accepted {
 fn prepare<K: Keeper, L: Ledger>(
     alloc: Global,
     app: &App,
+    before: &Session,
     mut session: Session,
+    cache: &mut Cache,
     keeper: &mut K,
     moment: u64,
     trigger: Trigger,
     item: Option<Value>,
     seq: u32,
+    wrote: &mut Vec<Source>,
     steps: &mut Steps<L>,
 ) -> Result<Accepted, KeeperEnd>
     requires sound { IsSound app.now }
@@ -52,6 +60,10 @@ fn prepare<K: Keeper, L: Ledger>(
     requires rows { AreSound app.now.names.schema (K.told keeper.old) }
     requires begun { K.in_transaction keeper.old ≡ true }
     requires item { ItemFits app.now trigger (option_map view item) }
+    requires cached { IsCached app.now session (K.told keeper.old) moment cache.old }
+    requires but { AreSessionsBut app.now.names wrote.old.items before.now session }
+    requires later { AreLater wrote.old.items (K.began keeper.old) (K.told keeper.old) }
+    requires sources { AreSources app.now.names wrote.old.items }
     ensures accepts { IfOk result (λ r. Accepts (IsLost (K.marks keeper.old) (K.marks keeper.new)) app.now moment trigger (option_map view item) seq session (K.told keeper.old) (said r.reply) (K.told keeper.new) r.session) }
     ensures kept { IfOk result (λ r. r.kept.items ≡ said r.reply) }
     ensures whole { IfOk result (λ r. IsReply r.reply) }
@@ -60,6 +72,10 @@ fn prepare<K: Keeper, L: Ledger>(
     ensures shaped { K.shaped keeper.new ≡ Some app.now.names.schema }
     ensures open { K.in_transaction keeper.new ≡ true }
     ensures cause { HasCause (K.marks keeper.old) (K.marks keeper.new) result }
+    ensures cached { IfOk result (λ r. IsCached app.now r.session (K.told keeper.new) moment cache.new) }
+    ensures pending { IsPending app.now before.now (K.began keeper.new) moment wrote.new.items cache.new }
+    ensures later { AreLater wrote.new.items (K.began keeper.new) (K.told keeper.new) }
+    ensures sources { AreSources app.now.names wrote.new.items }
     ensures loan { K.loan keeper.new ≡ K.loan keeper.old }
 {
     session.take_notices();
@@ -67,11 +83,14 @@ fn prepare<K: Keeper, L: Ledger>(
     let value = run(
         alloc,
         app,
+        before,
         &mut session,
+        cache,
         keeper,
         moment,
         trigger,
         item,
+        wrote,
         steps,
     )?;
     Ok(replied(alloc, session, seq, &value)?)
@@ -95,17 +114,20 @@ fn replied(alloc: Global, mut session: Session, seq: u32, value: &Value) -> Resu
     })
 }
 
-/// Does what an accepted event or input does, in one transaction, to a session in which what is given or chosen stands
-/// already. All memory is taken before the transaction ends. What stops leaves the tables.
-pub fn accept_request<K: Keeper, L: Ledger>(
+/// Does what an accepted request does, in one transaction. What stops leaves the tables, and of what was written the cache is still
+/// to be told that it has changed back.
+fn transact<K: Keeper, L: Ledger>(
     alloc: Global,
     app: &App,
+    before: &Session,
     session: Session,
+    cache: &mut Cache,
     keeper: &mut K,
     moment: u64,
     trigger: Trigger,
     item: Option<Value>,
     seq: u32,
+    wrote: &mut Vec<Source>,
     steps: &mut Steps<L>,
 ) -> Result<Accepted, KeeperEnd>
     requires sound { IsSound app.now }
@@ -114,6 +136,9 @@ pub fn accept_request<K: Keeper, L: Ledger>(
     requires rows { AreSound app.now.names.schema (K.told keeper.old) }
     requires idle { K.in_transaction keeper.old ≡ false }
     requires item { ItemFits app.now trigger (option_map view item) }
+    requires cached { IsCached app.now session (K.told keeper.old) moment cache.old }
+    requires but { AreSessionsBut app.now.names wrote.old.items before.now session }
+    requires sources { AreSources app.now.names wrote.old.items }
     ensures accepts { IfOk result (λ r. Accepts (IsLost (K.marks keeper.old) (K.marks keeper.new)) app.now moment trigger (option_map view item) seq session (K.told keeper.old) (said r.reply) (K.told keeper.new) r.session) }
     ensures kept { IfOk result (λ r. r.kept.items ≡ said r.reply) }
     ensures whole { IfOk result (λ r. IsReply r.reply) }
@@ -122,6 +147,10 @@ pub fn accept_request<K: Keeper, L: Ledger>(
     ensures shaped { K.shaped keeper.new ≡ Some app.now.names.schema }
     ensures idle { K.in_transaction keeper.new ≡ false }
     ensures cause { HasCause (K.marks keeper.old) (K.marks keeper.new) result }
+    ensures cached { IfOk result (λ r. IsCached app.now r.session (K.told keeper.new) moment cache.new) }
+    ensures pending { OnErr result (IsPending app.now before.now (K.told keeper.new) moment wrote.new.items cache.new) }
+    ensures tables { OnOk result (Goes (IsLost (K.marks keeper.old) (K.marks keeper.new)) (AreTablesBut wrote.new.items) (K.told keeper.old) (K.told keeper.new)) }
+    ensures sources { AreSources app.now.names wrote.new.items }
     ensures loan { K.loan keeper.new ≡ K.loan keeper.old }
 {
     match keeper.begin() {
@@ -129,7 +158,7 @@ pub fn accept_request<K: Keeper, L: Ledger>(
         Err(end) => return Err(end),
     }
     match prepare(
-        alloc, app, session, keeper, moment, trigger, item, seq, steps,
+        alloc, app, before, session, cache, keeper, moment, trigger, item, seq, wrote, steps,
     ) {
         Ok(accepted) => match settle(keeper, true) {
             Ok(()) => Ok(accepted),
@@ -137,6 +166,67 @@ pub fn accept_request<K: Keeper, L: Ledger>(
         },
         Err(end) => {
             keeper.back();
+            Err(end)
+        }
+    }
+}
+
+/// Tells a cache that these sources have changed.
+fn touch_all(cache: &mut Cache, sources: &[Source])
+    requires { (a : AnApp) × IsInOrder a cache.old × AreSources a.names sources.now }
+    ensures { (a : AnApp) → AreSources a.names sources.now → AreTouched a sources.now cache.old cache.new }
+{
+    for source in sources {
+        cache.touched(*source);
+    }
+}
+
+/// Does what an accepted event or input does, in one transaction, to a session in which what is given or chosen stands
+/// already; `before` is the session without it. All memory is taken before the transaction ends. `wrote` is told the sources that are
+/// written. What stops leaves the tables, and the cache then stands for the session as it was before.
+pub fn accept_request<K: Keeper, L: Ledger>(
+    alloc: Global,
+    app: &App,
+    before: &Session,
+    session: Session,
+    cache: &mut Cache,
+    keeper: &mut K,
+    moment: u64,
+    trigger: Trigger,
+    item: Option<Value>,
+    seq: u32,
+    wrote: &mut Vec<Source>,
+    steps: &mut Steps<L>,
+) -> Result<Accepted, KeeperEnd>
+    requires sound { IsSound app.now }
+    requires fits { FitsNames app.now.names session }
+    requires shaped { K.shaped keeper.old ≡ Some app.now.names.schema }
+    requires rows { AreSound app.now.names.schema (K.told keeper.old) }
+    requires idle { K.in_transaction keeper.old ≡ false }
+    requires item { ItemFits app.now trigger (option_map view item) }
+    requires cached { IsCached app.now session (K.told keeper.old) moment cache.old }
+    requires but { AreSessionsBut app.now.names wrote.old.items before.now session }
+    requires sources { AreSources app.now.names wrote.old.items }
+    ensures accepts { IfOk result (λ r. Accepts (IsLost (K.marks keeper.old) (K.marks keeper.new)) app.now moment trigger (option_map view item) seq session (K.told keeper.old) (said r.reply) (K.told keeper.new) r.session) }
+    ensures kept { IfOk result (λ r. r.kept.items ≡ said r.reply) }
+    ensures whole { IfOk result (λ r. IsReply r.reply) }
+    ensures stopped { OnErr result (Goes (IsLost (K.marks keeper.old) (K.marks keeper.new)) Stays (K.told keeper.old) (K.told keeper.new)) }
+    ensures rows { AreSound app.now.names.schema (K.told keeper.new) }
+    ensures shaped { K.shaped keeper.new ≡ Some app.now.names.schema }
+    ensures idle { K.in_transaction keeper.new ≡ false }
+    ensures cause { HasCause (K.marks keeper.old) (K.marks keeper.new) result }
+    ensures cached { IfOk result (λ r. IsCached app.now r.session (K.told keeper.new) moment cache.new) }
+    ensures undone { OnErr result (IsCached app.now before.now (K.told keeper.new) moment cache.new) }
+    ensures tables { Goes (IsLost (K.marks keeper.old) (K.marks keeper.new)) (AreTablesBut wrote.new.items) (K.told keeper.old) (K.told keeper.new) }
+    ensures sources { AreSources app.now.names wrote.new.items }
+    ensures loan { K.loan keeper.new ≡ K.loan keeper.old }
+{
+    match transact(
+        alloc, app, before, session, cache, keeper, moment, trigger, item, seq, wrote, steps,
+    ) {
+        Ok(accepted) => Ok(accepted),
+        Err(end) => {
+            touch_all(cache, wrote.as_slice());
             Err(end)
         }
     }

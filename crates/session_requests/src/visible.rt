@@ -65,7 +65,7 @@ pub(crate) fn is_shown_for<K: Keeper, L: Ledger>(
 }
 
 /// The gallery that a control stands in.
-fn gallery_around(app: &App, control: u32) -> Option<u32>
+pub(crate) fn gallery_around(app: &App, control: u32) -> Option<u32>
     ensures { result ≡ gallery_around_of app.now control }
 {
     app.names.controls.get(control as usize)?.gallery

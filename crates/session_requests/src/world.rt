@@ -1,29 +1,32 @@
 //! What the behaviour formulas of an app act on: a session of it, and the tables of a keeper.
-ghost use Rattle.std.specs.Prelude.{◌≡◌, Some, map, option_map, true};
+ghost use Rattle.std.specs.Prelude.{◌≡◌, ◌≤◌, Some, drop, length, option_map, take, true};
 ghost use Rattle.std.proofs.Common.{ap, refl};
 ghost use Rattle.std.proofs.Math.Bool.{Bool-set};
 ghost use Rattle.fx_data.specs.ValueView.{view};
 ghost use Rattle.fx_deeds.specs.State.{State};
 ghost use Rattle.fx_scalar.specs.ScalarFunctions.{IsToday};
 ghost use Rattle.fx_trees.specs.Lawful.{IsLawfulSchema};
-ghost use Rattle.recalc.specs.Reading.{cell_value};
 ghost use Rattle.recalc.specs.Schemas.{schema_prop, shaped_prop};
-ghost use Rattle.recalc.specs.Values.{CellsFit};
+ghost use Rattle.recalc.specs.Kept.{IsInOrder};
+ghost use Rattle.recalc.specs.Outcomes.{IsRightOver};
 ghost use Rattle.row_requests.specs.Sound.{AreSound};
 ghost use Rattle.session_state.specs.Changes.{FitsNames};
-ghost use Rattle.session_requests.specs.Facts.{names_prop, sound_prop};
+ghost use Rattle.session_requests.specs.Anchors.{anchor};
+ghost use Rattle.session_requests.specs.Caching.{AreSessionsBut, AreSources};
+ghost use Rattle.session_requests.specs.Facts.{cache_prop, names_prop, sessions_prop, sound_prop, sources_prop};
 ghost use Rattle.session_requests.specs.Grounds.{Grounds, gives, grounds};
 ghost use Rattle.session_requests.specs.WorldLaws.{collections_told, rows_are, state_told};
-ghost use Rattle.session_requests.specs.Worlds.{AreFreshOver, cells_of, fixed_in, told_in};
+ghost use Rattle.session_requests.specs.Worlds.{fixed_in, told_in};
 
-use crate::accepted::{SoundApp, fresh_values};
-use crate::hanging::reads_cells;
+use crate::accepted::SoundApp;
+use crate::behind::refresh_behind;
 use crate::writing::{note, when, written, written_by};
+use fx_base::Memory;
 use fx_data::{Totals, Value};
 use fx_deeds::World;
 use fx_env::{Env, Steps, Stop};
 use fx_trees::{Core, Names, Schema, Source};
-use recalc::{Valued, given_value, stop_of, table_value};
+use recalc::{Cache, given_value, stop_of, table_value};
 use row_keeper::{Keeper, Put};
 use row_queries::{Cells, Query, rows_fit};
 use row_values::scan;
@@ -31,46 +34,43 @@ use session_state::{Change, Session};
 use std::alloc::Global;
 use std::sync::ledger::Ledger;
 
-/// An app at a moment and on its day, a session of it whose values fit, and a keeper that is shaped by its schema and in a
-/// transaction.
+/// An app at a moment and on its day, a session of it whose values fit, with its cache, and a keeper that is shaped by its schema
+/// and in a transaction. The cache is right at each moment, and the session is as the request found it but for what was written.
 #[derive(Drop)]
 pub(crate) struct SessionWorld<'a, A: SoundApp, K: Keeper> {
     pub(crate) alloc: Global,
     pub(crate) app: &'a A,
     pub(crate) moment: u64,
     pub(crate) day: &'a Value,
+    /// The session as the request found it.
+    pub(crate) before: &'a Session,
     pub(crate) session: &'a mut Session,
+    pub(crate) cache: &'a mut Cache,
     pub(crate) keeper: &'a mut K,
-    /// The values of cells, where they were evaluated since the last change.
-    pub(crate) cells: &'a mut Option<Valued>,
     /// The sources that were written, one after another.
     pub(crate) wrote: &'a mut Vec<Source>,
+    /// How many of them were written earlier.
+    pub(crate) earlier: usize,
     ghost today: { ∥ IsToday moment (view day.now) ∥₁ },
     ghost lawful: { IsLawfulSchema (A.app app.now).names.schema } by { schema_prop (A.app app.now).names.schema },
     ghost shaped: { K.shaped keeper.now ≡ Some (A.app app.now).names.schema } by { shaped_prop (K.shaped keeper.now) (Some (A.app app.now).names.schema) },
     ghost begun: { K.in_transaction keeper.now ≡ true } by { Bool-set (K.in_transaction keeper.now) true },
     ghost sound: { AreSound (A.app app.now).names.schema (K.told keeper.now) } by { sound_prop (A.app app.now).names.schema (K.told keeper.now) },
     ghost fits: { FitsNames (A.app app.now).names session.now } by { names_prop (A.app app.now).names session.now },
-    ghost cells_fit: { CellsFit (A.app app.now) (cell_value (cells_of cells.now)) } by { Prim.hlevel Bool-set },
-    ghost fresh: { ∥ AreFreshOver (A.app app.now) moment session.now (K.told keeper.now) cells.now ∥₁ },
-}
-
-// The values of cells that are kept.
-fn kept_values(cells: &Option<Valued>) -> &[Value]
-    ensures { map view result.now ≡ cells_of cells.now }
-{
-    match cells {
-        Some(valued) => valued.as_slice(),
-        None => &[],
-    }
+    ghost order: { IsInOrder (A.app app.now) cache.now } by { cache_prop (A.app app.now) cache.now },
+    ghost right: { ∥ IsRightOver (A.app app.now) session.now (K.told keeper.now) moment cache.now ∥₁ },
+    ghost dated: { ∥ IsToday moment cache.now.values.day ∥₁ },
+    ghost listed: { AreSources (A.app app.now).names wrote.now.items } by { sources_prop (A.app app.now).names wrote.now.items },
+    ghost but: { AreSessionsBut (A.app app.now).names wrote.now.items before.now session.now } by { sessions_prop (A.app app.now).names wrote.now.items before.now session.now },
+    ghost counted: { earlier ≤ length wrote.now.items },
 }
 
 impl<A: SoundApp, K: Keeper> Env for SessionWorld<'_, A, K> {
     ghost Beside = { State Grounds };
 
-    ghost fixed = { λ w. fixed_in (A.app w.app.now) w.session.ghost_name w.keeper.ghost_name w.wrote.ghost_name (K.loan w.keeper.now) (K.in_transaction w.keeper.now) };
+    ghost fixed = { λ w. fixed_in (anchor (A.app w.app.now) w.moment w.before.now (take w.earlier w.wrote.now.items)) w.session.ghost_name w.cache.ghost_name w.keeper.ghost_name w.wrote.ghost_name (K.loan w.keeper.now) (K.in_transaction w.keeper.now) };
 
-    ghost told = { λ w. option_map (told_in (view w.day.now) (grounds (A.app w.app.now) w.moment (K.began w.keeper.now)) w.session.now (cells_of w.cells.now) w.wrote.now.items) (K.told w.keeper.now) };
+    ghost told = { λ w. option_map (told_in (view w.day.now) (grounds (A.app w.app.now) w.moment (K.began w.keeper.now)) w.session.now w.cache.now.values.cells (drop w.earlier w.wrote.now.items)) (K.told w.keeper.now) };
 
     ghost marks = { λ w. K.marks w.keeper.now };
 
@@ -94,7 +94,7 @@ impl<A: SoundApp, K: Keeper> Env for SessionWorld<'_, A, K> {
                 self.alloc,
                 &app.names,
                 self.session,
-                kept_values(self.cells),
+                self.cache.valued().as_slice(),
                 self.day,
                 source,
             )?),
@@ -142,7 +142,7 @@ impl<A: SoundApp, K: Keeper> World for SessionWorld<'_, A, K> {
 
     ghost names = { λ w. (A.app w.app.now).names };
 
-    ghost state = { λ w. state_told (option_map (told_in (view w.day.now) (grounds (A.app w.app.now) w.moment (K.began w.keeper.now)) w.session.now (cells_of w.cells.now) w.wrote.now.items) (K.told w.keeper.now)) };
+    ghost state = { λ w. state_told (option_map (told_in (view w.day.now) (grounds (A.app w.app.now) w.moment (K.began w.keeper.now)) w.session.now w.cache.now.values.cells (drop w.earlier w.wrote.now.items)) (K.told w.keeper.now)) };
 
     fn names(&self) -> &Names {
         &self.app.get().names
@@ -151,43 +151,43 @@ impl<A: SoundApp, K: Keeper> World for SessionWorld<'_, A, K> {
     fn ready<L: Ledger>(&mut self, core: &Core, steps: &mut Steps<L>) -> Result<(), Stop> {
         // Called for what it says: the app is sound.
         self.app.is_sound();
-        if self.cells.is_some() {
-            return Ok(());
-        }
-        if !reads_cells(self.alloc, core)? {
-            return Ok(());
-        }
-        match fresh_values(
+        let app = self.app.get();
+        match refresh_behind(
             self.alloc,
-            self.app,
+            app,
             self.session,
+            self.cache,
             self.keeper,
             self.moment,
+            core,
             steps,
         ) {
-            Ok(cells) => {
-                *self.cells = Some(cells);
-                Ok(())
-            }
+            Ok(()) => Ok(()),
             Err(end) => Err(stop_of(end)),
         }
     }
 
     fn change(&mut self, change: Change) -> Result<bool, Stop> {
-        *self.cells = None;
+        // Called for what it says: the app is sound.
+        self.app.is_sound();
         let source = written(&change);
         self.wrote.reserve(1)?;
-        let done = self.session.change(change)?;
-        note(self.wrote, when(done, source));
-        Ok(done)
+        match self.session.change(change) {
+            Ok(done) => {
+                note(self.wrote, self.cache, when(done, source));
+                Ok(done)
+            }
+            Err(Memory) => Err(Stop::Memory),
+        }
     }
 
     fn insert(&mut self, table: u16, cells: &Cells) -> Result<Put, Stop> {
-        *self.cells = None;
+        // Called for what it says: the app is sound.
+        self.app.is_sound();
         self.wrote.reserve(1)?;
         match self.keeper.insert(table, cells) {
             Ok(put) => {
-                note(self.wrote, written_by(put, table));
+                note(self.wrote, self.cache, written_by(put, table));
                 Ok(put)
             }
             Err(end) => Err(stop_of(end)),
@@ -195,11 +195,12 @@ impl<A: SoundApp, K: Keeper> World for SessionWorld<'_, A, K> {
     }
 
     fn replace(&mut self, table: u16, id: u32, cells: &Cells) -> Result<Put, Stop> {
-        *self.cells = None;
+        // Called for what it says: the app is sound.
+        self.app.is_sound();
         self.wrote.reserve(1)?;
         match self.keeper.replace(table, id, cells) {
             Ok(put) => {
-                note(self.wrote, written_by(put, table));
+                note(self.wrote, self.cache, written_by(put, table));
                 Ok(put)
             }
             Err(end) => Err(stop_of(end)),
@@ -207,11 +208,16 @@ impl<A: SoundApp, K: Keeper> World for SessionWorld<'_, A, K> {
     }
 
     fn remove(&mut self, table: u16, id: u32) -> Result<bool, Stop> {
-        *self.cells = None;
+        // Called for what it says: the app is sound.
+        self.app.is_sound();
         self.wrote.reserve(1)?;
         match self.keeper.remove(table, id) {
             Ok(was) => {
-                note(self.wrote, when(was, Some(Source::Table(table))));
+                note(
+                    self.wrote,
+                    self.cache,
+                    when(was, Some(Source::Table(table))),
+                );
                 Ok(was)
             }
             Err(end) => Err(stop_of(end)),
@@ -222,9 +228,9 @@ impl<A: SoundApp, K: Keeper> World for SessionWorld<'_, A, K> {
 
     ghost lost = { λ w e. ap state_told e };
 
-    ghost collections = { λ w s e p q k. collections_told (view w.day.now) (grounds (A.app w.app.now) w.moment (K.began w.keeper.now)) w.session.now (cells_of w.cells.now) w.wrote.now.items (K.told w.keeper.now) s e p q k };
+    ghost collections = { λ w s e p q k. collections_told (view w.day.now) (grounds (A.app w.app.now) w.moment (K.began w.keeper.now)) w.session.now w.cache.now.values.cells (drop w.earlier w.wrote.now.items) (K.told w.keeper.now) s e p q k };
 
-    ghost rows = { λ w s e p q. rows_are (view w.day.now) (grounds (A.app w.app.now) w.moment (K.began w.keeper.now)) w.session.now (cells_of w.cells.now) w.wrote.now.items (K.told w.keeper.now) s e p q };
+    ghost rows = { λ w s e p q. rows_are (view w.day.now) (grounds (A.app w.app.now) w.moment (K.began w.keeper.now)) w.session.now w.cache.now.values.cells (drop w.earlier w.wrote.now.items) (K.told w.keeper.now) s e p q };
 
     ghost typed = { λ w x. refl };
 

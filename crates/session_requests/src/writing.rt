@@ -1,11 +1,15 @@
 //! The sources that are written.
-ghost use Rattle.std.specs.Prelude.{◌≡◌, ◌<◌, ◌++◌, Option};
+ghost use Rattle.std.specs.Prelude.{◌≡◌, ◌<◌, ◌++◌, IfSome, Option, length};
 ghost use Rattle.std.specs.Option.{option_to_list};
 ghost use Rattle.std.specs.Vec.{vec_capacity, vec_len};
 ghost use Rattle.session_requests.specs.Worlds.{when as when_done, written_by as by_put};
 ghost use Rattle.fx_deeds.specs.Changed.{written as sources_of};
+ghost use Rattle.recalc.specs.app_cells.declared.app.App.{App as AnApp};
+ghost use Rattle.recalc.specs.Kept.{place_of};
+ghost use Rattle.session_requests.specs.Caching.{IsTouchedIf};
 
 use fx_trees::Source;
+use recalc::Cache;
 use row_keeper::Put;
 use session_state::Change;
 
@@ -40,15 +44,18 @@ pub(crate) fn when(done: bool, source: Option<Source>) -> Option<Source>
     if done { source } else { None }
 }
 
-/// Notes a source that was written, if one was. There is room for it.
-pub(crate) fn note(wrote: &mut Vec<Source>, source: Option<Source>)
-    requires { vec_len wrote.old < vec_capacity wrote.old }
-    ensures { wrote.new.items ≡ wrote.old.items ++ option_to_list source }
+/// Notes a source that was written, if one was, for which there is room, and tells the cache of it.
+pub(crate) fn note(wrote: &mut Vec<Source>, cache: &mut Cache, source: Option<Source>)
+    requires room { vec_len wrote.old < vec_capacity wrote.old }
+    requires place { IfSome source (λ s. place_of s < length cache.old.versions) }
+    ensures wrote { wrote.new.items ≡ wrote.old.items ++ option_to_list source }
+    ensures touched { (a : AnApp) → IsTouchedIf a source cache.old cache.new }
 {
     if let Some(source) = source {
         match wrote.push(source) {
             Ok(()) => {}
             Err(_) => unreachable!(),
         }
+        cache.touched(source);
     }
 }

@@ -1,26 +1,33 @@
-use Rattle.std.proofs.Common.{◌≡◌, None, subst, sym}
+use Rattle.std.proofs.Common.{◌≡◌, List, None, [], ◌∷◌, subst, sym}
+use Rattle.std.specs.Prelude.{unwrap_or}
+use Rattle.fx_data.specs.Values.{blank}
 use Rattle.recalc.specs.app_semantics.Present.{input_of}
 use Rattle.recalc.specs.app_semantics.Properties.{is_true}
-use Rattle.recalc.specs.Values.{value_of}
+use Rattle.recalc.specs.Kept.{value_of}
 use Rattle.session_requests.specs.Triggers.{ItemFits}
 use Rattle.session_requests.specs.declared.trigger.Trigger.{Trigger}
 use Rattle.session_state.specs.Changes.{FitsNames}
+use Rattle.fx_trees.specs.declared.sources.Source.TheVariants as source
+use Rattle.fx_trees.specs.declared.sources.Source.{Source}
+use Rattle.session_requests.specs.Caching.{AreSessionsBut}
 use Rattle.session_requests.specs.Targets.{Given}
+use Rattle.session_state.specs.Sessions.{SessionState}
 use Rattle.session_requests.proofs.Acted.{input_item}
 use Rattle.session_requests.proofs.Fitting.{input_fits}
+use Rattle.session_requests.proofs.Giving.{input_but, input_source}
 use Rattle.session_requests.proofs.Posted.{given_of, has_input, taker_of}
 use Rattle.session_requests.proofs.acting.end_input.Goals as goal
 
 pub give-requires : goal.give-requires
 give-requires g c =
     let given : Given = (c.in-Ok.control, c.in-Ok.given) in
-    has_input c.args.app.now.names c.args.session given c.requires.fits (given_of c.args.app.now.names c.args.session (value_of c.args.valued.now) c.args.verdict given c.requires.verdict c.in-Ok.is)
+    has_input c.args.app.now.names c.args.session given c.requires.fits (given_of c.args.app.now.names c.args.session (value_of c.args.cache.now) c.args.verdict given c.requires.verdict c.in-Ok.is)
 
 pub input_trigger-requires : goal.input_trigger-requires
 input_trigger-requires g c =
     let names = c.args.app.now.names in
     let given : Given = (c.in-Ok.control, c.in-Ok.given) in
-    let fits = given_of names c.args.session (value_of c.args.valued.now) c.args.verdict given c.requires.verdict c.in-Ok.is in
+    let fits = given_of names c.args.session (value_of c.args.cache.now) c.args.verdict given c.requires.verdict c.in-Ok.is in
     has_input names c.give.new.session given (subst (FitsNames names) (sym c.give.ensures) (input_fits names c.args.session given c.requires.fits fits)) fits
 
 pub take_effect-requires-clause-fits : goal.take_effect-requires-clause-fits
@@ -28,13 +35,29 @@ take_effect-requires-clause-fits g c =
     let names = c.args.app.now.names in
     let given : Given = (c.in-Ok.control, c.in-Ok.given) in
     subst (FitsNames names) (sym c.give.ensures)
-    (input_fits names c.args.session given c.requires.fits (given_of names c.args.session (value_of c.args.valued.now) c.args.verdict given c.requires.verdict c.in-Ok.is))
+    (input_fits names c.args.session given c.requires.fits (given_of names c.args.session (value_of c.args.cache.now) c.args.verdict given c.requires.verdict c.in-Ok.is))
 
 pub take_effect-requires-clause-item : goal.take_effect-requires-clause-item
 take_effect-requires-clause-item g c =
     let names = c.args.app.now.names in
-    let values = value_of c.args.valued.now in
+    let values = value_of c.args.cache.now in
     let given : Given = (c.in-Ok.control, c.in-Ok.given) in
     subst (λ (t : Trigger). ItemFits c.args.app.now t None) (sym c.in_ok-trigger-in-Ok.ensures)
     (input_item c.args.app.now c.in-Ok.control (is_true (input_of names c.give.new.session values c.in-Ok.control))
     (taker_of names c.args.session values c.args.verdict given c.requires.verdict c.in-Ok.is))
+
+pub take_effect-requires-clause-before : goal.take_effect-requires-clause-before
+take_effect-requires-clause-before g c =
+    let names = c.args.app.now.names in
+    let given : Given = (c.in-Ok.control, c.in-Ok.given) in
+    record {
+      before = c.args.session;
+      found = c.requires.found;
+      cached = c.requires.cached;
+      but = subst (λ (s : SessionState). AreSessionsBut names (source.Input c.in-Ok.control ∷ []) c.args.session s) (sym c.give.ensures) (input_but names c.args.session given);
+    }
+
+pub take_effect-requires-clause-given : goal.take_effect-requires-clause-given
+take_effect-requires-clause-given g c =
+    let given : Given = (c.in-Ok.control, c.in-Ok.given) in
+    input_source c.args.app.now.names c.in-Ok.control (unwrap_or c.in-Ok.given blank) (given_of c.args.app.now.names c.args.session (value_of c.args.cache.now) c.args.verdict given c.requires.verdict c.in-Ok.is)

@@ -1,4 +1,10 @@
-use Rattle.std.proofs.Common.{List, subst, sym, ◌∙◌}
+use Rattle.std.proofs.Common.{List, Some, [], ap, subst, sym, ◌++◌, ◌≡◌, ◌∙◌}
+use Rattle.std.specs.Option.{option_to_list}
+use Rattle.fx_trees.specs.declared.sources.Source.{Source}
+use Rattle.request_checks.specs.Directory.{find}
+use Rattle.session_requests.specs.Caching.{AreSessionsBut, IsCached}
+use Rattle.session_requests.proofs.Giving.{given_told}
+use Rattle.session_requests.proofs.Resting.{before_is, cached_found, cached_kept}
 use Rattle.request_checks.specs.Checked.{SessionsKeepReplies}
 use Rattle.request_checks.specs.declared.directory.Named.{Named}
 use Rattle.session_state.specs.Sessions.{SessionState}
@@ -14,7 +20,7 @@ returns-in-Ok-clause-fit g c =
     let accepted = c.in-Ok.accepted in
     let end : SessionState = answered c.args.seq c.in_ok-body.body.items accepted.kept.items accepted.session in
     subst (λ (l : List (Named SessionState)). SessionsFit names l) (sym c.keep.ensures.kept)
-    (put_fits names c.in_ok-name.name end c.reserve.new.self.items (subst (λ (l : List (Named SessionState)). SessionsFit names l) (sym c.in_ok-reserve.ensures.items) c.requires.fit)
+    (put_fits names c.in_ok-kept.kept end c.reserve.new.self.items (subst (λ (l : List (Named SessionState)). SessionsFit names l) (sym c.in_ok-reserve.ensures.items) c.requires.fit)
     (fits_answered names accepted.session c.args.seq c.in_ok-body.body.items accepted.kept.items c.in-Ok.ensures.accepts.fits))
 
 pub returns-in-Ok-clause-kept : goal.returns-in-Ok-clause-kept
@@ -23,5 +29,26 @@ returns-in-Ok-clause-kept g c =
     let end : SessionState = answered c.args.seq c.in_ok-body.body.items accepted.kept.items accepted.session in
     let h = c.in-Ok.ensures.accepts in
     subst SessionsKeepReplies (sym c.keep.ensures.kept)
-    (put_keeps c.in_ok-name.name end c.reserve.new.self.items (subst SessionsKeepReplies (sym c.in_ok-reserve.ensures.items) c.requires.kept)
+    (put_keeps c.in_ok-kept.kept end c.reserve.new.self.items (subst SessionsKeepReplies (sym c.in_ok-reserve.ensures.items) c.requires.kept)
     (λ counted. (event_text h.end.notices c.args.seq h.value, c.in-Ok.ensures.kept ∙ h.said_is)))
+
+pub accept_request-requires-clause-cached : goal.accept_request-requires-clause-cached
+accept_request-requires-clause-cached g c =
+    given_told c.args.app.now c.args.given c.requires.before.before c.args.session (g.K.Keeper.told c.args.keeper.now) c.args.moment c.args.cache.now c.tell.new.cache c.requires.sound c.requires.given c.requires.before.but (c.in_ok-tell.ensures.told c.args.app.now) c.requires.before.cached
+
+pub accept_request-requires-clause-but : goal.accept_request-requires-clause-but
+accept_request-requires-clause-but g c =
+    let names = c.args.app.now.names in
+    subst (λ (ws : List Source). AreSessionsBut names ws c.session_of-before.result.now c.args.session) (sym (c.in_ok-tell.ensures.wrote ∙ ap (λ (l : List Source). l ++ option_to_list c.args.given) c.requires.wrote))
+    (subst (λ (s : SessionState). AreSessionsBut names (option_to_list c.args.given) s c.args.session) (before_is c.args.name.now c.args.sessions.now.items c.reserve.new.self.items c.as_slice.result.now c.requires.before.before c.session_of-before.result.now c.requires.before.found c.as_slice.ensures.value c.in_ok-reserve.ensures.items c.session_of-before.ensures) c.requires.before.but)
+
+pub returns-in-Ok-clause-cached : goal.returns-in-Ok-clause-cached
+returns-in-Ok-clause-cached g c = λ s found.
+    let accepted = c.in-Ok.accepted in
+    cached_kept c.args.app.now c.in_ok-kept.kept c.args.seq c.in_ok-body.body.items accepted.kept.items accepted.session (g.K.Keeper.told c.accept_request.new.keeper) c.args.moment c.accept_request.new.cache c.reserve.new.self.items c.keep.new.sessions.items
+    c.requires.sound c.keep.ensures.kept c.in-Ok.ensures.cached s (subst (λ n. find n c.keep.new.sessions.items ≡ Some s) (sym c.in_ok-kept.ensures) found)
+
+pub returns-in-Err-clause-cached : goal.returns-in-Err-clause-cached
+returns-in-Err-clause-cached g c = λ s found.
+    cached_found c.args.app.now c.args.name.now c.requires.before.before (g.K.Keeper.told c.accept_request.new.keeper) c.args.moment c.accept_request.new.cache c.args.sessions.now.items c.reserve.new.self.items c.in_ok-reserve.ensures.items c.requires.before.found
+    (subst (λ (x : SessionState). IsCached c.args.app.now x (g.K.Keeper.told c.accept_request.new.keeper) c.args.moment c.accept_request.new.cache) (sym (before_is c.args.name.now c.args.sessions.now.items c.reserve.new.self.items c.as_slice.result.now c.requires.before.before c.session_of-before.result.now c.requires.before.found c.as_slice.ensures.value c.in_ok-reserve.ensures.items c.session_of-before.ensures)) c.in-Err.ensures.undone) s found

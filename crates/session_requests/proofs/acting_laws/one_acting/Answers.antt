@@ -10,4 +10,4 @@ returns c =
       counts = c.count_once.ensures;
       counted = c.count_if_once.ensures;
       sorted = c.sort_once.ensures;
-    }) c.one_fresh.ensures c.fitting_holds.ensures
+    }) c.one_fresh_at.ensures c.fitting_holds.ensures

@@ -1,5 +1,6 @@
-use Rattle.std.proofs.Common.{◌≡◌, ◌≤◌, List, None, Option, Some, Err, ap, refl, rules, subst, sym, true}
-use Rattle.std.specs.Prelude.{option_map}
+use Rattle.std.proofs.Common.{◌≡◌, ◌≤◌, List, [], length, arith, None, Some, Err, ap, refl, rules, subst, sym, true, ◌∙◌}
+use Rattle.std.specs.Prelude.{drop, option_map, take}
+use Rattle.std.proofs.Math.Seq.{drop-length, take-length}
 use Rattle.fx_base.specs.Faults.{Rose}
 use Rattle.fx_base.specs.Silence.{Goes, IsLater, IsLost}
 use Rattle.fx_base.specs.Telling.{Stays}
@@ -10,16 +11,17 @@ use Rattle.fx_data.specs.declared.values.Value.{Value}
 use Rattle.fx_env.specs.Scopes.{Held, held}
 use Rattle.fx_trees.specs.SourceTypes.{sources}
 use Rattle.fx_trees.specs.declared.sources.Source.{Source}
+use Rattle.recalc.specs.app_cells.declared.app.App.{App}
+use Rattle.recalc.specs.Kept.{Kept}
 use Rattle.row_requests.specs.Sound.{AreSound}
 use Rattle.session_state.specs.Changes.{FitsNames}
 use Rattle.session_state.specs.Sessions.{SessionState}
+use Rattle.session_requests.specs.Anchors.{anchor}
+use Rattle.session_requests.specs.Caching.{AreLater, AreSessionsBut, AreSources, IsCached}
 use Rattle.session_requests.specs.Performing.{Acts, Leaves, outermost}
 use Rattle.session_requests.specs.Grounds.{grounds}
-use Rattle.recalc.specs.Reading.{cell_value}
-use Rattle.recalc.specs.Values.{CellsFit, Values}
-use Rattle.session_requests.specs.Worlds.{AreFreshOver, cells_of}
-use Rattle.session_requests.proofs.WorldEnding.{acts_from, began_goes, can_act, carried, carried_all, carried_both, failed_by, fits_still, keeper_same, leaves_from, loan_same, no_error, session_same, shaped_still, sound_still, wrote_same}
-use Rattle.session_requests.proofs.WorldTelling.{blanks_fit}
+use Rattle.session_requests.proofs.Anchoring.{cache_same, count_same, keeper_same, loan_same, session_same, stands_same, wrote_same}
+use Rattle.session_requests.proofs.WorldEnding.{acts_from, began_goes, cached_from, can_act, carried, carried_all, carried_both, failed_by, later_from, leaves_from, no_error}
 use Rattle.session_requests.proofs.performing.perform_over.Goals as goal
 
 pub act-requires : goal.act-requires
@@ -47,25 +49,42 @@ invariant_of-world-clause-sound g c = c.requires.rows
 pub invariant_of-world-clause-fits : goal.invariant_of-world-clause-fits
 invariant_of-world-clause-fits g c = c.requires.fits
 
-pub invariant_of-world-clause-cells_fit : goal.invariant_of-world-clause-cells_fit
-invariant_of-world-clause-cells_fit g c = subst (λ (o : Option Values). CellsFit (g.A.SoundApp.app c.args.app.now) (cell_value (cells_of o))) (sym c.requires.cells) (blanks_fit (g.A.SoundApp.app c.args.app.now))
+pub invariant_of-world-clause-order : goal.invariant_of-world-clause-order
+invariant_of-world-clause-order g c = c.requires.cached.order
 
-pub invariant_of-world-clause-fresh : goal.invariant_of-world-clause-fresh
-invariant_of-world-clause-fresh g c = subst (λ (o : Option Values). ∥ AreFreshOver (g.A.SoundApp.app c.args.app.now) c.args.moment c.args.session.now (g.K.Keeper.told c.args.keeper.now) o ∥₁) (sym c.requires.cells) ∣ tt ∣₁
+pub invariant_of-world-clause-right : goal.invariant_of-world-clause-right
+invariant_of-world-clause-right g c = c.requires.cached.right
+
+pub invariant_of-world-clause-dated : goal.invariant_of-world-clause-dated
+invariant_of-world-clause-dated g c = ∣ c.requires.cached.day ∣₁
+
+pub invariant_of-world-clause-listed : goal.invariant_of-world-clause-listed
+invariant_of-world-clause-listed g c = c.requires.sources
+
+pub invariant_of-world-clause-but : goal.invariant_of-world-clause-but
+invariant_of-world-clause-but g c = c.requires.but
+
+pub invariant_of-world-clause-counted : goal.invariant_of-world-clause-counted
+invariant_of-world-clause-counted g c = omega (arith, c.requires.earlier)
 
 pub returns-in-Ok-clause-acted : goal.returns-in-Ok-clause-acted
 returns-in-Ok-clause-acted g c =
     let w = c.act.new.world in
     let old = c.args.keeper.now in
     let now = w.keeper.now in
-    let kept = keeper_same (g.A.SoundApp.app c.args.app.now) (g.A.SoundApp.app w.app.now) _ _ _ _ _ _ _ _ _ _ c.act.ensures.passed.fixed in
-    let listed = wrote_same (g.A.SoundApp.app c.args.app.now) (g.A.SoundApp.app w.app.now) _ _ _ _ _ _ _ _ _ _ c.act.ensures.passed.fixed in
-    let same = session_same (g.A.SoundApp.app c.args.app.now) (g.A.SoundApp.app w.app.now) _ _ _ _ _ _ _ _ _ _ c.act.ensures.passed.fixed in
+    let kept = keeper_same (anchor (g.A.SoundApp.app w.app.now) w.moment w.before.now (take w.earlier w.wrote.now.items)) (anchor (g.A.SoundApp.app c.args.app.now) c.args.moment c.args.before.now (take c.args.earlier c.args.wrote.now.items)) _ _ _ _ _ _ _ _ _ _ _ _ c.act.ensures.passed.fixed in
+    let same = session_same (anchor (g.A.SoundApp.app w.app.now) w.moment w.before.now (take w.earlier w.wrote.now.items)) (anchor (g.A.SoundApp.app c.args.app.now) c.args.moment c.args.before.now (take c.args.earlier c.args.wrote.now.items)) _ _ _ _ _ _ _ _ _ _ _ _ c.act.ensures.passed.fixed in
+    let listed = wrote_same (anchor (g.A.SoundApp.app w.app.now) w.moment w.before.now (take w.earlier w.wrote.now.items)) (anchor (g.A.SoundApp.app c.args.app.now) c.args.moment c.args.before.now (take c.args.earlier c.args.wrote.now.items)) _ _ _ _ _ _ _ _ _ _ _ _ c.act.ensures.passed.fixed in
+    let stands = stands_same (anchor (g.A.SoundApp.app w.app.now) w.moment w.before.now (take w.earlier w.wrote.now.items)) (anchor (g.A.SoundApp.app c.args.app.now) c.args.moment c.args.before.now (take c.args.earlier c.args.wrote.now.items)) _ _ _ _ _ _ _ _ _ _ _ _ c.act.ensures.passed.fixed in
+    let front : take c.args.earlier c.args.wrote.now.items ≡ c.args.wrote.now.items = ap (λ n. take n c.args.wrote.now.items) c.requires.earlier ∙ take-length c.args.wrote.now.items in
+    let count : w.earlier ≡ length c.args.wrote.now.items = count_same w.earlier w.wrote.now.items c.args.wrote.now.items w.counted (stands.earlier ∙ front) in
+    let none : drop c.args.earlier c.args.wrote.now.items ≡ [] = ap (λ n. drop n c.args.wrote.now.items) c.requires.earlier ∙ drop-length c.args.wrote.now.items in
     let empty : held c.new.result.items c.args.item None ≡ outermost (option_map view c.args.item) = ap (λ (vs : List Value). held vs c.args.item None) c.new.ensures.items in
-    carried_all (λ (k : g.row.K.Denot) (r : SessionState) (zs : List Source). Goes (IsLost (g.K.Keeper.marks old) (g.K.Keeper.marks k)) (λ t u. Acts (g.A.SoundApp.app c.args.app.now) c.args.moment c.args.info.now (option_map view c.args.item) t c.args.session.now (view c.in-Ok.value) u r zs) (g.K.Keeper.told old) (g.K.Keeper.told k))
+    carried_all (λ (k : g.row.K.Denot) (r : SessionState) (zs : List Source). Goes (IsLost (g.K.Keeper.marks old) (g.K.Keeper.marks k)) (λ t u. Acts (g.A.SoundApp.app c.args.app.now) c.args.moment c.args.info.now (option_map view c.args.item) t c.args.session.now (view c.in-Ok.value) u r (drop (length c.args.wrote.now.items) zs)) (g.K.Keeper.told old) (g.K.Keeper.told k))
     now _ w.session.now _ w.wrote.now.items _ (search (rules, kept)) (search (rules, same)) (search (rules, listed))
-    (acts_from (IsLost (g.K.Keeper.marks old) (g.K.Keeper.marks now)) (g.A.SoundApp.app c.args.app.now) (g.A.SoundApp.app c.args.app.now) c.args.moment c.args.info.now (option_map view c.args.item) (held c.new.result.items c.args.item None) (view c.in-Ok.value) (g.K.Keeper.began old) (view c.args.day.now) (view w.day.now) (grounds (g.A.SoundApp.app w.app.now) w.moment (g.K.Keeper.began now)) c.args.session.now w.session.now (cells_of c.args.cells.now) (cells_of w.cells.now) c.args.wrote.now.items w.wrote.now.items (g.K.Keeper.told old) (g.K.Keeper.told now)
-    refl c.requires.wrote empty c.act.ensures.passed.state c.in-Ok.ensures.done)
+    (subst (λ n. Goes (IsLost (g.K.Keeper.marks old) (g.K.Keeper.marks now)) (λ t u. Acts (g.A.SoundApp.app c.args.app.now) c.args.moment c.args.info.now (option_map view c.args.item) t c.args.session.now (view c.in-Ok.value) u w.session.now (drop n w.wrote.now.items)) (g.K.Keeper.told old) (g.K.Keeper.told now)) count
+    (acts_from (IsLost (g.K.Keeper.marks old) (g.K.Keeper.marks now)) (g.A.SoundApp.app c.args.app.now) (g.A.SoundApp.app c.args.app.now) c.args.moment c.args.info.now (option_map view c.args.item) (held c.new.result.items c.args.item None) (view c.in-Ok.value) (g.K.Keeper.began old) (view c.args.day.now) (view w.day.now) (grounds (g.A.SoundApp.app w.app.now) w.moment (g.K.Keeper.began now)) c.args.session.now w.session.now c.args.cache.now.values.cells w.cache.now.values.cells (drop c.args.earlier c.args.wrote.now.items) (drop w.earlier w.wrote.now.items) (g.K.Keeper.told old) (g.K.Keeper.told now)
+    refl none empty c.act.ensures.passed.state c.in-Ok.ensures.done))
 
 pub returns-in-Ok-clause-value : goal.returns-in-Ok-clause-value
 returns-in-Ok-clause-value g c =
@@ -75,72 +94,234 @@ returns-in-Ok-clause-value g c =
     (subst (λ (h : Held). IsActable (sources (g.A.SoundApp.app c.args.app.now).names) h core (shape c.args.info.now.ty)) (sym empty)
     (can_act (g.A.SoundApp.app c.args.app.now) c.args.info.now (option_map view c.args.item) c.requires.acting c.requires.item))
 
+pub returns-in-Ok-clause-prefix : goal.returns-in-Ok-clause-prefix
+returns-in-Ok-clause-prefix g c =
+    let w = c.act.new.world in
+    let listed = wrote_same (anchor (g.A.SoundApp.app w.app.now) w.moment w.before.now (take w.earlier w.wrote.now.items)) (anchor (g.A.SoundApp.app c.args.app.now) c.args.moment c.args.before.now (take c.args.earlier c.args.wrote.now.items)) _ _ _ _ _ _ _ _ _ _ _ _ c.act.ensures.passed.fixed in
+    let stands = stands_same (anchor (g.A.SoundApp.app w.app.now) w.moment w.before.now (take w.earlier w.wrote.now.items)) (anchor (g.A.SoundApp.app c.args.app.now) c.args.moment c.args.before.now (take c.args.earlier c.args.wrote.now.items)) _ _ _ _ _ _ _ _ _ _ _ _ c.act.ensures.passed.fixed in
+    let front : take c.args.earlier c.args.wrote.now.items ≡ c.args.wrote.now.items = ap (λ n. take n c.args.wrote.now.items) c.requires.earlier ∙ take-length c.args.wrote.now.items in
+    let count : w.earlier ≡ length c.args.wrote.now.items = count_same w.earlier w.wrote.now.items c.args.wrote.now.items w.counted (stands.earlier ∙ front) in
+    carried (λ (zs : List Source). take (length c.args.wrote.now.items) zs ≡ c.args.wrote.now.items) w.wrote.now.items _ (search (rules, listed))
+    (ap (λ n. take n w.wrote.now.items) (sym count) ∙ stands.earlier ∙ front)
+
+pub returns-clause-prefix : goal.returns-clause-prefix
+returns-clause-prefix g c =
+    let w = c.act.new.world in
+    let listed = wrote_same (anchor (g.A.SoundApp.app w.app.now) w.moment w.before.now (take w.earlier w.wrote.now.items)) (anchor (g.A.SoundApp.app c.args.app.now) c.args.moment c.args.before.now (take c.args.earlier c.args.wrote.now.items)) _ _ _ _ _ _ _ _ _ _ _ _ c.act.ensures.passed.fixed in
+    let stands = stands_same (anchor (g.A.SoundApp.app w.app.now) w.moment w.before.now (take w.earlier w.wrote.now.items)) (anchor (g.A.SoundApp.app c.args.app.now) c.args.moment c.args.before.now (take c.args.earlier c.args.wrote.now.items)) _ _ _ _ _ _ _ _ _ _ _ _ c.act.ensures.passed.fixed in
+    let front : take c.args.earlier c.args.wrote.now.items ≡ c.args.wrote.now.items = ap (λ n. take n c.args.wrote.now.items) c.requires.earlier ∙ take-length c.args.wrote.now.items in
+    let count : w.earlier ≡ length c.args.wrote.now.items = count_same w.earlier w.wrote.now.items c.args.wrote.now.items w.counted (stands.earlier ∙ front) in
+    carried (λ (zs : List Source). take (length c.args.wrote.now.items) zs ≡ c.args.wrote.now.items) w.wrote.now.items _ (search (rules, listed))
+    (ap (λ n. take n w.wrote.now.items) (sym count) ∙ stands.earlier ∙ front)
+
+pub returns-in-Ok-clause-cached : goal.returns-in-Ok-clause-cached
+returns-in-Ok-clause-cached g c =
+    let w = c.act.new.world in
+    let kept = keeper_same (anchor (g.A.SoundApp.app w.app.now) w.moment w.before.now (take w.earlier w.wrote.now.items)) (anchor (g.A.SoundApp.app c.args.app.now) c.args.moment c.args.before.now (take c.args.earlier c.args.wrote.now.items)) _ _ _ _ _ _ _ _ _ _ _ _ c.act.ensures.passed.fixed in
+    let same = session_same (anchor (g.A.SoundApp.app w.app.now) w.moment w.before.now (take w.earlier w.wrote.now.items)) (anchor (g.A.SoundApp.app c.args.app.now) c.args.moment c.args.before.now (take c.args.earlier c.args.wrote.now.items)) _ _ _ _ _ _ _ _ _ _ _ _ c.act.ensures.passed.fixed in
+    let cached = cache_same (anchor (g.A.SoundApp.app w.app.now) w.moment w.before.now (take w.earlier w.wrote.now.items)) (anchor (g.A.SoundApp.app c.args.app.now) c.args.moment c.args.before.now (take c.args.earlier c.args.wrote.now.items)) _ _ _ _ _ _ _ _ _ _ _ _ c.act.ensures.passed.fixed in
+    let stands = stands_same (anchor (g.A.SoundApp.app w.app.now) w.moment w.before.now (take w.earlier w.wrote.now.items)) (anchor (g.A.SoundApp.app c.args.app.now) c.args.moment c.args.before.now (take c.args.earlier c.args.wrote.now.items)) _ _ _ _ _ _ _ _ _ _ _ _ c.act.ensures.passed.fixed in
+    carried_all (λ (k : g.row.K.Denot) (r : SessionState) (z : Kept). IsCached (g.A.SoundApp.app c.args.app.now) r (g.K.Keeper.told k) c.args.moment z)
+    w.keeper.now _ w.session.now _ w.cache.now _ (search (rules, kept)) (search (rules, same)) (search (rules, cached))
+    (cached_from (g.A.SoundApp.app c.args.app.now) (g.A.SoundApp.app w.app.now) w.session.now (g.K.Keeper.told w.keeper.now) c.args.moment w.moment w.cache.now stands.app stands.moment w.order w.right w.dated)
+
+pub returns-clause-cached : goal.returns-clause-cached
+returns-clause-cached g c =
+    let w = c.act.new.world in
+    let kept = keeper_same (anchor (g.A.SoundApp.app w.app.now) w.moment w.before.now (take w.earlier w.wrote.now.items)) (anchor (g.A.SoundApp.app c.args.app.now) c.args.moment c.args.before.now (take c.args.earlier c.args.wrote.now.items)) _ _ _ _ _ _ _ _ _ _ _ _ c.act.ensures.passed.fixed in
+    let same = session_same (anchor (g.A.SoundApp.app w.app.now) w.moment w.before.now (take w.earlier w.wrote.now.items)) (anchor (g.A.SoundApp.app c.args.app.now) c.args.moment c.args.before.now (take c.args.earlier c.args.wrote.now.items)) _ _ _ _ _ _ _ _ _ _ _ _ c.act.ensures.passed.fixed in
+    let cached = cache_same (anchor (g.A.SoundApp.app w.app.now) w.moment w.before.now (take w.earlier w.wrote.now.items)) (anchor (g.A.SoundApp.app c.args.app.now) c.args.moment c.args.before.now (take c.args.earlier c.args.wrote.now.items)) _ _ _ _ _ _ _ _ _ _ _ _ c.act.ensures.passed.fixed in
+    let stands = stands_same (anchor (g.A.SoundApp.app w.app.now) w.moment w.before.now (take w.earlier w.wrote.now.items)) (anchor (g.A.SoundApp.app c.args.app.now) c.args.moment c.args.before.now (take c.args.earlier c.args.wrote.now.items)) _ _ _ _ _ _ _ _ _ _ _ _ c.act.ensures.passed.fixed in
+    carried_all (λ (k : g.row.K.Denot) (r : SessionState) (z : Kept). IsCached (g.A.SoundApp.app c.args.app.now) r (g.K.Keeper.told k) c.args.moment z)
+    w.keeper.now _ w.session.now _ w.cache.now _ (search (rules, kept)) (search (rules, same)) (search (rules, cached))
+    (cached_from (g.A.SoundApp.app c.args.app.now) (g.A.SoundApp.app w.app.now) w.session.now (g.K.Keeper.told w.keeper.now) c.args.moment w.moment w.cache.now stands.app stands.moment w.order w.right w.dated)
+
+pub returns-in-Ok-clause-sources : goal.returns-in-Ok-clause-sources
+returns-in-Ok-clause-sources g c =
+    let w = c.act.new.world in
+    let listed = wrote_same (anchor (g.A.SoundApp.app w.app.now) w.moment w.before.now (take w.earlier w.wrote.now.items)) (anchor (g.A.SoundApp.app c.args.app.now) c.args.moment c.args.before.now (take c.args.earlier c.args.wrote.now.items)) _ _ _ _ _ _ _ _ _ _ _ _ c.act.ensures.passed.fixed in
+    let stands = stands_same (anchor (g.A.SoundApp.app w.app.now) w.moment w.before.now (take w.earlier w.wrote.now.items)) (anchor (g.A.SoundApp.app c.args.app.now) c.args.moment c.args.before.now (take c.args.earlier c.args.wrote.now.items)) _ _ _ _ _ _ _ _ _ _ _ _ c.act.ensures.passed.fixed in
+    carried (λ (zs : List Source). AreSources (g.A.SoundApp.app c.args.app.now).names zs) w.wrote.now.items _ (search (rules, listed))
+    (subst (λ (a : App). AreSources a.names w.wrote.now.items) stands.app w.listed)
+
+pub returns-clause-sources : goal.returns-clause-sources
+returns-clause-sources g c =
+    let w = c.act.new.world in
+    let listed = wrote_same (anchor (g.A.SoundApp.app w.app.now) w.moment w.before.now (take w.earlier w.wrote.now.items)) (anchor (g.A.SoundApp.app c.args.app.now) c.args.moment c.args.before.now (take c.args.earlier c.args.wrote.now.items)) _ _ _ _ _ _ _ _ _ _ _ _ c.act.ensures.passed.fixed in
+    let stands = stands_same (anchor (g.A.SoundApp.app w.app.now) w.moment w.before.now (take w.earlier w.wrote.now.items)) (anchor (g.A.SoundApp.app c.args.app.now) c.args.moment c.args.before.now (take c.args.earlier c.args.wrote.now.items)) _ _ _ _ _ _ _ _ _ _ _ _ c.act.ensures.passed.fixed in
+    carried (λ (zs : List Source). AreSources (g.A.SoundApp.app c.args.app.now).names zs) w.wrote.now.items _ (search (rules, listed))
+    (subst (λ (a : App). AreSources a.names w.wrote.now.items) stands.app w.listed)
+
+pub returns-in-Ok-clause-but : goal.returns-in-Ok-clause-but
+returns-in-Ok-clause-but g c =
+    let w = c.act.new.world in
+    let same = session_same (anchor (g.A.SoundApp.app w.app.now) w.moment w.before.now (take w.earlier w.wrote.now.items)) (anchor (g.A.SoundApp.app c.args.app.now) c.args.moment c.args.before.now (take c.args.earlier c.args.wrote.now.items)) _ _ _ _ _ _ _ _ _ _ _ _ c.act.ensures.passed.fixed in
+    let listed = wrote_same (anchor (g.A.SoundApp.app w.app.now) w.moment w.before.now (take w.earlier w.wrote.now.items)) (anchor (g.A.SoundApp.app c.args.app.now) c.args.moment c.args.before.now (take c.args.earlier c.args.wrote.now.items)) _ _ _ _ _ _ _ _ _ _ _ _ c.act.ensures.passed.fixed in
+    let stands = stands_same (anchor (g.A.SoundApp.app w.app.now) w.moment w.before.now (take w.earlier w.wrote.now.items)) (anchor (g.A.SoundApp.app c.args.app.now) c.args.moment c.args.before.now (take c.args.earlier c.args.wrote.now.items)) _ _ _ _ _ _ _ _ _ _ _ _ c.act.ensures.passed.fixed in
+    carried_both (λ (r : SessionState) (zs : List Source). AreSessionsBut (g.A.SoundApp.app c.args.app.now).names zs c.args.before.now r) w.session.now _ w.wrote.now.items _ (search (rules, same)) (search (rules, listed))
+    (subst (λ (s : SessionState). AreSessionsBut (g.A.SoundApp.app c.args.app.now).names w.wrote.now.items s w.session.now) stands.before
+    (subst (λ (a : App). AreSessionsBut a.names w.wrote.now.items w.before.now w.session.now) stands.app w.but))
+
+pub returns-clause-but : goal.returns-clause-but
+returns-clause-but g c =
+    let w = c.act.new.world in
+    let same = session_same (anchor (g.A.SoundApp.app w.app.now) w.moment w.before.now (take w.earlier w.wrote.now.items)) (anchor (g.A.SoundApp.app c.args.app.now) c.args.moment c.args.before.now (take c.args.earlier c.args.wrote.now.items)) _ _ _ _ _ _ _ _ _ _ _ _ c.act.ensures.passed.fixed in
+    let listed = wrote_same (anchor (g.A.SoundApp.app w.app.now) w.moment w.before.now (take w.earlier w.wrote.now.items)) (anchor (g.A.SoundApp.app c.args.app.now) c.args.moment c.args.before.now (take c.args.earlier c.args.wrote.now.items)) _ _ _ _ _ _ _ _ _ _ _ _ c.act.ensures.passed.fixed in
+    let stands = stands_same (anchor (g.A.SoundApp.app w.app.now) w.moment w.before.now (take w.earlier w.wrote.now.items)) (anchor (g.A.SoundApp.app c.args.app.now) c.args.moment c.args.before.now (take c.args.earlier c.args.wrote.now.items)) _ _ _ _ _ _ _ _ _ _ _ _ c.act.ensures.passed.fixed in
+    carried_both (λ (r : SessionState) (zs : List Source). AreSessionsBut (g.A.SoundApp.app c.args.app.now).names zs c.args.before.now r) w.session.now _ w.wrote.now.items _ (search (rules, same)) (search (rules, listed))
+    (subst (λ (s : SessionState). AreSessionsBut (g.A.SoundApp.app c.args.app.now).names w.wrote.now.items s w.session.now) stands.before
+    (subst (λ (a : App). AreSessionsBut a.names w.wrote.now.items w.before.now w.session.now) stands.app w.but))
+
+pub returns-in-Ok-clause-later : goal.returns-in-Ok-clause-later
+returns-in-Ok-clause-later g c =
+    let w = c.act.new.world in
+    let old = c.args.keeper.now in
+    let now = w.keeper.now in
+    let kept = keeper_same (anchor (g.A.SoundApp.app w.app.now) w.moment w.before.now (take w.earlier w.wrote.now.items)) (anchor (g.A.SoundApp.app c.args.app.now) c.args.moment c.args.before.now (take c.args.earlier c.args.wrote.now.items)) _ _ _ _ _ _ _ _ _ _ _ _ c.act.ensures.passed.fixed in
+    let listed = wrote_same (anchor (g.A.SoundApp.app w.app.now) w.moment w.before.now (take w.earlier w.wrote.now.items)) (anchor (g.A.SoundApp.app c.args.app.now) c.args.moment c.args.before.now (take c.args.earlier c.args.wrote.now.items)) _ _ _ _ _ _ _ _ _ _ _ _ c.act.ensures.passed.fixed in
+    let stands = stands_same (anchor (g.A.SoundApp.app w.app.now) w.moment w.before.now (take w.earlier w.wrote.now.items)) (anchor (g.A.SoundApp.app c.args.app.now) c.args.moment c.args.before.now (take c.args.earlier c.args.wrote.now.items)) _ _ _ _ _ _ _ _ _ _ _ _ c.act.ensures.passed.fixed in
+    let front : take c.args.earlier c.args.wrote.now.items ≡ c.args.wrote.now.items = ap (λ n. take n c.args.wrote.now.items) c.requires.earlier ∙ take-length c.args.wrote.now.items in
+    let count : w.earlier ≡ length c.args.wrote.now.items = count_same w.earlier w.wrote.now.items c.args.wrote.now.items w.counted (stands.earlier ∙ front) in
+    let none : drop c.args.earlier c.args.wrote.now.items ≡ [] = ap (λ n. drop n c.args.wrote.now.items) c.requires.earlier ∙ drop-length c.args.wrote.now.items in
+    carried_both (λ (k : g.row.K.Denot) (zs : List Source). AreLater zs (g.K.Keeper.began k) (g.K.Keeper.told k)) now _ w.wrote.now.items _ (search (rules, kept)) (search (rules, listed))
+    (later_from (IsLost (g.K.Keeper.marks old) (g.K.Keeper.marks now)) (view c.args.day.now) (view w.day.now) (grounds (g.A.SoundApp.app c.args.app.now) c.args.moment (g.K.Keeper.began old)) (grounds (g.A.SoundApp.app w.app.now) w.moment (g.K.Keeper.began now)) c.args.session.now w.session.now c.args.cache.now.values.cells w.cache.now.values.cells c.args.wrote.now.items w.wrote.now.items (drop c.args.earlier c.args.wrote.now.items) w.earlier (g.K.Keeper.told old) (g.K.Keeper.told now)
+    count (stands.earlier ∙ front) none c.act.ensures.passed.state c.requires.later)
+
+pub returns-clause-later : goal.returns-clause-later
+returns-clause-later g c =
+    let w = c.act.new.world in
+    let old = c.args.keeper.now in
+    let now = w.keeper.now in
+    let kept = keeper_same (anchor (g.A.SoundApp.app w.app.now) w.moment w.before.now (take w.earlier w.wrote.now.items)) (anchor (g.A.SoundApp.app c.args.app.now) c.args.moment c.args.before.now (take c.args.earlier c.args.wrote.now.items)) _ _ _ _ _ _ _ _ _ _ _ _ c.act.ensures.passed.fixed in
+    let listed = wrote_same (anchor (g.A.SoundApp.app w.app.now) w.moment w.before.now (take w.earlier w.wrote.now.items)) (anchor (g.A.SoundApp.app c.args.app.now) c.args.moment c.args.before.now (take c.args.earlier c.args.wrote.now.items)) _ _ _ _ _ _ _ _ _ _ _ _ c.act.ensures.passed.fixed in
+    let stands = stands_same (anchor (g.A.SoundApp.app w.app.now) w.moment w.before.now (take w.earlier w.wrote.now.items)) (anchor (g.A.SoundApp.app c.args.app.now) c.args.moment c.args.before.now (take c.args.earlier c.args.wrote.now.items)) _ _ _ _ _ _ _ _ _ _ _ _ c.act.ensures.passed.fixed in
+    let front : take c.args.earlier c.args.wrote.now.items ≡ c.args.wrote.now.items = ap (λ n. take n c.args.wrote.now.items) c.requires.earlier ∙ take-length c.args.wrote.now.items in
+    let count : w.earlier ≡ length c.args.wrote.now.items = count_same w.earlier w.wrote.now.items c.args.wrote.now.items w.counted (stands.earlier ∙ front) in
+    let none : drop c.args.earlier c.args.wrote.now.items ≡ [] = ap (λ n. drop n c.args.wrote.now.items) c.requires.earlier ∙ drop-length c.args.wrote.now.items in
+    carried_both (λ (k : g.row.K.Denot) (zs : List Source). AreLater zs (g.K.Keeper.began k) (g.K.Keeper.told k)) now _ w.wrote.now.items _ (search (rules, kept)) (search (rules, listed))
+    (later_from (IsLost (g.K.Keeper.marks old) (g.K.Keeper.marks now)) (view c.args.day.now) (view w.day.now) (grounds (g.A.SoundApp.app c.args.app.now) c.args.moment (g.K.Keeper.began old)) (grounds (g.A.SoundApp.app w.app.now) w.moment (g.K.Keeper.began now)) c.args.session.now w.session.now c.args.cache.now.values.cells w.cache.now.values.cells c.args.wrote.now.items w.wrote.now.items (drop c.args.earlier c.args.wrote.now.items) w.earlier (g.K.Keeper.told old) (g.K.Keeper.told now)
+    count (stands.earlier ∙ front) none c.act.ensures.passed.state c.requires.later)
+
 pub returns-in-Ok-clause-leaves : goal.returns-in-Ok-clause-leaves
 returns-in-Ok-clause-leaves g c =
     let w = c.act.new.world in
     let old = c.args.keeper.now in
     let now = w.keeper.now in
-    let kept = keeper_same (g.A.SoundApp.app c.args.app.now) (g.A.SoundApp.app w.app.now) _ _ _ _ _ _ _ _ _ _ c.act.ensures.passed.fixed in
-    let same = session_same (g.A.SoundApp.app c.args.app.now) (g.A.SoundApp.app w.app.now) _ _ _ _ _ _ _ _ _ _ c.act.ensures.passed.fixed in
+    let kept = keeper_same (anchor (g.A.SoundApp.app w.app.now) w.moment w.before.now (take w.earlier w.wrote.now.items)) (anchor (g.A.SoundApp.app c.args.app.now) c.args.moment c.args.before.now (take c.args.earlier c.args.wrote.now.items)) _ _ _ _ _ _ _ _ _ _ _ _ c.act.ensures.passed.fixed in
+    let same = session_same (anchor (g.A.SoundApp.app w.app.now) w.moment w.before.now (take w.earlier w.wrote.now.items)) (anchor (g.A.SoundApp.app c.args.app.now) c.args.moment c.args.before.now (take c.args.earlier c.args.wrote.now.items)) _ _ _ _ _ _ _ _ _ _ _ _ c.act.ensures.passed.fixed in
+    let none : drop c.args.earlier c.args.wrote.now.items ≡ [] = ap (λ n. drop n c.args.wrote.now.items) c.requires.earlier ∙ drop-length c.args.wrote.now.items in
     carried_both (λ (k : g.row.K.Denot) (r : SessionState). Goes (IsLost (g.K.Keeper.marks old) (g.K.Keeper.marks k)) (λ t u. Leaves (g.A.SoundApp.app c.args.app.now) c.args.moment t c.args.session.now u r) (g.K.Keeper.told old) (g.K.Keeper.told k))
     now _ w.session.now _ (search (rules, kept)) (search (rules, same))
-    (leaves_from (IsLost (g.K.Keeper.marks old) (g.K.Keeper.marks now)) (g.A.SoundApp.app c.args.app.now) (g.A.SoundApp.app c.args.app.now) c.args.moment (g.K.Keeper.began old) (view c.args.day.now) (view w.day.now) (grounds (g.A.SoundApp.app w.app.now) w.moment (g.K.Keeper.began now)) c.args.session.now w.session.now (cells_of c.args.cells.now) (cells_of w.cells.now) c.args.wrote.now.items w.wrote.now.items (g.K.Keeper.told old) (g.K.Keeper.told now)
-    refl c.requires.wrote c.act.ensures.passed.state)
+    (leaves_from (IsLost (g.K.Keeper.marks old) (g.K.Keeper.marks now)) (g.A.SoundApp.app c.args.app.now) (g.A.SoundApp.app c.args.app.now) c.args.moment (g.K.Keeper.began old) (view c.args.day.now) (view w.day.now) (grounds (g.A.SoundApp.app w.app.now) w.moment (g.K.Keeper.began now)) c.args.session.now w.session.now c.args.cache.now.values.cells w.cache.now.values.cells (drop c.args.earlier c.args.wrote.now.items) (drop w.earlier w.wrote.now.items) (g.K.Keeper.told old) (g.K.Keeper.told now)
+    refl none c.act.ensures.passed.state)
+
+pub returns-clause-leaves : goal.returns-clause-leaves
+returns-clause-leaves g c =
+    let w = c.act.new.world in
+    let old = c.args.keeper.now in
+    let now = w.keeper.now in
+    let kept = keeper_same (anchor (g.A.SoundApp.app w.app.now) w.moment w.before.now (take w.earlier w.wrote.now.items)) (anchor (g.A.SoundApp.app c.args.app.now) c.args.moment c.args.before.now (take c.args.earlier c.args.wrote.now.items)) _ _ _ _ _ _ _ _ _ _ _ _ c.act.ensures.passed.fixed in
+    let same = session_same (anchor (g.A.SoundApp.app w.app.now) w.moment w.before.now (take w.earlier w.wrote.now.items)) (anchor (g.A.SoundApp.app c.args.app.now) c.args.moment c.args.before.now (take c.args.earlier c.args.wrote.now.items)) _ _ _ _ _ _ _ _ _ _ _ _ c.act.ensures.passed.fixed in
+    let none : drop c.args.earlier c.args.wrote.now.items ≡ [] = ap (λ n. drop n c.args.wrote.now.items) c.requires.earlier ∙ drop-length c.args.wrote.now.items in
+    carried_both (λ (k : g.row.K.Denot) (r : SessionState). Goes (IsLost (g.K.Keeper.marks old) (g.K.Keeper.marks k)) (λ t u. Leaves (g.A.SoundApp.app c.args.app.now) c.args.moment t c.args.session.now u r) (g.K.Keeper.told old) (g.K.Keeper.told k))
+    now _ w.session.now _ (search (rules, kept)) (search (rules, same))
+    (leaves_from (IsLost (g.K.Keeper.marks old) (g.K.Keeper.marks now)) (g.A.SoundApp.app c.args.app.now) (g.A.SoundApp.app c.args.app.now) c.args.moment (g.K.Keeper.began old) (view c.args.day.now) (view w.day.now) (grounds (g.A.SoundApp.app w.app.now) w.moment (g.K.Keeper.began now)) c.args.session.now w.session.now c.args.cache.now.values.cells w.cache.now.values.cells (drop c.args.earlier c.args.wrote.now.items) (drop w.earlier w.wrote.now.items) (g.K.Keeper.told old) (g.K.Keeper.told now)
+    refl none c.act.ensures.passed.state)
 
 pub returns-in-Ok-clause-fits : goal.returns-in-Ok-clause-fits
 returns-in-Ok-clause-fits g c =
     let w = c.act.new.world in
-    let old = c.args.keeper.now in
-    let now = w.keeper.now in
-    let same = session_same (g.A.SoundApp.app c.args.app.now) (g.A.SoundApp.app w.app.now) _ _ _ _ _ _ _ _ _ _ c.act.ensures.passed.fixed in
-    carried (λ (r : SessionState). FitsNames (g.A.SoundApp.app c.args.app.now).names r) w.session.now _ (search (rules, same))
-    (fits_still (g.A.SoundApp.app c.args.app.now) (g.A.SoundApp.app w.app.now) _ _ _ _ _ _ _ _ _ _ w.session.now c.act.ensures.passed.fixed w.fits)
+    let same = session_same (anchor (g.A.SoundApp.app w.app.now) w.moment w.before.now (take w.earlier w.wrote.now.items)) (anchor (g.A.SoundApp.app c.args.app.now) c.args.moment c.args.before.now (take c.args.earlier c.args.wrote.now.items)) _ _ _ _ _ _ _ _ _ _ _ _ c.act.ensures.passed.fixed in
+    let stands = stands_same (anchor (g.A.SoundApp.app w.app.now) w.moment w.before.now (take w.earlier w.wrote.now.items)) (anchor (g.A.SoundApp.app c.args.app.now) c.args.moment c.args.before.now (take c.args.earlier c.args.wrote.now.items)) _ _ _ _ _ _ _ _ _ _ _ _ c.act.ensures.passed.fixed in
+    carried (λ (r : SessionState). FitsNames (g.A.SoundApp.app c.args.app.now).names r) w.session.now _ (search (rules, same)) (subst (λ (a : App). FitsNames a.names w.session.now) stands.app w.fits)
+
+pub returns-clause-fits : goal.returns-clause-fits
+returns-clause-fits g c =
+    let w = c.act.new.world in
+    let same = session_same (anchor (g.A.SoundApp.app w.app.now) w.moment w.before.now (take w.earlier w.wrote.now.items)) (anchor (g.A.SoundApp.app c.args.app.now) c.args.moment c.args.before.now (take c.args.earlier c.args.wrote.now.items)) _ _ _ _ _ _ _ _ _ _ _ _ c.act.ensures.passed.fixed in
+    let stands = stands_same (anchor (g.A.SoundApp.app w.app.now) w.moment w.before.now (take w.earlier w.wrote.now.items)) (anchor (g.A.SoundApp.app c.args.app.now) c.args.moment c.args.before.now (take c.args.earlier c.args.wrote.now.items)) _ _ _ _ _ _ _ _ _ _ _ _ c.act.ensures.passed.fixed in
+    carried (λ (r : SessionState). FitsNames (g.A.SoundApp.app c.args.app.now).names r) w.session.now _ (search (rules, same)) (subst (λ (a : App). FitsNames a.names w.session.now) stands.app w.fits)
 
 pub returns-in-Ok-clause-rows : goal.returns-in-Ok-clause-rows
 returns-in-Ok-clause-rows g c =
     let w = c.act.new.world in
-    let old = c.args.keeper.now in
-    let now = w.keeper.now in
-    let kept = keeper_same (g.A.SoundApp.app c.args.app.now) (g.A.SoundApp.app w.app.now) _ _ _ _ _ _ _ _ _ _ c.act.ensures.passed.fixed in
-    carried (λ (k : g.row.K.Denot). AreSound (g.A.SoundApp.app c.args.app.now).names.schema (g.K.Keeper.told k)) now _ (search (rules, kept))
-    (sound_still (g.A.SoundApp.app c.args.app.now) (g.A.SoundApp.app w.app.now) _ _ _ _ _ _ _ _ _ _ (g.K.Keeper.told now) c.act.ensures.passed.fixed w.sound)
+    let kept = keeper_same (anchor (g.A.SoundApp.app w.app.now) w.moment w.before.now (take w.earlier w.wrote.now.items)) (anchor (g.A.SoundApp.app c.args.app.now) c.args.moment c.args.before.now (take c.args.earlier c.args.wrote.now.items)) _ _ _ _ _ _ _ _ _ _ _ _ c.act.ensures.passed.fixed in
+    let stands = stands_same (anchor (g.A.SoundApp.app w.app.now) w.moment w.before.now (take w.earlier w.wrote.now.items)) (anchor (g.A.SoundApp.app c.args.app.now) c.args.moment c.args.before.now (take c.args.earlier c.args.wrote.now.items)) _ _ _ _ _ _ _ _ _ _ _ _ c.act.ensures.passed.fixed in
+    carried (λ (k : g.row.K.Denot). AreSound (g.A.SoundApp.app c.args.app.now).names.schema (g.K.Keeper.told k)) w.keeper.now _ (search (rules, kept)) (subst (λ (a : App). AreSound a.names.schema (g.K.Keeper.told w.keeper.now)) stands.app w.sound)
+
+pub returns-clause-rows : goal.returns-clause-rows
+returns-clause-rows g c =
+    let w = c.act.new.world in
+    let kept = keeper_same (anchor (g.A.SoundApp.app w.app.now) w.moment w.before.now (take w.earlier w.wrote.now.items)) (anchor (g.A.SoundApp.app c.args.app.now) c.args.moment c.args.before.now (take c.args.earlier c.args.wrote.now.items)) _ _ _ _ _ _ _ _ _ _ _ _ c.act.ensures.passed.fixed in
+    let stands = stands_same (anchor (g.A.SoundApp.app w.app.now) w.moment w.before.now (take w.earlier w.wrote.now.items)) (anchor (g.A.SoundApp.app c.args.app.now) c.args.moment c.args.before.now (take c.args.earlier c.args.wrote.now.items)) _ _ _ _ _ _ _ _ _ _ _ _ c.act.ensures.passed.fixed in
+    carried (λ (k : g.row.K.Denot). AreSound (g.A.SoundApp.app c.args.app.now).names.schema (g.K.Keeper.told k)) w.keeper.now _ (search (rules, kept)) (subst (λ (a : App). AreSound a.names.schema (g.K.Keeper.told w.keeper.now)) stands.app w.sound)
 
 pub returns-in-Ok-clause-began : goal.returns-in-Ok-clause-began
 returns-in-Ok-clause-began g c =
     let w = c.act.new.world in
     let old = c.args.keeper.now in
     let now = w.keeper.now in
-    let kept = keeper_same (g.A.SoundApp.app c.args.app.now) (g.A.SoundApp.app w.app.now) _ _ _ _ _ _ _ _ _ _ c.act.ensures.passed.fixed in
+    let kept = keeper_same (anchor (g.A.SoundApp.app w.app.now) w.moment w.before.now (take w.earlier w.wrote.now.items)) (anchor (g.A.SoundApp.app c.args.app.now) c.args.moment c.args.before.now (take c.args.earlier c.args.wrote.now.items)) _ _ _ _ _ _ _ _ _ _ _ _ c.act.ensures.passed.fixed in
     carried (λ (k : g.row.K.Denot). Goes (IsLost (g.K.Keeper.marks old) (g.K.Keeper.marks k)) Stays (g.K.Keeper.began old) (g.K.Keeper.began k)) now _ (search (rules, kept))
-    (began_goes (IsLost (g.K.Keeper.marks old) (g.K.Keeper.marks now)) (view c.args.day.now) (view w.day.now) (grounds (g.A.SoundApp.app c.args.app.now) c.args.moment (g.K.Keeper.began old)) (grounds (g.A.SoundApp.app w.app.now) w.moment (g.K.Keeper.began now)) c.args.session.now w.session.now (cells_of c.args.cells.now) (cells_of w.cells.now) c.args.wrote.now.items w.wrote.now.items
+    (began_goes (IsLost (g.K.Keeper.marks old) (g.K.Keeper.marks now)) (view c.args.day.now) (view w.day.now) (grounds (g.A.SoundApp.app c.args.app.now) c.args.moment (g.K.Keeper.began old)) (grounds (g.A.SoundApp.app w.app.now) w.moment (g.K.Keeper.began now)) c.args.session.now w.session.now c.args.cache.now.values.cells w.cache.now.values.cells (drop c.args.earlier c.args.wrote.now.items) (drop w.earlier w.wrote.now.items)
+    (g.K.Keeper.told old) (g.K.Keeper.told now) (g.met.K.Keeper.quiet old) (g.met.K.Keeper.quiet now) c.act.ensures.passed.state)
+
+pub returns-clause-began : goal.returns-clause-began
+returns-clause-began g c =
+    let w = c.act.new.world in
+    let old = c.args.keeper.now in
+    let now = w.keeper.now in
+    let kept = keeper_same (anchor (g.A.SoundApp.app w.app.now) w.moment w.before.now (take w.earlier w.wrote.now.items)) (anchor (g.A.SoundApp.app c.args.app.now) c.args.moment c.args.before.now (take c.args.earlier c.args.wrote.now.items)) _ _ _ _ _ _ _ _ _ _ _ _ c.act.ensures.passed.fixed in
+    carried (λ (k : g.row.K.Denot). Goes (IsLost (g.K.Keeper.marks old) (g.K.Keeper.marks k)) Stays (g.K.Keeper.began old) (g.K.Keeper.began k)) now _ (search (rules, kept))
+    (began_goes (IsLost (g.K.Keeper.marks old) (g.K.Keeper.marks now)) (view c.args.day.now) (view w.day.now) (grounds (g.A.SoundApp.app c.args.app.now) c.args.moment (g.K.Keeper.began old)) (grounds (g.A.SoundApp.app w.app.now) w.moment (g.K.Keeper.began now)) c.args.session.now w.session.now c.args.cache.now.values.cells w.cache.now.values.cells (drop c.args.earlier c.args.wrote.now.items) (drop w.earlier w.wrote.now.items)
     (g.K.Keeper.told old) (g.K.Keeper.told now) (g.met.K.Keeper.quiet old) (g.met.K.Keeper.quiet now) c.act.ensures.passed.state)
 
 pub returns-in-Ok-clause-shaped : goal.returns-in-Ok-clause-shaped
 returns-in-Ok-clause-shaped g c =
     let w = c.act.new.world in
-    let old = c.args.keeper.now in
-    let now = w.keeper.now in
-    let kept = keeper_same (g.A.SoundApp.app c.args.app.now) (g.A.SoundApp.app w.app.now) _ _ _ _ _ _ _ _ _ _ c.act.ensures.passed.fixed in
-    carried (λ (k : g.row.K.Denot). g.K.Keeper.shaped k ≡ Some (g.A.SoundApp.app c.args.app.now).names.schema) now _ (search (rules, kept))
-    (shaped_still (g.A.SoundApp.app c.args.app.now) (g.A.SoundApp.app w.app.now) _ _ _ _ _ _ _ _ _ _ (g.K.Keeper.shaped now) c.act.ensures.passed.fixed w.shaped)
+    let kept = keeper_same (anchor (g.A.SoundApp.app w.app.now) w.moment w.before.now (take w.earlier w.wrote.now.items)) (anchor (g.A.SoundApp.app c.args.app.now) c.args.moment c.args.before.now (take c.args.earlier c.args.wrote.now.items)) _ _ _ _ _ _ _ _ _ _ _ _ c.act.ensures.passed.fixed in
+    let stands = stands_same (anchor (g.A.SoundApp.app w.app.now) w.moment w.before.now (take w.earlier w.wrote.now.items)) (anchor (g.A.SoundApp.app c.args.app.now) c.args.moment c.args.before.now (take c.args.earlier c.args.wrote.now.items)) _ _ _ _ _ _ _ _ _ _ _ _ c.act.ensures.passed.fixed in
+    carried (λ (k : g.row.K.Denot). g.K.Keeper.shaped k ≡ Some (g.A.SoundApp.app c.args.app.now).names.schema) w.keeper.now _ (search (rules, kept)) (subst (λ (a : App). g.K.Keeper.shaped w.keeper.now ≡ Some a.names.schema) stands.app w.shaped)
+
+pub returns-clause-shaped : goal.returns-clause-shaped
+returns-clause-shaped g c =
+    let w = c.act.new.world in
+    let kept = keeper_same (anchor (g.A.SoundApp.app w.app.now) w.moment w.before.now (take w.earlier w.wrote.now.items)) (anchor (g.A.SoundApp.app c.args.app.now) c.args.moment c.args.before.now (take c.args.earlier c.args.wrote.now.items)) _ _ _ _ _ _ _ _ _ _ _ _ c.act.ensures.passed.fixed in
+    let stands = stands_same (anchor (g.A.SoundApp.app w.app.now) w.moment w.before.now (take w.earlier w.wrote.now.items)) (anchor (g.A.SoundApp.app c.args.app.now) c.args.moment c.args.before.now (take c.args.earlier c.args.wrote.now.items)) _ _ _ _ _ _ _ _ _ _ _ _ c.act.ensures.passed.fixed in
+    carried (λ (k : g.row.K.Denot). g.K.Keeper.shaped k ≡ Some (g.A.SoundApp.app c.args.app.now).names.schema) w.keeper.now _ (search (rules, kept)) (subst (λ (a : App). g.K.Keeper.shaped w.keeper.now ≡ Some a.names.schema) stands.app w.shaped)
 
 pub returns-in-Ok-clause-open : goal.returns-in-Ok-clause-open
 returns-in-Ok-clause-open g c =
     let w = c.act.new.world in
-    let old = c.args.keeper.now in
-    let now = w.keeper.now in
-    let kept = keeper_same (g.A.SoundApp.app c.args.app.now) (g.A.SoundApp.app w.app.now) _ _ _ _ _ _ _ _ _ _ c.act.ensures.passed.fixed in
-    carried (λ (k : g.row.K.Denot). g.K.Keeper.in_transaction k ≡ true) now _ (search (rules, kept)) w.begun
+    let kept = keeper_same (anchor (g.A.SoundApp.app w.app.now) w.moment w.before.now (take w.earlier w.wrote.now.items)) (anchor (g.A.SoundApp.app c.args.app.now) c.args.moment c.args.before.now (take c.args.earlier c.args.wrote.now.items)) _ _ _ _ _ _ _ _ _ _ _ _ c.act.ensures.passed.fixed in
+    carried (λ (k : g.row.K.Denot). g.K.Keeper.in_transaction k ≡ true) w.keeper.now _ (search (rules, kept)) w.begun
+
+pub returns-clause-open : goal.returns-clause-open
+returns-clause-open g c =
+    let w = c.act.new.world in
+    let kept = keeper_same (anchor (g.A.SoundApp.app w.app.now) w.moment w.before.now (take w.earlier w.wrote.now.items)) (anchor (g.A.SoundApp.app c.args.app.now) c.args.moment c.args.before.now (take c.args.earlier c.args.wrote.now.items)) _ _ _ _ _ _ _ _ _ _ _ _ c.act.ensures.passed.fixed in
+    carried (λ (k : g.row.K.Denot). g.K.Keeper.in_transaction k ≡ true) w.keeper.now _ (search (rules, kept)) w.begun
 
 pub returns-in-Ok-clause-cause : goal.returns-in-Ok-clause-cause
 returns-in-Ok-clause-cause g c =
     let w = c.act.new.world in
     let old = c.args.keeper.now in
     let now = w.keeper.now in
-    let kept = keeper_same (g.A.SoundApp.app c.args.app.now) (g.A.SoundApp.app w.app.now) _ _ _ _ _ _ _ _ _ _ c.act.ensures.passed.fixed in
+    let kept = keeper_same (anchor (g.A.SoundApp.app w.app.now) w.moment w.before.now (take w.earlier w.wrote.now.items)) (anchor (g.A.SoundApp.app c.args.app.now) c.args.moment c.args.before.now (take c.args.earlier c.args.wrote.now.items)) _ _ _ _ _ _ _ _ _ _ _ _ c.act.ensures.passed.fixed in
     record {
       later = carried (λ (k : g.row.K.Denot). IsLater (g.K.Keeper.marks old) (g.K.Keeper.marks k)) now _ (search (rules, kept)) c.act.ensures.passed.later;
       failed = λ e. absurd (no_error _ _ e);
+    }
+
+pub returns-clause-cause : goal.returns-clause-cause
+returns-clause-cause g c =
+    let w = c.act.new.world in
+    let old = c.args.keeper.now in
+    let now = w.keeper.now in
+    let kept = keeper_same (anchor (g.A.SoundApp.app w.app.now) w.moment w.before.now (take w.earlier w.wrote.now.items)) (anchor (g.A.SoundApp.app c.args.app.now) c.args.moment c.args.before.now (take c.args.earlier c.args.wrote.now.items)) _ _ _ _ _ _ _ _ _ _ _ _ c.act.ensures.passed.fixed in
+    record {
+      later = carried (λ (k : g.row.K.Denot). IsLater (g.K.Keeper.marks old) (g.K.Keeper.marks k)) now _ (search (rules, kept)) c.act.ensures.passed.later;
+      failed = λ e. carried (λ (k : g.row.K.Denot). Rose (g.K.Keeper.marks old).faults (g.K.Keeper.marks k).faults) now _ (search (rules, kept)) (c.in-Err.ensures.keeper (ap Err (failed_by c.in-Err.stop _ (ap Err c.end_of.ensures) e)));
     }
 
 pub returns-in-Ok-clause-visited : goal.returns-in-Ok-clause-visited
@@ -148,7 +329,15 @@ returns-in-Ok-clause-visited g c =
     let w = c.act.new.world in
     let old = c.args.keeper.now in
     let now = w.keeper.now in
-    let kept = keeper_same (g.A.SoundApp.app c.args.app.now) (g.A.SoundApp.app w.app.now) _ _ _ _ _ _ _ _ _ _ c.act.ensures.passed.fixed in
+    let kept = keeper_same (anchor (g.A.SoundApp.app w.app.now) w.moment w.before.now (take w.earlier w.wrote.now.items)) (anchor (g.A.SoundApp.app c.args.app.now) c.args.moment c.args.before.now (take c.args.earlier c.args.wrote.now.items)) _ _ _ _ _ _ _ _ _ _ _ _ c.act.ensures.passed.fixed in
+    carried (λ (k : g.row.K.Denot). g.K.Keeper.visited old ≤ g.K.Keeper.visited k) now _ (search (rules, kept)) c.act.ensures.passed.visited
+
+pub returns-clause-visited : goal.returns-clause-visited
+returns-clause-visited g c =
+    let w = c.act.new.world in
+    let old = c.args.keeper.now in
+    let now = w.keeper.now in
+    let kept = keeper_same (anchor (g.A.SoundApp.app w.app.now) w.moment w.before.now (take w.earlier w.wrote.now.items)) (anchor (g.A.SoundApp.app c.args.app.now) c.args.moment c.args.before.now (take c.args.earlier c.args.wrote.now.items)) _ _ _ _ _ _ _ _ _ _ _ _ c.act.ensures.passed.fixed in
     carried (λ (k : g.row.K.Denot). g.K.Keeper.visited old ≤ g.K.Keeper.visited k) now _ (search (rules, kept)) c.act.ensures.passed.visited
 
 pub returns-in-Ok-clause-loan : goal.returns-in-Ok-clause-loan
@@ -156,89 +345,13 @@ returns-in-Ok-clause-loan g c =
     let w = c.act.new.world in
     let old = c.args.keeper.now in
     let now = w.keeper.now in
-    let kept = keeper_same (g.A.SoundApp.app c.args.app.now) (g.A.SoundApp.app w.app.now) _ _ _ _ _ _ _ _ _ _ c.act.ensures.passed.fixed in
-    carried (λ (k : g.row.K.Denot). g.K.Keeper.loan k ≡ g.K.Keeper.loan old) now _ (search (rules, kept)) (loan_same (g.A.SoundApp.app c.args.app.now) (g.A.SoundApp.app w.app.now) _ _ _ _ _ _ _ _ _ _ c.act.ensures.passed.fixed)
-
-pub returns-clause-leaves : goal.returns-clause-leaves
-returns-clause-leaves g c =
-    let w = c.act.new.world in
-    let old = c.args.keeper.now in
-    let now = w.keeper.now in
-    let kept = keeper_same (g.A.SoundApp.app c.args.app.now) (g.A.SoundApp.app w.app.now) _ _ _ _ _ _ _ _ _ _ c.act.ensures.passed.fixed in
-    let same = session_same (g.A.SoundApp.app c.args.app.now) (g.A.SoundApp.app w.app.now) _ _ _ _ _ _ _ _ _ _ c.act.ensures.passed.fixed in
-    carried_both (λ (k : g.row.K.Denot) (r : SessionState). Goes (IsLost (g.K.Keeper.marks old) (g.K.Keeper.marks k)) (λ t u. Leaves (g.A.SoundApp.app c.args.app.now) c.args.moment t c.args.session.now u r) (g.K.Keeper.told old) (g.K.Keeper.told k))
-    now _ w.session.now _ (search (rules, kept)) (search (rules, same))
-    (leaves_from (IsLost (g.K.Keeper.marks old) (g.K.Keeper.marks now)) (g.A.SoundApp.app c.args.app.now) (g.A.SoundApp.app c.args.app.now) c.args.moment (g.K.Keeper.began old) (view c.args.day.now) (view w.day.now) (grounds (g.A.SoundApp.app w.app.now) w.moment (g.K.Keeper.began now)) c.args.session.now w.session.now (cells_of c.args.cells.now) (cells_of w.cells.now) c.args.wrote.now.items w.wrote.now.items (g.K.Keeper.told old) (g.K.Keeper.told now)
-    refl c.requires.wrote c.act.ensures.passed.state)
-
-pub returns-clause-fits : goal.returns-clause-fits
-returns-clause-fits g c =
-    let w = c.act.new.world in
-    let old = c.args.keeper.now in
-    let now = w.keeper.now in
-    let same = session_same (g.A.SoundApp.app c.args.app.now) (g.A.SoundApp.app w.app.now) _ _ _ _ _ _ _ _ _ _ c.act.ensures.passed.fixed in
-    carried (λ (r : SessionState). FitsNames (g.A.SoundApp.app c.args.app.now).names r) w.session.now _ (search (rules, same))
-    (fits_still (g.A.SoundApp.app c.args.app.now) (g.A.SoundApp.app w.app.now) _ _ _ _ _ _ _ _ _ _ w.session.now c.act.ensures.passed.fixed w.fits)
-
-pub returns-clause-rows : goal.returns-clause-rows
-returns-clause-rows g c =
-    let w = c.act.new.world in
-    let old = c.args.keeper.now in
-    let now = w.keeper.now in
-    let kept = keeper_same (g.A.SoundApp.app c.args.app.now) (g.A.SoundApp.app w.app.now) _ _ _ _ _ _ _ _ _ _ c.act.ensures.passed.fixed in
-    carried (λ (k : g.row.K.Denot). AreSound (g.A.SoundApp.app c.args.app.now).names.schema (g.K.Keeper.told k)) now _ (search (rules, kept))
-    (sound_still (g.A.SoundApp.app c.args.app.now) (g.A.SoundApp.app w.app.now) _ _ _ _ _ _ _ _ _ _ (g.K.Keeper.told now) c.act.ensures.passed.fixed w.sound)
-
-pub returns-clause-began : goal.returns-clause-began
-returns-clause-began g c =
-    let w = c.act.new.world in
-    let old = c.args.keeper.now in
-    let now = w.keeper.now in
-    let kept = keeper_same (g.A.SoundApp.app c.args.app.now) (g.A.SoundApp.app w.app.now) _ _ _ _ _ _ _ _ _ _ c.act.ensures.passed.fixed in
-    carried (λ (k : g.row.K.Denot). Goes (IsLost (g.K.Keeper.marks old) (g.K.Keeper.marks k)) Stays (g.K.Keeper.began old) (g.K.Keeper.began k)) now _ (search (rules, kept))
-    (began_goes (IsLost (g.K.Keeper.marks old) (g.K.Keeper.marks now)) (view c.args.day.now) (view w.day.now) (grounds (g.A.SoundApp.app c.args.app.now) c.args.moment (g.K.Keeper.began old)) (grounds (g.A.SoundApp.app w.app.now) w.moment (g.K.Keeper.began now)) c.args.session.now w.session.now (cells_of c.args.cells.now) (cells_of w.cells.now) c.args.wrote.now.items w.wrote.now.items
-    (g.K.Keeper.told old) (g.K.Keeper.told now) (g.met.K.Keeper.quiet old) (g.met.K.Keeper.quiet now) c.act.ensures.passed.state)
-
-pub returns-clause-shaped : goal.returns-clause-shaped
-returns-clause-shaped g c =
-    let w = c.act.new.world in
-    let old = c.args.keeper.now in
-    let now = w.keeper.now in
-    let kept = keeper_same (g.A.SoundApp.app c.args.app.now) (g.A.SoundApp.app w.app.now) _ _ _ _ _ _ _ _ _ _ c.act.ensures.passed.fixed in
-    carried (λ (k : g.row.K.Denot). g.K.Keeper.shaped k ≡ Some (g.A.SoundApp.app c.args.app.now).names.schema) now _ (search (rules, kept))
-    (shaped_still (g.A.SoundApp.app c.args.app.now) (g.A.SoundApp.app w.app.now) _ _ _ _ _ _ _ _ _ _ (g.K.Keeper.shaped now) c.act.ensures.passed.fixed w.shaped)
-
-pub returns-clause-open : goal.returns-clause-open
-returns-clause-open g c =
-    let w = c.act.new.world in
-    let old = c.args.keeper.now in
-    let now = w.keeper.now in
-    let kept = keeper_same (g.A.SoundApp.app c.args.app.now) (g.A.SoundApp.app w.app.now) _ _ _ _ _ _ _ _ _ _ c.act.ensures.passed.fixed in
-    carried (λ (k : g.row.K.Denot). g.K.Keeper.in_transaction k ≡ true) now _ (search (rules, kept)) w.begun
-
-pub returns-clause-cause : goal.returns-clause-cause
-returns-clause-cause g c =
-    let w = c.act.new.world in
-    let old = c.args.keeper.now in
-    let now = w.keeper.now in
-    let kept = keeper_same (g.A.SoundApp.app c.args.app.now) (g.A.SoundApp.app w.app.now) _ _ _ _ _ _ _ _ _ _ c.act.ensures.passed.fixed in
-    record {
-      later = carried (λ (k : g.row.K.Denot). IsLater (g.K.Keeper.marks old) (g.K.Keeper.marks k)) now _ (search (rules, kept)) c.act.ensures.passed.later;
-      failed = λ e. carried (λ (k : g.row.K.Denot). Rose (g.K.Keeper.marks old).faults (g.K.Keeper.marks k).faults) now _ (search (rules, kept)) (c.in-Err.ensures.keeper (ap Err (failed_by c.in-Err.stop _ (ap Err c.end_of.ensures) e)));
-    }
-
-pub returns-clause-visited : goal.returns-clause-visited
-returns-clause-visited g c =
-    let w = c.act.new.world in
-    let old = c.args.keeper.now in
-    let now = w.keeper.now in
-    let kept = keeper_same (g.A.SoundApp.app c.args.app.now) (g.A.SoundApp.app w.app.now) _ _ _ _ _ _ _ _ _ _ c.act.ensures.passed.fixed in
-    carried (λ (k : g.row.K.Denot). g.K.Keeper.visited old ≤ g.K.Keeper.visited k) now _ (search (rules, kept)) c.act.ensures.passed.visited
+    let kept = keeper_same (anchor (g.A.SoundApp.app w.app.now) w.moment w.before.now (take w.earlier w.wrote.now.items)) (anchor (g.A.SoundApp.app c.args.app.now) c.args.moment c.args.before.now (take c.args.earlier c.args.wrote.now.items)) _ _ _ _ _ _ _ _ _ _ _ _ c.act.ensures.passed.fixed in
+    carried (λ (k : g.row.K.Denot). g.K.Keeper.loan k ≡ g.K.Keeper.loan old) now _ (search (rules, kept)) (loan_same (anchor (g.A.SoundApp.app w.app.now) w.moment w.before.now (take w.earlier w.wrote.now.items)) (anchor (g.A.SoundApp.app c.args.app.now) c.args.moment c.args.before.now (take c.args.earlier c.args.wrote.now.items)) _ _ _ _ _ _ _ _ _ _ _ _ c.act.ensures.passed.fixed)
 
 pub returns-clause-loan : goal.returns-clause-loan
 returns-clause-loan g c =
     let w = c.act.new.world in
     let old = c.args.keeper.now in
     let now = w.keeper.now in
-    let kept = keeper_same (g.A.SoundApp.app c.args.app.now) (g.A.SoundApp.app w.app.now) _ _ _ _ _ _ _ _ _ _ c.act.ensures.passed.fixed in
-    carried (λ (k : g.row.K.Denot). g.K.Keeper.loan k ≡ g.K.Keeper.loan old) now _ (search (rules, kept)) (loan_same (g.A.SoundApp.app c.args.app.now) (g.A.SoundApp.app w.app.now) _ _ _ _ _ _ _ _ _ _ c.act.ensures.passed.fixed)
+    let kept = keeper_same (anchor (g.A.SoundApp.app w.app.now) w.moment w.before.now (take w.earlier w.wrote.now.items)) (anchor (g.A.SoundApp.app c.args.app.now) c.args.moment c.args.before.now (take c.args.earlier c.args.wrote.now.items)) _ _ _ _ _ _ _ _ _ _ _ _ c.act.ensures.passed.fixed in
+    carried (λ (k : g.row.K.Denot). g.K.Keeper.loan k ≡ g.K.Keeper.loan old) now _ (search (rules, kept)) (loan_same (anchor (g.A.SoundApp.app w.app.now) w.moment w.before.now (take w.earlier w.wrote.now.items)) (anchor (g.A.SoundApp.app c.args.app.now) c.args.moment c.args.before.now (take c.args.earlier c.args.wrote.now.items)) _ _ _ _ _ _ _ _ _ _ _ _ c.act.ensures.passed.fixed)

@@ -1,10 +1,12 @@
-use Rattle.std.proofs.Common.{◌≡◌, Result, subst, sym}
+use Rattle.std.proofs.Common.{◌∙◌, ◌≡◌, Result, ap, subst, sym}
+use Rattle.std.proofs.Math.Logic.{∥∥₁_map}
 use Rattle.std.proofs.lemmas.Result.{IfOk-weaker}
-use Rattle.fx_base.specs.Silence.{IsLost}
 use Rattle.recalc.proofs.Asked.{heard_told}
-use Rattle.recalc.specs.Values.{value_of}
-use Rattle.request_checks.specs.Replies.{said}
 use Rattle.row_keeper.specs.Tables.{rows_told}
+use Rattle.fx_base.specs.Silence.{IsLost}
+use Rattle.recalc.specs.Values.{Values}
+use Rattle.recalc.specs.Kept.{value_of}
+use Rattle.request_checks.specs.Replies.{said}
 use Rattle.view_text.specs.declared.refused.Refusal.{Refusal}
 use Rattle.session_requests.specs.Acting.{EndsInput}
 use Rattle.session_requests.specs.Targets.{Given}
@@ -13,27 +15,27 @@ use Rattle.session_requests.proofs.posting.act_input.Goals as goal
 
 pub end_input-requires-clause-verdict : goal.end_input-requires-clause-verdict
 end_input-requires-clause-verdict g c =
-    (c.args.input, input_over c.args.app.now.names c.args.session c.args.input c.as_slice.result.now c.in_ok-valued.valued c.input_target-verdict.result c.as_slice.ensures (c.input_target-verdict.ensures.is c.args.session (sym c.screen.ensures)))
+    (c.args.input, input_over c.args.app.now.names c.args.session c.args.input c.as_slice-values.result.now c.look_for_input.new.cache.values c.input_target-verdict.result (c.as_slice-values.ensures ∙ ap (λ (w : Values). w.cells) c.valued.ensures) (c.input_target-verdict.ensures.is c.args.session (sym c.screen.ensures)))
 
 pub returns-clause-done : goal.returns-clause-done
 returns-clause-done g c =
     let told = g.K.Keeper.told in
     let marks = g.K.Keeper.marks in
     let app = c.args.app.now in
-    let values = value_of c.in_ok-valued.valued in
+    let values = value_of c.look_for_input.new.cache in
     let before = marks c.args.keeper.now in
-    let seen = told c.evaluate.new.keeper in
-    let valued = marks c.evaluate.new.keeper in
+    let seen = told c.look_for_input.new.keeper in
+    let valued = marks c.look_for_input.new.keeper in
     let now = marks c.end_input.new.keeper in
-    let read = c.in_ok-valued.ensures.read in
-    let is = input_over app.names c.args.session c.args.input c.as_slice.result.now c.in_ok-valued.valued c.input_target-verdict.result c.as_slice.ensures (c.input_target-verdict.ensures.is c.args.session (sym c.screen.ensures)) in
+    let read = c.look_for_input.ensures.read in
+    let is = input_over app.names c.args.session c.args.input c.as_slice-values.result.now c.look_for_input.new.cache.values c.input_target-verdict.result (c.as_slice-values.ensures ∙ ap (λ (w : Values). w.cells) c.valued.ensures) (c.input_target-verdict.ensures.is c.args.session (sym c.screen.ensures)) in
     IfOk-weaker c.end_input.result _ _ (λ r h. record {
       session = c.args.session;
       found = c.requires.found;
       seen = seen;
       stays = stays_lost before valued now c.end_input.ensures.cause.later (told c.args.keeper.now) seen read.told;
       values = values;
-      fresh = c.in_ok-valued.ensures.fresh (rows_told seen) (heard_told seen);
+      fresh = ∥∥₁_map c.in_ok-look_for_input.ensures.fresh (λ f. f (rows_told seen) (heard_told seen));
       ends = subst (λ (v : Result Given Refusal). EndsInput (IsLost before now) app c.args.moment c.args.name.now c.args.body.now c.args.input.seq c.args.session values v seen c.args.sessions.now.items (said r) (told c.end_input.new.keeper) c.end_input.new.sessions.items) is
           (input_lost before valued now app c.args.moment c.args.name.now c.args.body.now c.args.input.seq c.args.session values c.input_target-verdict.result seen (told c.end_input.new.keeper) c.args.sessions.now.items c.end_input.new.sessions.items (said r) read.later h);
     }) c.end_input.ensures.done

@@ -1,4 +1,5 @@
-use Rattle.std.proofs.Common.{◌≡◌, Option, Some, option_map, slice_get, sym}
+use Rattle.std.proofs.Common.{◌≡◌, Option, Some, drop, length, option_map, slice_get, sym}
+use Rattle.std.proofs.lemmas.Result.{IfOk-weaker}
 use Rattle.fx_base.specs.Silence.{IsLost}
 use Rattle.fx_data.specs.ValueView.{view}
 use Rattle.session_requests.specs.Triggers.{cell_at}
@@ -17,12 +18,13 @@ perform-requires-clause-item g c =
     (there_at c.args.app.now.cells c.as_slice.result.now c.in-Some.place c.index-as_slice-place.result c.as_slice.ensures c.in-Some.ensures.within c.index-as_slice-place.is)
     c.requires.item
 
-pub returns-in_ok-acted-in-Some-clause-done : goal.returns-in_ok-acted-in-Some-clause-done
-returns-in_ok-acted-in-Some-clause-done g c =
+pub returns-in-Some-clause-done : goal.returns-in-Some-clause-done
+returns-in-Some-clause-done g c =
     let told = g.K.Keeper.told in
     let marks = g.K.Keeper.marks in
+    IfOk-weaker c.perform.result _ _ (λ v h.
     acted_some c.args.app.now c.args.moment c.args.trigger (option_map view c.args.item) c.in-Some.place c.index-as_slice-place.result c.args.session.now c.perform.new.session
-    (view c.in_ok-acted-in-Some.acted.value) c.in_ok-acted-in-Some.acted.wrote.items (IsLost (marks c.args.keeper.now) (marks c.perform.new.keeper)) (told c.args.keeper.now) (told c.perform.new.keeper)
+    (view v) (drop (length c.args.wrote.now.items) c.perform.new.wrote.items) (IsLost (marks c.args.keeper.now) (marks c.perform.new.keeper)) (told c.args.keeper.now) (told c.perform.new.keeper)
     (sym c.in-Some.ensures.place)
     (there_at c.args.app.now.cells c.as_slice.result.now c.in-Some.place c.index-as_slice-place.result c.as_slice.ensures c.in-Some.ensures.within c.index-as_slice-place.is)
-    c.in_ok-acted-in-Some.ensures.acted
+    h) c.perform.ensures.acted

@@ -1,5 +1,38 @@
+use Rattle.std.proofs.Common.{[], ◌∙◌, option_map, sym}
+use Rattle.fx_base.specs.Silence.{IsLost}
+use Rattle.fx_data.specs.ValueView.{view}
 use Rattle.session_requests.proofs.RequestFitting.{fits_arrived}
+use Rattle.session_requests.proofs.Resting.{arrived_but, run_alone}
+use Rattle.session_requests.proofs.Undone.{but_then, cached_as}
 use Rattle.session_requests.proofs.running.run.Goals as goal
 
 pub show-requires-clause-fits : goal.show-requires-clause-fits
 show-requires-clause-fits g c = fits_arrived c.args.app.now.names c.act.new.session c.take_navigated.new.self c.take_navigated.ensures.taken c.in_ok-value.ensures.fits
+
+pub show-requires-clause-cached : goal.show-requires-clause-cached
+show-requires-clause-cached g c =
+    cached_as c.args.app.now c.act.new.session c.take_navigated.new.self (g.K.Keeper.told c.act.new.keeper) c.args.moment c.act.new.cache c.requires.sound
+    (arrived_but c.args.app.now.names [] c.act.new.session c.take_navigated.new.self c.take_navigated.ensures.taken) c.in_ok-value.ensures.cached
+
+pub show-requires-clause-but : goal.show-requires-clause-but
+show-requires-clause-but g c =
+    but_then c.args.app.now.names c.act.new.wrote.items c.args.before.now c.act.new.session c.take_navigated.new.self c.in_ok-value.ensures.but
+    (arrived_but c.args.app.now.names c.act.new.wrote.items c.act.new.session c.take_navigated.new.self c.take_navigated.ensures.taken)
+
+pub returns-then-not-take_navigated-clause-fits : goal.returns-then-not-take_navigated-clause-fits
+returns-then-not-take_navigated-clause-fits g c = fits_arrived c.args.app.now.names c.act.new.session c.take_navigated.new.self c.take_navigated.ensures.taken c.in_ok-value.ensures.fits
+
+pub returns-then-not-take_navigated-clause-cached : goal.returns-then-not-take_navigated-clause-cached
+returns-then-not-take_navigated-clause-cached g c =
+    cached_as c.args.app.now c.act.new.session c.take_navigated.new.self (g.K.Keeper.told c.act.new.keeper) c.args.moment c.act.new.cache c.requires.sound
+    (arrived_but c.args.app.now.names [] c.act.new.session c.take_navigated.new.self c.take_navigated.ensures.taken) c.in_ok-value.ensures.cached
+
+pub returns-then-not-take_navigated-clause-but : goal.returns-then-not-take_navigated-clause-but
+returns-then-not-take_navigated-clause-but g c =
+    but_then c.args.app.now.names c.act.new.wrote.items c.args.before.now c.act.new.session c.take_navigated.new.self c.in_ok-value.ensures.but
+    (arrived_but c.args.app.now.names c.act.new.wrote.items c.act.new.session c.take_navigated.new.self c.take_navigated.ensures.taken)
+
+pub returns-then-not-take_navigated-clause-done : goal.returns-then-not-take_navigated-clause-done
+returns-then-not-take_navigated-clause-done g c =
+    run_alone (IsLost (g.K.Keeper.marks c.args.keeper.now) (g.K.Keeper.marks c.act.new.keeper)) c.args.app.now c.args.moment c.args.trigger (option_map view c.args.item) c.args.session.now c.act.new.session c.take_navigated.new.self (view c.in_ok-value.value)
+    (g.K.Keeper.told c.args.keeper.now) (g.K.Keeper.told c.act.new.keeper) (sym c.take_navigated.ensures.navigated ∙ c.if-not-take_navigated.true) c.take_navigated.ensures.taken c.in_ok-value.ensures.done

@@ -1,8 +1,31 @@
+use Rattle.std.proofs.Common.{[]}
 use Rattle.session_requests.proofs.RequestFitting.{fits_arrived}
+use Rattle.session_requests.proofs.Resting.{arrived_but}
+use Rattle.session_requests.proofs.Undone.{but_then, cached_as}
 use Rattle.session_requests.proofs.running.show.Goals as goal
 
 pub act-requires-clause-fits : goal.act-requires-clause-fits
 act-requires-clause-fits g c = fits_arrived c.args.app.now.names c.args.session.now c.take_navigated.new.self c.take_navigated.ensures.taken c.requires.fits
 
+pub act-requires-clause-cached : goal.act-requires-clause-cached
+act-requires-clause-cached g c =
+    cached_as c.args.app.now c.args.session.now c.take_navigated.new.self (g.K.Keeper.told c.args.keeper.now) c.args.moment c.args.cache.now c.requires.sound
+    (arrived_but c.args.app.now.names [] c.args.session.now c.take_navigated.new.self c.take_navigated.ensures.taken) c.requires.cached
+
+pub act-requires-clause-but : goal.act-requires-clause-but
+act-requires-clause-but g c =
+    but_then c.args.app.now.names c.args.wrote.now.items c.args.before.now c.args.session.now c.take_navigated.new.self c.requires.but
+    (arrived_but c.args.app.now.names c.args.wrote.now.items c.args.session.now c.take_navigated.new.self c.take_navigated.ensures.taken)
+
 pub returns-clause-fits : goal.returns-clause-fits
 returns-clause-fits g c = fits_arrived c.args.app.now.names c.act.new.session c.take_navigated-2.new.self c.take_navigated-2.ensures.taken c.in_ok-act.ensures.fits
+
+pub returns-clause-cached : goal.returns-clause-cached
+returns-clause-cached g c =
+    cached_as c.args.app.now c.act.new.session c.take_navigated-2.new.self (g.K.Keeper.told c.act.new.keeper) c.args.moment c.act.new.cache c.requires.sound
+    (arrived_but c.args.app.now.names [] c.act.new.session c.take_navigated-2.new.self c.take_navigated-2.ensures.taken) c.in_ok-act.ensures.cached
+
+pub returns-clause-but : goal.returns-clause-but
+returns-clause-but g c =
+    but_then c.args.app.now.names c.act.new.wrote.items c.args.before.now c.act.new.session c.take_navigated-2.new.self c.in_ok-act.ensures.but
+    (arrived_but c.args.app.now.names c.act.new.wrote.items c.act.new.session c.take_navigated-2.new.self c.take_navigated-2.ensures.taken)

@@ -1,28 +1,64 @@
-use Rattle.std.proofs.Common.{◌≡◌, ◌∙◌, Bool, List, None, Some, ap, false, inl, inr, refl, sym, true}
-use Rattle.std.specs.Prelude.{◌⊎◌, IsSome}
+use Rattle.std.proofs.Common.{◌≡◌, ◌∙◌, Some, subst, sym}
+use Rattle.std.proofs.Math.Logic.{∥∥₁_map}
+use Rattle.std.specs.Prelude.{drop}
 use Rattle.fx_base.specs.Silence.{IsLost}
 use Rattle.fx_data.specs.ValueView.{view}
 use Rattle.fx_trees.specs.Reads.{sources_in}
-use Rattle.row_keeper.specs.Tables.{rows_of, rows_told}
+use Rattle.recalc.specs.app_cells.declared.app.App.{App}
+use Rattle.recalc.specs.app_semantics.Holding.{HoldsFitting}
+use Rattle.recalc.specs.app_semantics.Sound.{IsSound}
+use Rattle.fx_data.specs.Values.{Data}
+use Rattle.fx_scalar.specs.ScalarFunctions.{IsToday}
+use Rattle.recalc.specs.Kept.{IsInOrder, value_of}
+use Rattle.recalc.specs.Outcomes.{IsRightOver}
 use Rattle.session_requests.specs.Grounds.{grounds}
-use Rattle.session_requests.proofs.Readying.{ready_now, sound_stays}
+use Rattle.session_requests.proofs.Caches.{day_of}
+use Rattle.session_requests.proofs.Readying.{AreFreshBehind, ready_now, sound_stays}
+use Rattle.session_requests.proofs.WorldTelling.{holding}
 use Rattle.session_requests.proofs.world.SessionWorldWorld.ready.Goals as goal
 
-pub returns-then-is_some-clause-ready : goal.returns-then-is_some-clause-ready
-returns-then-is_some-clause-ready g c =
+pub refresh_behind-requires : goal.refresh_behind-requires
+refresh_behind-requires g c =
     let w = c.args.self.now in
-    ready_now (view w.day.now) (grounds (g.A.SoundApp.app w.app.now) w.moment (g.K.Keeper.began w.keeper.now)) w.session.now w.wrote.now.items (sources_in c.args.core.now) (g.K.Keeper.told w.keeper.now) w.cells.now c.is_sound.ensures w.fits w.sound w.today w.fresh (inl (sym c.is_some.ensures ∙ c.if-is_some.true))
-
-pub returns-then-not-branch-clause-ready : goal.returns-then-not-branch-clause-ready
-returns-then-not-branch-clause-ready g c =
-    let w = c.args.self.now in
-    ready_now (view w.day.now) (grounds (g.A.SoundApp.app w.app.now) w.moment (g.K.Keeper.began w.keeper.now)) w.session.now w.wrote.now.items (sources_in c.args.core.now) (g.K.Keeper.told w.keeper.now) w.cells.now c.is_sound.ensures w.fits w.sound w.today w.fresh
-    (inr (c.in_ok-reads_cells.ensures c.if-not-branch.true))
+    let same = sym c.get-app.ensures in
+    record {
+      sound = subst (λ (a : App). IsSound a) same c.is_sound.ensures;
+      holds = subst (λ (a : App). HoldsFitting a.names w.session.now) same (holding (g.A.SoundApp.app w.app.now).names w.session.now w.fits);
+      shaped = subst (λ (a : App). g.K.Keeper.shaped w.keeper.now ≡ Some a.names.schema) same w.shaped;
+      order = subst (λ (a : App). IsInOrder a w.cache.now) same w.order;
+      day = day_of (g.A.SoundApp.app w.app.now) w.session.now w.moment w.cache.now.values.day w.dated;
+    }
 
 pub returns-in-Ok-clause-ready : goal.returns-in-Ok-clause-ready
 returns-in-Ok-clause-ready g c =
     let w = c.args.self.now in
-    let k = c.fresh_values.new.keeper in
-    ready_now (view w.day.now) (grounds (g.A.SoundApp.app w.app.now) w.moment (g.K.Keeper.began k)) w.session.now w.wrote.now.items (sources_in c.args.core.now) (g.K.Keeper.told k) (Some c.in-Ok.cells) c.is_sound.ensures w.fits
-    (sound_stays (IsLost (g.K.Keeper.marks w.keeper.now) (g.K.Keeper.marks k)) (g.A.SoundApp.app w.app.now).names.schema (g.K.Keeper.told w.keeper.now) (g.K.Keeper.told k) c.in-Ok.ensures.read.told w.sound) w.today
-    ∣ (λ t e. c.in-Ok.ensures.fresh (Some (rows_of t.states)) (ap rows_told e)) ∣₁ (inl refl)
+    let k = c.refresh_behind.new.keeper in
+    ready_now (view w.day.now) (grounds (g.A.SoundApp.app w.app.now) w.moment (g.K.Keeper.began k)) w.session.now c.refresh_behind.new.cache.values.cells (drop w.earlier w.wrote.now.items) (sources_in c.args.core.now) (g.K.Keeper.told k) c.is_sound.ensures w.fits
+    (sound_stays (IsLost (g.K.Keeper.marks w.keeper.now) (g.K.Keeper.marks k)) (g.A.SoundApp.app w.app.now).names.schema (g.K.Keeper.told w.keeper.now) (g.K.Keeper.told k) c.refresh_behind.ensures.read.told w.sound) w.today
+    (∥∥₁_map w.right (λ r. subst (λ (a : App). AreFreshBehind a w.session.now (g.K.Keeper.told k) w.moment (value_of c.refresh_behind.new.cache) (sources_in c.args.core.now)) c.get-app.ensures
+    (c.in-Ok.ensures.fresh (subst (λ (a : App). IsRightOver a w.session.now (g.K.Keeper.told w.keeper.now) w.moment w.cache.now) (sym c.get-app.ensures) r))))
+
+pub invariant_of-self-clause-order : goal.invariant_of-self-clause-order
+invariant_of-self-clause-order g c = subst (λ (a : App). IsInOrder a c.refresh_behind.new.cache) c.get-app.ensures c.refresh_behind.ensures.order
+
+pub invariant_of-self-clause-right : goal.invariant_of-self-clause-right
+invariant_of-self-clause-right g c =
+    let w = c.args.self.now in
+    ∥∥₁_map w.right (λ r. subst (λ (a : App). IsRightOver a w.session.now (g.K.Keeper.told c.refresh_behind.new.keeper) w.moment c.refresh_behind.new.cache) c.get-app.ensures
+    (c.refresh_behind.ensures.right (subst (λ (a : App). IsRightOver a w.session.now (g.K.Keeper.told w.keeper.now) w.moment w.cache.now) (sym c.get-app.ensures) r)))
+
+pub invariant_of-self-clause-dated : goal.invariant_of-self-clause-dated
+invariant_of-self-clause-dated g c =
+    let w = c.args.self.now in
+    subst (λ (d : Data). ∥ IsToday w.moment d ∥₁) (sym c.refresh_behind.ensures.day) w.dated
+
+pub invariant_of-self-clause-sound : goal.invariant_of-self-clause-sound
+invariant_of-self-clause-sound g c =
+    let w = c.args.self.now in
+    sound_stays (IsLost (g.K.Keeper.marks w.keeper.now) (g.K.Keeper.marks c.refresh_behind.new.keeper)) (g.A.SoundApp.app w.app.now).names.schema (g.K.Keeper.told w.keeper.now) (g.K.Keeper.told c.refresh_behind.new.keeper) c.refresh_behind.ensures.read.told w.sound
+
+pub invariant_of-self-clause-shaped : goal.invariant_of-self-clause-shaped
+invariant_of-self-clause-shaped g c = c.refresh_behind.ensures.read.shaped ∙ c.args.self.now.shaped
+
+pub invariant_of-self-clause-begun : goal.invariant_of-self-clause-begun
+invariant_of-self-clause-begun g c = c.refresh_behind.ensures.read.mode ∙ c.args.self.now.begun

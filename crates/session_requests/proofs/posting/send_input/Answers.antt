@@ -1,0 +1,19 @@
+use Rattle.std.proofs.Common.{◌≡◌, ◌<◌, ◌∙◌, List, Some, ap, length, subst, sym}
+use Rattle.std.specs.List.{position}
+use Rattle.request_checks.specs.Directory.{is_named}
+use Rattle.request_checks.specs.declared.directory.Named.{Named}
+use Rattle.session_state.specs.Sessions.{SessionState}
+use Rattle.session_requests.specs.Acting.{IsAt}
+use Rattle.session_requests.proofs.Endings.{find_at}
+use Rattle.session_requests.proofs.posting.send_input.Goals as goal
+
+pub act_input-requires-clause-cached : goal.act_input-requires-clause-cached
+act_input-requires-clause-cached g c =
+    let name = c.args.name.now in
+    let place = c.in-Some.place in
+    let there : IsAt place name c.args.sessions.now.items = record {
+      first = subst (λ (l : List (Named SessionState)). position (is_named name) l ≡ Some place) c.deref.ensures.value (sym c.in-Some.ensures.place);
+      within = subst (λ (l : List (Named SessionState)). place < length l) c.deref.ensures.value c.in-Some.ensures.within;
+    } in
+    c.requires.cached c.in_ok-session-in-Some.session
+    (find_at place name c.args.sessions.now.items c.index.result.now there c.index.ensures ∙ ap (λ (s : SessionState). Some s) (sym c.in_ok-session-in-Some.ensures))

@@ -1,0 +1,62 @@
+use Rattle.std.proofs.Common.{Option, option_map, refl, subst}
+use Rattle.fx_base.specs.Silence.{Goes, IsLost}
+use Rattle.fx_base.specs.Telling.{Stays}
+use Rattle.fx_data.specs.ValueView.{view}
+use Rattle.row_keeper.specs.Tables.{Tables}
+use Rattle.session_requests.specs.Running.{Runs}
+use Rattle.session_requests.specs.Scenes.{begun, scene}
+use Rattle.session_requests.proofs.Resting.{later_first}
+use Rattle.session_requests.proofs.Undone.{but_back, cached_pending, cached_stays, pending_stays, tables_through}
+use Rattle.session_requests.proofs.transaction.transact.Goals as goal
+
+pub prepare-requires-clause-cached : goal.prepare-requires-clause-cached
+prepare-requires-clause-cached g c =
+    let told = g.K.Keeper.told in
+    let marks = g.K.Keeper.marks in
+    cached_stays c.args.app.now c.args.session (IsLost (marks c.args.keeper.now) (marks c.begin.new.self)) (told c.args.keeper.now) (told c.begin.new.self) c.args.moment c.args.cache.now c.begin.ensures.tables c.requires.cached
+
+pub prepare-requires-clause-later : goal.prepare-requires-clause-later
+prepare-requires-clause-later g c = later_first c.args.wrote.now.items (g.K.Keeper.began c.begin.new.self) (g.K.Keeper.told c.begin.new.self) c.in-Ok.ensures.ok.1
+
+pub returns-in-Err-clause-pending : goal.returns-in-Err-clause-pending
+returns-in-Err-clause-pending g c =
+    let told = g.K.Keeper.told in
+    let marks = g.K.Keeper.marks in
+    cached_pending c.args.app.now c.args.wrote.now.items c.args.session c.args.before.now (told c.begin.new.self) c.args.moment c.args.cache.now c.requires.sound (but_back c.args.app.now.names c.args.wrote.now.items c.args.before.now c.args.session c.requires.but)
+    (cached_stays c.args.app.now c.args.session (IsLost (marks c.args.keeper.now) (marks c.begin.new.self)) (told c.args.keeper.now) (told c.begin.new.self) c.args.moment c.args.cache.now c.begin.ensures.tables c.requires.cached)
+
+pub returns-in-Ok-settle-clause-cached : goal.returns-in-Ok-settle-clause-cached
+returns-in-Ok-settle-clause-cached g c =
+    let told = g.K.Keeper.told in
+    let marks = g.K.Keeper.marks in
+    cached_stays c.args.app.now c.in-Ok-prepare.accepted.session (IsLost (marks c.prepare.new.keeper) (marks c.settle.new.keeper)) (told c.prepare.new.keeper) (told c.settle.new.keeper) c.args.moment c.prepare.new.cache
+    (c.in-Ok-settle.ensures.kept refl) c.in-Ok-prepare.ensures.cached
+
+pub returns-in-Ok-settle-clause-tables : goal.returns-in-Ok-settle-clause-tables
+returns-in-Ok-settle-clause-tables g c =
+    let told = g.K.Keeper.told in
+    let began = g.K.Keeper.began in
+    let marks = g.K.Keeper.marks in
+    let old = c.args.keeper.now in
+    let first = c.begin.new.self in
+    let second = c.prepare.new.keeper in
+    let third = c.settle.new.keeper in
+    let accepts = c.in-Ok-prepare.ensures.accepts in
+    tables_through c.prepare.new.wrote.items (marks old) (marks first) (marks second) (marks third)
+    (λ (t u : Tables). Runs c.args.app.now c.args.moment c.args.trigger (option_map view c.args.item) (scene t (begun c.args.session)) accepts.value (scene u accepts.end)) (told old) (told first) (told second) (told third) (began second)
+    c.begin.ensures.cause.later c.prepare.ensures.cause.later c.settle.ensures.cause.later
+    c.begin.ensures.tables accepts.runs (c.in-Ok-settle.ensures.kept refl)
+    (subst (λ (z : Option Tables). Goes (IsLost (marks first) (marks second)) Stays z (began second)) c.in-Ok.ensures.ok.1 c.prepare.ensures.began)
+    (g.met.K.Keeper.heard second) c.prepare.ensures.later
+
+pub returns-in-Err-settle-clause-pending : goal.returns-in-Err-settle-clause-pending
+returns-in-Err-settle-clause-pending g c =
+    let marks = g.K.Keeper.marks in
+    pending_stays c.args.app.now c.args.before.now (IsLost (marks c.prepare.new.keeper) (marks c.settle.new.keeper)) (g.K.Keeper.began c.prepare.new.keeper) (g.K.Keeper.told c.settle.new.keeper) c.args.moment c.prepare.new.wrote.items c.prepare.new.cache
+    c.in-Err-settle.ensures.stopped c.prepare.ensures.pending
+
+pub returns-in-Err-prepare-clause-pending : goal.returns-in-Err-prepare-clause-pending
+returns-in-Err-prepare-clause-pending g c =
+    let marks = g.K.Keeper.marks in
+    pending_stays c.args.app.now c.args.before.now (IsLost (marks c.prepare.new.keeper) (marks c.back.new.self)) (g.K.Keeper.began c.prepare.new.keeper) (g.K.Keeper.told c.back.new.self) c.args.moment c.prepare.new.wrote.items c.prepare.new.cache
+    c.back.ensures.tables c.prepare.ensures.pending

@@ -1,0 +1,107 @@
+//! The cells on which leans who reads sources.
+ghost use Rattle.std.specs.Prelude.{◌≡◌, ◌++◌, ℕ, IfOk, IfSome, OnOk, Some, true};
+ghost use Rattle.std.specs.List.{Contains};
+ghost use Rattle.std.specs.Option.{option_to_list};
+ghost use Rattle.recalc.specs.Asking.{HasRead, IsHeardOf, ToldRows, keeping};
+ghost use Rattle.recalc.specs.app_cells.Leaning.{cell_behind as behind};
+ghost use Rattle.recalc.specs.app_semantics.Holding.{HoldsFitting};
+ghost use Rattle.recalc.specs.app_semantics.Needed.{is_alone};
+ghost use Rattle.recalc.specs.app_semantics.Present.{present};
+ghost use Rattle.recalc.specs.app_semantics.Sound.{IsSound};
+ghost use Rattle.fx_scalar.specs.ScalarFunctions.{IsToday};
+ghost use Rattle.fx_trees.specs.Reads.{IsAmong, sources_in};
+ghost use Rattle.fx_trees.specs.declared.sources.Source.{Source as Src};
+ghost use Rattle.recalc.specs.Kept.{IsInOrder, value_of};
+ghost use Rattle.recalc.specs.Outcomes.{IsRightOver};
+ghost use Rattle.row_keeper.specs.Causes.{HasCause};
+ghost use Rattle.session_requests.specs.Grounds.{IsFreshBehind};
+
+use crate::app_cells::App;
+use fx_base::Memory;
+use fx_trees::{Core, Source};
+use recalc::{Cache, Steps, cell_behind, stands_alone};
+use row_keeper::{Keeper, KeeperEnd};
+use session_state::Session;
+use std::alloc::Global;
+use std::sync::ledger::Ledger;
+
+/// Whether the cell of this number has a value by itself.
+pub(crate) fn has_value(app: &App, cell: u32) -> bool
+    ensures { result ≡ is_alone app.now.cells cell }
+{
+    match app.cells.get(cell as usize) {
+        Some(info) => stands_alone(info),
+        None => false,
+    }
+}
+
+/// The cell on which leans who reads a source, if it has a value by itself.
+fn alone_behind(app: &App, source: Source) -> Option<u32>
+    ensures there { (d : ℕ) → behind app.now.names source ≡ Some d → is_alone app.now.cells d ≡ true → result ≡ Some d }
+    ensures alone { IfSome result (λ d. is_alone app.now.cells d ≡ true) }
+{
+    match cell_behind(&app.names, source) {
+        Some(cell) if has_value(app, cell) => Some(cell),
+        _ => None,
+    }
+}
+
+/// Puts a cell behind others, if there is one.
+fn put(cells: &mut Vec<u32>, cell: Option<u32>) -> Result<(), Memory>
+    ensures { OnOk result (cells.new.items ≡ cells.old.items ++ option_to_list cell) }
+{
+    match cell {
+        Some(cell) => Ok(cells.push(cell)?),
+        None => Ok(()),
+    }
+}
+
+/// The cells that have a value by themselves, and on which leans who reads these sources.
+pub(crate) fn cells_behind(alloc: Global, app: &App, reads: &[Source]) -> Result<Vec<u32>, Memory>
+    ensures behind { IfOk result (λ v. (x : Src) (d : ℕ) → IsAmong x reads.now → behind app.now.names x ≡ Some d → is_alone app.now.cells d ≡ true → Contains v.items d) }
+    ensures alone { IfOk result (λ v. (k : ℕ) → Contains v.items k → is_alone app.now.cells k ≡ true) }
+{
+    let mut cells = Vec::new(alloc);
+    for source in reads {
+        put(&mut cells, alone_behind(app, *source))?;
+    }
+    Ok(cells)
+}
+
+/// Brings the cells up to date on which a formula leans. Then the values that are kept are fresh at those.
+#[tactic(auto, using(recalc::proofs::Asked::read_none))]
+pub(crate) fn refresh_behind<K: Keeper, L: Ledger>(
+    alloc: Global,
+    app: &App,
+    session: &Session,
+    cache: &mut Cache,
+    keeper: &mut K,
+    moment: u64,
+    core: &Core,
+    steps: &mut Steps<L>,
+) -> Result<(), KeeperEnd>
+    requires sound { IsSound app.now }
+    requires holds { HoldsFitting app.now.names session.now }
+    requires shaped { K.shaped keeper.old ≡ Some app.now.names.schema }
+    requires order { IsInOrder app.now cache.old }
+    requires day { IsToday moment cache.old.values.day }
+    ensures order { IsInOrder app.now cache.new }
+    ensures day { cache.new.values.day ≡ cache.old.values.day }
+    ensures right { IsRightOver app.now session.now (K.told keeper.old) moment cache.old → IsRightOver app.now session.now (K.told keeper.new) moment cache.new }
+    ensures fresh { OnOk result (IsRightOver app.now session.now (K.told keeper.old) moment cache.old → (tables : ToldRows) (x : Src) → IsHeardOf (K.told keeper.new) tables → IsAmong x (sources_in core.now) →
+        IsFreshBehind (present app.now session.now tables moment) (value_of cache.new) x) }
+    ensures read { HasRead (keeping (K.told keeper.old) (K.began keeper.old) (K.shaped keeper.old) (K.in_transaction keeper.old) (K.marks keeper.old) (K.visited keeper.old) (K.loan keeper.old))
+        (keeping (K.told keeper.new) (K.began keeper.new) (K.shaped keeper.new) (K.in_transaction keeper.new) (K.marks keeper.new) (K.visited keeper.new) (K.loan keeper.new)) }
+    ensures cause { HasCause (K.marks keeper.old) (K.marks keeper.new) result }
+{
+    let reads = core.reads(alloc)?;
+    let cells = cells_behind(alloc, app, reads.as_slice())?;
+    if cells.is_empty() {
+        return Ok(());
+    }
+    let roots = cells.as_slice();
+    match cache.refresh(alloc, app, session, keeper, moment, roots, steps) {
+        Ok(()) => Ok(()),
+        Err(end) => Err(end),
+    }
+}
