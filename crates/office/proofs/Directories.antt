@@ -16,10 +16,10 @@ use Rattle.office.specs.DeskEdits.{all_carried}
 use Rattle.office.specs.Ready.{AreFit}
 use Rattle.office.specs.Sessions.{without}
 
-without_here : (T : Type 0) (name : List ℕ) (n : Named T) (ns : List (Named T)) → is_named name n ≡ true → without name (n ∷ ns) ≡ without name ns
+pub without_here : (T : Type 0) (name : List ℕ) (n : Named T) (ns : List (Named T)) → is_named name n ≡ true → without name (n ∷ ns) ≡ without name ns
 without_here T name n ns e = grind (arith, common_steps, e)
 
-without_past : (T : Type 0) (name : List ℕ) (n : Named T) (ns : List (Named T)) → is_named name n ≡ false → without name (n ∷ ns) ≡ n ∷ without name ns
+pub without_past : (T : Type 0) (name : List ℕ) (n : Named T) (ns : List (Named T)) → is_named name n ≡ false → without name (n ∷ ns) ≡ n ∷ without name ns
 without_past T name n ns e = grind (arith, common_steps, e)
 
 -- the others are found as before

@@ -1,20 +1,29 @@
 -- An edited app takes the place of the one that was served.
-use Rattle.std.proofs.Common.{◌≡◌, ℕ, ◌<◌, List, [], ◌∷◌, length, map, refl, ap, sym, ◌∙◌, subst}
+use Rattle.std.proofs.Common.{◌≡◌, ℕ, ◌<◌, Bool, List, [], ◌∷◌, length, map, Option, Some, refl, ap, sym, ◌∙◌, subst}
 use Rattle.fx_data.specs.declared.controls.Control.{Control}
 use Rattle.fx_trees.specs.declared.names.ControlName.{ControlName}
 use Rattle.fx_trees.specs.declared.names.Names.{Names}
+use Rattle.fx_trees.specs.declared.schema.Schema.{Schema}
+use Rattle.recalc.specs.Kept.{Kept as Values}
+use Rattle.row_keeper.specs.Tables.{Tables}
+use Rattle.row_requests.specs.Sound.{AreSound}
 use Rattle.session_state.proofs.Carried.{fits_carried}
 use Rattle.session_state.specs.Carrying.{AreAlike}
 use Rattle.session_state.specs.Changes.{HoldsTables}
+use Rattle.session_state.specs.Once.{Kept}
 use Rattle.session_state.specs.Sessions.{SessionState}
 use Rattle.app_cells.specs.declared.app.App.{App}
 use Rattle.app_cells.specs.declared.frame.Frame.{Frame}
+use Rattle.app_loader.specs.Edits.{IsLoaded}
 use Rattle.app_loader.specs.app_edits.Frames.{frame_of, without_items}
 use Rattle.request_checks.specs.Checked.{SessionsKeepReplies}
+use Rattle.request_checks.specs.Replies.{KeepReplies}
 use Rattle.request_checks.specs.declared.directory.Named.{Named}
+use Rattle.office.specs.Caches.{AreKept}
 use Rattle.office.specs.DeskEdits.{all_carried}
 use Rattle.office.specs.Editing.{KeepsApp}
-use Rattle.office.specs.Ready.{AreFit}
+use Rattle.office.specs.Ready.{AreFit, IsReady}
+use Rattle.office.specs.State.{schema_of}
 use Rattle.session_requests.specs.Opening.{CanOpen}
 
 -- sessions of it can be opened, since it has the same screens
@@ -44,3 +53,22 @@ carried_fit n m (x ∷ xs) alike tables fit = (fits_carried n m x.it alike table
 pub carried_keep : (n m : Names) (xs : List (Named SessionState)) → SessionsKeepReplies xs → SessionsKeepReplies (all_carried n m xs)
 carried_keep n m [] keep = tt
 carried_keep n m (x ∷ xs) keep = (keep.0, carried_keep n m xs keep.1)
+
+-- what was ready is so with an edited app, beside which the keeper stays as it is
+pub ready_edited : (a b : App) (in_transaction : Bool) (by : Option Schema) (told : Option Tables) (ss rs : List (Named SessionState)) (ds es : List (Named Kept)) (cs later : List (Named Values)) (m : ℕ)
+    → IsReady a in_transaction by told ss ds cs m → KeepsApp a b → IsLoaded b → AreFit b.names rs → KeepReplies es → SessionsKeepReplies rs → AreKept b told m rs later
+    → IsReady b in_transaction by told rs es later m
+ready_edited a b in_transaction by told ss rs ds es cs later m ready keeps loaded fit kept replies cached =
+    let same : schema_of b ≡ schema_of a = ap (λ (f : Frame). f.schema) keeps.frame in
+    record {
+      idle = ready.idle;
+      shaped = ready.shaped ∙ ap (λ (s : Schema). Some s) (sym same);
+      sound = subst (λ (s : Schema). AreSound s told) (sym same) ready.sound;
+      kept = kept;
+      accepted = keeps.sound;
+      loaded = loaded;
+      opens = can_open a b ready.opens keeps;
+      fit = fit;
+      replies = replies;
+      cached = cached;
+    }

@@ -5,7 +5,7 @@ use Rattle.fx_base.specs.Silence.{IsLost, Marks}
 use Rattle.app_cells.specs.declared.app.App.{App}
 use Rattle.app_loader.specs.app_semantics.Fresh.{AreKnown}
 use Rattle.app_loader.specs.app_semantics.Holding.{FittingHolds, HoldsFitting}
-use Rattle.app_loader.specs.app_semantics.Laws.{OneFresh}
+use Rattle.app_loader.specs.app_semantics.Laws.{OneFreshAt}
 use Rattle.app_loader.specs.app_semantics.Present.{present}
 use Rattle.app_loader.specs.app_semantics.Sound.{IsSound}
 use Rattle.app_views.specs.Laws.{OneItemsReply, OneViewReply}
@@ -197,7 +197,7 @@ does_of one lost caller old new moment request said of step =
 -- ---- replies to sessions
 
 -- what is shown of one app to one session, at one moment
-pub shows_alike : OneFresh → FittingHolds → (lost lost' : Type 0) (moment : ℕ) (a : App) (o : Option SessionState) (k l m n : Option Tables) (said said' : List ℕ)
+pub shows_alike : OneFreshAt → FittingHolds → (lost lost' : Type 0) (moment : ℕ) (a : App) (o : Option SessionState) (k l m n : Option Tables) (said said' : List ℕ)
     → IsSound a → ((s : SessionState) → o ≡ Some s → FitsNames a.names s) → AreKnown a (rows_told l) → rows_told l ≡ rows_told n
     → ShowsNamedTo lost a moment o k said l → ShowsNamedTo lost' a moment o m said' n → said ≡ said'
 shows_alike once holds lost lost' moment a None k l m n said said' sound fit known same x y = x.0 ∙ sym y.0
@@ -211,7 +211,7 @@ holds_found holds a name settled s found = holds a.app.names s (found_fits a.app
 
 -- what is known of what is shown to sessions
 pub record ReplyLaws : Type 0 where
-  pub fresh : OneFresh
+  pub fresh : OneFreshAt
   pub holds : FittingHolds
   pub view : OneViewReply
   pub items : OneItemsReply

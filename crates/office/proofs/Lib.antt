@@ -1,17 +1,24 @@
 pub mod Again
 pub mod Alone
+pub mod Caching
 pub mod Directories
 pub mod Edits
 pub mod Isolation
+pub mod NamedCells
 pub mod OneAnswer
+pub mod Places
 pub mod Plays
 pub mod Replies
 pub mod Rooms
+pub mod Rounds
+pub mod Sent
 pub mod Settling
 pub mod Silence
 pub mod StepLemmas
 pub mod Taken
+pub mod Touching
+pub mod Turned
 pub mod Writing
 pub mod Desks
 pub mod Repeats
-pub use Rattle.session_requests.proofs.of_recalc
+pub use Rattle.recalc.proofs as of_recalc

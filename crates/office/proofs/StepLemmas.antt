@@ -1,7 +1,7 @@
 -- The steps of the office.
-use Rattle.std.proofs.Common.{◌≡◌, ℕ, List, Option, None, Some, Result, Ok, Err, refl, ap, sym, ◌∙◌, subst}
+use Rattle.std.proofs.Common.{◌≡◌, ℕ, Bool, List, Option, None, Some, Result, Ok, Err, refl, ap, sym, ◌∙◌, subst}
 use Rattle.std.specs.Prelude.{OnErr}
-use Rattle.fx_base.specs.Silence.{Goes, IsLost}
+use Rattle.fx_base.specs.Silence.{Goes, IsLost, Marks}
 use Rattle.fx_base.specs.Telling.{Stays}
 use Rattle.row_keeper.specs.Tables.{Tables}
 use Rattle.row_keeper.specs.declared.keeper.KeeperEnd.{KeeperEnd}
@@ -10,21 +10,23 @@ use Rattle.app_wire.specs.ReplyBytes.{refusal}
 use Rattle.app_wire.specs.Routing.{Routing}
 use Rattle.app_wire.specs.declared.route.Route.{Route}
 use Rattle.app_views.specs.Shows.{ReachesItems, ReachesView}
-use Rattle.app_wire.specs.declared.route.Route.TheVariants.{Begin, Event, Input, Items, Named, Page, View}
+use Rattle.app_wire.specs.declared.route.Route.TheVariants.{Event, Input, Items, Named, Page, View}
 use Rattle.app_wire.specs.declared.route.RouteEnd.TheVariants.{NoRoute, WrongMethod}
 use Rattle.app_cells.specs.declared.app.App.{App}
 use Rattle.fx_trees.specs.declared.schema.Schema.{Schema}
 use Rattle.session_requests.specs.recalc.Asking.{HasRead, Keeping}
-use Rattle.session_requests.proofs.of_recalc.Asked.{read_none}
+use Rattle.recalc.proofs.Asked.{read_none}
 use Rattle.request_checks.specs.declared.directory.Named.{Named as Caller}
 use Rattle.request_checks.specs.declared.reply.Reply.{Reply}
 use Rattle.row_requests.specs.Page.{ReachesPage}
 use Rattle.row_requests.proofs.Soundness.{sound_stays}
+use Rattle.recalc.specs.Kept.{Kept as Values}
 use Rattle.session_state.specs.Once.{Kept}
 use Rattle.session_state.specs.Sessions.{SessionState}
 use Rattle.session_requests.specs.Posting.{ReachesEvent, ReachesInput}
+use Rattle.office.specs.Caches.{AreKept}
 use Rattle.office.specs.Ready.{IsReady}
-use Rattle.office.specs.Sessions.{ReachesBegin, ReachesNamed}
+use Rattle.office.specs.Sessions.{ReachesNamed}
 use Rattle.office.specs.State.{Seen, State, schema_of}
 use Rattle.office.specs.Step.{Does, DoesAt, Left, Reaches, Step}
 
@@ -33,6 +35,15 @@ pub routed : (lost : Type 0) (old new : State) (moment : ℕ) (request : Asked) 
     → Routing request.method request.path (Ok route) → Does lost moment route request.body old said new → Step lost old moment request said new
 unfolding DoesAt
 routed lost old new moment request route said is does = record { route = Ok route; routed = is; does = does }
+
+-- it was taken by an office that went over to the moment
+pub routed_then : (k l n : Marks) (s t new : State) (m moment : ℕ) (request : Asked) (route : Route) (said : List ℕ)
+    → Routing request.method request.path (Ok route) → t ≡ s → l ≡ k → m ≡ moment → Does (IsLost l n) m route request.body t said new → Step (IsLost k n) s moment request said new
+routed_then k l n s t new m moment request route said is state marks at does =
+    routed (IsLost k n) s new moment request route said is
+    (subst (λ (x : ℕ). Does (IsLost k n) x route request.body s said new) at
+    (subst (λ (x : Marks). Does (IsLost x n) m route request.body s said new) marks
+    (subst (λ (x : State). Does (IsLost l n) m route request.body x said new) state does)))
 
 -- there is none
 pub unrouted : (lost : Type 0) (old new : State) (moment : ℕ) (request : Asked) (said : List ℕ)
@@ -65,11 +76,6 @@ unfolding Reaches
 reaches_page s app body route table after schema is same of reaches =
     subst (λ r. Reaches r body s) (sym is) (subst (λ (a : App). ReachesPage (schema_of a).tables table) (sym of) (subst (λ (x : Schema). ReachesPage x.tables table) same reaches))
 
--- so it is as a session is opened
-pub reaches_begin : (s : State) (xs : List (Caller SessionState)) (body : List ℕ) (route : Route) (name : List ℕ) → route ≡ Begin name → s.sessions ≡ xs → ReachesBegin name xs → Reaches route body s
-unfolding Reaches
-reaches_begin s xs body route name is of reaches = subst (λ r. Reaches r body s) (sym is) (subst (λ (l : List (Caller SessionState)). ReachesBegin name l) (sym of) reaches)
-
 -- so are those that formulas read
 pub reaches_view : (s : State) (xs : List (Caller SessionState)) (body : List ℕ) (route : Route) (name : List ℕ) → route ≡ View name → s.sessions ≡ xs → ReachesView name xs → Reaches route body s
 unfolding Reaches
@@ -99,10 +105,10 @@ reaches_input s xs body given route name is of same reaches =
 pub read_nothing : (a : Keeping) → HasRead a a
 read_nothing a = read_none a
 
--- what is ready stays so where rows are read
-pub still_ready : (app : App) (a b : Keeping) (sessions : List (Caller SessionState)) (desks : List (Caller Kept)) → HasRead a b
-    → IsReady app a.in_transaction a.shaped a.told sessions desks → IsReady app b.in_transaction b.shaped b.told sessions desks
-still_ready app a b sessions desks read ready = record {
+-- what is ready stays so where rows are read, and caches are right over them
+pub still_ready : (app : App) (a b : Keeping) (sessions : List (Caller SessionState)) (desks : List (Caller Kept)) (caches later : List (Caller Values)) (moment : ℕ) → HasRead a b → AreKept app b.told moment sessions later
+    → IsReady app a.in_transaction a.shaped a.told sessions desks caches moment → IsReady app b.in_transaction b.shaped b.told sessions desks later moment
+still_ready app a b sessions desks caches later moment read kept ready = record {
   idle = read.mode ∙ ready.idle;
   shaped = read.shaped ∙ ready.shaped;
   sound = sound_stays (schema_of app) (IsLost a.marks b.marks) a.told b.told ready.sound read.told;
@@ -112,13 +118,30 @@ still_ready app a b sessions desks read ready = record {
   opens = ready.opens;
   fit = ready.fit;
   replies = ready.replies;
+  cached = kept;
 }
 
--- a keeper whose rows were read is left, with all beside it
-pub left_read : (a b : Keeping) (app : App) (sessions : List (Caller SessionState)) (desks : List (Caller Kept)) (old : Seen)
-    → record { state = record { app = app; tables = a.told; sessions = sessions; desks = desks }; marks = a.marks; loan = a.loan } ≡ old → HasRead a b
+-- and with other caches at another moment
+pub ready_then : (app : App) (in_transaction : Bool) (by : Option Schema) (told : Option Tables) (sessions : List (Caller SessionState)) (desks : List (Caller Kept)) (caches later : List (Caller Values)) (m n : ℕ)
+    → IsReady app in_transaction by told sessions desks caches m → AreKept app told n sessions later → IsReady app in_transaction by told sessions desks later n
+ready_then app in_transaction by told sessions desks caches later m n ready kept = record {
+  idle = ready.idle;
+  shaped = ready.shaped;
+  sound = ready.sound;
+  kept = ready.kept;
+  accepted = ready.accepted;
+  loaded = ready.loaded;
+  opens = ready.opens;
+  fit = ready.fit;
+  replies = ready.replies;
+  cached = kept;
+}
+
+-- a keeper whose rows were read is left, with all beside it but caches
+pub left_read : (a b : Keeping) (app : App) (sessions : List (Caller SessionState)) (desks : List (Caller Kept)) (caches : List (Caller Values)) (moment : ℕ) (old : Seen)
+    → record { state = record { app = app; tables = a.told; sessions = sessions; desks = desks }; marks = a.marks; loan = a.loan; caches = caches; moment = moment } ≡ old → HasRead a b
     → Left (IsLost old.marks b.marks) old.state (record { app = app; tables = b.told; sessions = sessions; desks = desks })
-left_read a b app sessions desks old is read =
+left_read a b app sessions desks caches moment old is read =
     subst (λ (o : Seen). Left (IsLost o.marks b.marks) o.state (record { app = app; tables = b.told; sessions = sessions; desks = desks })) is (record { tables = read.told; others = refl })
 
 -- what holds however a call ends holds where it stops

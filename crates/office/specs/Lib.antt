@@ -1,4 +1,5 @@
 pub mod Answers
+pub mod Caches
 pub mod Editing
 pub mod Isolation
 pub mod NamedReply

@@ -1,11 +1,12 @@
 -- What is true of an office between two requests.
-use Rattle.std.specs.Prelude.{◌≡◌, Bool, false, List, Option, Some}
+use Rattle.std.specs.Prelude.{◌≡◌, ℕ, Bool, false, List, Option, Some}
 use Rattle.std.specs.List.{AllByRecursion}
 use Rattle.app_cells.specs.declared.app.App.{App}
 use Rattle.app_loader.specs.Edits.{IsLoaded}
 use Rattle.app_loader.specs.app_semantics.Sound.{IsSound}
 use Rattle.fx_trees.specs.declared.names.Names.{Names}
 use Rattle.fx_trees.specs.declared.schema.Schema.{Schema}
+use Rattle.recalc.specs.Kept.{Kept as Values}
 use Rattle.row_keeper.specs.Tables.{Tables}
 use Rattle.session_requests.specs.Opening.{CanOpen}
 use Rattle.session_state.specs.Changes.{FitsNames}
@@ -15,6 +16,7 @@ use Rattle.request_checks.specs.Checked.{SessionsKeepReplies}
 use Rattle.request_checks.specs.Replies.{KeepReplies}
 use Rattle.row_requests.specs.Sound.{AreSound}
 use Rattle.request_checks.specs.declared.directory.Named.{Named}
+use Rattle.office.specs.Caches.{AreKept}
 use Rattle.office.specs.State.{State, schema_of}
 
 -- sessions fit the names of the app
@@ -28,8 +30,9 @@ pub record IsSettled (s : State) : Type 0 where
   pub fit : AreFit s.app.names s.sessions
 
 -- No transaction is begun, the keeper is shaped by the app's schema, its tables, where they are told, are those of the schema,
--- what is kept of desks are replies, the app is an accepted one that can be edited, and its sessions fit it.
-pub record IsReady (app : App) (in_transaction : Bool) (by : Option Schema) (told : Option Tables) (sessions : List (Named SessionState)) (desks : List (Named Kept)) : Type 0 where
+-- what is kept of desks are replies, the app is an accepted one that can be edited, its sessions fit it, and each has its cache,
+-- which is right on the day of the last request that had a route.
+pub record IsReady (app : App) (in_transaction : Bool) (by : Option Schema) (told : Option Tables) (sessions : List (Named SessionState)) (desks : List (Named Kept)) (caches : List (Named Values)) (moment : ℕ) : Type 0 where
   pub idle : in_transaction ≡ false
   pub shaped : by ≡ Some (schema_of app)
   pub sound : AreSound (schema_of app) told
@@ -39,3 +42,4 @@ pub record IsReady (app : App) (in_transaction : Bool) (by : Option Schema) (tol
   pub opens : CanOpen app.names
   pub fit : AreFit app.names sessions
   pub replies : SessionsKeepReplies sessions
+  pub cached : AreKept app told moment sessions caches

@@ -2,6 +2,7 @@
 use Rattle.std.specs.Prelude.{ℕ, List, [], Option}
 use Rattle.fx_base.specs.Silence.{Marks}
 use Rattle.fx_trees.specs.declared.schema.Schema.{Schema}
+use Rattle.recalc.specs.Kept.{Kept as Values}
 use Rattle.row_keeper.specs.Tables.{Tables}
 use Rattle.session_state.specs.Once.{Kept}
 use Rattle.session_state.specs.Sessions.{SessionState}
@@ -19,11 +20,14 @@ pub record State : Type 0 where
   pub sessions : List (Named SessionState)
   pub desks : List (Named Kept)
 
--- an office as contracts see it: its state, the marks of its keeper, and the loan through which it uses a keeper that is lent
+-- An office as contracts see it: its state, the marks of its keeper, the loan through which it uses a keeper that is lent, the
+-- caches of its sessions, and the moment of the last request that had a route.
 pub record Seen : Type 0 where
   pub state : State
   pub marks : Marks
   pub loan : Option ℕ
+  pub caches : List (Named Values)
+  pub moment : ℕ
 
 -- an office that serves this app over these tables, with no session and no desk
 abbrev pub started : App → Option Tables → State

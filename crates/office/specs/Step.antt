@@ -4,6 +4,7 @@ use Rattle.fx_base.specs.Faults.{Rose}
 use Rattle.fx_base.specs.Silence.{Goes, IsLost, Marks}
 use Rattle.fx_base.specs.Telling.{Stays}
 use Rattle.app_loader.specs.Verdicts.{IsSameApp}
+use Rattle.app_graph.specs.Graph.{graph_text}
 use Rattle.app_plans.specs.Plans.{plan_text}
 use Rattle.app_views.specs.Shows.{ReachesItems, ReachesView, ShowsItems, ShowsView}
 use Rattle.row_keeper.specs.Tables.{Tables}
@@ -11,7 +12,7 @@ use Rattle.app_wire.specs.Framing.{Asked}
 use Rattle.app_wire.specs.ReplyBytes.{refusal, reply}
 use Rattle.app_wire.specs.Routing.{Routing}
 use Rattle.app_wire.specs.declared.route.Route.{Route}
-use Rattle.app_wire.specs.declared.route.Route.TheVariants.{Begin, End, View, Named, Items, Event, Input, Rows, Edit, Page, Plan}
+use Rattle.app_wire.specs.declared.route.Route.TheVariants.{Begin, End, View, Named, Items, Event, Input, Rows, Edit, Page, Plan, Graph}
 use Rattle.app_wire.specs.declared.route.RouteEnd.{RouteEnd}
 use Rattle.app_wire.specs.declared.route.RouteEnd.TheVariants.{NoRoute, WrongMethod, Memory}
 use Rattle.office.specs.DeskEdits.{Parts, PostsEdit}
@@ -30,7 +31,7 @@ abbrev pub parts_of : State → Parts
 parts_of s = record { app = s.app; sessions = s.sessions; desks = s.desks }
 
 -- THE step by a route, at a moment: what it says, and which parts of the state may change. All others stay. `lost` is why the
--- keeper may have fallen silent. Routes that are not built yet are none (7).
+-- keeper may have fallen silent.
 unfoldable pub Does : Type 0 → ℕ → Route → List ℕ → State → List ℕ → State → Type 0
 Does lost moment (Begin name) body s said new =
     BeginsSession lost s.app moment name s.tables s.sessions said new.tables new.sessions
@@ -58,7 +59,7 @@ Does lost moment (Edit name) body s said new =
 Does lost moment (Page table after) body s said new =
     ShowsPage lost (schema_of s.app).tables table after s.tables said new.tables × (new ≡ record s { tables = new.tables })
 Does lost moment Plan body s said new = (said ≡ reply 200 (plan_text s.app)) × (new ≡ s)
-Does lost moment _ body s said new = (said ≡ refusal 7) × (new ≡ s)
+Does lost moment Graph body s said new = (said ≡ reply 200 (graph_text s.app)) × (new ≡ s)
 
 -- the same, where there may be no route (7), or one with another method (8)
 unfoldable pub DoesAt : Type 0 → ℕ → Result Route RouteEnd → List ℕ → State → List ℕ → State → Type 0

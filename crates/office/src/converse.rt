@@ -8,13 +8,13 @@ ghost use Rattle.app_wire.specs.ReplyBytes.{is_fixed, refusal};
 ghost use Rattle.office.specs.Answers.{Converses, Exchange, IsCount, Plays, Says, moments_of};
 
 use crate::machine::Office;
-use crate::recalc::Steps;
 use app_wire::clock::Clock;
 use app_wire::doors::{Doors, write_all};
 use app_wire::framer::Framer;
 use app_wire::next::{Found, next_request};
 use app_wire::reply::fixed_reply;
 use fx_base::Failed;
+use recalc::Steps;
 use row_keeper::Keeper;
 use std::sync::ledger::Ledger;
 

@@ -4,7 +4,7 @@ ghost use Rattle.office.specs.Isolation.{ActsOnce, IsAlone, LeavesDesk, LeavesSe
 ghost use Rattle.office.specs.Settled.{StartsSettled, StaysSettled};
 ghost use Rattle.office.specs.Step.{IsOneAnswer};
 
-use crate::app_semantics::{fitting_holds, one_fresh};
+use crate::app_semantics::{fitting_holds, one_fresh_at};
 use crate::desk_edit_laws::one_outcome as one_edit_outcome;
 use app_views::{one_items_reply, one_view_reply};
 use app_wire::route::one_route;
@@ -17,7 +17,7 @@ use session_requests::{laws as requests, one_opening};
 pub fn one_answer()
     ensures { IsOneAnswer }
 {
-    one_fresh();
+    one_fresh_at();
     fitting_holds();
     one_opening();
     requests::one_outcome();
@@ -48,7 +48,7 @@ pub fn leaves_desk()
 pub fn is_alone()
     ensures { IsAlone }
 {
-    one_fresh();
+    one_fresh_at();
     fitting_holds();
     one_opening();
     requests::one_outcome();
@@ -62,7 +62,7 @@ pub fn is_alone()
 pub fn reads_alone()
     ensures { ReadsAlone }
 {
-    one_fresh();
+    one_fresh_at();
     fitting_holds();
     one_view_reply();
     one_items_reply();

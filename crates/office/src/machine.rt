@@ -13,21 +13,21 @@ ghost use Rattle.session_requests.specs.Opening.{CanOpen};
 ghost use Rattle.office.specs.State.{schema_of, started};
 ghost use Rattle.office.specs.Step.{Answered, Does, Left, Reaches, ReachesKeeper, Step};
 
-use crate::plans::show_plan;
+use crate::keeping::{DAY, turn_all};
+use crate::plans::{show_graph, show_plan};
 use crate::posting::post_edit;
-use crate::recalc::Steps;
-use crate::sessions::{begin, end, show_named};
+use crate::sending::{change_rows, post_event, post_input};
+use crate::sessions::{begin, end, show_items_to, show_named, show_view_to};
 use app_cells::App;
-use app_views::{show_items, show_view};
 use app_wire::framer::Request;
 use app_wire::route::{Route, RouteEnd};
 use app_wire::routes::Routes;
 use fx_base::Memory;
 use fx_trees::Schema;
+use recalc::{Cache, Steps};
 use request_checks::{Named, Reply};
 use row_keeper::{Keeper, KeeperEnd};
-use row_requests::{post_rows, show_page};
-use session_requests::{post_event, post_input};
+use row_requests::show_page;
 use session_state::{Desk, Session};
 use std::alloc::Global;
 use std::marker::Model;
@@ -42,6 +42,10 @@ pub struct Office<K: Keeper + Drop> {
     pub(crate) keeper: K,
     pub(crate) sessions: Vec<Named<Session>>,
     desks: Vec<Named<Desk>>,
+    // One for each session, in their order.
+    caches: Vec<Named<Cache>>,
+    // That of the last request that had a route, by whose day caches go.
+    moment: u64,
 }
 
 impl<K: Keeper + Drop> Model for Office<K> {
@@ -61,9 +65,11 @@ impl<K: Keeper + Drop> Model for Office<K> {
       state = record { app = o.app; tables = K.told o.keeper; sessions = o.sessions.items; desks = o.desks.items };
       marks = K.marks o.keeper;
       loan = K.loan o.keeper;
+      caches = o.caches.items;
+      moment = o.moment;
     } };
 
-    ghost invariant = { λ o. IsReady o.app (K.in_transaction o.keeper) (K.shaped o.keeper) (K.told o.keeper) o.sessions.items o.desks.items };
+    ghost invariant = { λ o. IsReady o.app (K.in_transaction o.keeper) (K.shaped o.keeper) (K.told o.keeper) o.sessions.items o.desks.items o.caches.items o.moment };
 }
 
 /// The tables of an app.
@@ -109,6 +115,8 @@ impl<K: Keeper + Drop> Office<K> {
             keeper,
             sessions: Vec::new(alloc),
             desks: Vec::new(alloc),
+            caches: Vec::new(alloc),
+            moment: 0,
         }
     }
 
@@ -147,47 +155,68 @@ impl<K: Keeper + Drop> Office<K> {
         ensures loan { self.new.loan ≡ self.old.loan }
     {
         match self.routes.route(self.alloc, request) {
-            Ok(route) => self.take(route, request, moment, steps),
+            Ok(route) => match self.turn(moment) {
+                Ok(()) => self.take(route, request, steps),
+                Err(Memory) => Err(KeeperEnd::Memory),
+            },
             Err(RouteEnd::NoRoute) => Ok(Reply::fixed_refusal(self.alloc, 7, 404)),
             Err(RouteEnd::WrongMethod) => Ok(Reply::fixed_refusal(self.alloc, 8, 405)),
             Err(RouteEnd::Memory) => Err(KeeperEnd::Memory),
         }
     }
 
-    /// Takes the route of a request.
+    /// Goes over to the day of a moment: on another day all caches are told.
+    fn turn(&mut self, moment: u64) -> Result<(), Memory>
+        ensures state { self.new.state ≡ self.old.state }
+        ensures marks { self.new.marks ≡ self.old.marks }
+        ensures loan { self.new.loan ≡ self.old.loan }
+        ensures moment { IfOk result (λ _. self.new.moment ≡ moment) }
+    {
+        if moment / DAY != self.moment / DAY {
+            turn_all(self.alloc, &mut self.caches, moment)?;
+        }
+        self.moment = moment;
+        Ok(())
+    }
+
+    /// Takes the route of a request, at the moment to which the office went over.
     #[tactic(auto, unfolding(crate::specs::Step::Does, crate::specs::Step::Reaches))]
     fn take<L: Ledger>(
         &mut self,
         route: Route,
         request: &Request,
-        moment: u64,
         steps: &mut Steps<L>,
     ) -> Result<Reply, KeeperEnd>
-        ensures step { IfOk result (λ r. Does (IsLost self.old.marks self.new.marks) moment route request.now.body.items self.old.state (said r) self.new.state) }
+        ensures step { IfOk result (λ r. Does (IsLost self.old.marks self.new.marks) self.old.moment route request.now.body.items self.old.state (said r) self.new.state) }
         ensures whole { IfOk result IsReply }
         ensures stopped { OnErr result (Left (IsLost self.old.marks self.new.marks) self.old.state self.new.state) }
         ensures reached { IsErrOf result Failed → Reaches route request.now.body.items self.old.state }
         ensures cause { HasCause self.old.marks self.new.marks result }
         ensures loan { self.new.loan ≡ self.old.loan }
     {
+        let moment = self.moment;
         match route {
             Route::Begin(name) => begin(
                 self.alloc,
                 &self.app,
                 &mut self.sessions,
+                &mut self.caches,
                 &mut self.keeper,
                 name,
                 moment,
                 steps,
             ),
-            Route::End(name) => match end(self.alloc, &mut self.sessions, &name) {
-                Ok(reply) => Ok(reply),
-                Err(Memory) => Err(KeeperEnd::Memory),
-            },
-            Route::View(name) => show_view(
+            Route::End(name) => {
+                match end(self.alloc, &mut self.sessions, &mut self.caches, &name) {
+                    Ok(reply) => Ok(reply),
+                    Err(Memory) => Err(KeeperEnd::Memory),
+                }
+            }
+            Route::View(name) => show_view_to(
                 self.alloc,
                 &self.app,
                 &self.sessions,
+                &mut self.caches,
                 &mut self.keeper,
                 &name,
                 moment,
@@ -197,15 +226,17 @@ impl<K: Keeper + Drop> Office<K> {
                 self.alloc,
                 &self.app,
                 &self.sessions,
+                &mut self.caches,
                 &mut self.keeper,
                 &name,
                 moment,
                 steps,
             ),
-            Route::Items(name, gallery, from) => show_items(
+            Route::Items(name, gallery, from) => show_items_to(
                 self.alloc,
                 &self.app,
                 &self.sessions,
+                &mut self.caches,
                 &mut self.keeper,
                 &name,
                 &gallery,
@@ -217,6 +248,7 @@ impl<K: Keeper + Drop> Office<K> {
                 self.alloc,
                 &self.app,
                 &mut self.sessions,
+                &mut self.caches,
                 &mut self.keeper,
                 &name,
                 &request.body,
@@ -227,17 +259,19 @@ impl<K: Keeper + Drop> Office<K> {
                 self.alloc,
                 &self.app,
                 &mut self.sessions,
+                &mut self.caches,
                 &mut self.keeper,
                 &name,
                 &request.body,
                 moment,
                 steps,
             ),
-            Route::Rows(name) => post_rows(
+            Route::Rows(name) => change_rows(
                 self.alloc,
+                &self.app,
+                &mut self.caches,
                 &mut self.keeper,
                 &mut self.desks,
-                schema_of(&self.app),
                 &name,
                 &request.body,
             ),
@@ -245,9 +279,11 @@ impl<K: Keeper + Drop> Office<K> {
                 self.alloc,
                 &mut self.app,
                 &mut self.sessions,
+                &mut self.caches,
                 &mut self.desks,
                 &name,
                 &request.body,
+                moment,
             ) {
                 Ok(reply) => Ok(reply),
                 Err(Memory) => Err(KeeperEnd::Memory),
@@ -263,8 +299,10 @@ impl<K: Keeper + Drop> Office<K> {
                 Ok(reply) => Ok(reply),
                 Err(Memory) => Err(KeeperEnd::Memory),
             },
-            // Not built yet.
-            Route::Graph => Ok(Reply::fixed_refusal(self.alloc, 7, 404)),
+            Route::Graph => match show_graph(self.alloc, &self.app) {
+                Ok(reply) => Ok(reply),
+                Err(Memory) => Err(KeeperEnd::Memory),
+            },
         }
     }
 

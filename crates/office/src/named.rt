@@ -1,5 +1,5 @@
 //! The named formulas of an app, shown.
-ghost use Rattle.std.specs.Prelude.{◌≡◌, IfOk, IsErrOf, map, string_bytes};
+ghost use Rattle.std.specs.Prelude.{◌≡◌, IfOk, IsErrOf, OnOk, map, string_bytes};
 ghost use Rattle.app_loader.specs.app_semantics.Holding.{HoldsFitting};
 ghost use Rattle.app_loader.specs.app_semantics.Present.{present};
 ghost use Rattle.app_loader.specs.app_semantics.Sound.{IsSound};
@@ -7,11 +7,15 @@ ghost use Rattle.session_requests.specs.recalc.Asking.{CanAsk, HasRead, IsHeardO
 ghost use Rattle.session_requests.specs.recalc.Values.{value_of};
 ghost use Rattle.row_keeper.specs.Causes.{HasCause};
 ghost use Rattle.row_keeper.specs.declared.keeper.KeeperEnd.TheVariants.{Failed};
-ghost use Rattle.office.specs.NamedReply.{IsNamedBody, IsNamedList, named_values, shown};
+ghost use Rattle.fx_scalar.specs.ScalarFunctions.{IsToday};
+ghost use Rattle.office.specs.NamedReply.{AreNamedMade, IsNamedBody, IsNamedList, named_cells, named_values, shown};
+ghost use Rattle.recalc.specs.Kept.{HasRoom, IsInOrder};
+ghost use Rattle.recalc.specs.Outcomes.{IsRightOver};
+ghost use Rattle.recalc.specs.Steps.{Leaves, OncePerCell};
 
-use crate::recalc::{Steps, Valued, evaluate};
 use app_cells::App;
 use fx_base::Memory;
+use recalc::{Cache, Steps, Valued, evaluate};
 use row_keeper::{Keeper, KeeperEnd};
 use session_state::Session;
 use std::alloc::Global;
@@ -19,8 +23,8 @@ use std::sync::ledger::Ledger;
 use view_text::{Named, named_json};
 
 /// The named formulas of an app with their values over a session and the rows of a keeper, at a moment in seconds since
-/// 1970-01-01 UTC, in the order of their text. Where no formula reads a table the keeper is left alone. `Failed` only where it
-/// counted a fault.
+/// 1970-01-01 UTC, in the order of their text, where nothing is kept. Where no formula reads a table the keeper is left alone.
+/// `Failed` only where it counted a fault.
 pub fn named_list<K: Keeper, L: Ledger>(
     alloc: Global,
     app: &App,
@@ -57,11 +61,58 @@ fn name_values(alloc: Global, app: &App, values: &Valued) -> Result<Vec<Named>, 
     Ok(rows)
 }
 
-/// The body of the reply that shows each named formula with its value.
+/// The cells of the named formulas.
+fn named_roots(alloc: Global, app: &App) -> Result<Vec<u32>, Memory>
+    ensures { IfOk result (λ v. v.items ≡ named_cells app.now) }
+{
+    let mut roots = Vec::new(alloc);
+    for formula in app.names.formulas.as_slice() {
+        roots.push(formula.cell)?;
+    }
+    Ok(roots)
+}
+
+/// The named formulas of an app with their values over a session, of which some may be kept.
+#[tactic(auto, using(app_views::proofs::Needing::leaves_none))]
+fn kept_list<K: Keeper, L: Ledger>(
+    alloc: Global,
+    app: &App,
+    session: &Session,
+    cache: &mut Cache,
+    keeper: &mut K,
+    moment: u64,
+    steps: &mut Steps<L>,
+) -> Result<Vec<Named>, KeeperEnd>
+    requires sound { IsSound app.now }
+    requires holds { HoldsFitting app.now.names session.now }
+    requires asks { CanAsk app.now (K.shaped keeper.old) }
+    requires day { IsToday moment cache.old.values.day }
+    requires order { IsInOrder app.now cache.old }
+    ensures list { IfOk result (λ rows. IsRightOver app.now session.now (K.told keeper.old) moment cache.old → (tables : ToldRows) → IsHeardOf (K.told keeper.new) tables → IsNamedList (present app.now session.now tables moment) (map shown rows.items)) }
+    ensures order { IsInOrder app.now cache.new }
+    ensures right { IsRightOver app.now session.now (K.told keeper.old) moment cache.old → IsRightOver app.now session.now (K.told keeper.new) moment cache.new }
+    ensures day { cache.new.values.day ≡ cache.old.values.day }
+    ensures left { HasRoom cache.old.last → Leaves app.now cache.old cache.new }
+    ensures made { OnOk result (AreNamedMade app.now cache.new) }
+    ensures ticks { OnOk result (HasRoom cache.old.last → OncePerCell app.now (named_cells app.now) cache.old cache.new steps.old steps.new) }
+    ensures idle { OnOk result (steps.new ≡ steps.old → keeper.new ≡ keeper.old) }
+    ensures read { HasRead (keeping (K.told keeper.old) (K.began keeper.old) (K.shaped keeper.old) (K.in_transaction keeper.old) (K.marks keeper.old) (K.visited keeper.old) (K.loan keeper.old))
+        (keeping (K.told keeper.new) (K.began keeper.new) (K.shaped keeper.new) (K.in_transaction keeper.new) (K.marks keeper.new) (K.visited keeper.new) (K.loan keeper.new)) }
+    ensures cause { HasCause (K.marks keeper.old) (K.marks keeper.new) result }
+{
+    let roots = named_roots(alloc, app)?;
+    cache.refresh(alloc, app, session, keeper, moment, &roots, steps)?;
+    Ok(name_values(alloc, app, cache.valued())?)
+}
+
+/// The body of the reply that shows each named formula with its value. What is kept is right afterwards, also where it stops; the
+/// cells that the named formulas need are then clean, and what was clean stays so. `Failed` only where the keeper counted a fault.
+#[tactic(auto, using(app_views::proofs::Needing::leaves_none))]
 pub(crate) fn named_body<K: Keeper, L: Ledger>(
     alloc: Global,
     app: &App,
     session: &Session,
+    cache: &mut Cache,
     keeper: &mut K,
     moment: u64,
     steps: &mut Steps<L>,
@@ -69,11 +120,21 @@ pub(crate) fn named_body<K: Keeper, L: Ledger>(
     requires sound { IsSound app.now }
     requires holds { HoldsFitting app.now.names session.now }
     requires asks { CanAsk app.now (K.shaped keeper.old) }
+    requires day { IsToday moment cache.old.values.day }
+    requires order { IsInOrder app.now cache.old }
+    requires right { ∥ IsRightOver app.now session.now (K.told keeper.old) moment cache.old ∥₁ }
     ensures body { IfOk result (λ s. (tables : ToldRows) → IsHeardOf (K.told keeper.new) tables → IsNamedBody (present app.now session.now tables moment) (string_bytes s)) }
+    ensures order { IsInOrder app.now cache.new }
+    ensures right { ∥ IsRightOver app.now session.now (K.told keeper.new) moment cache.new ∥₁ }
+    ensures day { cache.new.values.day ≡ cache.old.values.day }
+    ensures left { HasRoom cache.old.last → Leaves app.now cache.old cache.new }
+    ensures made { OnOk result (AreNamedMade app.now cache.new) }
+    ensures ticks { OnOk result (HasRoom cache.old.last → OncePerCell app.now (named_cells app.now) cache.old cache.new steps.old steps.new) }
+    ensures idle { OnOk result (steps.new ≡ steps.old → keeper.new ≡ keeper.old) }
     ensures read { HasRead (keeping (K.told keeper.old) (K.began keeper.old) (K.shaped keeper.old) (K.in_transaction keeper.old) (K.marks keeper.old) (K.visited keeper.old) (K.loan keeper.old))
         (keeping (K.told keeper.new) (K.began keeper.new) (K.shaped keeper.new) (K.in_transaction keeper.new) (K.marks keeper.new) (K.visited keeper.new) (K.loan keeper.new)) }
     ensures cause { HasCause (K.marks keeper.old) (K.marks keeper.new) result }
 {
-    let rows = named_list(alloc, app, session, keeper, moment, steps)?;
+    let rows = kept_list(alloc, app, session, cache, keeper, moment, steps)?;
     Ok(named_json(alloc, &rows)?)
 }

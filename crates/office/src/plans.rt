@@ -1,10 +1,12 @@
-// Where formulas take rows of tables, shown.
+// Where formulas take rows of tables, and what they read, shown.
 ghost use Rattle.std.specs.Prelude.{◌≡◌, IfOk};
+ghost use Rattle.app_graph.specs.Graph.{graph_text};
 ghost use Rattle.app_plans.specs.Plans.{plan_text};
 ghost use Rattle.app_wire.specs.ReplyBytes.{reply};
 ghost use Rattle.request_checks.specs.Replies.{IsReply, said};
 
 use app_cells::App;
+use app_graph::graph_json;
 use app_plans::plan_json;
 use fx_base::Memory;
 use request_checks::Reply;
@@ -16,5 +18,14 @@ pub(crate) fn show_plan(alloc: Global, app: &App) -> Result<Reply, Memory>
     ensures whole { IfOk result IsReply }
 {
     let body = plan_json(alloc, app)?;
+    Reply::accept(alloc, &body)
+}
+
+/// Shows what each formula of the app reads. No keeper is called.
+pub(crate) fn show_graph(alloc: Global, app: &App) -> Result<Reply, Memory>
+    ensures said { IfOk result (λ r. said r ≡ reply 200 (graph_text app.now)) }
+    ensures whole { IfOk result IsReply }
+{
+    let body = graph_json(alloc, app)?;
     Reply::accept(alloc, &body)
 }

@@ -1,21 +1,25 @@
 //! A desk edits a formula.
-ghost use Rattle.std.specs.Prelude.{◌≡◌, IfOk, OnErr};
+ghost use Rattle.std.specs.Prelude.{◌≡◌, IfOk, OnErr, Option};
 ghost use Rattle.app_loader.specs.app_edits.Frames.{frame_of};
 ghost use Rattle.app_loader.specs.Edits.{IsLoaded};
 ghost use Rattle.app_loader.specs.app_semantics.Sound.{IsSound};
+ghost use Rattle.office.specs.Caches.{AreKept};
 ghost use Rattle.office.specs.DeskEdits.{MakesEdit, PostsEdit};
 ghost use Rattle.office.specs.Ready.{AreFit};
 ghost use Rattle.request_checks.specs.Checked.{SessionsKeepReplies};
 ghost use Rattle.request_checks.specs.Replies.{IsReply, KeepReplies, said};
+ghost use Rattle.row_keeper.specs.Tables.{Tables};
 ghost use Rattle.session_state.specs.Changes.{HoldsTables};
 
 use crate::accepting::{accept, keep, refuse};
 use crate::carrying::{carry, make_room};
+use crate::keeping::new_caches;
 use app_cells::App;
 use app_loader::edit;
 use fx_base::Memory;
 use fx_data::Words;
 use fx_trees::AppEnd;
+use recalc::Cache;
 use request_checks::{Checked, Edit, Named, Reply, check_desk};
 use session_state::{Desk, Session};
 use std::alloc::Global;
@@ -23,14 +27,17 @@ use std::alloc::Global;
 /// A desk edits a formula, under a number. The app becomes the edited one, and the reply is kept; or nothing changes and the
 /// reply is a refusal: no JSON (9), another shape (10), a desk too many (12), another number (13, 14), or the rules that the
 /// edited app breaks (24). The last request once more gets the kept reply. Nothing but the app's formulas, this desk's record
-/// and what sessions hold can change: each session goes over to the edited app, for which all memory is taken before.
+/// and what sessions hold can change: each session goes over to the edited app and gets a new cache, for which all memory is
+/// taken before.
 pub fn post_edit(
     alloc: Global,
     app: &mut App,
     sessions: &mut Vec<Named<Session>>,
+    caches: &mut Vec<Named<Cache>>,
     desks: &mut Vec<Named<Desk>>,
     name: &Words,
     body: &[u8],
+    moment: u64,
 ) -> Result<Reply, Memory>
     requires loaded { IsLoaded app.old }
     requires sound { IsSound app.old }
@@ -50,10 +57,13 @@ pub fn post_edit(
     ensures fit { AreFit app.new.names sessions.new.items }
     ensures kept { KeepReplies desks.new.items }
     ensures replies { SessionsKeepReplies sessions.new.items }
+    ensures caches { (told : Option Tables) → AreKept app.old told moment sessions.old.items caches.old.items → AreKept app.new told moment sessions.new.items caches.new.items }
 {
     match check_desk::<Edit>(alloc, desks, name, body)? {
         Checked::Says(reply) => Ok(reply),
-        Checked::Acts(asked) => make_edit(alloc, app, sessions, desks, name, body, &asked),
+        Checked::Acts(asked) => make_edit(
+            alloc, app, sessions, caches, desks, name, body, &asked, moment,
+        ),
     }
 }
 
@@ -62,10 +72,12 @@ fn make_edit(
     alloc: Global,
     app: &mut App,
     sessions: &mut Vec<Named<Session>>,
+    caches: &mut Vec<Named<Cache>>,
     desks: &mut Vec<Named<Desk>>,
     name: &Words,
     body: &[u8],
     asked: &Edit,
+    moment: u64,
 ) -> Result<Reply, Memory>
     requires loaded { IsLoaded app.old }
     requires sound { IsSound app.old }
@@ -85,14 +97,17 @@ fn make_edit(
     ensures fit { AreFit app.new.names sessions.new.items }
     ensures kept { KeepReplies desks.new.items }
     ensures replies { SessionsKeepReplies sessions.new.items }
+    ensures caches { (told : Option Tables) → AreKept app.old told moment sessions.old.items caches.old.items → AreKept app.new told moment sessions.new.items caches.new.items }
 {
     let accepted = accept(alloc, name, asked.seq, body)?;
     desks.reserve(1)?;
     match edit(alloc, app, asked.cell.as_str(), asked.text.as_str()) {
         Ok(edited) => {
+            let rooms = new_caches(alloc, &edited, sessions, moment)?;
             make_room(sessions, &edited.names)?;
             carry(sessions, &app.names, &edited.names);
             *app = edited;
+            *caches = rooms;
             Ok(keep(alloc, desks, asked.seq, accepted))
         }
         Err(AppEnd::Refused(breaks)) => refuse(alloc, &breaks),

@@ -1,11 +1,15 @@
-//! Sessions: they begin, end, and are shown the named formulas.
-ghost use Rattle.std.specs.Prelude.{◌≡◌, false, IfOk, IsErrOf, OnErr, Some};
+//! Sessions: they begin, end, and are shown what they ask for.
+ghost use Rattle.std.specs.Prelude.{◌≡◌, ℕ, false, IfOk, IsErrOf, List, OnErr, Option, Some};
 ghost use Rattle.app_wire.specs.ReplyBytes.{reply};
 ghost use Rattle.request_checks.specs.Checked.{SessionsKeepReplies};
 ghost use Rattle.request_checks.specs.Replies.{IsReply, said};
 ghost use Rattle.view_text.specs.ReplyText.{ok_text};
 ghost use Rattle.app_loader.specs.app_semantics.Sound.{IsSound};
 ghost use Rattle.fx_trees.specs.declared.names.Names.{Names as Known};
+ghost use Rattle.app_cells.specs.declared.app.App.{App as AnApp};
+ghost use Rattle.row_keeper.specs.Tables.{Tables};
+ghost use Rattle.app_views.specs.Shows.{ReachesItems, ReachesView, ShowsItems, ShowsView};
+ghost use Rattle.office.specs.Caches.{AreKept};
 ghost use Rattle.office.specs.Ready.{AreFit};
 ghost use Rattle.fx_base.specs.Silence.{Goes, IsLost};
 ghost use Rattle.fx_base.specs.Telling.{Stays};
@@ -17,11 +21,13 @@ ghost use Rattle.row_keeper.specs.declared.keeper.KeeperEnd.TheVariants.{Failed}
 ghost use Rattle.office.specs.Sessions.{BeginsSession, ReachesBegin, ReachesNamed, ShowsNamed, without};
 
 use crate::app_semantics::fitting_holds;
+use crate::keeping::{new_cache, touch_others};
 use crate::named::named_body;
-use crate::recalc::Steps;
 use app_cells::App;
+use app_views::{show_items, show_view};
 use fx_base::Memory;
 use fx_data::words::Words;
+use recalc::{Cache, Steps};
 use request_checks::{Named, Reply, is_among, place_of, put};
 use row_keeper::{Keeper, KeeperEnd};
 use session_requests::open_session;
@@ -33,12 +39,14 @@ use view_text::ok_json;
 /// The most sessions that live at a time.
 pub const MOST_SESSIONS: usize = 256;
 
-/// Opens a session, if it isn't live: the formulas act that an app has for this, in one transaction of the keeper. What stops
-/// leaves the sessions and the tables. `Failed` only where the keeper counted a fault.
+/// Opens a session, if it isn't live: the formulas act that an app has for this, in one transaction of the keeper. It gets a
+/// cache, and those of the others are told which tables were written. What stops leaves the sessions and the tables. `Failed`
+/// only where the keeper counted a fault.
 pub(crate) fn begin<K: Keeper, L: Ledger>(
     alloc: Global,
     app: &App,
     sessions: &mut Vec<Named<Session>>,
+    caches: &mut Vec<Named<Cache>>,
     keeper: &mut K,
     name: Words,
     moment: u64,
@@ -48,6 +56,7 @@ pub(crate) fn begin<K: Keeper, L: Ledger>(
     requires opens { CanOpen app.now.names }
     requires fit { AreFit app.now.names sessions.old.items }
     requires replies { SessionsKeepReplies sessions.old.items }
+    requires kept { AreKept app.now (K.told keeper.old) moment sessions.old.items caches.old.items }
     requires shaped { K.shaped keeper.old ≡ Some app.now.names.schema }
     requires rows { AreSound app.now.names.schema (K.told keeper.old) }
     requires idle { K.in_transaction keeper.old ≡ false }
@@ -58,6 +67,7 @@ pub(crate) fn begin<K: Keeper, L: Ledger>(
     ensures left { OnErr result (Goes (IsLost (K.marks keeper.old) (K.marks keeper.new)) Stays (K.told keeper.old) (K.told keeper.new)) }
     ensures fit { AreFit app.now.names sessions.new.items }
     ensures replies { SessionsKeepReplies sessions.new.items }
+    ensures kept { AreKept app.now (K.told keeper.new) moment sessions.new.items caches.new.items }
     ensures rows { AreSound app.now.names.schema (K.told keeper.new) }
     ensures shaped { K.shaped keeper.new ≡ Some app.now.names.schema }
     ensures idle { K.in_transaction keeper.new ≡ false }
@@ -73,26 +83,35 @@ pub(crate) fn begin<K: Keeper, L: Ledger>(
     // All memory is taken before the transaction ends, so that want of it opens none.
     let reply = Reply::accept(alloc, ok_json())?;
     sessions.reserve(1)?;
-    let session = open_session(alloc, app, keeper, moment, steps)?;
+    caches.reserve(1)?;
+    let copy = name.copy(alloc)?;
+    let mut cache = new_cache(alloc, app, moment)?;
+    let mut wrote = Vec::new(alloc);
+    let session = open_session(alloc, app, &mut cache, keeper, moment, &mut wrote, steps)?;
+    touch_others(app, caches, None, &wrote);
     put(sessions, name, session);
+    put(caches, copy, cache);
     Ok(reply)
 }
 
-/// Ends a session, if it is live.
+/// Ends a session, if it is live, and its cache with it.
 pub(crate) fn end(
     alloc: Global,
     sessions: &mut Vec<Named<Session>>,
+    caches: &mut Vec<Named<Cache>>,
     name: &Words,
 ) -> Result<Reply, Memory>
     ensures said { IfOk result (λ r. said r ≡ reply 200 ok_text) }
     ensures done { IfOk result (λ r. sessions.new.items ≡ without name.now sessions.old.items) }
     ensures fit { (names : Known) → AreFit names sessions.old.items → AreFit names sessions.new.items }
     ensures replies { SessionsKeepReplies sessions.old.items → SessionsKeepReplies sessions.new.items }
+    ensures kept { (app : AnApp) (told : Option Tables) (m : ℕ) → AreKept app told m sessions.old.items caches.old.items → AreKept app told m sessions.new.items caches.new.items }
     ensures whole { IfOk result IsReply }
     ensures stopped { OnErr result (sessions.new.items ≡ sessions.old.items) }
 {
     let reply = Reply::accept(alloc, ok_json())?;
     remove(sessions, name);
+    remove(caches, name);
     Ok(reply)
 }
 
@@ -103,13 +122,13 @@ fn remove<T: Drop>(list: &mut Vec<Named<T>>, name: &Words)
     list.retain(|named| !named.name.is(name));
 }
 
-/// Shows the named formulas to a live session, evaluated afresh over the rows of a keeper. `Failed` only where it counted a
-/// fault.
+/// Shows a live session its view, as it is at a moment over the rows of a keeper. `Failed` only where it counted a fault.
 #[tactic(auto, using(crate::proofs::StepLemmas::read_nothing))]
-pub(crate) fn show_named<K: Keeper, L: Ledger>(
+pub(crate) fn show_view_to<K: Keeper, L: Ledger>(
     alloc: Global,
     app: &App,
     sessions: &[Named<Session>],
+    caches: &mut Vec<Named<Cache>>,
     keeper: &mut K,
     name: &Words,
     moment: u64,
@@ -117,10 +136,88 @@ pub(crate) fn show_named<K: Keeper, L: Ledger>(
 ) -> Result<Reply, KeeperEnd>
     requires sound { IsSound app.now }
     requires fit { AreFit app.now.names sessions.now }
+    requires kept { AreKept app.now (K.told keeper.old) moment sessions.now caches.old.items }
+    requires shaped { K.shaped keeper.old ≡ Some app.now.names.schema }
+    ensures done { IfOk result (λ r. ShowsView (IsLost (K.marks keeper.old) (K.marks keeper.new)) moment app.now name.now sessions.now (K.told keeper.old) (said r) (K.told keeper.new)) }
+    ensures whole { IfOk result IsReply }
+    ensures reached { IsErrOf result Failed → ReachesView name.now sessions.now }
+    ensures kept { AreKept app.now (K.told keeper.new) moment sessions.now caches.new.items }
+    ensures read { HasRead (keeping (K.told keeper.old) (K.began keeper.old) (K.shaped keeper.old) (K.in_transaction keeper.old) (K.marks keeper.old) (K.visited keeper.old) (K.loan keeper.old))
+        (keeping (K.told keeper.new) (K.began keeper.new) (K.shaped keeper.new) (K.in_transaction keeper.new) (K.marks keeper.new) (K.visited keeper.new) (K.loan keeper.new)) }
+    ensures cause { HasCause (K.marks keeper.old) (K.marks keeper.new) result }
+{
+    let Some(place) = place_of(sessions, name) else {
+        return Ok(Reply::refuse_plain(alloc, 11)?);
+    };
+    let session = &sessions[place].it;
+    show_view(
+        alloc,
+        app,
+        session,
+        &mut caches[place].it,
+        keeper,
+        moment,
+        steps,
+    )
+}
+
+/// Shows a live session the items of a gallery from a position on, of which 0 counts as 1. `Failed` only where the keeper counted
+/// a fault.
+#[tactic(auto, using(crate::proofs::StepLemmas::read_nothing))]
+pub(crate) fn show_items_to<K: Keeper, L: Ledger>(
+    alloc: Global,
+    app: &App,
+    sessions: &[Named<Session>],
+    caches: &mut Vec<Named<Cache>>,
+    keeper: &mut K,
+    name: &Words,
+    gallery: &Words,
+    from: u32,
+    moment: u64,
+    steps: &mut Steps<L>,
+) -> Result<Reply, KeeperEnd>
+    requires sound { IsSound app.now }
+    requires fit { AreFit app.now.names sessions.now }
+    requires kept { AreKept app.now (K.told keeper.old) moment sessions.now caches.old.items }
+    requires shaped { K.shaped keeper.old ≡ Some app.now.names.schema }
+    ensures done { IfOk result (λ r. ShowsItems (IsLost (K.marks keeper.old) (K.marks keeper.new)) moment app.now name.now gallery.now from sessions.now (K.told keeper.old) (said r) (K.told keeper.new)) }
+    ensures whole { IfOk result IsReply }
+    ensures reached { IsErrOf result Failed → ReachesItems app.now name.now gallery.now sessions.now }
+    ensures kept { AreKept app.now (K.told keeper.new) moment sessions.now caches.new.items }
+    ensures read { HasRead (keeping (K.told keeper.old) (K.began keeper.old) (K.shaped keeper.old) (K.in_transaction keeper.old) (K.marks keeper.old) (K.visited keeper.old) (K.loan keeper.old))
+        (keeping (K.told keeper.new) (K.began keeper.new) (K.shaped keeper.new) (K.in_transaction keeper.new) (K.marks keeper.new) (K.visited keeper.new) (K.loan keeper.new)) }
+    ensures cause { HasCause (K.marks keeper.old) (K.marks keeper.new) result }
+{
+    let Some(place) = place_of(sessions, name) else {
+        return Ok(Reply::refuse_plain(alloc, 11)?);
+    };
+    let session = &sessions[place].it;
+    let cache = &mut caches[place].it;
+    show_items(
+        alloc, app, session, cache, keeper, gallery, from, moment, steps,
+    )
+}
+
+/// Shows the named formulas to a live session. `Failed` only where the keeper counted a fault.
+#[tactic(auto, using(crate::proofs::StepLemmas::read_nothing))]
+pub(crate) fn show_named<K: Keeper, L: Ledger>(
+    alloc: Global,
+    app: &App,
+    sessions: &[Named<Session>],
+    caches: &mut Vec<Named<Cache>>,
+    keeper: &mut K,
+    name: &Words,
+    moment: u64,
+    steps: &mut Steps<L>,
+) -> Result<Reply, KeeperEnd>
+    requires sound { IsSound app.now }
+    requires fit { AreFit app.now.names sessions.now }
+    requires kept { AreKept app.now (K.told keeper.old) moment sessions.now caches.old.items }
     requires shaped { K.shaped keeper.old ≡ Some app.now.names.schema }
     ensures done { IfOk result (λ r. ShowsNamed (IsLost (K.marks keeper.old) (K.marks keeper.new)) moment app.now name.now sessions.now (K.told keeper.old) (said r) (K.told keeper.new)) }
     ensures whole { IfOk result IsReply }
     ensures reached { IsErrOf result Failed → ReachesNamed name.now sessions.now }
+    ensures kept { AreKept app.now (K.told keeper.new) moment sessions.now caches.new.items }
     ensures read { HasRead (keeping (K.told keeper.old) (K.began keeper.old) (K.shaped keeper.old) (K.in_transaction keeper.old) (K.marks keeper.old) (K.visited keeper.old) (K.loan keeper.old))
         (keeping (K.told keeper.new) (K.began keeper.new) (K.shaped keeper.new) (K.in_transaction keeper.new) (K.marks keeper.new) (K.visited keeper.new) (K.loan keeper.new)) }
     ensures cause { HasCause (K.marks keeper.old) (K.marks keeper.new) result }
@@ -130,6 +227,8 @@ pub(crate) fn show_named<K: Keeper, L: Ledger>(
     let Some(place) = place_of(sessions, name) else {
         return Ok(Reply::refuse_plain(alloc, 11)?);
     };
-    let body = named_body(alloc, app, &sessions[place].it, keeper, moment, steps)?;
+    let session = &sessions[place].it;
+    let cache = &mut caches[place].it;
+    let body = named_body(alloc, app, session, cache, keeper, moment, steps)?;
     Ok(Reply::accept(alloc, &body)?)
 }

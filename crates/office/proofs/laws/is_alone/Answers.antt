@@ -6,7 +6,7 @@ use Rattle.office.proofs.laws.is_alone.Goals as goal
 pub returns : goal.returns
 returns c =
     let replies : ReplyLaws = record {
-      fresh = c.one_fresh.ensures;
+      fresh = c.one_fresh_at.ensures;
       holds = c.fitting_holds.ensures;
       view = c.one_view_reply.ensures;
       items = c.one_items_reply.ensures;

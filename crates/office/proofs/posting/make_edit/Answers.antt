@@ -5,12 +5,14 @@ use Rattle.request_checks.specs.Checked.{SessionsKeepReplies}
 use Rattle.request_checks.specs.Replies.{said}
 use Rattle.request_checks.specs.declared.directory.Named.{Named}
 use Rattle.session_state.specs.Sessions.{SessionState}
+use Rattle.office.specs.Caches.{AreKept, AreNew}
 use Rattle.office.specs.Ready.{AreFit}
 use Rattle.office.specs.Rooms.{HaveNoRoom, HaveRoom}
 use Rattle.office.proofs.Desks.{kept_so}
 use Rattle.office.proofs.Edits.{alike, carried_fit, carried_keep}
 use Rattle.office.proofs.Rooms.{have_none, have_room}
 use Rattle.office.proofs.Writing.{carried_all, roomy}
+use Rattle.office.proofs.Turned.{kept_new}
 use Rattle.office.proofs.posting.make_edit.Goals as goal
 
 pub make_room-requires : goal.make_room-requires
@@ -53,3 +55,14 @@ returns-in-Ok-clause-replies c =
     let sessions = carried_all c.args.sessions.now.len c.args.app.now.names c.in-Ok.edited.names c.args.sessions.now.items c.deref_mut-in-Ok.result.now _ c.carry.new.sessions
     c.args.sessions.now.ok.0 read c.carry.ensures in
     subst SessionsKeepReplies (sym sessions) (carried_keep c.args.app.now.names c.in-Ok.edited.names c.args.sessions.now.items c.requires.replies)
+
+pub returns-in-Ok-clause-caches : goal.returns-in-Ok-clause-caches
+returns-in-Ok-clause-caches c = λ told kept.
+    let read = roomy c.args.sessions.now.len c.in-Ok.edited.names c.args.sessions.now.items c.deref_mut.result.now c.make_room.new.sessions c.deref_mut-in-Ok.result.now
+    c.args.sessions.now.ok.0 c.deref_mut.ensures.value c.in_ok-make_room-in-Ok.ensures.made c.deref_mut-in-Ok.ensures.value in
+    let sessions = carried_all c.args.sessions.now.len c.args.app.now.names c.in-Ok.edited.names c.args.sessions.now.items c.deref_mut-in-Ok.result.now _ c.carry.new.sessions
+    c.args.sessions.now.ok.0 read c.carry.ensures in
+    let rooms = c.in_ok-rooms-in-Ok.rooms.items in
+    subst (λ (l : List (Named SessionState)). AreKept c.in-Ok.edited told c.args.moment l rooms) (sym sessions)
+    (kept_new c.in-Ok.edited told c.args.moment c.args.app.now.names c.in-Ok.edited.names c.args.sessions.now.items rooms
+    (subst (λ (l : List (Named SessionState)). AreNew c.in-Ok.edited c.args.moment l rooms) c.deref.ensures.value c.in_ok-rooms-in-Ok.ensures))

@@ -4,6 +4,10 @@ use Rattle.request_checks.specs.declared.directory.Named.{Named}
 use Rattle.session_state.specs.Changes.{FitsNames}
 use Rattle.session_state.specs.Sessions.{SessionState}
 use Rattle.office.specs.Ready.{AreFit}
+use Rattle.office.specs.Sessions.{without}
+use Rattle.recalc.specs.Kept.{Kept}
+use Rattle.office.specs.Caches.{AreKept}
+use Rattle.office.proofs.Caching.{kept_without}
 use Rattle.office.proofs.Directories.{without_all}
 use Rattle.office.proofs.sessions.end.Goals as goal
 
@@ -16,3 +20,8 @@ pub returns-clause-replies : goal.returns-clause-replies
 returns-clause-replies c = λ replies.
     subst (λ (l : List (Named SessionState)). SessionsKeepReplies l) (sym c.remove.ensures)
     (without_all SessionState (λ (s : Named SessionState). KeepsReply s.it.kept) c.args.name.now c.args.sessions.now.items replies)
+
+pub returns-clause-kept : goal.returns-clause-kept
+returns-clause-kept c = λ app told m kept.
+    subst (λ (l : List (Named SessionState)). AreKept app told m l c.remove-2.new.list.items) (sym c.remove.ensures)
+    (subst (λ (l : List (Named Kept)). AreKept app told m (without c.args.name.now c.args.sessions.now.items) l) (sym c.remove-2.ensures) (kept_without app told m c.args.name.now c.args.sessions.now.items c.args.caches.now.items kept))

@@ -2,15 +2,12 @@ use Rattle.std.proofs.Common.{refl}
 use Rattle.std.proofs.lemmas.Result.{IfOk-weaker}
 use Rattle.app_wire.specs.Framing.{asked}
 use Rattle.request_checks.specs.Replies.{said}
-use Rattle.office.proofs.StepLemmas.{left_all, routed, unrouted, wrong_method}
+use Rattle.office.proofs.StepLemmas.{left_all, routed_then, unrouted, wrong_method}
 use Rattle.office.proofs.machine.Office.carry_out.Goals as goal
 
-pub returns-in-Ok-clause-step : goal.returns-in-Ok-clause-step
-returns-in-Ok-clause-step g c =
-    IfOk-weaker c.take.result _ _ (λ r does. routed _ c.args.self.now.state _ c.args.moment (asked c.args.request.now) c.in-Ok.route (said r) c.in-Ok.ensures does) c.take.ensures.step
-
-pub returns-in-Ok-clause-reached : goal.returns-in-Ok-clause-reached
-returns-in-Ok-clause-reached g c failed = record { route = c.in-Ok.route; routed = c.in-Ok.ensures; reaches = c.take.ensures.reached failed }
+pub returns-in-Ok-turn-clause-step : goal.returns-in-Ok-turn-clause-step
+returns-in-Ok-turn-clause-step g c =
+    IfOk-weaker c.take.result _ _ (λ r does. routed_then _ _ _ _ _ _ _ _ (asked c.args.request.now) c.in-Ok.route (said r) c.in-Ok.ensures c.turn.ensures.state c.turn.ensures.marks c.in-Ok-turn.ensures.moment does) c.take.ensures.step
 
 pub returns-in-Err-NoRoute-clause-step : goal.returns-in-Err-NoRoute-clause-step
 returns-in-Err-NoRoute-clause-step g c =

@@ -1,0 +1,59 @@
+use Rattle.std.proofs.Common.{◌≡◌, ◌<◌, List, length, Some, arith, subst, sym}
+use Rattle.std.specs.List.{position}
+use Rattle.fx_base.specs.Silence.{Goes, IsLost}
+use Rattle.fx_trees.specs.declared.sources.Source.{Source}
+use Rattle.request_checks.specs.Directory.{is_named}
+use Rattle.request_checks.specs.Replies.{said}
+use Rattle.request_checks.specs.declared.directory.Named.{Named}
+use Rattle.row_requests.specs.Written.{AreTablesBut}
+use Rattle.session_state.specs.Sessions.{SessionState}
+use Rattle.office.proofs.Sent.{cached_there, kept_sent, kept_stopped, order_after, place_within, sends_event}
+use Rattle.office.proofs.sending.act_event.Goals as goal
+
+pub index_mut-requires : goal.index_mut-requires
+index_mut-requires g c =
+    let within : c.in-Some.place < length c.args.sessions.now.items = subst (λ (l : List (Named SessionState)). c.in-Some.place < length l) c.deref.ensures.value c.in-Some.ensures.within in
+    let there = place_within c.args.app.now (g.K.Keeper.told c.args.keeper.now) c.args.moment c.args.sessions.now.items c.args.caches.now.items c.in-Some.place c.requires.kept within in
+    omega (arith, there, c.args.caches.now.ok.0)
+
+pub send_event-requires-clause-cached : goal.send_event-requires-clause-cached
+send_event-requires-clause-cached g c =
+    let name = c.args.name.now in
+    let place = subst (λ (l : List (Named SessionState)). Some c.in-Some.place ≡ position (is_named name) l) c.deref.ensures.value c.in-Some.ensures.place in
+    cached_there c.args.app.now (g.K.Keeper.told c.args.keeper.now) c.args.moment name c.args.sessions.now.items c.args.caches.now.items c.in-Some.place c.index_mut.result.now c.requires.kept (sym place) c.index_mut.ensures.value
+
+pub returns-in_err-reply-in-Some-clause-kept : goal.returns-in_err-reply-in-Some-clause-kept
+returns-in_err-reply-in-Some-clause-kept g c =
+    let name = c.args.name.now in
+    let told = g.K.Keeper.told in
+    let lost = IsLost (g.K.Keeper.marks c.args.keeper.now) (g.K.Keeper.marks c.send_event.new.keeper) in
+    let place = subst (λ (l : List (Named SessionState)). Some c.in-Some.place ≡ position (is_named name) l) c.deref.ensures.value c.in-Some.ensures.place in
+    kept_stopped c.args.app.now c.args.moment lost (told c.args.keeper.now) (told c.send_event.new.keeper) name c.args.sessions.now.items c.send_event.new.sessions.items c.args.caches.now.items c.in-Some.place c.index_mut.result.now c.send_event.new.cache
+    c.requires.kept (sym place) c.index_mut.ensures.value c.in_err-reply-in-Some.ensures.left c.in_err-reply-in-Some.ensures.stopped c.send_event.ensures.cached
+
+pub touch_others-requires-clause-order : goal.touch_others-requires-clause-order
+touch_others-requires-clause-order g c =
+    let name = c.args.name.now in
+    let told = g.K.Keeper.told in
+    let lost = IsLost (g.K.Keeper.marks c.args.keeper.now) (g.K.Keeper.marks c.send_event.new.keeper) in
+    let ss = c.args.sessions.now.items in
+    let rs = c.send_event.new.sessions.items in
+    let place = subst (λ (l : List (Named SessionState)). Some c.in-Some.place ≡ position (is_named name) l) c.deref.ensures.value c.in-Some.ensures.place in
+    let changes = sends_event lost c.args.app.now c.args.moment name c.args.body.now c.args.event.now (told c.args.keeper.now) ss (said c.in_ok-reply-in-Some.reply) (told c.send_event.new.keeper) rs c.in_ok-reply-in-Some.ensures.done in
+    order_after c.args.app.now (told c.args.keeper.now) (told c.send_event.new.keeper) c.args.moment name ss rs c.args.caches.now.items c.in-Some.place c.index_mut.result.now c.send_event.new.cache c.requires.kept (sym place) changes c.send_event.ensures.cached
+
+pub returns-clause-kept : goal.returns-clause-kept
+returns-clause-kept g c =
+    let name = c.args.name.now in
+    let told = g.K.Keeper.told in
+    let lost = IsLost (g.K.Keeper.marks c.args.keeper.now) (g.K.Keeper.marks c.send_event.new.keeper) in
+    let app = c.args.app.now in
+    let m = c.args.moment in
+    let ss = c.args.sessions.now.items in
+    let rs = c.send_event.new.sessions.items in
+    let cs = c.args.caches.now.items in
+    let place = subst (λ (l : List (Named SessionState)). Some c.in-Some.place ≡ position (is_named name) l) c.deref.ensures.value c.in-Some.ensures.place in
+    let changes = sends_event lost app m name c.args.body.now c.args.event.now (told c.args.keeper.now) ss (said c.in_ok-reply-in-Some.reply) (told c.send_event.new.keeper) rs c.in_ok-reply-in-Some.ensures.done in
+    kept_sent app m lost c.deref-in-Some.result.now (told c.args.keeper.now) (told c.send_event.new.keeper) name ss rs cs c.touch_others.new.caches.items c.in-Some.place c.index_mut.result.now c.send_event.new.cache
+    c.requires.sound (subst (λ (ws : List Source). Goes lost (AreTablesBut ws) (told c.args.keeper.now) (told c.send_event.new.keeper)) (sym c.deref-in-Some.ensures.value) c.send_event.ensures.tables) c.requires.kept (sym place) c.index_mut.ensures.value
+    changes c.send_event.ensures.cached c.touch_others.ensures.told

@@ -1,0 +1,35 @@
+use Rattle.std.proofs.Common.{◌≡◌, ℕ, List, Result, Ok, subst, sym}
+use Rattle.std.specs.Prelude.{IsSome}
+use Rattle.std.proofs.lemmas.Result.{IfOk-weaker}
+use Rattle.fx_base.specs.Silence.{IsLost}
+use Rattle.request_checks.specs.Checks.{checks, session_of}
+use Rattle.request_checks.specs.Directory.{find}
+use Rattle.request_checks.specs.Replies.{said}
+use Rattle.request_checks.specs.declared.directory.Named.{Named}
+use Rattle.session_requests.proofs.Passing.{live}
+use Rattle.session_requests.specs.Bodies.{event_in}
+use Rattle.session_requests.specs.Posting.{PostsEventChecked}
+use Rattle.session_requests.specs.declared.event.Event.{Event}
+use Rattle.session_state.specs.Sessions.{SessionState}
+use Rattle.office.proofs.sending.post_event.Goals as goal
+
+pub act_event-requires-clause-live : goal.act_event-requires-clause-live
+act_event-requires-clause-live g c =
+    let is = rw c.in-Acts.is at c.in_ok-reply.ensures.is in
+    subst (λ (l : List (Named SessionState)). IsSome (find c.args.name.now l)) c.deref.ensures.value
+    (live Event event_in (λ (e : Event). e.seq) c.args.name.now c.args.body.now c.in-Acts.event c.deref.result.now is)
+
+pub returns-in-Acts-clause-done : goal.returns-in-Acts-clause-done
+returns-in-Acts-clause-done g c =
+    let told = g.K.Keeper.told in
+    let name = c.args.name.now in
+    let lost = IsLost (g.K.Keeper.marks c.args.keeper.now) (g.K.Keeper.marks c.act_event.new.keeper) in
+    let passed = rw c.in-Acts.is at c.in_ok-reply.ensures.is in
+    let is = subst (λ (l : List (Named SessionState)). checks event_in (λ (e : Event). e.seq) (session_of name l) c.args.body.now ≡ Ok c.in-Acts.event) c.deref.ensures.value passed in
+    IfOk-weaker c.act_event.result _ _ (λ r sends.
+    subst (λ (x : Result Event (List ℕ)). PostsEventChecked lost c.args.app.now c.args.moment name c.args.body.now x (told c.args.keeper.now) c.args.sessions.now.items (said r) (told c.act_event.new.keeper) c.act_event.new.sessions.items) (sym is) sends) c.act_event.ensures.done
+
+pub returns-in-Acts-clause-reached : goal.returns-in-Acts-clause-reached
+returns-in-Acts-clause-reached g c = λ failed.
+    let passed = rw c.in-Acts.is at c.in_ok-reply.ensures.is in
+    (c.in-Acts.event, subst (λ (l : List (Named SessionState)). checks event_in (λ (e : Event). e.seq) (session_of c.args.name.now l) c.args.body.now ≡ Ok c.in-Acts.event) c.deref.ensures.value passed)

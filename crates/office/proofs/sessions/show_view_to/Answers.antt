@@ -1,0 +1,45 @@
+use Rattle.std.proofs.Common.{◌<◌, length, Option, Some, arith, get_or, refl, subst, sym}
+use Rattle.std.specs.Prelude.{IsSome}
+use Rattle.std.proofs.lemmas.Result.{IfOk-weaker}
+use Rattle.app_views.specs.Shows.{ShowsViewTo}
+use Rattle.fx_base.specs.Silence.{IsLost}
+use Rattle.request_checks.specs.Replies.{said}
+use Rattle.session_state.specs.Sessions.{SessionState}
+use Rattle.office.proofs.Sent.{found_here, kept_after, place_within, shown_there}
+use Rattle.office.proofs.sessions.show_view_to.Goals as goal
+
+pub index_mut-requires : goal.index_mut-requires
+index_mut-requires g c =
+    let there = place_within c.args.app.now (g.K.Keeper.told c.args.keeper.now) c.args.moment c.args.sessions.now c.args.caches.now.items c.in-Some.place c.requires.kept c.in-Some.ensures.within in
+    omega (arith, there, c.args.caches.now.ok.0)
+
+pub show_view-requires-clause-day : goal.show_view-requires-clause-day
+show_view-requires-clause-day g c =
+    (shown_there c.args.app.now (g.K.Keeper.told c.args.keeper.now) c.args.moment c.args.sessions.now c.args.caches.now.items c.in-Some.place c.index-sessions-place.result c.index_mut.result.now c.requires.kept c.in-Some.ensures.within c.index_mut.ensures.value).cached.day
+
+pub show_view-requires-clause-order : goal.show_view-requires-clause-order
+show_view-requires-clause-order g c =
+    (shown_there c.args.app.now (g.K.Keeper.told c.args.keeper.now) c.args.moment c.args.sessions.now c.args.caches.now.items c.in-Some.place c.index-sessions-place.result c.index_mut.result.now c.requires.kept c.in-Some.ensures.within c.index_mut.ensures.value).cached.order
+
+pub show_view-requires-clause-right : goal.show_view-requires-clause-right
+show_view-requires-clause-right g c =
+    (shown_there c.args.app.now (g.K.Keeper.told c.args.keeper.now) c.args.moment c.args.sessions.now c.args.caches.now.items c.in-Some.place c.index-sessions-place.result c.index_mut.result.now c.requires.kept c.in-Some.ensures.within c.index_mut.ensures.value).cached.right
+
+pub returns-clause-done : goal.returns-clause-done
+returns-clause-done g c =
+    let told = g.K.Keeper.told in
+    let lost = IsLost (g.K.Keeper.marks c.args.keeper.now) (g.K.Keeper.marks c.show_view.new.keeper) in
+    let found = found_here c.args.name.now c.args.sessions.now c.in-Some.place c.index-sessions-place.result c.in-Some.ensures.place c.in-Some.ensures.within in
+    IfOk-weaker c.show_view.result _ _ (λ r h. subst (λ (o : Option SessionState). ShowsViewTo lost c.args.app.now c.args.moment o (told c.args.keeper.now) (said r) (told c.show_view.new.keeper)) (sym found) h) c.show_view.ensures.done
+
+pub returns-clause-reached : goal.returns-clause-reached
+returns-clause-reached g c failed =
+    let found = found_here c.args.name.now c.args.sessions.now c.in-Some.place c.index-sessions-place.result c.in-Some.ensures.place c.in-Some.ensures.within in
+    subst (λ (o : Option SessionState). IsSome o) (sym found) refl
+
+pub returns-clause-kept : goal.returns-clause-kept
+returns-clause-kept g c =
+    let told = g.K.Keeper.told in
+    kept_after c.args.app.now c.args.moment (IsLost (g.K.Keeper.marks c.args.keeper.now) (g.K.Keeper.marks c.show_view.new.keeper)) (told c.args.keeper.now) (told c.show_view.new.keeper)
+    c.args.sessions.now c.args.caches.now.items c.in-Some.place c.index-sessions-place.result c.index_mut.result.now c.show_view.new.cache
+    c.requires.kept c.in-Some.ensures.within c.index_mut.ensures.value c.show_view.ensures.read.told c.show_view.ensures.order c.show_view.ensures.right c.show_view.ensures.day

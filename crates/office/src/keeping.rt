@@ -1,0 +1,131 @@
+//! The caches of sessions: each session has one, under its name.
+ghost use Rattle.std.specs.Prelude.{◌≡◌, ◌<◌, ℕ, IfOk, OnErr, length, slice_get, Some, vec_capacity};
+ghost use Rattle.std.specs.List.{AllByRecursion};
+ghost use Rattle.fx_data.specs.ValueView.{view};
+ghost use Rattle.fx_scalar.specs.ScalarFunctions.{IsToday};
+ghost use Rattle.fx_trees.specs.declared.sources.Source.TheVariants.{Today};
+ghost use Rattle.recalc.specs.Kept.{IsInOrder, Kept, place_of};
+ghost use Rattle.request_checks.specs.declared.directory.Named.{Named as Under};
+ghost use Rattle.session_requests.specs.Caching.{AreSources};
+ghost use Rattle.office.specs.Caches.{AreEach, AreNew, AreTouched, IsNew, IsToldAside, IsTurned, is_other as is_other_of, is_table as is_table_of, tables_in};
+
+use app_cells::App;
+use fx_base::Memory;
+use fx_data::Value;
+use fx_scalar::today;
+use fx_trees::Source;
+use recalc::Cache;
+use request_checks::Named;
+use session_state::Session;
+use std::alloc::Global;
+
+/// How many seconds a day has.
+pub(crate) const DAY: u64 = 86_400;
+
+/// A cache for a session of an app, on the day of a moment. Nothing is kept in it.
+pub(crate) fn new_cache(alloc: Global, app: &App, moment: u64) -> Result<Cache, Memory>
+    ensures { IfOk result (IsNew app.now moment) }
+{
+    let day = today(alloc, moment)?;
+    Cache::new(alloc, app, day)
+}
+
+/// Such a cache for each session.
+pub(crate) fn new_caches(
+    alloc: Global,
+    app: &App,
+    sessions: &[Named<Session>],
+    moment: u64,
+) -> Result<Vec<Named<Cache>>, Memory>
+    ensures { IfOk result (λ v. AreNew app.now moment sessions.now v.items) }
+{
+    let mut caches = Vec::new(alloc);
+    for session in sessions {
+        caches.push(Named {
+            name: session.name.copy(alloc)?,
+            it: new_cache(alloc, app, moment)?,
+        })?;
+    }
+    Ok(caches)
+}
+
+/// So many times the day of a moment.
+fn days_of(alloc: Global, moment: u64, count: usize) -> Result<Vec<Value>, Memory>
+    ensures count { IfOk result (λ v. length v.items ≡ count) }
+    ensures days { IfOk result (λ v. AllByRecursion (λ d. IsToday moment (view d)) v.items) }
+{
+    let mut days = Vec::new(alloc);
+    for _ in 0..count {
+        days.push(today(alloc, moment)?)?;
+    }
+    Ok(days)
+}
+
+/// Says to all caches that another day begins, which is that of a moment; or there is no memory, and all is as before.
+pub(crate) fn turn_all(
+    alloc: Global,
+    caches: &mut Vec<Named<Cache>>,
+    moment: u64,
+) -> Result<(), Memory>
+    requires { (k : ℕ) (c : Under Kept) → slice_get caches.old.items k ≡ Some c → place_of Today < length c.it.versions }
+    ensures turned { IfOk result (λ _. AreEach (λ k. IsTurned moment) caches.old.items caches.new.items) }
+    ensures stopped { OnErr result (caches.new.items ≡ caches.old.items) }
+{
+    let mut days = days_of(alloc, moment, caches.len())?;
+    for at in 0..caches.len() {
+        match days.pop() {
+            Some(day) => caches[at].it.turn(day),
+            None => unreachable!(),
+        }
+    }
+    Ok(())
+}
+
+/// Whether a source is a table.
+fn is_table(source: Source) -> bool
+    ensures { result ≡ is_table_of source }
+{
+    matches!(source, Source::Table(_))
+}
+
+/// Says to a cache which tables were written, of what was.
+fn touch(app: &App, cache: &mut Cache, wrote: &[Source])
+    requires order { IsInOrder app.now cache.old }
+    requires sources { AreSources app.now.names wrote.now }
+    ensures { AreTouched app.now (tables_in wrote.now) cache.old cache.new }
+{
+    for source in wrote {
+        if is_table(*source) {
+            cache.touched(*source);
+        }
+    }
+}
+
+/// Whether a place isn't this one.
+fn is_other(place: Option<usize>, at: usize) -> bool
+    ensures { result ≡ is_other_of place at }
+{
+    match place {
+        Some(place) => place != at,
+        None => true,
+    }
+}
+
+/// Says to all caches but the one at a place which tables were written: that of the session that wrote them knows.
+pub(crate) fn touch_others(
+    app: &App,
+    caches: &mut Vec<Named<Cache>>,
+    place: Option<usize>,
+    wrote: &[Source],
+)
+    requires order { (k : ℕ) (c : Under Kept) → slice_get caches.old.items k ≡ Some c → IsInOrder app.now c.it }
+    requires sources { AreSources app.now.names wrote.now }
+    ensures told { AreEach (IsToldAside app.now place (tables_in wrote.now)) caches.old.items caches.new.items }
+    ensures capacity { vec_capacity caches.new ≡ vec_capacity caches.old }
+{
+    for at in 0..caches.len() {
+        if is_other(place, at) {
+            touch(app, &mut caches[at].it, wrote);
+        }
+    }
+}
