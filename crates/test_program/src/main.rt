@@ -7,6 +7,7 @@
 //! 1704067200, in 2024-01-01.
 #![tactic(auto)]
 
+mod asked;
 mod escapes;
 mod pieces;
 mod print;

@@ -7,8 +7,8 @@ use std::{io, str};
 /// The first bytes of each reply, and of no part of one.
 const REPLY: &str = "HTTP/1.1 ";
 
-/// Prints the status, what was said, if anything, and the replies; `next` where another conversation came; and how many rows
-/// were visited, where these are counted.
+/// Prints the status, what was said, if anything, and the replies; `next` where another conversation came; how many rows
+/// were visited, where these are counted, and what the keeper was asked about rows, where this is written down.
 pub fn print_end(rt: &(impl Print + AllocGlobal), ended: &Ended) -> io::Result<()> {
     let status = ended.status;
     println!(rt; "status {status}")?;
@@ -22,10 +22,18 @@ pub fn print_end(rt: &(impl Print + AllocGlobal), ended: &Ended) -> io::Result<(
         }
         print_replies(rt, text(answered))?;
     }
-    match ended.visited {
-        Some(visited) => println!(rt; "visited {visited}"),
+    if let Some(visited) = ended.visited {
+        println!(rt; "visited {visited}")?;
+    }
+    match &ended.asked {
+        Some(asked) if asked.is_empty() => println!(rt; "asked nothing"),
+        Some(asked) => print_asked(rt, asked.as_str()),
         None => Ok(()),
     }
+}
+
+fn print_asked(rt: &impl Print, asked: &str) -> io::Result<()> {
+    println!(rt; "asked {asked}")
 }
 
 /// Prints each reply in a line, and those that repeat it with their count. What comes before the first is printed alone.

@@ -23,6 +23,8 @@ pub struct Row {
     pub one: bool,
     /// Whether the rows that the keeper visits are counted.
     pub counts_visits: bool,
+    /// Whether what the keeper is asked about rows is written down.
+    pub writes_asked: bool,
     /// The name of a table without columns that the keeper has been shaped by, or nothing.
     pub kept: String,
     /// The last number that this table gave, 0 at first.
@@ -47,6 +49,7 @@ impl Row {
             piece: 4096,
             one: false,
             counts_visits: false,
+            writes_asked: false,
             kept: String::new(alloc),
             last: 0,
             file_fails: Vec::new(alloc),
@@ -70,6 +73,7 @@ impl Row {
             "piece" => self.piece = text.parse::<usize>().unwrap_or(1).max(1),
             "one" => self.one = true,
             "visits" => self.counts_visits = true,
+            "asked" => self.writes_asked = true,
             "file_fails" => self.file_fails = numbers(alloc, text)?,
             "sink_fails" => self.sink_fails = numbers(alloc, text)?,
             "door_fails" => self.door_fails = numbers(alloc, text)?,

@@ -1,6 +1,7 @@
 //! Runs in memory.
 ghost use Rattle.std.specs.Prelude.{◌≡◌, ◌<◌, IfOk, false};
 
+use crate::asked::AskedKeeper;
 use crate::pieces::PieceSink;
 use crate::row::Row;
 use app_wire::clock::ListClock;
@@ -16,14 +17,15 @@ use std::alloc::{AllocError, Global};
 use std::marker::Brand;
 use std::sync::ledger::{Blank, Ledger};
 
-/// How a run ended, what it said, what it answered to each conversation that came, and how many rows the keeper visited,
-/// where these are counted.
+/// How a run ended, what it said, what it answered to each conversation that came, how many rows the keeper visited, where
+/// these are counted, and what it was asked about rows, where this is written down.
 #[derive(Drop)]
 pub struct Ended {
     pub status: u8,
     pub said: Vec<u8>,
     pub answered: Vec<Vec<u8>>,
     pub visited: Option<u64>,
+    pub asked: Option<String>,
 }
 
 /// A run in memory.
@@ -34,7 +36,7 @@ pub fn run_row(alloc: Global, row: &Row) -> Result<Ended, AllocError> {
         row.piece,
     );
     let mut files = files(alloc, row)?;
-    let mut keeper = keeper(alloc, row)?;
+    let mut keeper = AskedKeeper::new(alloc, keeper(alloc, row)?);
     let status = status::<Brand>(
         alloc,
         row,
@@ -49,7 +51,8 @@ pub fn run_row(alloc: Global, row: &Row) -> Result<Ended, AllocError> {
         status,
         said: Vec::from_slice(alloc, out.written())?,
         answered: answers(alloc, &doors, row.earlier.len())?,
-        visited: row.counts_visits.then_some(keeper.visited()),
+        visited: row.counts_visits.then_some(keeper.keeper.visited()),
+        asked: row.writes_asked.then_some(keeper.asked(alloc)?),
     })
 }
 
@@ -69,7 +72,7 @@ fn status<L: Ledger>(
     alloc: Global,
     row: &Row,
     doors: &mut MemoryDoors,
-    keeper: &mut MemoryKeeper,
+    keeper: &mut AskedKeeper<MemoryKeeper>,
     files: &mut MemoryFiles,
     out: &mut PieceSink,
     mut clock: ListClock,
@@ -78,7 +81,7 @@ fn status<L: Ledger>(
     requires name { blank.name ≡ L.name }
     requires parts { blank.parts ≡ L.parts }
     requires some { 0 < L.parts }
-    requires idle { keeper.old.store.is_begun ≡ false }
+    requires idle { keeper.old.keeper.store.is_begun ≡ false }
 {
     let mut steps = Steps::<L>::new(blank);
     run(
