@@ -35,39 +35,3 @@ pub fn order(alloc: Global, count: u32, edges: &[(u32, u32)]) -> Result<Vec<u32>
     }
     Ok(search.into_order())
 }
-
-#[cfg(test)]
-mod tests {
-    use super::*;
-    use std::test::Fail;
-
-    /// The numbers of the closed path, or none where there is an order.
-    fn cycle(alloc: Global, count: u32, edges: &[(u32, u32)]) -> Result<Vec<u32>, Fail>
-        requires { AreBelow count edges.now }
-    {
-        match order(alloc, count, edges) {
-            Ok(_order) => Ok(Vec::new(alloc)),
-            Err(OrderEnd::Cycle(path)) => Ok(path),
-            Err(OrderEnd::Memory) => Err(Fail::from("memory")),
-        }
-    }
-
-    #[test]
-    fn orders(rt: HostRuntime) -> Result<(), Fail> {
-        let ordered = order(rt.alloc(), 4, &[(0, 1), (0, 3), (1, 2), (3, 2)]);
-        assert_eq!(rt; ordered?.as_slice(), [2, 1, 3, 0].as_slice());
-        assert_eq!(rt;
-            cycle(rt.alloc(), 2, &[(0, 1), (1, 0)])?.as_slice(),
-            [0, 1, 0].as_slice()
-        );
-        assert_eq!(rt;
-            cycle(rt.alloc(), 1, &[(0, 0)])?.as_slice(),
-            [0, 0].as_slice()
-        );
-        assert_eq!(rt;
-            cycle(rt.alloc(), 5, &[(4, 1), (0, 4), (1, 3), (3, 4), (0, 3)])?.as_slice(),
-            [1, 3, 4, 1].as_slice()
-        );
-        Ok(())
-    }
-}

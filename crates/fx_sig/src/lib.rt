@@ -4,6 +4,3 @@
 pub mod table;
 
 pub use table::{all, signature};
-
-#[cfg(test)]
-mod tests;

@@ -14,6 +14,3 @@ pub use queries::Query;
 pub use ranges::{Key, KeyRange, RangeList};
 pub use row_tests::{Held, Test, TestNode, Tests};
 pub use rows::{Cells, Row, RowList};
-
-#[cfg(test)]
-mod worked_rows;

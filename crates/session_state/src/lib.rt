@@ -16,6 +16,3 @@ pub use change::Change;
 pub use desk::Desk;
 pub use session::Session;
 pub use turn::Turn;
-
-#[cfg(test)]
-mod tests;

@@ -1,13 +1,14 @@
 //! Writes first what libraries answer where no formula shows it: keys and orders of values, how types join and what
 //! values weigh, the ends of days, values and refusals in their written forms, what a typed tree reads, how numbers
-//! round, the tokens of texts, the properties of controls, the routes of requests, and how conversations go. Then it
-//! reads formulas of literals, operators and functions of values, one a line, and writes each with the plain form of
-//! what it answers. The day of `Today()` is that of the moment 1704067200. An empty line and one of `#` are written as
-//! they are.
+//! round, the tokens of texts, the properties of controls, the routes of requests, how conversations go, which functions
+//! there are, orders and circles, conditions before an error, and how requests of sessions and desks count. Then it reads
+//! formulas of literals, operators and functions of values, one a line, and writes each with the plain form of what it
+//! answers. The day of `Today()` is that of the moment 1704067200. An empty line and one of `#` are written as they are.
 #![tactic(auto)]
 
 mod answers;
 mod arguments;
+mod conditions;
 mod conversations;
 mod days;
 mod evaluate;
@@ -16,12 +17,15 @@ mod keys;
 mod names;
 mod numbers;
 mod operators;
+mod orders;
 mod page;
 mod parts;
 mod reads;
 mod records;
 mod refused;
 mod routes;
+mod sessions;
+mod signatures;
 mod tokens;
 mod typed;
 mod weights;
@@ -59,5 +63,9 @@ fn write(page: &mut Page) -> Result<(), Memory> {
     tokens::write(page)?;
     names::write(page)?;
     routes::write(page)?;
-    conversations::write(page)
+    conversations::write(page)?;
+    signatures::write(page)?;
+    orders::write(page)?;
+    conditions::write(page)?;
+    sessions::write(page)
 }
