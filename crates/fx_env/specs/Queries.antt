@@ -1,5 +1,5 @@
 -- Tables whose query expressions are answered by queries.
-use Rattle.std.specs.Prelude.{◌≡◌, ℕ, List, Option, Some, slice_get}
+use Rattle.std.specs.Prelude.{◌≡◌, ◌+◌, ◌≤◌, ℕ, IfSome, List, Option, Some, length, slice_get}
 use Rattle.fx_data.specs.Types.{Shape, tables}
 use Rattle.fx_data.specs.Values.{Data}
 use Rattle.fx_env.specs.Scopes.{Fixed}
@@ -29,3 +29,12 @@ pub record KeepsTables {B : Type 0} (f : Fixed) (told : Option (Told B)) : Type 
 -- what is told of rows is what is told of the values of tables
 abbrev pub AreTold : List TableShape → Option (Source → Data) → Option (List (List Row)) → Type 0
 AreTold shapes told rows = (values : Source → Data) → told ≡ Some values → (rs : List (List Row)) × (rows ≡ Some rs) × AreValuesOf shapes values rs
+
+-- reading a source visits no rows, but those of a table once
+abbrev pub ReadsAtMost : Source → List (List Row) → ℕ → ℕ → Type 0
+ReadsAtMost (source.Table k) rows before now = now ≤ before + length (rows_at rows k)
+ReadsAtMost s rows before now = now ≤ before
+
+-- the same where the rows of all tables are told
+abbrev pub ReadsTold : Source → Option (List (List Row)) → ℕ → ℕ → Type 0
+ReadsTold s told before now = IfSome told (λ rows. ReadsAtMost s rows before now)

@@ -1,10 +1,10 @@
 //! What typed trees are evaluated over.
-ghost use Rattle.std.specs.Prelude.{◌≡◌, ℕ, ◌+◌, ◌≤◌, Option, IsSome, IfOk, IfSome, IsErrOf};
+ghost use Rattle.std.specs.Prelude.{◌≡◌, ℕ, ◌+◌, ◌≤◌, Option, IsSome, IfOk, IsErrOf, MatchOption, length};
 ghost use Rattle.fx_base.specs.Faults.{Rose};
 ghost use Rattle.fx_base.specs.Silence.{Goes, IsLater, IsLost, Marks};
 ghost use Rattle.fx_base.specs.Telling.{Stays};
 ghost use Rattle.fx_data.specs.ValueView.{view};
-ghost use Rattle.fx_env.specs.Queries.{KeepsTables};
+ghost use Rattle.fx_env.specs.Queries.{KeepsTables, ReadsTold};
 ghost use Rattle.fx_env.specs.Scopes.{Fixed};
 ghost use Rattle.fx_env.specs.Telling.{Told, tables_told, values_told};
 ghost use Rattle.fx_env.specs.declared.environment.Stop.TheVariants.{Memory as OutOfMemory};
@@ -82,7 +82,8 @@ pub trait Env {
     /// How many rows have been visited.
     ghost visited: { Self → ℕ };
 
-    /// The value of a source that has a type. `Keeper` only where a fault was counted.
+    /// The value of a source that has a type. It visits the rows of a table, and none for any other source. `Keeper`
+    /// only where a fault was counted.
     fn read<L: Ledger>(&mut self, source: Source, steps: &mut Steps<L>) -> Result<Value, Stop>
         requires { IsSome ((fixed self.old).types source) }
         ensures fixed { fixed self.new ≡ fixed self.old }
@@ -91,7 +92,8 @@ pub trait Env {
         ensures marks { IsLater (marks self.old) (marks self.new) }
         ensures keeper { IsErrOf result Stop.Keeper → Rose (marks self.old).faults (marks self.new).faults }
         ensures ticks { steps.new + ticked self.old ≡ steps.old + ticked self.new }
-        ensures visited { visited self.old ≤ visited self.new };
+        ensures visited { visited self.old ≤ visited self.new }
+        ensures most { ReadsTold source (tables_told (told self.new)) (visited self.old) (visited self.new) };
 
     /// The tables of the app.
     fn schema(&self) -> &Schema
@@ -102,12 +104,9 @@ pub trait Env {
         ensures { result ≡ (fixed self.now).limit };
 
     /// The tables of the app, where query expressions are answered by queries of them. Then each may be read, and
-    /// its rows are its value as a source.
+    /// its rows are its value as a source. `None` only where the app has no tables.
     fn tables(&self) -> Option<&Schema>
-        ensures { IfSome result (λ s. (s.now ≡ (fixed self.now).schema) × KeepsTables (fixed self.now) (told self.now)) }
-    {
-        None
-    }
+        ensures { MatchOption result (length (fixed self.now).schema.tables ≡ 0) (λ s. (s.now ≡ (fixed self.now).schema) × KeepsTables (fixed self.now) (told self.now)) };
 
     /// The table of the rows that a query gives, or the first error of its test in the query's order: of some
     /// rows that the table can hold, even where none are told. `Keeper` only where a fault was counted.

@@ -29,4 +29,11 @@ pub mod Demanding
 pub mod Queried
 pub mod SketchSizes
 pub mod SettledTrees
+pub mod Visiting
+pub mod Heads
+pub mod Still
+pub mod Consumed
+pub mod Widening
+pub mod Counted
+pub mod Single
 pub use Rattle.fx_plan.proofs as of_fx_plan

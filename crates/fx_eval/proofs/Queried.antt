@@ -212,6 +212,27 @@ search_formula types s q c f r d fits =
           (i.behind.3, i.lawful_behind.0) quiet,
     )
 
+-- what a formula stands in the scope of
+stands_in : (types : Types) (s : Held) (g : Term) (d : Data) → ((z : Data) → d ≡ z → CanEvaluate types (inner s z) g) → CanStand types s g d
+stands_in types s g (rec fs) k = k (rec fs) refl
+stands_in types s g d k = tt
+
+-- `LookUp` without its formula is ready, and the formula where it finds a row
+pub search_can : (types : Types) (s : Held) (f : Fun) (q c x : Term) (ps : List Term) → f ≡ fun.LookUp → ps ≡ c ∷ x ∷ [] → CanEvaluate types s (of (top.over f) (cons q (all ps))) → CanEvaluate types s (of (top.over f) (cons q (all (c ∷ []))))
+search_can types s f q c x ps e p r =
+    let call : CanEvaluate types s (over_query fun.LookUp q (cons c (cons x nil))) =
+    subst (λ (zs : List Term). CanEvaluate types s (of (top.over fun.LookUp) (cons q (all zs)))) p (subst (λ (g : Fun). CanEvaluate types s (of (top.over g) (cons q (all ps)))) e r) in
+    subst (λ (g : Fun). CanEvaluate types s (of (top.over g) (cons q (cons c nil)))) (sym e) (records (searched types s q c (cons x nil) call).columns, found_can types s q c (cons x nil) call)
+
+pub search_stands : ValuesFit → (types : Types) (s : Held) (f : Fun) (q c x : Term) (ps : List Term) (v : Data) → f ≡ fun.LookUp → ps ≡ c ∷ x ∷ [] → CanEvaluate types s (of (top.over f) (cons q (all ps))) →
+    IsValue (around types None s) (of (top.over f) (cons q (all (c ∷ [])))) v → CanStand types s x v
+search_stands law types s f q c x ps v e p r h =
+    let call : CanEvaluate types s (over_query fun.LookUp q (cons c (cons x nil))) =
+    subst (λ (zs : List Term). CanEvaluate types s (of (top.over fun.LookUp) (cons q (all zs)))) p (subst (λ (g : Fun). CanEvaluate types s (of (top.over g) (cons q (all ps)))) e r) in
+    let worth : IsValue (around types None s) (over_query fun.LookUp q (cons c nil)) v = subst (λ (g : Fun). IsValue (around types None s) (of (top.over g) (cons q (cons c nil))) v) e h in
+    let fits = ready_fits law types None s (over_query fun.LookUp q (cons c nil)) (records (searched types s q c (cons x nil) call).columns) (found_can types s q c (cons x nil) call) v worth in
+    stands_in types s x v (λ d z. search_formula types s q c x call d (subst (λ (y : Data). fits_in y (records (searched types s q c (cons x nil) call).columns) ≡ true) z fits))
+
 pub constants_ready : ValuesFit → SketchesCanPlan → ConstantsAreReady
 unfolding ConstantsAreReady
 constants_ready fit plans types shapes s t demand.Rows k lawful reads ready h = query_ready fit plans types shapes s t k lawful reads ready h
@@ -365,11 +386,7 @@ found_are_ready law found fit types shapes rows s t k ds v lawful reads ready h 
     let fits = ready_fits law types None s (over_query fun.LookUp h.0 (cons h.1 nil)) (records (searched types s h.0 h.1 (cons h.2 nil) r).columns) (found_can types s h.0 h.1 (cons h.2 nil) r) v worth in
     let same : over_query fun.LookUp h.0 (cons h.1 (cons h.2 nil)) ≡ over_query fun.LookUp e.0 (cons e.1 (cons f nil)) = sym h.3 ∙ e.2 in
     let own : h.2 ≡ f = cc in
-    subst (λ (x : Term). CanStand types s x v) own (stands h.2 v (λ d q. search_formula types s h.0 h.1 h.2 r d (subst (λ (z : Data). fits_in z (records (searched types s h.0 h.1 (cons h.2 nil) r).columns) ≡ true) q fits)))
-  where
-    stands : (g : Term) (d : Data) → ((z : Data) → d ≡ z → CanEvaluate types (inner s z) g) → CanStand types s g d
-    stands g (rec fs) k = k (rec fs) refl
-    stands g d k = tt
+    subst (λ (x : Term). CanStand types s x v) own (stands_in types s h.2 v (λ d q. search_formula types s h.0 h.1 h.2 r d (subst (λ (z : Data). fits_in z (records (searched types s h.0 h.1 (cons h.2 nil) r).columns) ≡ true) q fits)))
 
 -- ---- what is told, from one moment to the next
 

@@ -34,3 +34,10 @@ table_falls t h u ts x xs e f g = rw (← e, f, g) (omega arith)
 -- the parts behind the first
 pub rest_falls : (rest : List Term) (t : Term) (others : List Term) → rest ≡ t ∷ others → terms_size (all others) < terms_size (all rest)
 rest_falls rest t others e = rw e (omega arith)
+
+-- the condition of a search, and its formula
+pub condition_falls : (ps cs : List Term) (c x : Term) → ps ≡ c ∷ x ∷ [] → cs ≡ c ∷ [] → terms_size (all cs) ≤ terms_size (all ps)
+condition_falls ps cs c x p q = rw (p, q) (omega arith)
+
+pub formula_falls : (ps : List Term) (c x : Term) → ps ≡ c ∷ x ∷ [] → term_size x ≤ terms_size (all ps)
+formula_falls ps c x p = rw p (omega arith)

@@ -1,5 +1,6 @@
 -- What a call over a table is worth, and what a well typed one takes.
-use Rattle.std.specs.Prelude.{◌≡◌, ℕ, false, List, Option}
+use Rattle.std.specs.Prelude.{◌≡◌, ℕ, false, List, Option, Some, slice_get}
+use Rattle.std.specs.List.{All}
 use Rattle.fx_data.specs.declared.faults.Fault.{Fault}
 use Rattle.fx_data.specs.declared.faults.Kind.{Kind}
 use Rattle.fx_data.specs.Types.{Shape}
@@ -11,11 +12,15 @@ use Rattle.fx_semantics.specs.Sound.{AreFit, IsItemFit, IsLawfulTyping}
 use Rattle.fx_semantics.specs.Sources.{Gives}
 use Rattle.fx_trees.specs.declared.functions.Fun.{Fun}
 use Rattle.fx_trees.specs.declared.sources.Source.{Source}
+use Rattle.fx_env.specs.Scopes.{Held, around}
 use Rattle.fx_eval.specs.Given.{Given, AreGiven}
 use Rattle.fx_eval.specs.TableCalls.{CanMake, IsMadeOf}
+use Rattle.fx_eval.specs.Visits.{AskedTables, Visits}
 use Rattle.fx_tables.specs.Unions.{is_fault}
+use Rattle.fx_trees.specs.declared.schema.TableShape.{TableShape}
 use Rattle.fx_trees.specs.Term.{Term, Terms, of, cons, over}
 use Rattle.fx_typing.specs.WellTyped.{Context, IsTyped}
+use Rattle.row_queries.specs.TableRows.{IsHeldRow, rows_at}
 
 -- where a formula stands, over sources of these types, of which these values are told
 abbrev pub standing_in : (Source → Option Shape) → Option (Source → Data) → List Data → Option Data → Option Fault → Around
@@ -47,3 +52,13 @@ TypedCanMake =
     AreFit rows c.rows → IsItemFit item c.item → IsLawfulTyping c (of (over f) (cons t ts)) u w →
     IsValue (standing_in c.sources told rows item caught) t d →
     AreGiven (over f) n 1 (meanings ts) (standing_in c.sources told rows item caught) (rows_in d) gs → CanMake f (rows_in d) gs
+
+-- the rows of each table that is asked are rows of its shape
+abbrev pub AreHeld : AskedTables → Type 0
+AreHeld w = (n : ℕ) (t : TableShape) → slice_get w.shapes n ≡ Some t → All (IsHeldRow t) (rows_at w.rows n)
+
+-- a tree visits one number of rows at most, where the values of its sources are told
+abbrev pub OneVisits : Type 0
+OneVisits =
+    (w : AskedTables) (types : Source → Option Shape) (values : Source → Data) (s : Held) (t : Term) (m n : ℕ) → AreHeld w →
+    Visits w t (around types (Some values) s) m → Visits w t (around types (Some values) s) n → m ≡ n

@@ -2,6 +2,7 @@ pub mod Given
 pub mod Laws
 pub mod Lists
 pub mod TableCalls
+pub mod Visits
 pub mod Courses
 pub mod Demands
 pub mod Kinds

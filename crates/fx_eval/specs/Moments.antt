@@ -1,9 +1,10 @@
 -- What an evaluation finds and leaves.
-use Rattle.std.specs.Prelude.{◌≡◌, ℕ, ◌+◌, ◌≤◌, Option}
+use Rattle.std.specs.Prelude.{◌≡◌, ℕ, ◌+◌, ◌≤◌, Option, Some}
 use Rattle.fx_base.specs.Silence.{Goes, IsLater, IsLost, Marks}
 use Rattle.fx_base.specs.Telling.{Stays}
-use Rattle.fx_env.specs.Scopes.{Fixed, Held}
+use Rattle.fx_env.specs.Scopes.{Fixed, Held, around}
 use Rattle.fx_env.specs.Telling.{Told}
+use Rattle.fx_eval.specs.Visits.{AskedTables, AtMost, Visiting, asked_tables}
 
 -- what the environment leaves as it is, what it tells, its marks, the steps that its reads took, the rows that
 -- were visited, what the scope holds, and all steps
@@ -29,3 +30,8 @@ pub record Went {B : Type 0} (a b : Moment B) : Type 0 where
   pub later : IsLater a.marks b.marks
   pub ticks : b.steps + a.ticked ≡ a.steps + b.ticked
   pub visited : a.visited ≤ b.visited
+
+-- no more rows were visited from one moment to another than by this where it stands, if it is told in the end
+abbrev pub HasVisited : {B : Type 0} → (AskedTables → Visiting) → Moment B → Moment B → Type 0
+HasVisited {B} V a b =
+    (w : Told B) → b.told ≡ Some w → AtMost (V (asked_tables a.fixed w) (around a.fixed.types (Some w.values) a.scope)) a.visited b.visited

@@ -14,6 +14,7 @@ ghost use Rattle.fx_trees.specs.declared.functions.Fun.TheVariants as fun;
 ghost use Rattle.fx_trees.specs.Lawful.{IsLawfulSchema};
 ghost use Rattle.fx_trees.specs.Term.{all, cons, const, nil, of};
 ghost use Rattle.fx_plan.specs.Consumers.{over_query};
+ghost use Rattle.fx_eval.specs.Visits.{IsUnasked};
 
 use fx_base::Memory;
 use fx_builtins::quotient;
@@ -76,7 +77,7 @@ impl Demand {
 }
 
 /// What a tree that stands under so many scopes takes of a query expression, where query expressions that aren't taken
-/// whole stand with so many first rows.
+/// whole stand with so many first rows. `None` never where it is one, or seeks a row of one.
 pub fn asked_under(
     alloc: Global,
     schema: &Schema,
@@ -85,7 +86,7 @@ pub fn asked_under(
     depth: u32,
 ) -> Result<Option<Asked>, Memory>
     requires { IsLawfulSchema schema.now }
-    ensures { IfOk result (λ asked. IfSome asked (λ a. IsDemand schema.now.tables depth a.demand a.sketch core.now)) }
+    ensures { IfOk result (λ asked. MatchOption asked (IsUnasked schema.now.tables depth core.now) (λ a. IsDemand schema.now.tables depth a.demand a.sketch core.now)) }
 {
     match &core.node {
         CoreNode::Over(Fun::FirstN, rows, parts) => {
@@ -124,7 +125,7 @@ fn all_rows(
     depth: u32,
 ) -> Result<Option<Asked>, Memory>
     requires { IsLawfulSchema schema.now }
-    ensures { IfOk result (λ asked. IfSome asked (λ a. IsDemand schema.now.tables depth a.demand a.sketch core.now)) }
+    ensures { IfOk result (λ asked. MatchOption asked (sketch_of schema.now.tables depth core.now ≡ None) (λ a. IsDemand schema.now.tables depth a.demand a.sketch core.now)) }
 {
     let sketch = sketch_under(alloc, schema, core, depth)?;
     Ok(of_sketch(Demand::Rows, sketch))
@@ -160,7 +161,7 @@ fn first_rows(
     depth: u32,
 ) -> Result<Option<Asked>, Memory>
     requires { IsLawfulSchema schema.now }
-    ensures { IfOk result (λ asked. IfSome asked (λ a. IsDemand schema.now.tables depth a.demand a.sketch (over_query fun.FirstN rows.now (all parts.now)))) }
+    ensures { IfOk result (λ asked. MatchOption asked (IsUnasked schema.now.tables depth (over_query fun.FirstN rows.now (all parts.now))) (λ a. IsDemand schema.now.tables depth a.demand a.sketch (over_query fun.FirstN rows.now (all parts.now)))) }
 {
     match parts {
         [count] if is_number(count, limit) => {
@@ -180,7 +181,7 @@ fn count(
     depth: u32,
 ) -> Result<Option<Asked>, Memory>
     requires { IsLawfulSchema schema.now }
-    ensures { IfOk result (λ asked. IfSome asked (λ a. IsDemand schema.now.tables depth a.demand a.sketch (over_query fun.CountRows rows.now (all parts.now)))) }
+    ensures { IfOk result (λ asked. MatchOption asked (IsUnasked schema.now.tables depth (over_query fun.CountRows rows.now (all parts.now))) (λ a. IsDemand schema.now.tables depth a.demand a.sketch (over_query fun.CountRows rows.now (all parts.now)))) }
 {
     match parts {
         [] => {
@@ -200,7 +201,7 @@ fn first_row(
     depth: u32,
 ) -> Result<Option<Asked>, Memory>
     requires { IsLawfulSchema schema.now }
-    ensures { IfOk result (λ asked. IfSome asked (λ a. IsDemand schema.now.tables depth a.demand a.sketch (over_query fun.First rows.now (all parts.now)))) }
+    ensures { IfOk result (λ asked. MatchOption asked (IsUnasked schema.now.tables depth (over_query fun.First rows.now (all parts.now))) (λ a. IsDemand schema.now.tables depth a.demand a.sketch (over_query fun.First rows.now (all parts.now)))) }
 {
     match parts {
         [] => {
@@ -220,7 +221,7 @@ fn found(
     depth: u32,
 ) -> Result<Option<Asked>, Memory>
     requires { IsLawfulSchema schema.now }
-    ensures { IfOk result (λ asked. IfSome asked (λ a. IsDemand schema.now.tables depth a.demand a.sketch (over_query fun.LookUp rows.now (all parts.now)))) }
+    ensures { IfOk result (λ asked. MatchOption asked (IsUnasked schema.now.tables depth (over_query fun.LookUp rows.now (all parts.now))) (λ a. IsDemand schema.now.tables depth a.demand a.sketch (over_query fun.LookUp rows.now (all parts.now)))) }
 {
     match parts {
         [condition] => {
@@ -231,7 +232,8 @@ fn found(
             let sketch = filtered_under(alloc, schema, rows, condition, depth)?;
             Ok(of_sketch(Demand::FoundIn, sketch))
         }
-        _ => Ok(None),
+        [] => Ok(None),
+        [_, _, _, ..] => Ok(None),
     }
 }
 
@@ -284,7 +286,7 @@ fn total(
     depth: u32,
 ) -> Result<Option<Asked>, Memory>
     requires { IsLawfulSchema schema.now }
-    ensures { IfOk result (λ asked. IfSome asked (λ a. IsDemand schema.now.tables depth a.demand a.sketch (over_query (fun_of fold) rows.now (all parts.now)))) }
+    ensures { IfOk result (λ asked. MatchOption asked (IsUnasked schema.now.tables depth (over_query (fun_of fold) rows.now (all parts.now))) (λ a. IsDemand schema.now.tables depth a.demand a.sketch (over_query (fun_of fold) rows.now (all parts.now)))) }
 {
     match parts {
         [column] => total_of(alloc, schema, fold, rows, column, depth),
@@ -301,7 +303,7 @@ fn total_of(
     depth: u32,
 ) -> Result<Option<Asked>, Memory>
     requires { IsLawfulSchema schema.now }
-    ensures { IfOk result (λ asked. IfSome asked (λ a. IsDemand schema.now.tables depth a.demand a.sketch (over_query (fun_of fold) rows.now (cons column.now nil)))) }
+    ensures { IfOk result (λ asked. MatchOption asked (IsUnasked schema.now.tables depth (over_query (fun_of fold) rows.now (cons column.now nil))) (λ a. IsDemand schema.now.tables depth a.demand a.sketch (over_query (fun_of fold) rows.now (cons column.now nil)))) }
 {
     let Some(sketch) = sketch_under(alloc, schema, rows, depth)? else {
         return Ok(None);

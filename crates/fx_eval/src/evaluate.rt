@@ -1,5 +1,5 @@
 //! The evaluator.
-ghost use Rattle.std.specs.Prelude.{◌≡◌, ◌+◌, ◌≤◌, ◌∷◌, [], true, false, length, map, IfOk, IsErrOf, if◌then◌else◌};
+ghost use Rattle.std.specs.Prelude.{◌≡◌, ◌+◌, ◌≤◌, ◌∷◌, [], Some, true, false, length, map, IfOk, IsErrOf, MatchOption, if◌then◌else◌};
 ghost use Rattle.fx_base.specs.Faults.{Rose};
 ghost use Rattle.fx_base.specs.Silence.{Goes, IsLater, IsLost};
 ghost use Rattle.fx_base.specs.Telling.{Stays};
@@ -7,15 +7,17 @@ ghost use Rattle.fx_data.specs.Types.{Shape};
 ghost use Rattle.fx_data.specs.ValueView.{fields_view, view};
 ghost use Rattle.fx_data.specs.Values.{blank};
 ghost use Rattle.fx_eval.specs.Courses.{IsWorth, ends_in_branch, going};
-ghost use Rattle.fx_eval.specs.Moments.{Went, moment};
+ghost use Rattle.fx_eval.specs.Moments.{HasVisited, Went, moment};
 ghost use Rattle.fx_eval.specs.Parts.{AreAsked, AreFilled, AreFine, AreInside, AreSet, AreSome, HasNext, IsAsked, caught_in, inner, terms_of};
 ghost use Rattle.fx_eval.specs.Demands.{CanStand, IsAskedFor};
+ghost use Rattle.fx_eval.specs.Visits.{AllVisit, AtMost, EachVisits, FormVisits, InFound, OverVisits, PartVisits, PartsVisit, RowsVisit, Visits, VisitsByHead, WithinVisits, asked_tables, part as part_of, parts as parts_of};
 ghost use Rattle.fx_env.specs.Scopes.{CanEvaluate, IsReady, around};
-ghost use Rattle.fx_env.specs.Telling.{Heard, values_told};
-ghost use Rattle.fx_semantics.specs.Around.{AreEach, AreValues};
+ghost use Rattle.fx_env.specs.Telling.{Heard, Told, values_told};
+ghost use Rattle.fx_semantics.specs.Around.{AreEach, AreValues, catching, inside as inside_of};
 ghost use Rattle.fx_semantics.specs.Fresh.{IsValue, IsWithin, field_of, meaning, meanings};
 ghost use Rattle.fx_semantics.specs.Rows.{IsOfFound, IsOver};
 ghost use Rattle.fx_eval.specs.Given.{AreGiven, IsGiven, given};
+ghost use Rattle.fx_trees.specs.declared.functions.Fun.TheVariants.{LookUp};
 ghost use Rattle.fx_trees.specs.Term.{all, cons, nil, of};
 ghost use Rattle.fx_trees.specs.Term.{over as over_head, within as scoped};
 ghost use Rattle.fx_typing.specs.WellTyped.{inside, plain};
@@ -36,6 +38,7 @@ use fx_semantics::values_fit;
 use fx_trees::{Core, CoreNode, Fun};
 use fx_value::coerce;
 use std::alloc::Global;
+use std::slice;
 use std::sync::ledger::Ledger;
 
 /// The value of a tree, in one step beside those of its reads: that of the definition, by what the
@@ -58,6 +61,8 @@ pub fn eval<E: Env, L: Ledger>(
     ensures keeper { IsErrOf result Stop.Keeper → Rose (E.marks env.old).faults (E.marks env.new).faults }
     ensures ticks { steps.new + E.ticked env.old ≡ steps.old + 1 + E.ticked env.new }
     ensures visited { E.visited env.old ≤ E.visited env.new }
+    ensures visits { IfOk result (λ _. (w : Told E.Beside) → E.told env.new ≡ Some w →
+        AtMost (Visits (asked_tables (E.fixed env.old) w) core.now (around (E.fixed env.old).types (Some w.values) scope.old)) (E.visited env.old) (E.visited env.new)) }
 {
     steps.tick();
     tree(alloc, env, scope, core, steps)
@@ -79,6 +84,9 @@ fn tree<E: Env, L: Ledger>(
         (moment (E.fixed env.new) (E.told env.new) (E.marks env.new) (E.ticked env.new) (E.visited env.new) scope.new steps.new) }
     ensures keeper { IsErrOf result Stop.Keeper → Rose (E.marks env.old).faults (E.marks env.new).faults }
     ensures value { IfOk result (λ v. Heard (values_told (E.told env.new)) (λ told. IsValue (around (E.fixed env.old).types told scope.old) core.now (view v))) }
+    ensures visits { IfOk result (λ _. HasVisited (λ w. Visits w core.now)
+        (moment (E.fixed env.old) (E.told env.old) (E.marks env.old) (E.ticked env.old) (E.visited env.old) scope.old steps.old)
+        (moment (E.fixed env.new) (E.told env.new) (E.marks env.new) (E.ticked env.new) (E.visited env.new) scope.new steps.new)) }
     ensures fits { (u : Shape) → IsReady (E.fixed env.old).types scope.old core.now u → IfOk result (λ v. fits_in (view v) u ≡ true) }
 {
     values_fit();
@@ -100,6 +108,9 @@ fn value_here<E: Env, L: Ledger>(
         (moment (E.fixed env.new) (E.told env.new) (E.marks env.new) (E.ticked env.new) (E.visited env.new) scope.new steps.new) }
     ensures keeper { IsErrOf result Stop.Keeper → Rose (E.marks env.old).faults (E.marks env.new).faults }
     ensures value { IfOk result (λ v. Heard (values_told (E.told env.new)) (λ told. IsValue (around (E.fixed env.old).types told scope.old) core.now (view v))) }
+    ensures visits { IfOk result (λ _. HasVisited (λ w. Visits w core.now)
+        (moment (E.fixed env.old) (E.told env.old) (E.marks env.old) (E.ticked env.old) (E.visited env.old) scope.old steps.old)
+        (moment (E.fixed env.new) (E.told env.new) (E.marks env.new) (E.ticked env.new) (E.visited env.new) scope.new steps.new)) }
 {
     match asked_here(alloc, env, scope, core)? {
         Some(asked) => query(alloc, env, scope, core, &asked, steps),
@@ -125,6 +136,9 @@ fn query<E: Env, L: Ledger>(
         (moment (E.fixed env.new) (E.told env.new) (E.marks env.new) (E.ticked env.new) (E.visited env.new) scope.new steps.new) }
     ensures keeper { IsErrOf result Stop.Keeper → Rose (E.marks env.old).faults (E.marks env.new).faults }
     ensures value { IfOk result (λ v. Heard (values_told (E.told env.new)) (λ told. IsValue (around (E.fixed env.old).types told scope.old) core.now (view v))) }
+    ensures visits { IfOk result (λ _. HasVisited (λ w. Visits w core.now)
+        (moment (E.fixed env.old) (E.told env.old) (E.marks env.old) (E.ticked env.old) (E.visited env.old) scope.old steps.old)
+        (moment (E.fixed env.new) (E.told env.new) (E.marks env.new) (E.ticked env.new) (E.visited env.new) scope.new steps.new)) }
 {
     queries_are_values();
     let formulas = asked.sketch.constants.as_slice();
@@ -159,6 +173,9 @@ fn of_found<E: Env, L: Ledger>(
         (moment (E.fixed env.new) (E.told env.new) (E.marks env.new) (E.ticked env.new) (E.visited env.new) scope.new steps.new) }
     ensures keeper { IsErrOf result Stop.Keeper → Rose (E.marks env.old).faults (E.marks env.new).faults }
     ensures value { IfOk result (λ v. Heard (values_told (E.told env.new)) (λ told. IsOfFound (view found) (meaning formula.now) (around (E.fixed env.old).types told scope.old) (view v))) }
+    ensures visits { IfOk result (λ _. HasVisited (λ w. InFound (view found) (Visits w formula.now))
+        (moment (E.fixed env.old) (E.told env.old) (E.marks env.old) (E.ticked env.old) (E.visited env.old) scope.old steps.old)
+        (moment (E.fixed env.new) (E.told env.new) (E.marks env.new) (E.ticked env.new) (E.visited env.new) scope.new steps.new)) }
 {
     match found {
         Value::Rec(fields) => in_scope(alloc, env, scope, Value::Rec(fields), formula, steps),
@@ -181,6 +198,9 @@ fn constant_values<E: Env, L: Ledger>(
         (moment (E.fixed env.new) (E.told env.new) (E.marks env.new) (E.ticked env.new) (E.visited env.new) scope.new steps.new) }
     ensures keeper { IsErrOf result Stop.Keeper → Rose (E.marks env.old).faults (E.marks env.new).faults }
     ensures value { IfOk result (λ vs. Heard (values_told (E.told env.new)) (λ told. AreValues (meanings (all constants.now)) (around (E.fixed env.old).types told (inner scope.old blank)) (map view vs.items))) }
+    ensures visits { IfOk result (λ _. HasVisited (λ w a. AllVisit (parts_of w (all constants.now)) (inside_of a blank))
+        (moment (E.fixed env.old) (E.told env.old) (E.marks env.old) (E.ticked env.old) (E.visited env.old) scope.old steps.old)
+        (moment (E.fixed env.new) (E.told env.new) (E.marks env.new) (E.ticked env.new) (E.visited env.new) scope.new steps.new)) }
 {
     scope.rows.push(Value::Blank)?;
     // Without `?`, so that the scope is left also where there are no values.
@@ -204,6 +224,9 @@ fn node<E: Env, L: Ledger>(
         (moment (E.fixed env.new) (E.told env.new) (E.marks env.new) (E.ticked env.new) (E.visited env.new) scope.new steps.new) }
     ensures keeper { IsErrOf result Stop.Keeper → Rose (E.marks env.old).faults (E.marks env.new).faults }
     ensures value { IfOk result (λ v. Heard (values_told (E.told env.new)) (λ told. IsValue (around (E.fixed env.old).types told scope.old) core.now (view v))) }
+    ensures visits { IfOk result (λ _. HasVisited (λ w. VisitsByHead w core.now)
+        (moment (E.fixed env.old) (E.told env.old) (E.marks env.old) (E.ticked env.old) (E.visited env.old) scope.old steps.old)
+        (moment (E.fixed env.new) (E.told env.new) (E.marks env.new) (E.ticked env.new) (E.visited env.new) scope.new steps.new)) }
 {
     values_fit();
     // This law, like the one before it, is called for what it says.
@@ -247,7 +270,7 @@ fn node<E: Env, L: Ledger>(
             }
         },
         CoreNode::Over(fun, table, parts) => {
-            call_over(alloc, env, scope, *fun, table, parts.as_slice(), steps)
+            over_table(alloc, env, scope, *fun, table, parts.as_slice(), steps)
         }
         CoreNode::List(row, parts) => {
             let values = part_values(alloc, env, scope, parts.as_slice(), steps)?;
@@ -287,6 +310,9 @@ fn within<E: Env, L: Ledger>(
         (moment (E.fixed env.new) (E.told env.new) (E.marks env.new) (E.ticked env.new) (E.visited env.new) scope.new steps.new) }
     ensures keeper { IsErrOf result Stop.Keeper → Rose (E.marks env.old).faults (E.marks env.new).faults }
     ensures value { IfOk result (λ v. Heard (values_told (E.told env.new)) (λ told. IsWithin (meaning part.now ∷ meaning formula.now ∷ []) (around (E.fixed env.old).types told scope.old) (view v))) }
+    ensures visits { IfOk result (λ _. HasVisited (λ w. WithinVisits (part_of w part.now ∷ part_of w formula.now ∷ []))
+        (moment (E.fixed env.old) (E.told env.old) (E.marks env.old) (E.ticked env.old) (E.visited env.old) scope.old steps.old)
+        (moment (E.fixed env.new) (E.told env.new) (E.marks env.new) (E.ticked env.new) (E.visited env.new) scope.new steps.new)) }
 {
     let value = tree(alloc, env, scope, part, steps)?;
     match without_error(value) {
@@ -311,6 +337,9 @@ fn in_scope<E: Env, L: Ledger>(
         (moment (E.fixed env.new) (E.told env.new) (E.marks env.new) (E.ticked env.new) (E.visited env.new) scope.new steps.new) }
     ensures keeper { IsErrOf result Stop.Keeper → Rose (E.marks env.old).faults (E.marks env.new).faults }
     ensures value { IfOk result (λ v. Heard (values_told (E.told env.new)) (λ told. IsValue (around (E.fixed env.old).types told (inner scope.old (view row))) formula.now (view v))) }
+    ensures visits { IfOk result (λ _. HasVisited (λ w a. Visits w formula.now (inside_of a (view row)))
+        (moment (E.fixed env.old) (E.told env.old) (E.marks env.old) (E.ticked env.old) (E.visited env.old) scope.old steps.old)
+        (moment (E.fixed env.new) (E.told env.new) (E.marks env.new) (E.ticked env.new) (E.visited env.new) scope.new steps.new)) }
 {
     scope.rows.push(row)?;
     // Without `?`, so that the scope is left also where there is no value.
@@ -335,6 +364,9 @@ fn catch_error<E: Env, L: Ledger>(
         (moment (E.fixed env.new) (E.told env.new) (E.marks env.new) (E.ticked env.new) (E.visited env.new) scope.new steps.new) }
     ensures keeper { IsErrOf result Stop.Keeper → Rose (E.marks env.old).faults (E.marks env.new).faults }
     ensures value { IfOk result (λ v. Heard (values_told (E.told env.new)) (λ told. IsValue (around (E.fixed env.old).types told (caught_in scope.old fault.kind fault.message)) formula.now (view v))) }
+    ensures visits { IfOk result (λ _. HasVisited (λ w a. Visits w formula.now (catching a fault.kind fault.message))
+        (moment (E.fixed env.old) (E.told env.old) (E.marks env.old) (E.ticked env.old) (E.visited env.old) scope.old steps.old)
+        (moment (E.fixed env.new) (E.told env.new) (E.marks env.new) (E.ticked env.new) (E.visited env.new) scope.new steps.new)) }
 {
     let outer = scope.caught.replace(fault);
     let value = tree(alloc, env, scope, formula, steps);
@@ -378,6 +410,9 @@ fn go_through<E: Env, L: Ledger>(
         (moment (E.fixed env.new) (E.told env.new) (E.marks env.new) (E.ticked env.new) (E.visited env.new) scope.new steps.new) }
     ensures keeper { IsErrOf result Stop.Keeper → Rose (E.marks env.old).faults (E.marks env.new).faults }
     ensures value { IfOk result (λ v. Heard (values_told (E.told env.new)) (λ told. IsWorth (going course) (meanings (all parts.now)) (around (E.fixed env.old).types told scope.old) (view v))) }
+    ensures visits { IfOk result (λ _. HasVisited (λ w. FormVisits (going course) (parts_of w (all parts.now)))
+        (moment (E.fixed env.old) (E.told env.old) (E.marks env.old) (E.ticked env.old) (E.visited env.old) scope.old steps.old)
+        (moment (E.fixed env.new) (E.told env.new) (E.marks env.new) (E.ticked env.new) (E.visited env.new) scope.new steps.new)) }
 {
     let mut course = course;
     let mut rest = parts;
@@ -425,6 +460,9 @@ fn field_values<E: Env, L: Ledger>(
         (moment (E.fixed env.new) (E.told env.new) (E.marks env.new) (E.ticked env.new) (E.visited env.new) scope.new steps.new) }
     ensures keeper { IsErrOf result Stop.Keeper → Rose (E.marks env.old).faults (E.marks env.new).faults }
     ensures value { IfOk result (λ fs. Heard (values_told (E.told env.new)) (λ told. AreFilled fields.now (around (E.fixed env.old).types told scope.old) (fields_view fs.items))) }
+    ensures visits { IfOk result (λ _. HasVisited (λ w. AllVisit (parts_of w (all (terms_of fields.now))))
+        (moment (E.fixed env.old) (E.told env.old) (E.marks env.old) (E.ticked env.old) (E.visited env.old) scope.old steps.old)
+        (moment (E.fixed env.new) (E.told env.new) (E.marks env.new) (E.ticked env.new) (E.visited env.new) scope.new steps.new)) }
 {
     let mut items = Vec::new(alloc);
     for (name, part) in fields {
@@ -449,6 +487,9 @@ fn part_values<E: Env, L: Ledger>(
         (moment (E.fixed env.new) (E.told env.new) (E.marks env.new) (E.ticked env.new) (E.visited env.new) scope.new steps.new) }
     ensures keeper { IsErrOf result Stop.Keeper → Rose (E.marks env.old).faults (E.marks env.new).faults }
     ensures value { IfOk result (λ vs. Heard (values_told (E.told env.new)) (λ told. AreValues (meanings (all parts.now)) (around (E.fixed env.old).types told scope.old) (map view vs.items))) }
+    ensures visits { IfOk result (λ _. HasVisited (λ w. AllVisit (parts_of w (all parts.now)))
+        (moment (E.fixed env.old) (E.told env.old) (E.marks env.old) (E.ticked env.old) (E.visited env.old) scope.old steps.old)
+        (moment (E.fixed env.new) (E.told env.new) (E.marks env.new) (E.ticked env.new) (E.visited env.new) scope.new steps.new)) }
 {
     let mut values = Vec::new(alloc);
     for part in parts {
@@ -456,6 +497,60 @@ fn part_values<E: Env, L: Ledger>(
         values.push(value)?;
     }
     Ok(values)
+}
+
+// The value of a function of a table. `LookUp` evaluates its formula in the scope of the row that it finds alone.
+#[cycle(tree)]
+fn over_table<E: Env, L: Ledger>(
+    alloc: Global,
+    env: &mut E,
+    scope: &mut Scope,
+    fun: Fun,
+    table: &Core,
+    parts: &[Core],
+    steps: &mut Steps<L>,
+) -> Result<Value, Stop>
+    requires { CanEvaluate (E.fixed env.old).types scope.old (of (over_head fun) (cons table.now (all parts.now))) }
+    ensures went { Went
+        (moment (E.fixed env.old) (E.told env.old) (E.marks env.old) (E.ticked env.old) (E.visited env.old) scope.old steps.old)
+        (moment (E.fixed env.new) (E.told env.new) (E.marks env.new) (E.ticked env.new) (E.visited env.new) scope.new steps.new) }
+    ensures keeper { IsErrOf result Stop.Keeper → Rose (E.marks env.old).faults (E.marks env.new).faults }
+    ensures value { IfOk result (λ v. Heard (values_told (E.told env.new)) (λ told. IsOver fun (meaning table.now ∷ meanings (all parts.now)) (around (E.fixed env.old).types told scope.old) (view v))) }
+    ensures visits { IfOk result (λ _. HasVisited (λ w. OverVisits fun (part_of w table.now ∷ parts_of w (all parts.now)))
+        (moment (E.fixed env.old) (E.told env.old) (E.marks env.old) (E.ticked env.old) (E.visited env.old) scope.old steps.old)
+        (moment (E.fixed env.new) (E.told env.new) (E.marks env.new) (E.ticked env.new) (E.visited env.new) scope.new steps.new)) }
+{
+    values_fit();
+    match searched(fun, parts) {
+        Some((condition, formula)) => {
+            let condition = slice::from_ref(condition);
+            let found = call_over(alloc, env, scope, fun, table, condition, steps)?;
+            of_found(alloc, env, scope, found, formula, steps)
+        }
+        None => call_over(alloc, env, scope, fun, table, parts, steps),
+    }
+}
+
+// The condition of `LookUp`, and the formula for the row that it finds, where one stands behind it.
+fn searched(fun: Fun, parts: &[Core]) -> Option<(&Core, &Core)>
+    ensures { MatchOption result
+        (fun ≡ LookUp → length parts.now ≡ 2 → ⊥)
+        (λ p. (fun ≡ LookUp) × (parts.now ≡ p.0.now ∷ p.1.now ∷ [])) }
+{
+    match fun {
+        Fun::LookUp => pair(parts),
+        _ => None,
+    }
+}
+
+// The two parts, where there are two.
+fn pair(parts: &[Core]) -> Option<(&Core, &Core)>
+    ensures { MatchOption result (length parts.now ≡ 2 → ⊥) (λ p. parts.now ≡ p.0.now ∷ p.1.now ∷ []) }
+{
+    if parts.len() != 2 {
+        return None;
+    }
+    Some((&parts[0], &parts[1]))
 }
 
 // The value of a function of a table, or the error that stands in the table's place.
@@ -475,6 +570,9 @@ fn call_over<E: Env, L: Ledger>(
         (moment (E.fixed env.new) (E.told env.new) (E.marks env.new) (E.ticked env.new) (E.visited env.new) scope.new steps.new) }
     ensures keeper { IsErrOf result Stop.Keeper → Rose (E.marks env.old).faults (E.marks env.new).faults }
     ensures value { IfOk result (λ v. Heard (values_told (E.told env.new)) (λ told. IsOver fun (meaning table.now ∷ meanings (all parts.now)) (around (E.fixed env.old).types told scope.old) (view v))) }
+    ensures visits { IfOk result (λ _. HasVisited (λ w. RowsVisit fun (part_of w table.now ∷ parts_of w (all parts.now)))
+        (moment (E.fixed env.old) (E.told env.old) (E.marks env.old) (E.ticked env.old) (E.visited env.old) scope.old steps.old)
+        (moment (E.fixed env.new) (E.told env.new) (E.marks env.new) (E.ticked env.new) (E.visited env.new) scope.new steps.new)) }
 {
     let value = tree(alloc, env, scope, table, steps)?;
     match rows_of(alloc, value) {
@@ -504,6 +602,9 @@ fn part_answers<E: Env, L: Ledger>(
         (moment (E.fixed env.new) (E.told env.new) (E.marks env.new) (E.ticked env.new) (E.visited env.new) scope.new steps.new) }
     ensures keeper { IsErrOf result Stop.Keeper → Rose (E.marks env.old).faults (E.marks env.new).faults }
     ensures value { IfOk result (λ gs. Heard (values_told (E.told env.new)) (λ told. AreGiven (over_head fun) (length parts.now + 1) 1 (meanings (all parts.now)) (around (E.fixed env.old).types told scope.old) rows.now (map given gs.items))) }
+    ensures visits { IfOk result (λ _. HasVisited (λ w. PartsVisit fun (length parts.now + 1) 1 rows.now (parts_of w (all parts.now)))
+        (moment (E.fixed env.old) (E.told env.old) (E.marks env.old) (E.ticked env.old) (E.visited env.old) scope.old steps.old)
+        (moment (E.fixed env.new) (E.told env.new) (E.marks env.new) (E.ticked env.new) (E.visited env.new) scope.new steps.new)) }
 {
     let count = parts.len() + 1;
     let mut answers = Vec::new(alloc);
@@ -532,6 +633,9 @@ fn answer<E: Env, L: Ledger>(
         (moment (E.fixed env.new) (E.told env.new) (E.marks env.new) (E.ticked env.new) (E.visited env.new) scope.new steps.new) }
     ensures keeper { IsErrOf result Stop.Keeper → Rose (E.marks env.old).faults (E.marks env.new).faults }
     ensures value { IfOk result (λ g. Heard (values_told (E.told env.new)) (λ told. IsGiven (if in_rows then inside else plain) (meaning part.now) (around (E.fixed env.old).types told scope.old) rows.now (given g))) }
+    ensures visits { IfOk result (λ _. HasVisited (λ w. PartVisits (if in_rows then inside else plain) rows.now (part_of w part.now))
+        (moment (E.fixed env.old) (E.told env.old) (E.marks env.old) (E.ticked env.old) (E.visited env.old) scope.old steps.old)
+        (moment (E.fixed env.new) (E.told env.new) (E.marks env.new) (E.ticked env.new) (E.visited env.new) scope.new steps.new)) }
 {
     if in_rows {
         Ok(Answers::Each(each(alloc, env, scope, rows, part, steps)?))
@@ -556,6 +660,9 @@ fn each<E: Env, L: Ledger>(
         (moment (E.fixed env.new) (E.told env.new) (E.marks env.new) (E.ticked env.new) (E.visited env.new) scope.new steps.new) }
     ensures keeper { IsErrOf result Stop.Keeper → Rose (E.marks env.old).faults (E.marks env.new).faults }
     ensures value { IfOk result (λ vs. Heard (values_told (E.told env.new)) (λ told. AreEach (meaning formula.now) (around (E.fixed env.old).types told scope.old) rows.now (map view vs.items))) }
+    ensures visits { IfOk result (λ _. HasVisited (λ w. EachVisits (Visits w formula.now) rows.now)
+        (moment (E.fixed env.old) (E.told env.old) (E.marks env.old) (E.ticked env.old) (E.visited env.old) scope.old steps.old)
+        (moment (E.fixed env.new) (E.told env.new) (E.marks env.new) (E.ticked env.new) (E.visited env.new) scope.new steps.new)) }
 {
     let mut values = Vec::new(alloc);
     for row in rows {

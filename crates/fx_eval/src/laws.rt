@@ -1,10 +1,10 @@
 // Laws of calls over tables.
-ghost use Rattle.fx_eval.specs.Laws.{ErrorIsWorth, MadeIsWorth, TypedCanMake};
+ghost use Rattle.fx_eval.specs.Laws.{ErrorIsWorth, MadeIsWorth, OneVisits, TypedCanMake};
 ghost use Rattle.fx_eval.specs.Demands.{AnswersAreValues, ConstantsAreReady, FoundAreReady, SettledAreReady, SettledAreSmall, SettledAreValues};
 
 use fx_plan::laws::{answers_are_values, sketches_can_plan};
 use fx_plan::{settled_are_no_more, settled_are_worth, settled_have_types};
-use fx_semantics::values_fit;
+use fx_semantics::{one_value, values_fit};
 use row_queries::rows_fit;
 
 /// A law, and no work: what a function makes of the rows of a table, and of what its other parts give, is
@@ -45,4 +45,11 @@ pub fn settled_are_values()
     settled_have_types();
     settled_are_worth();
     settled_are_no_more();
+}
+
+/// A law, and no work: how many rows a tree visits is one number, where the values of its sources are told.
+pub fn visits_are_one()
+    ensures { OneVisits }
+{
+    one_value();
 }

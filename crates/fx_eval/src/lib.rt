@@ -18,6 +18,8 @@ pub use calls::over;
 pub use evaluate::eval;
 pub use fx_env::{Env, Steps, Stop, rows_of};
 pub use fx_plan;
-pub use laws::{made_is_worth, queries_are_values, settled_are_values, typed_can_make};
+pub use laws::{
+    made_is_worth, queries_are_values, settled_are_values, typed_can_make, visits_are_one,
+};
 pub use lists::list;
 pub use scope::Scope;

@@ -1,15 +1,17 @@
 //! Query expressions, answered by queries.
-ghost use Rattle.std.specs.Prelude.{◌≡◌, ◌≤◌, false, length, map, IfOk, IfSome, IsErrOf};
+ghost use Rattle.std.specs.Prelude.{◌≡◌, ◌≤◌, false, length, map, IfOk, IsErrOf, MatchOption, Some};
 ghost use Rattle.std.specs.List.{list_any};
 ghost use Rattle.fx_base.specs.Faults.{Rose};
 ghost use Rattle.fx_base.specs.Silence.{Goes, IsLater, IsLost};
 ghost use Rattle.fx_base.specs.Telling.{Stays};
 ghost use Rattle.fx_data.specs.ValueView.{view};
 ghost use Rattle.fx_eval.specs.Demands.{CanMeet, CanTake, IsAnswered, IsAskedFor, IsMet, most_of, settled_in};
-ghost use Rattle.fx_env.specs.Telling.{tables_told};
+ghost use Rattle.fx_eval.specs.Visits.{AtMost, InRanges, IsUnasked, asked_tables};
+ghost use Rattle.fx_env.specs.Telling.{Told, tables_told};
 ghost use Rattle.fx_plan.specs.Plans.{CanPlan, IsPlan, is_fault};
 ghost use Rattle.row_queries.specs.Queries.{IsQuery};
 ghost use Rattle.row_queries.specs.RowTests.{HasNoFaults};
+ghost use Rattle.row_queries.specs.Visits.{VisitsTold};
 
 use crate::demands::{Asked, Demand, asked_under, count_value, first_in, fold_value, settled};
 use crate::scope::Scope;
@@ -28,7 +30,7 @@ pub fn asked_here<E: Env>(
     scope: &Scope,
     core: &Core,
 ) -> Result<Option<Asked>, Memory>
-    ensures { IfOk result (λ asked. IfSome asked (λ a. IsAskedFor (E.fixed env.now) (E.told env.now) scope.now core.now a.demand a.sketch)) }
+    ensures { IfOk result (λ asked. MatchOption asked (IsUnasked (E.fixed env.now).schema.tables (length scope.now.rows) core.now) (λ a. IsAskedFor (E.fixed env.now) (E.told env.now) scope.now core.now a.demand a.sketch)) }
 {
     match env.tables() {
         Some(schema) => match u32::try_from(scope.rows.len()) {
@@ -72,6 +74,8 @@ pub fn answer<E: Env>(
     ensures keeper { IsErrOf result Stop.Keeper → Rose (E.marks env.old).faults (E.marks env.new).faults }
     ensures ticked { E.ticked env.new ≡ E.ticked env.old }
     ensures visited { E.visited env.old ≤ E.visited env.new }
+    ensures visits { IfOk result (λ _. (w : Told E.Beside) → E.told env.new ≡ Some w →
+        AtMost (InRanges (asked_tables (E.fixed env.old) w) asked.now.sketch (map view constants.now)) (E.visited env.old) (E.visited env.new)) }
 {
     let query = planned(alloc, env, asked, constants)?;
     by_query(alloc, env, asked.demand, &query)
@@ -109,6 +113,7 @@ fn by_query<E: Env>(
     ensures keeper { IsErrOf result Stop.Keeper → Rose (E.marks env.old).faults (E.marks env.new).faults }
     ensures ticked { E.ticked env.new ≡ E.ticked env.old }
     ensures visited { E.visited env.old ≤ E.visited env.new }
+    ensures most { VisitsTold (tables_told (E.told env.new)) query.now (E.visited env.old) (E.visited env.new) }
 {
     match demand {
         Demand::Rows | Demand::FirstRows(_) => env.scan(query),

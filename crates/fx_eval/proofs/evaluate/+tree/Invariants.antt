@@ -2,7 +2,9 @@ use Rattle.std.proofs.Common.{◌≡◌, ◌+◌, ◌*◌, ◌≤◌, Option, le
 use Rattle.fx_data.specs.ValueView.{fields_view, view}
 use Rattle.fx_data.specs.Values.{Data}
 use Rattle.fx_eval.specs.Courses.{IsWorth, going}
-use Rattle.fx_eval.specs.Moments.{Went, moment}
+use Rattle.fx_eval.proofs.Visiting.{HasPassed}
+use Rattle.fx_eval.specs.Moments.{HasVisited, Went, moment}
+use Rattle.fx_eval.specs.Visits.{AllVisit, EachVisits, PartsVisit, Visits, parts}
 use Rattle.fx_eval.specs.Parts.{AreFilled, AreSet, terms_of}
 use Rattle.fx_env.specs.Scopes.{around}
 use Rattle.fx_env.specs.Telling.{IsHeard, values_told}
@@ -52,6 +54,9 @@ decreases-go_through g l = 8 * terms_size (all l.parts.now) + 2
 abbrev pub decreases-call_over : goal.decreases-call_over
 decreases-call_over g l = 8 * (term_size l.table.now + terms_size (all l.parts.now)) + 5
 
+abbrev pub decreases-over_table : goal.decreases-over_table
+decreases-over_table g l = 8 * (term_size l.table.now + terms_size (all l.parts.now)) + 6
+
 abbrev pub decreases-part_answers : goal.decreases-part_answers
 decreases-part_answers g l = 8 * terms_size (all l.parts.now) + 4
 
@@ -74,6 +79,9 @@ invariant-go_through-loop-part g l = record {
   value : (told : Option (Source → Data)) → IsHeard (values_told (g.E.Env.told l.env)) told → (v : Data) → IsWorth (going l.course) (meanings (all l.rest)) (around (g.E.Env.fixed l.fn.env).types told l.fn.scope) v
       → IsWorth (going l.fn.course) (meanings (all l.parts)) (around (g.E.Env.fixed l.fn.env).types told l.fn.scope) v;
   small : terms_size (all l.rest) ≤ terms_size (all l.parts);
+  visits : HasPassed (going l.course) l.rest (going l.fn.course) l.parts
+      (moment (g.E.Env.fixed l.fn.env) (g.E.Env.told l.fn.env) (g.E.Env.marks l.fn.env) (g.E.Env.ticked l.fn.env) (g.E.Env.visited l.fn.env) l.fn.scope l.fn.steps)
+      (moment (g.E.Env.fixed l.env) (g.E.Env.told l.env) (g.E.Env.marks l.env) (g.E.Env.ticked l.env) (g.E.Env.visited l.env) l.scope l.steps);
 }
 
 -- the fields so far
@@ -83,6 +91,9 @@ invariant-field_values-loop-name g l = record {
       (moment (g.E.Env.fixed l.fn.env) (g.E.Env.told l.fn.env) (g.E.Env.marks l.fn.env) (g.E.Env.ticked l.fn.env) (g.E.Env.visited l.fn.env) l.fn.scope l.fn.steps)
       (moment (g.E.Env.fixed l.env) (g.E.Env.told l.env) (g.E.Env.marks l.env) (g.E.Env.ticked l.env) (g.E.Env.visited l.env) l.scope l.steps);
   values : (told : Option (Source → Data)) → IsHeard (values_told (g.E.Env.told l.env)) told → AreFilled (take l.name-index l.fields) (around (g.E.Env.fixed l.fn.env).types told l.fn.scope) (fields_view l.items.items);
+  visits : HasVisited (λ w. AllVisit (parts w (all (terms_of (take l.name-index l.fields)))))
+      (moment (g.E.Env.fixed l.fn.env) (g.E.Env.told l.fn.env) (g.E.Env.marks l.fn.env) (g.E.Env.ticked l.fn.env) (g.E.Env.visited l.fn.env) l.fn.scope l.fn.steps)
+      (moment (g.E.Env.fixed l.env) (g.E.Env.told l.env) (g.E.Env.marks l.env) (g.E.Env.ticked l.env) (g.E.Env.visited l.env) l.scope l.steps);
 }
 
 -- the values so far
@@ -92,6 +103,9 @@ invariant-part_values-loop-part g l = record {
       (moment (g.E.Env.fixed l.fn.env) (g.E.Env.told l.fn.env) (g.E.Env.marks l.fn.env) (g.E.Env.ticked l.fn.env) (g.E.Env.visited l.fn.env) l.fn.scope l.fn.steps)
       (moment (g.E.Env.fixed l.env) (g.E.Env.told l.env) (g.E.Env.marks l.env) (g.E.Env.ticked l.env) (g.E.Env.visited l.env) l.scope l.steps);
   values : (told : Option (Source → Data)) → IsHeard (values_told (g.E.Env.told l.env)) told → AreValues (meanings (all (take l.part-index l.parts))) (around (g.E.Env.fixed l.fn.env).types told l.fn.scope) (map view l.values.items);
+  visits : HasVisited (λ w. AllVisit (parts w (all (take l.part-index l.parts))))
+      (moment (g.E.Env.fixed l.fn.env) (g.E.Env.told l.fn.env) (g.E.Env.marks l.fn.env) (g.E.Env.ticked l.fn.env) (g.E.Env.visited l.fn.env) l.fn.scope l.fn.steps)
+      (moment (g.E.Env.fixed l.env) (g.E.Env.told l.env) (g.E.Env.marks l.env) (g.E.Env.ticked l.env) (g.E.Env.visited l.env) l.scope l.steps);
 }
 
 -- what the parts so far come to
@@ -103,6 +117,9 @@ invariant-part_answers-loop-part g l = record {
   count : length l.answers.items ≡ l.part-index;
   answers : (told : Option (Source → Data)) → IsHeard (values_told (g.E.Env.told l.env)) told → AreGiven (over l.fun) (length l.parts + 1) 1 (meanings (all (take l.part-index l.parts))) (around (g.E.Env.fixed l.fn.env).types told l.fn.scope) l.rows
       (map given l.answers.items);
+  visits : HasVisited (λ w. PartsVisit l.fun (length l.parts + 1) 1 l.rows (parts w (all (take l.part-index l.parts))))
+      (moment (g.E.Env.fixed l.fn.env) (g.E.Env.told l.fn.env) (g.E.Env.marks l.fn.env) (g.E.Env.ticked l.fn.env) (g.E.Env.visited l.fn.env) l.fn.scope l.fn.steps)
+      (moment (g.E.Env.fixed l.env) (g.E.Env.told l.env) (g.E.Env.marks l.env) (g.E.Env.ticked l.env) (g.E.Env.visited l.env) l.scope l.steps);
 }
 
 -- the values for the rows so far
@@ -112,4 +129,7 @@ invariant-each-loop-row g l = record {
       (moment (g.E.Env.fixed l.fn.env) (g.E.Env.told l.fn.env) (g.E.Env.marks l.fn.env) (g.E.Env.ticked l.fn.env) (g.E.Env.visited l.fn.env) l.fn.scope l.fn.steps)
       (moment (g.E.Env.fixed l.env) (g.E.Env.told l.env) (g.E.Env.marks l.env) (g.E.Env.ticked l.env) (g.E.Env.visited l.env) l.scope l.steps);
   values : (told : Option (Source → Data)) → IsHeard (values_told (g.E.Env.told l.env)) told → AreEach (meaning l.formula) (around (g.E.Env.fixed l.fn.env).types told l.fn.scope) (take l.row-index l.rows) (map view l.values.items);
+  visits : HasVisited (λ w. EachVisits (Visits w l.formula) (take l.row-index l.rows))
+      (moment (g.E.Env.fixed l.fn.env) (g.E.Env.told l.fn.env) (g.E.Env.marks l.fn.env) (g.E.Env.ticked l.fn.env) (g.E.Env.visited l.fn.env) l.fn.scope l.fn.steps)
+      (moment (g.E.Env.fixed l.env) (g.E.Env.told l.env) (g.E.Env.marks l.env) (g.E.Env.ticked l.env) (g.E.Env.visited l.env) l.scope l.steps);
 }
