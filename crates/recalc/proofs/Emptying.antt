@@ -42,12 +42,13 @@ emptied_right a old new h s tables m pending r = record {
 }
 
 pub has_numbers : (a : App) (c : Kept) → HasRoom c.last → HasNumbers a c c
-has_numbers a c room = record { room = room; same = λ h. refl; order = λ o. o; right = λ s tables m pending r. r; places = refl; day = refl }
+has_numbers a c room = record { room = room; same = λ h. refl; counted = λ short. absurd (short room); order = λ o. o; right = λ s tables m pending r. r; places = refl; day = refl }
 
 pub new_numbers : (a : App) (old new : Kept) → (HasRoom old.last → ⊥) → IsEmptied old new → HasNumbers a old new
 new_numbers a old new short h = record {
   room = let zero = h.last in omega (arith, zero);
   same = λ room. absurd (short room);
+  counted = λ none. h.emptied;
   order = emptied_order a old new h;
   right = emptied_right a old new h;
   places = h.places;
@@ -65,17 +66,18 @@ blank_at zero k = refl
 blank_at (suc n) zero = refl
 blank_at (suc n) (suc k) = blank_at n k
 
-pub new_empty : (places cells : ℕ) (c : Kept) → c.last ≡ 0 → c.versions ≡ replicate places 0 → c.stamps ≡ replicate cells None → IsEmpty c
-new_empty places cells c last versions stamps = record {
+pub new_empty : (places cells : ℕ) (c : Kept) → c.emptied ≡ 0 → c.last ≡ 0 → c.versions ≡ replicate places 0 → c.stamps ≡ replicate cells None → IsEmpty c
+new_empty places cells c emptied last versions stamps = record {
+  emptied = emptied;
   last = last;
   versions = λ p. ap (λ (xs : List ℕ). get_or xs p 0) versions ∙ replicate_at places p 0;
   stamps = λ k. ap (λ (xs : List (Option Stamp)). get_or xs k None) stamps ∙ replicate_at cells k None;
 }
 
-pub new_order : (a : App) (places : ℕ) (c : Kept) → length a.cells ≤ 2000 → ((s : Source) → IsSourceOf a.names s → place_of s < places) → c.last ≡ 0 → c.versions ≡ replicate places 0 → c.stamps ≡ replicate (length a.cells) None →
+pub new_order : (a : App) (places : ℕ) (c : Kept) → length a.cells ≤ 2000 → ((s : Source) → IsSourceOf a.names s → place_of s < places) → c.emptied ≡ 0 → c.last ≡ 0 → c.versions ≡ replicate places 0 → c.stamps ≡ replicate (length a.cells) None →
     c.values.cells ≡ replicate (length a.cells) blank → IsInOrder a c
-new_order a places c few hold last versions stamps values =
-    let empty : IsEmpty c = new_empty places (length a.cells) c last versions stamps in
+new_order a places c few hold emptied last versions stamps values =
+    let empty : IsEmpty c = new_empty places (length a.cells) c emptied last versions stamps in
     let is_blank : (k : ℕ) → value_of c k ≡ blank = λ k. ap (λ (ds : List Data). cell_value ds k) values ∙ blank_at (length a.cells) k in
     record {
       few = few;

@@ -1,5 +1,5 @@
 -- The values of clean cells are fresh.
-use Rattle.std.proofs.Common.{◌≡◌, ℕ, [], Bool, true, false, Some, refl}
+use Rattle.std.proofs.Common.{◌≡◌, ◌∙◌, ℕ, [], Bool, true, false, Some, refl, subst, sym}
 use Rattle.std.specs.List.{slice_get}
 use Rattle.recalc.proofs.Kept.{no_value}
 use Rattle.recalc.specs.Asking.{ToldRows}
@@ -21,7 +21,7 @@ needed_clean a c o k d (further j x y i need there alone leans) clean own =
     (o.leans x y below.0 below.1 below.2 (i, there, leans, own)).0
 
 -- nothing that a clean cell names moved since it was checked
-clean_unmoved : (a : App) (c : Kept) → IsInOrder a c → (k : ℕ) (i : CellInfo) → slice_get a.cells k ≡ Some i → (clean : IsClean a c k) → IsUnmoved a c i (clean.0).checked
+pub clean_unmoved : (a : App) (c : Kept) → IsInOrder a c → (k : ℕ) (i : CellInfo) → slice_get a.cells k ≡ Some i → (clean : IsClean a c k) → IsUnmoved a c i (clean.0).checked
 clean_unmoved a c o k i there clean = record {
   sources = λ s plain among. clean.2 s plain (named k i s there among);
   cells = λ d leans own. (o.leans k d clean.0 clean.1 clean.2 (i, there, leans, own)).1;
@@ -35,3 +35,20 @@ clean_fresh a s tables m c k r clean = λ d i need there. by d i need there (sta
         let below : IsClean a c d = needed_clean a c r.order k d need clean (alone_of a.cells d i there alone) in
         r.valid d below.0 i below.1 there (λ x l n. absurd l) (clean_unmoved a c r.order d i there below)
     by d i need there false aside = no_value (present a s tables m) (value_of c) i (value_of c d) aside (r.order.bare d (aside_of a.cells d i there aside))
+
+-- a formula that has no value by itself needs none
+needs_itself : (a : App) (d e : ℕ) → is_alone a.cells d ≡ false → Needs a d e → d ≡ e
+needs_itself a d e aside (itself j) = refl
+needs_itself a d e aside (further j x y i need there alone leans) =
+    let same : d ≡ x = needs_itself a d x aside need in
+    let out : is_alone a.cells x ≡ false = subst (λ z. is_alone a.cells z ≡ false) same aside in
+    let clash : false ≡ true = sym out ∙ alone_of a.cells x i there alone in
+    absurd cc
+
+-- and is blank, as it should be
+pub aside_fresh : (a : App) (s : SessionState) (tables : ToldRows) (m : ℕ) (c : Kept) (d : ℕ) → IsInOrder a c → is_alone a.cells d ≡ false → IsFreshAt (present a s tables m) (value_of c) d
+aside_fresh a s tables m c d order aside = λ e i need there. by e i there (subst (λ z. is_alone a.cells z ≡ false) (needs_itself a d e aside need) aside) (stands_alone i) refl
+  where
+    by : (e : ℕ) (i : CellInfo) → slice_get a.cells e ≡ Some i → is_alone a.cells e ≡ false → (b : Bool) → stands_alone i ≡ b → IsCellValue (present a s tables m) (value_of c) i (value_of c e)
+    by e i there out true alone = let clash : false ≡ true = sym out ∙ alone_of a.cells e i there alone in absurd cc
+    by e i there out false own = no_value (present a s tables m) (value_of c) i (value_of c e) own (order.bare e out)

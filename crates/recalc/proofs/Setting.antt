@@ -80,6 +80,7 @@ set_brought a c now stamps values k e o day near h = record {
   clean = (e, h.here, λ s plain z. let under = o.low.versions (place_of s) in let later = h.later in let is = h.checked in omega (arith, under, later, is));
   others = h.there;
   values = h.others;
+  emptied = refl;
   versions = refl;
   day = day;
   later = record {

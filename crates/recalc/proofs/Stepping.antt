@@ -23,7 +23,7 @@ use Rattle.recalc.specs.declared.stamps.Stamp.{Stamp}
 
 -- a cache with another stamp and value of one cell
 abbrev pub with_one : Kept → ℕ → List (Option Stamp) → Values → Kept
-with_one c now stamps values = record { last = now; versions = c.versions; stamps = stamps; values = values }
+with_one c now stamps values = record c { last = now; stamps = stamps; values = values }
 
 -- the cell has this stamp, by which it moved as before with the same value or moves after all that was; others are as before
 pub record IsSet (c : Kept) (now : ℕ) (stamps : List (Option Stamp)) (values : Values) (k : ℕ) (e : Stamp) : Type 0 where

@@ -330,7 +330,7 @@ is_value p values day c item v today none h =
     (λ x d g. (is_read p.app.names c.reads told x d g.0, told_gives p values day c.reads told x d today g.0 g.1)) h)
 
 -- the same over tables
-over_gives : (a : App) (s : SessionState) (ts : List (List Row)) (moment : ℕ) (values : ℕ → Data) (day : Data) (reads : List Source) (x : Source) (v : Data) → IsToday moment day →
+pub over_gives : (a : App) (s : SessionState) (ts : List (List Row)) (moment : ℕ) (values : ℕ → Data) (day : Data) (reads : List Source) (x : Source) (v : Data) → IsToday moment day →
     FitsIn (types_over a.names reads (told_on day a.names s None values) x) v → v ≡ told_on day a.names s (Some ts) values x →
     CanRead reads x × Gives (present a s (Some ts) moment) values x v
 over_gives a s ts moment values day reads (source.Cell k) v t f e = (is_read a.names reads (told_on day a.names s None values) (source.Cell k) v f, e)

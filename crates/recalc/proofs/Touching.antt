@@ -1,14 +1,19 @@
 -- A source is touched, and another day begins.
-use Rattle.std.proofs.Common.{◌≡◌, ℕ, ◌+◌, ◌<◌, List, length, length-set, false, None, Some, sym, subst, ap, ◌∙◌}
+use Rattle.std.proofs.Common.{◌≡◌, ℕ, ◌+◌, ◌<◌, List, [], ◌∷◌, length, length-set, false, None, Some, refl, sym, subst, ap, ◌∙◌, arith, inl}
 use Rattle.fx_data.specs.Values.{Data}
 use Rattle.fx_trees.specs.declared.sources.Source.{Source}
 use Rattle.recalc.specs.app_cells.Reach.{is_cell}
 use Rattle.recalc.specs.app_cells.declared.app.App.{App}
 use Rattle.recalc.specs.app_semantics.Present.{Present}
+use Rattle.recalc.proofs.Leaving.{left_all, left_then, made_left}
 use Rattle.recalc.proofs.Raising.{raised_clears, raised_leaves, raised_none, raised_order, raised_right}
-use Rattle.recalc.specs.Changes.{IsTouched, on_day, raised}
+use Rattle.recalc.specs.Changes.{IsLeftBut, IsTouched, on_day, raised}
 use Rattle.recalc.specs.Kept.{IsClean, IsInOrder, IsRight, Kept, place_of, stamp_of}
 use Rattle.recalc.specs.Outcomes.{HasNumbers}
+
+-- the source gets the next number
+raised_left : (a : App) (source : Source) (mid : Kept) → place_of source < length mid.versions → IsLeftBut a (source ∷ []) mid (raised mid source)
+raised_left a source mid place = record { emptied = omega arith; left = λ same end k far clean. raised_leaves a source mid place k (far source (inl refl)) clean }
 
 -- numbers are made, and the source gets the next one
 pub touched_is : (a : App) (source : Source) (old mid : Kept) → place_of source < length mid.versions → is_cell source ≡ false → HasNumbers a old mid → IsTouched a source old (raised mid source)
@@ -19,7 +24,8 @@ touched_is a source old mid place plain h = record {
   left = λ room k far clean. raised_leaves a source mid place k far (subst (λ (c : Kept). IsClean a c k) (sym (h.same room)) clean);
   none = λ room o k clean. subst (λ (c : Kept). IsClean a c k) (h.same room) (raised_none a source mid place (h.order o) k clean);
   day = h.day;
-  kept = λ room. (ap (λ (c : Kept). c.stamps) (h.same room), ap (λ (c : Kept). c.values) (h.same room), ap (λ (c : Kept). c.last + 1) (h.same room));
+  but = left_then a (source ∷ []) old mid (raised mid source) (left_all a (source ∷ []) old mid (made_left a old mid h)) (raised_left a source mid place);
+  kept = λ room. (ap (λ (c : Kept). c.stamps) (h.same room), ap (λ (c : Kept). c.values) (h.same room), ap (λ (c : Kept). c.last + 1) (h.same room), ap (λ (c : Kept). c.emptied) (h.same room));
   places = length-set mid.versions (place_of source) (mid.last + 1) ∙ h.places;
 }
 

@@ -47,8 +47,16 @@ cell_below a k h = by a.cells k h
 abbrev pub AreBefore : App → ℕ → List ℕ → Type 0
 AreBefore a i cs = All (λ k. (j : ℕ) × (j < i) × (at a j ≡ k)) cs
 
+-- and this holds of them
+abbrev pub TicksWith : (List ℕ → Type 0) → App → List ℕ → Kept → Kept → ℕ → ℕ → ℕ → Type 0
+TicksWith Q a roots start c i old new = (cs : List ℕ) × AllPairs (λ x y. x ≢ y) cs × All (WasDue a roots start c) cs × AreBefore a i cs × (new ≡ old + length cs) × Q cs
+
+-- whatever they are
+abbrev pub AnyCells : List ℕ → Type 0
+AnyCells cs = Unit {0}
+
 abbrev pub TicksTo : App → List ℕ → Kept → Kept → ℕ → ℕ → ℕ → Type 0
-TicksTo a roots start c i old new = (cs : List ℕ) × AllPairs (λ x y. x ≢ y) cs × All (WasDue a roots start c) cs × AreBefore a i cs × (new ≡ old + length cs)
+TicksTo a roots start c i old new = TicksWith AnyCells a roots start c i old new
 
 -- the marked cells before a place of the order are up to date
 pub record IsBroughtTo (a : App) (roots : List ℕ) (marks : List Bool) (start : Kept) (i : ℕ) (c : Kept) (old new : ℕ) : Type 0 where
@@ -67,7 +75,10 @@ later_start c = record {
 }
 
 pub leaves_start : (a : App) (c : Kept) → Leaves a c c
-leaves_start a c = record { still = λ k h. h; later = later_start c; versions = refl; day = refl }
+leaves_start a c = record { still = λ k h. h; later = later_start c; emptied = refl; versions = refl; day = refl }
+
+pub ticks_start : (Q : List ℕ → Type 0) (a : App) (roots : List ℕ) (start : Kept) (old : ℕ) → Q [] → TicksWith Q a roots start start 0 old old
+ticks_start Q a roots start old q = ([], (λ i j d low high. absurd (omega (arith, high))), (λ i d high. absurd (omega (arith, high))), (λ i d high. absurd (omega (arith, high))), omega arith, q)
 
 pub brought_start : (a : App) (roots : List ℕ) (marks : List Bool) (start : Kept) (old : ℕ) → IsBroughtTo a roots marks start 0 start old old
 brought_start a roots marks start old = record {
@@ -75,7 +86,7 @@ brought_start a roots marks start old = record {
   others = λ j low high. refl;
   values = λ j low high. refl;
   done = λ j low. absurd (omega (arith, low));
-  ticks = ([], (λ i j d low high. absurd (omega (arith, high))), (λ i d high. absurd (omega (arith, high))), (λ i d high. absurd (omega (arith, high))), omega arith);
+  ticks = ticks_start AnyCells a roots start old tt;
   room = omega arith;
   slow = omega arith;
 }
@@ -124,23 +135,41 @@ module _ (a : App) (roots : List ℕ) (marks : List Bool) (start : Kept) (i n : 
   start_clean clean = before.left.still n clean
 
   -- the ticks so far, seen from after
-  ticks_on : d.versions ≡ c.versions → ((x : ℕ) → x ≢ n → stamp_of d x ≡ stamp_of c x) → TicksTo a roots start d (i + 1) old mid
-  ticks_on same others = by before.ticks
-    where
-      by : TicksTo a roots start c i old mid → TicksTo a roots start d (i + 1) old mid
-      by (cs, apart, due, places, e) = (
-        cs,
-        apart,
-        (λ j x high.
-            let p = places j x high in
-            due_on a roots i n p.0 (get_or cs j x) start c d sound low here (let q = p.1 in omega (arith, q)) p.2 same others (due j x high)),
-        (λ j x high. let p = places j x high in (p.0, let q = p.1 in omega (arith, q), p.2)),
-        e,
-      )
+  ticks_on : (Q : List ℕ → Type 0) → d.versions ≡ c.versions → ((x : ℕ) → x ≢ n → stamp_of d x ≡ stamp_of c x) → TicksWith Q a roots start c i old mid → TicksWith Q a roots start d (i + 1) old mid
+  ticks_on Q same others (cs, apart, due, places, e, q) = (
+    cs,
+    apart,
+    (λ j x high.
+        let p = places j x high in
+        due_on a roots i n p.0 (get_or cs j x) start c d sound low here (let l = p.1 in omega (arith, l)) p.2 same others (due j x high)),
+    (λ j x high. let p = places j x high in (p.0, let l = p.1 in omega (arith, l), p.2)),
+    e,
+    q,
+  )
+
+  -- no tick more
+  ticks_same : (P Q : List ℕ → Type 0) (k : Kept) → ((cs : List ℕ) → P cs → Q cs) → new ≡ mid → TicksWith P a roots start k (i + 1) old mid → TicksWith Q a roots start k (i + 1) old new
+  ticks_same P Q k f e (cs, apart, due, places, z, q) = (cs, apart, due, places, omega (arith, z, e), f cs q)
 
   -- one tick more
-  tick_more : d.versions ≡ c.versions → ((x : ℕ) → x ≢ n → stamp_of d x ≡ stamp_of c x) → is_marked marks n ≡ true → (IsClean a c n → ⊥) → (IsCutOff a c c n → ⊥) → new ≡ mid + 1 → TicksTo a roots start d (i + 1) old new
-  tick_more same others mark unclean uncut one = by (ticks_on same others) before.ticks
+  tick_more : (P Q : List ℕ → Type 0) → ((cs : List ℕ) → P cs → Q (n ∷ cs)) → d.versions ≡ c.versions → ((x : ℕ) → x ≢ n → stamp_of d x ≡ stamp_of c x) → is_marked marks n ≡ true → (IsClean a c n → ⊥) → (IsCutOff a c c n → ⊥) → new ≡ mid + 1 →
+      TicksWith P a roots start c i old mid → TicksWith Q a roots start d (i + 1) old new
+  tick_more P Q f same others mark unclean uncut one (bs, apart', due', places', e', q') = (
+    n ∷ bs,
+    AllPairs-cons (λ x y. x ≢ y) n bs
+        (λ j x high q.
+        let p = places' j x high in
+        once a p.0 i sound p.1 low (p.2 ∙ sym q ∙ sym here))
+        apart',
+    All-cons (WasDue a roots start d) n bs due
+        (λ j x high.
+        let p = places' j x high in
+        due_on a roots i n p.0 (get_or bs j x) start c d sound low here (let q = p.1 in omega (arith, q)) p.2 same others (due' j x high)),
+    All-cons (λ k. (j : ℕ) × (j < i + 1) × (at a j ≡ k)) n bs (i, omega arith, here)
+        (λ j x high. let p = places' j x high in (p.0, let q = p.1 in omega (arith, q), p.2)),
+    omega (arith, one, e'),
+    f bs q',
+  )
     where
       due : WasDue a roots start d n
       due = record {
@@ -149,23 +178,6 @@ module _ (a : App) (roots : List ℕ) (marks : List Bool) (start : Kept) (i n : 
         unclean = λ clean. unclean (start_clean clean);
         uncut = λ cut. let q = cut_before a i n i n start c d sound low here (omega arith) here same others cut in uncut (q.0, q.1, same_stamp ∙ q.2, q.3, q.4);
       }
-
-      by : TicksTo a roots start d (i + 1) old mid → TicksTo a roots start c i old mid → TicksTo a roots start d (i + 1) old new
-      by (cs, apart, dues, places, e) (bs, apart', due', places', e') = (
-        n ∷ bs,
-        AllPairs-cons (λ x y. x ≢ y) n bs
-            (λ j x high q.
-            let p = places' j x high in
-            once a p.0 i sound p.1 low (p.2 ∙ sym q ∙ sym here))
-            apart',
-        All-cons (WasDue a roots start d) n bs due
-            (λ j x high.
-            let p = places' j x high in
-            due_on a roots i n p.0 (get_or bs j x) start c d sound low here (let q = p.1 in omega (arith, q)) p.2 same others (due' j x high)),
-        All-cons (λ k. (j : ℕ) × (j < i + 1) × (at a j ≡ k)) n bs (i, omega arith, here)
-            (λ j x high. let p = places' j x high in (p.0, let q = p.1 in omega (arith, q), p.2)),
-        omega (arith, one, e'),
-      )
 
   others_on : ((x : ℕ) → x ≢ n → stamp_of d x ≡ stamp_of c x) → (j : ℕ) → i + 1 ≤ j → j < length a.order → stamp_of d (at a j) ≡ stamp_of start (at a j)
   others_on others j le high =
@@ -181,6 +193,7 @@ module _ (a : App) (roots : List ℕ) (marks : List Bool) (start : Kept) (i n : 
       still = λ k some. b.later.still k (before.left.later.still k some);
       moved = λ k e f at there same. later_moved k e f at there same (stamp_of c k) refl;
     };
+    emptied = b.emptied ∙ before.left.emptied;
     versions = b.versions ∙ before.left.versions;
     day = b.day ∙ before.left.day;
   }
@@ -194,6 +207,10 @@ module _ (a : App) (roots : List ℕ) (marks : List Bool) (start : Kept) (i n : 
         | inr other ↦ before.left.later.moved k e f at (sym (b.others k other) ∙ there) (same ∙ b.values k other)
       ]
 
+  -- no cell was touched
+  ticks_stay : (P Q : List ℕ → Type 0) → ((cs : List ℕ) → P cs → Q cs) → new ≡ mid → TicksWith P a roots start c i old mid → TicksWith Q a roots start c (i + 1) old new
+  ticks_stay P Q f e (cs, apart, due, places, z, q) = (cs, apart, due, (λ j x high. let p = places j x high in (p.0, let l = p.1 in omega (arith, l), p.2)), omega (arith, z, e), f cs q)
+
   -- nothing was done
   nothing_more : (is_marked marks n ≡ true → IsClean a c n) → new ≡ mid → IsBroughtTo a roots marks start (i + 1) c old new
   nothing_more clean e = record {
@@ -206,13 +223,10 @@ module _ (a : App) (roots : List ℕ) (marks : List Bool) (start : Kept) (i n : 
           subst (IsClean a c) (sym is) (clean (subst (λ k. is_marked marks k ≡ true) is mark))
       | inr other ↦ before.done j (omega (arith, le, other)) high mark
     ];
-    ticks = by before.ticks;
+    ticks = ticks_stay AnyCells AnyCells (λ cs q. q) e before.ticks;
     room = let r = before.room in omega (arith, r);
     slow = let r = before.slow in omega (arith, r, e);
   }
-    where
-      by : TicksTo a roots start c i old mid → TicksTo a roots start c (i + 1) old new
-      by (cs, apart, due, places, q) = (cs, apart, due, (λ j x high. let p = places j x high in (p.0, let l = p.1 in omega (arith, l), p.2)), omega (arith, q, e))
 
   -- the cell was brought up to date
   cell_more : IsBrought a n c d → (d.last + mid ≤ c.last + new) → TicksTo a roots start d (i + 1) old new → IsBroughtTo a roots marks start (i + 1) d old new
@@ -238,15 +252,25 @@ module _ (a : App) (roots : List ℕ) (marks : List Bool) (start : Kept) (i n : 
       by : MayStepIf a marks n c d mid new → new ≡ mid
       by (inr (e, now)) = e
       by (inl (mark, unclean, may)) = absurd (unclean (clean mark))
-  brought_more (inl b) (inr (e, now)) = cell_more b (omega (arith, e, now)) (by (ticks_on b.versions b.others))
+  brought_more (inl b) (inr (e, now)) = cell_more b (omega (arith, e, now)) (ticks_same AnyCells AnyCells d (λ cs q. q) e (ticks_on AnyCells b.versions b.others before.ticks))
+  brought_more (inl b) (inl (mark, unclean, inr (e, now))) = cell_more b (omega (arith, e, now)) (ticks_same AnyCells AnyCells d (λ cs q. q) e (ticks_on AnyCells b.versions b.others before.ticks))
+  brought_more (inl b) (inl (mark, unclean, inl (one, now, uncut))) =
+      cell_more b (omega (arith, one, now)) (tick_more AnyCells AnyCells (λ cs q. q) b.versions b.others mark unclean uncut one before.ticks)
+
+  -- what holds of the cells that were evaluated, with one more or with none
+  pub ticks_more : (P Q : List ℕ → Type 0) → (new ≡ mid + 1 → (cs : List ℕ) → P cs → Q (n ∷ cs)) → (new ≡ mid → (cs : List ℕ) → P cs → Q cs) → IsBroughtIf a marks n c d → MayStepIf a marks n c d mid new →
+      TicksWith P a roots start c i old mid → TicksWith Q a roots start d (i + 1) old new
+  ticks_more P Q one_more none (inr (same, clean)) may t = subst (λ x. TicksWith Q a roots start x (i + 1) old new) (sym same) (ticks_stay P Q (none e) e t)
     where
-      by : TicksTo a roots start d (i + 1) old mid → TicksTo a roots start d (i + 1) old new
-      by (cs, apart, due, places, q) = (cs, apart, due, places, omega (arith, q, e))
-  brought_more (inl b) (inl (mark, unclean, inr (e, now))) = cell_more b (omega (arith, e, now)) (by (ticks_on b.versions b.others))
-    where
-      by : TicksTo a roots start d (i + 1) old mid → TicksTo a roots start d (i + 1) old new
-      by (cs, apart, due, places, q) = (cs, apart, due, places, omega (arith, q, e))
-  brought_more (inl b) (inl (mark, unclean, inl (one, now, uncut))) = cell_more b (omega (arith, one, now)) (tick_more b.versions b.others mark unclean uncut one)
+      by : MayStepIf a marks n c d mid new → new ≡ mid
+      by (inr (e, now)) = e
+      by (inl (mark, unclean, may)) = absurd (unclean (clean mark))
+
+      e : new ≡ mid
+      e = by may
+  ticks_more P Q one_more none (inl b) (inr (e, now)) t = ticks_same P Q d (none e) e (ticks_on P b.versions b.others t)
+  ticks_more P Q one_more none (inl b) (inl (mark, unclean, inr (e, now))) t = ticks_same P Q d (none e) e (ticks_on P b.versions b.others t)
+  ticks_more P Q one_more none (inl b) (inl (mark, unclean, inl (one, now, uncut))) t = tick_more P Q (one_more one) b.versions b.others mark unclean uncut one t
 
   -- what the cell leans on is clean, if it has to be brought up to date itself
   pub parts_clean : is_marked marks n ≡ true → (IsClean a c n → ⊥) → (x : ℕ) → Leans a n x → IsClean a c x
@@ -267,7 +291,7 @@ pub all_ticks : (a : App) (roots : List ℕ) (marks : List Bool) (start c : Kept
 all_ticks a roots marks start c i old new h = by h.ticks
   where
     by : TicksTo a roots start c i old new → OncePerCell a roots start c old new
-    by (cs, apart, due, places, e) = (cs, apart, due, e)
+    by (cs, apart, due, places, e, any) = (cs, apart, due, e)
 
 -- there are no more places than cells
 pub few_places : (a : App) → IsSound a → length a.order ≤ length a.cells
@@ -291,7 +315,7 @@ pub steps_rise : (a : App) (roots : List ℕ) (marks : List Bool) (start : Kept)
 steps_rise a roots marks start i c old mid h = by h.ticks
   where
     by : TicksTo a roots start c i old mid → old ≤ mid
-    by (cs, apart, due, places, e) = omega (arith, e)
+    by (cs, apart, due, places, e, any) = omega (arith, e)
 
 pub may_rise : (a : App) (marks : List Bool) (k : ℕ) (c d : Kept) (mid new : ℕ) → MayStepIf a marks k c d mid new → mid ≤ new
 may_rise a marks k c d mid new (inr (e, now)) = omega (arith, e)

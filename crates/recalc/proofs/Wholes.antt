@@ -1,23 +1,27 @@
 -- The whole of a table is all of its rows.
-use Rattle.std.proofs.Common.{◌≡◌, ℕ, List, [], ◌∷◌, Bool, true, Option, None, Result, Ok, Err, refl, sym, subst, ap, ◌∙◌, map, if◌then◌else◌}
-use Rattle.std.specs.Prelude.{IfOk}
+use Rattle.std.proofs.Common.{◌≡◌, ◌+◌, ◌≤◌, ℕ, suc, List, [], ◌∷◌, length, Bool, true, false, Option, None, Some, Result, Ok, Err, refl, sym, subst, ap, ◌∙◌, arith, map, if◌then◌else◌}
+use Rattle.std.specs.Prelude.{IfOk, IfSome, cond}
 use Rattle.std.specs.List.{filter}
 use Rattle.std.specs.List.Sorted.{IsPermutation}
 use Rattle.std.proofs.lemmas.List.Sorted.{IsPermutation-refl}
 use Rattle.fx_eval.specs.fx_plan.Ranges.{everything}
 use Rattle.fx_value.specs.Keys.{key_bytes}
 use Rattle.fx_eval.proofs.of_fx_plan.Arranged.{by_number}
+use Rattle.fx_base.specs.Silence.{Goes}
+use Rattle.fx_base.specs.Telling.{Stays}
 use Rattle.fx_data.specs.ValueView.{view}
 use Rattle.fx_data.specs.Values.{Data}
 use Rattle.fx_data.specs.declared.values.Value.{Value}
 use Rattle.fx_trees.specs.declared.schema.TableShape.{TableShape}
 use Rattle.recalc.specs.Queries.{IsTableValue, whole_table}
+use Rattle.row_keeper.specs.Tables.{Tables, rows_of, rows_told}
 use Rattle.row_keeper.specs.declared.keeper.KeeperEnd.{KeeperEnd}
 use Rattle.row_queries.specs.Answers.{IsScanValue, table_or_fault}
 use Rattle.row_queries.specs.Laws.{AskedOnce}
 use Rattle.row_queries.specs.Queries.{AreAsked, IsScanned, first_fault, given_of, lies, outcome_on, rows_or_fault}
 use Rattle.row_queries.specs.Ranges.{in_ranges}
-use Rattle.row_queries.specs.TableRows.{AreInIdOrder, value_at, values_of}
+use Rattle.row_queries.specs.TableRows.{AreInIdOrder, rows_at, value_at, values_of}
+use Rattle.row_queries.specs.Visits.{VisitsTold}
 use Rattle.row_queries.specs.declared.queries.Query.{Query}
 use Rattle.row_queries.specs.declared.rows.Row.{Row}
 use Rattle.row_queries.specs.declared.rows.RowList.{RowList}
@@ -59,3 +63,22 @@ pub scanned_whole : AskedOnce → (shapes : List TableShape) (told : Option (Lis
     IfOk r (λ v. IsScanValue shapes told q (view v)) → IfOk r (λ v. IsTableValue shapes told k (view v))
 scanned_whole once shapes told k q (Ok v) e h = value_is once shapes told k (view v) (subst (λ (x : Query). IsScanValue shapes told x (view v)) e h)
 scanned_whole once shapes told k q (Err x) e h = tt
+
+filter_short : (q : Query) (rows : List Row) → length (filter (lies q) rows) ≤ length rows
+filter_short q [] = omega arith
+filter_short q (r ∷ rows) = by (lies q r) (filter_short q rows)
+  where
+    by : (b : Bool) → length (filter (lies q) rows) ≤ length rows → length (cond b (r ∷ filter (lies q) rows) (filter (lies q) rows)) ≤ suc (length rows)
+    by true l = omega (arith, l)
+    by false l = omega (arith, l)
+
+-- a scan of a table visits no more than its rows
+pub told_whole : (k : ℕ) (q : Query) (x y : Option Tables) (before now : ℕ) (lost : Type 0) → q ≡ whole_table k → Goes lost Stays x y → VisitsTold (rows_told x) q before now →
+    IfSome (rows_told y) (λ rows. now ≤ before + length (rows_at rows k))
+told_whole k q x None before now lost e g h = tt
+told_whole k q None (Some t) before now lost e g h = absurd cc
+told_whole k q (Some s) (Some t) before now lost e g h =
+    let same : q.table ≡ k = ap (λ (z : Query). z.table) e in
+    let short = filter_short q (rows_at (rows_of s.states) q.table) in
+    let at : length (rows_at (rows_of s.states) q.table) ≡ length (rows_at (rows_of t.states) k) = ap (λ j. length (rows_at (rows_of s.states) j)) same ∙ ap (λ (z : Tables). length (rows_at (rows_of z.states) k)) (sym g) in
+    omega (arith, h, short, at)

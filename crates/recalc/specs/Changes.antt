@@ -1,5 +1,5 @@
 -- What changes of sources do to what is kept.
-use Rattle.std.specs.Prelude.{◌≡◌, ◌+◌, ℕ, List, ◌∷◌, length, false, Some, slice_set}
+use Rattle.std.specs.Prelude.{◌≡◌, ◌+◌, ◌<◌, ◌≤◌, ◌^◌, ℕ, List, [], ◌∷◌, length, false, Some, slice_set}
 use Rattle.fx_data.specs.Types.{Shape}
 use Rattle.fx_data.specs.Values.{Data}
 use Rattle.fx_trees.specs.Reads.{IsAmong}
@@ -25,11 +25,21 @@ pub record AreSameBut (xs : List Source) (p q : Present) : Type 0 where
 
 -- on another day
 abbrev pub on_day : Kept → Data → Kept
-on_day c d = record { last = c.last; versions = c.versions; stamps = c.stamps; values = record { cells = c.values.cells; day = d } }
+on_day c d = record c { values = record { cells = c.values.cells; day = d } }
 
 -- a source has the next number as that of its last change
 abbrev pub raised : Kept → Source → Kept
-raised c s = record { last = c.last + 1; versions = slice_set c.versions (place_of s) (c.last + 1); stamps = c.stamps; values = c.values }
+raised c s = record c { last = c.last + 1; versions = slice_set c.versions (place_of s) (c.last + 1) }
+
+-- a cell reaches none of these sources
+abbrev pub ReachesNone : App → List Source → ℕ → Type 0
+ReachesNone a xs k = (s : Source) → IsAmong s xs → Reaches a k s → ⊥
+
+-- CLEAN CELLS ARE LEFT SO, but those that reach one of these sources. Where it was counted that the numbers ran out on the way, nothing
+-- is said of them; the count stands still at its end.
+pub record IsLeftBut (a : App) (xs : List Source) (old new : Kept) : Type 0 where
+  pub emptied : old.emptied ≤ new.emptied
+  pub left : new.emptied ≡ old.emptied → old.emptied + 1 < 2 ^ 64 → (k : ℕ) → ReachesNone a xs k → IsClean a old k → IsClean a new k
 
 -- A SOURCE THAT IS NO CELL WAS TOUCHED: what is kept is right where it was still to be told; and, unless the numbers ran out,
 -- exactly the cells that reach it are clean no more, and nothing is lost.
@@ -39,6 +49,7 @@ pub record IsTouched (a : App) (source : Source) (old new : Kept) : Type 0 where
   pub cleared : HasRoom old.last → IsInOrder a old → (k : ℕ) → Reaches a k source → IsClean a new k → ⊥
   pub left : HasRoom old.last → (k : ℕ) → (Reaches a k source → ⊥) → IsClean a old k → IsClean a new k
   pub none : HasRoom old.last → IsInOrder a old → (k : ℕ) → IsClean a new k → IsClean a old k
-  pub kept : HasRoom old.last → (new.stamps ≡ old.stamps) × (new.values ≡ old.values) × (new.last ≡ old.last + 1)
+  pub kept : HasRoom old.last → (new.stamps ≡ old.stamps) × (new.values ≡ old.values) × (new.last ≡ old.last + 1) × (new.emptied ≡ old.emptied)
+  pub but : IsLeftBut a (source ∷ []) old new
   pub places : length new.versions ≡ length old.versions
   pub day : new.values.day ≡ old.values.day

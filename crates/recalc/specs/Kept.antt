@@ -16,9 +16,10 @@ use Rattle.recalc.specs.app_semantics.Needed.{is_alone}
 use Rattle.recalc.specs.app_semantics.Present.{Present}
 use Rattle.recalc.specs.declared.stamps.Stamp.{Stamp}
 
--- A CACHE: the last number that was given; by the place of each source, the number of its last change; of each cell that is kept
--- the stamp; and the values of all cells, with the day.
+-- A CACHE: how often all numbers were given anew; the last number that was given; by the place of each source, the number of its
+-- last change; of each cell that is kept the stamp; and the values of all cells, with the day.
 pub record Kept : Type 0 where
+  pub emptied : ℕ
   pub last : ℕ
   pub versions : List ℕ
   pub stamps : List (Option Stamp)

@@ -1,5 +1,5 @@
 -- What calls on a cache leave of it.
-use Rattle.std.specs.Prelude.{◌≡◌, ℕ, List, [], length, Option, None, slice_index}
+use Rattle.std.specs.Prelude.{◌≡◌, ◌+◌, ◌<◌, ◌≤◌, ◌^◌, ℕ, List, [], length, Option, None, slice_index}
 use Rattle.fx_trees.specs.declared.sources.Source.{Source}
 use Rattle.recalc.specs.Asking.{IsHeardOf, ToldRows}
 use Rattle.recalc.specs.app_cells.declared.app.App.{App}
@@ -14,20 +14,28 @@ IsRightOver a s told m c = (tables : ToldRows) → IsHeardOf told tables → IsR
 
 -- nothing is kept, and no number is given
 pub record IsEmpty (c : Kept) : Type 0 where
+  pub emptied : c.emptied ≡ 0
   pub last : c.last ≡ 0
   pub versions : (p : ℕ) → slice_index c.versions p ≡ 0
   pub stamps : (k : ℕ) → stamp_of c k ≡ None
 
 -- nothing is kept any more
 pub record IsForgotten (old new : Kept) : Type 0 where
+  pub emptied : new.emptied ≡ old.emptied
   pub last : new.last ≡ old.last
   pub versions : new.versions ≡ old.versions
   pub stamps : (k : ℕ) → stamp_of new k ≡ None
   pub values : new.values ≡ old.values
   pub cells : length new.stamps ≡ length old.stamps
 
--- nothing is kept any more, and all numbers are given anew
+-- it is counted once more, up to the count's end
+pub record IsCounted (old new : ℕ) : Type 0 where
+  pub more : old + 1 < 2 ^ 64 → new ≡ old + 1
+  pub never_less : old ≤ new
+
+-- nothing is kept any more, and all numbers are given anew, which is counted
 pub record IsEmptied (old new : Kept) : Type 0 where
+  pub emptied : IsCounted old.emptied new.emptied
   pub last : new.last ≡ 0
   pub versions : (p : ℕ) → slice_index new.versions p ≡ 0
   pub stamps : (k : ℕ) → stamp_of new k ≡ None
@@ -39,6 +47,7 @@ pub record IsEmptied (old new : Kept) : Type 0 where
 pub record HasNumbers (a : App) (old new : Kept) : Type 0 where
   pub room : HasRoom new.last
   pub same : HasRoom old.last → new ≡ old
+  pub counted : (HasRoom old.last → ⊥) → IsCounted old.emptied new.emptied
   pub order : IsInOrder a old → IsInOrder a new
   pub right : (s : SessionState) (tables : ToldRows) (m : ℕ) (pending : List Source) → IsRight (present a s tables m) pending old → IsRight (present a s tables m) pending new
   pub places : length new.versions ≡ length old.versions

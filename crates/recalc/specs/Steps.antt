@@ -31,21 +31,15 @@ pub record AreLater (old new : Kept) : Type 0 where
 
 -- a value of a cell was made under the next number, and is what it is since this one
 abbrev pub kept_with : Kept → ℕ → Data → ℕ → Kept
-kept_with c k v moved = record {
+kept_with c k v moved = record c {
   last = c.last + 1;
-  versions = c.versions;
   stamps = slice_set c.stamps k (Some (record { checked = c.last + 1; moved = moved }));
   values = record { cells = slice_set c.values.cells k v; day = c.values.day };
 }
 
 -- it was checked now, and is as before
 abbrev pub confirmed : Kept → ℕ → ℕ → Kept
-confirmed c k moved = record {
-  last = c.last;
-  versions = c.versions;
-  stamps = slice_set c.stamps k (Some (record { checked = c.last; moved = moved }));
-  values = c.values;
-}
+confirmed c k moved = record c { stamps = slice_set c.stamps k (Some (record { checked = c.last; moved = moved })) }
 
 -- since this number a value of a cell is what it is: since when the kept one is, if that is the same, and else from the next
 -- number on
@@ -59,6 +53,7 @@ pub record IsBrought (a : App) (k : ℕ) (old new : Kept) : Type 0 where
   pub clean : IsClean a new k
   pub others : (d : ℕ) → d ≢ k → stamp_of new d ≡ stamp_of old d
   pub values : (d : ℕ) → d ≢ k → value_of new d ≡ value_of old d
+  pub emptied : new.emptied ≡ old.emptied
   pub versions : new.versions ≡ old.versions
   pub day : new.values.day ≡ old.values.day
   pub later : AreLater old new
@@ -78,9 +73,10 @@ abbrev pub MayStepIf : App → List Bool → ℕ → Kept → Kept → ℕ → �
 MayStepIf a marks k old new before after =
     ((is_marked marks k ≡ true) × (IsClean a old k → ⊥) × MayStep a k old new before after) ⊎ ((after ≡ before) × (new.last ≡ old.last))
 
--- what bringing cells up to date leaves: clean cells stay so, and no source has changed
+-- what bringing cells up to date leaves: clean cells stay so, no source has changed, and no number is given anew
 pub record Leaves (a : App) (old new : Kept) : Type 0 where
   pub still : (k : ℕ) → IsClean a old k → IsClean a new k
   pub later : AreLater old new
+  pub emptied : new.emptied ≡ old.emptied
   pub versions : new.versions ≡ old.versions
   pub day : new.values.day ≡ old.values.day

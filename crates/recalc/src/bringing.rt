@@ -1,5 +1,5 @@
 // Cells are brought up to date.
-ghost use Rattle.std.specs.Prelude.{◌≡◌, ◌≢◌, ◌+◌, ◌<◌, ◌≤◌, ◌^◌, ◌↔◌, ℕ, IfOk, IfSome, IsErrOf, IsNone, IsTrue, OnErr, OnOk, Some, length, slice_get, true};
+ghost use Rattle.std.specs.Prelude.{◌≡◌, ◌≢◌, ◌+◌, ◌<◌, ◌≤◌, ◌^◌, ◌↔◌, ℕ, IfOk, IfSome, IsErrOf, IsNone, IsTrue, [], OnErr, OnOk, Some, length, slice_get, true};
 ghost use Rattle.std.specs.List.{Contains};
 ghost use Rattle.fx_data.specs.ValueView.{view};
 ghost use Rattle.fx_scalar.specs.ScalarFunctions.{IsToday};
@@ -10,10 +10,13 @@ ghost use Rattle.recalc.specs.app_semantics.Present.{present};
 ghost use Rattle.recalc.specs.app_semantics.Sound.{IsSound};
 ghost use Rattle.row_keeper.specs.Causes.{HasCause};
 ghost use Rattle.row_keeper.specs.declared.keeper.KeeperEnd.TheVariants.{Failed};
+ghost use Rattle.recalc.specs.Changes.{IsLeftBut};
 ghost use Rattle.recalc.specs.Kept.{HasRoom, IsClean, IsInOrder, IsUnmoved, Leans, stamp_of, value_of};
 ghost use Rattle.recalc.specs.Needing.{AreMarked, is_marked};
 ghost use Rattle.recalc.specs.Outcomes.{IsRightOver};
 ghost use Rattle.recalc.specs.declared.stamps.Stamp.{Stamp};
+ghost use Rattle.fx_eval.specs.Visits.{AtMost};
+ghost use Rattle.recalc.specs.Visits.{CellVisits, MayVisit, VisitsPerCell, WhereTold};
 ghost use Rattle.recalc.specs.Steps.{IsBrought, IsBroughtIf, IsCutOff, Leaves, MayStep, MayStepIf, OncePerCell, WasMoved};
 
 use crate::Steps;
@@ -96,6 +99,8 @@ impl Cache {
         ensures right { IsRightOver app.now session.now (K.told keeper.old) moment self.old → IsRightOver app.now session.now (K.told keeper.new) moment self.new }
         ensures brought { OnOk result (IsBrought app.now cell self.old self.new) }
         ensures stepped { OnOk result ((steps.new ≡ steps.old + 1) × (self.new.last ≡ self.old.last + 1)) }
+        ensures visits { IsRightOver app.now session.now (K.told keeper.old) moment self.old → OnOk result (WhereTold (K.told keeper.new) (λ rows.
+            AtMost (CellVisits app.now session.now rows moment cell) (K.visited keeper.old) (K.visited keeper.new))) }
         ensures stopped { OnErr result (self.new ≡ self.old) }
         ensures read { HasRead (keeping (K.told keeper.old) (K.began keeper.old) (K.shaped keeper.old) (K.in_transaction keeper.old) (K.marks keeper.old) (K.visited keeper.old) (K.loan keeper.old))
             (keeping (K.told keeper.new) (K.began keeper.new) (K.shaped keeper.new) (K.in_transaction keeper.new) (K.marks keeper.new) (K.visited keeper.new) (K.loan keeper.new)) }
@@ -138,6 +143,8 @@ impl Cache {
         ensures right { IsRightOver app.now session.now (K.told keeper.old) moment self.old → IsRightOver app.now session.now (K.told keeper.new) moment self.new }
         ensures brought { OnOk result (IsBrought app.now cell self.old self.new) }
         ensures ticks { OnOk result (MayStep app.now cell self.old self.new steps.old steps.new) }
+        ensures visits { IsRightOver app.now session.now (K.told keeper.old) moment self.old → OnOk result (WhereTold (K.told keeper.new) (λ rows.
+            MayVisit app.now session.now rows moment cell steps.old steps.new (K.visited keeper.old) (K.visited keeper.new))) }
         ensures stopped { OnErr result (self.new ≡ self.old) }
         ensures read { HasRead (keeping (K.told keeper.old) (K.began keeper.old) (K.shaped keeper.old) (K.in_transaction keeper.old) (K.marks keeper.old) (K.visited keeper.old) (K.loan keeper.old))
             (keeping (K.told keeper.new) (K.began keeper.new) (K.shaped keeper.new) (K.in_transaction keeper.new) (K.marks keeper.new) (K.visited keeper.new) (K.loan keeper.new)) }
@@ -181,6 +188,8 @@ impl Cache {
         ensures right { IsRightOver app.now session.now (K.told keeper.old) moment self.old → IsRightOver app.now session.now (K.told keeper.new) moment self.new }
         ensures brought { OnOk result (IsBroughtIf app.now marks.now cell self.old self.new) }
         ensures ticks { OnOk result (MayStepIf app.now marks.now cell self.old self.new steps.old steps.new) }
+        ensures visits { IsRightOver app.now session.now (K.told keeper.old) moment self.old → OnOk result (WhereTold (K.told keeper.new) (λ rows.
+            MayVisit app.now session.now rows moment cell steps.old steps.new (K.visited keeper.old) (K.visited keeper.new))) }
         ensures stopped { OnErr result (self.new ≡ self.old) }
         ensures read { HasRead (keeping (K.told keeper.old) (K.began keeper.old) (K.shaped keeper.old) (K.in_transaction keeper.old) (K.marks keeper.old) (K.visited keeper.old) (K.loan keeper.old))
             (keeping (K.told keeper.new) (K.began keeper.new) (K.shaped keeper.new) (K.in_transaction keeper.new) (K.marks keeper.new) (K.visited keeper.new) (K.loan keeper.new)) }
@@ -237,6 +246,8 @@ impl Cache {
         ensures left { Leaves app.now self.old self.new }
         ensures made { OnOk result ((k : ℕ) → Contains roots.now k → IsClean app.now self.new k) }
         ensures ticks { OnOk result (OncePerCell app.now roots.now self.old self.new steps.old steps.new) }
+        ensures visits { IsRightOver app.now session.now (K.told keeper.old) moment self.old → OnOk result (WhereTold (K.told keeper.new) (λ rows.
+            VisitsPerCell app.now session.now rows moment roots.now self.old self.new steps.old steps.new (K.visited keeper.old) (K.visited keeper.new))) }
         ensures slow { OnOk result (self.new.last + steps.old ≤ self.old.last + steps.new) }
         ensures read { HasRead (keeping (K.told keeper.old) (K.began keeper.old) (K.shaped keeper.old) (K.in_transaction keeper.old) (K.marks keeper.old) (K.visited keeper.old) (K.loan keeper.old))
             (keeping (K.told keeper.new) (K.began keeper.new) (K.shaped keeper.new) (K.in_transaction keeper.new) (K.marks keeper.new) (K.visited keeper.new) (K.loan keeper.new)) }
@@ -253,7 +264,7 @@ impl Cache {
     }
 
     /// Brings these cells up to date, and all that they need. What is clean stays so, and no cell is evaluated more than once, none
-    /// that was clean, and none of which nothing moved that it names. Where few numbers were left, all is evaluated that is
+    /// that was clean, and none of which nothing moved that it names. No more rows are visited than evaluating these cells visits. Where few numbers were left, all is evaluated that is
     /// needed. Where nothing is evaluated, the keeper is left alone. `Failed` only where it counted a fault; what is kept is right
     /// also then.
     #[tactic(auto, using(crate::proofs::Asked::read_none, crate::proofs::Asked::read_on))]
@@ -280,7 +291,10 @@ impl Cache {
         ensures fresh { IsRightOver app.now session.now (K.told keeper.old) moment self.old → OnOk result ((tables : ToldRows) (k : ℕ) → IsHeardOf (K.told keeper.new) tables → Contains roots.now k →
             IsFreshAt (present app.now session.now tables moment) (value_of self.new) k) }
         ensures left { HasRoom self.old.last → Leaves app.now self.old self.new }
+        ensures but { IsLeftBut app.now [] self.old self.new }
         ensures ticks { HasRoom self.old.last → OnOk result (OncePerCell app.now roots.now self.old self.new steps.old steps.new) }
+        ensures visits { IsRightOver app.now session.now (K.told keeper.old) moment self.old → HasRoom self.old.last → OnOk result (WhereTold (K.told keeper.new) (λ rows.
+            VisitsPerCell app.now session.now rows moment roots.now self.old self.new steps.old steps.new (K.visited keeper.old) (K.visited keeper.new))) }
         ensures slow { HasRoom self.old.last → OnOk result (self.new.last + steps.old ≤ self.old.last + steps.new) }
         ensures read { HasRead (keeping (K.told keeper.old) (K.began keeper.old) (K.shaped keeper.old) (K.in_transaction keeper.old) (K.marks keeper.old) (K.visited keeper.old) (K.loan keeper.old))
             (keeping (K.told keeper.new) (K.began keeper.new) (K.shaped keeper.new) (K.in_transaction keeper.new) (K.marks keeper.new) (K.visited keeper.new) (K.loan keeper.new)) }

@@ -22,6 +22,8 @@ const KINDS: usize = 8;
 /// them stand. Every change of a source that is no cell is told it by `touched`.
 #[derive(Drop)]
 pub struct Cache {
+    // How often all numbers were given anew. It stands still at its end.
+    emptied: u64,
     last: u64,
     versions: Vec<u64>,
     stamps: Vec<Option<Stamp>>,
@@ -37,7 +39,7 @@ impl Model for Cache {
 
     ghost coded = { Prim.hlevel (codes, data_code) };
 
-    ghost view = { λ c. record { last = c.last; versions = c.versions.items; stamps = c.stamps.items; values = c.valued } };
+    ghost view = { λ c. record { emptied = c.emptied; last = c.last; versions = c.versions.items; stamps = c.stamps.items; values = c.valued } };
 }
 
 // How many places the sources under these names have.
@@ -88,8 +90,9 @@ fn place(source: Source) -> usize
 impl Cache {
     ghost use Rattle.fx_data.specs.ValueView.{view};
     ghost use Rattle.recalc.specs.Changes.{on_day, raised};
-    ghost use Rattle.recalc.specs.Kept.{IsInOrder, place_of, stamp_of, version_of};
+    ghost use Rattle.recalc.specs.Kept.{IsInOrder, place_of, stamp_of, value_of, version_of};
     ghost use Rattle.recalc.specs.Outcomes.{IsEmpty, IsEmptied, IsForgotten};
+    ghost use Rattle.recalc.specs.Carrying.{received, taken_from};
     ghost use Rattle.recalc.specs.Steps.{confirmed, kept_with};
 
     /// A cache for a session of this app, on this day, in which nothing is kept.
@@ -108,6 +111,7 @@ impl Cache {
         let stamps = vec![in alloc; None; count]?;
         let valued = Valued::blank(alloc, count, day)?;
         Ok(Cache {
+            emptied: 0,
             last: 0,
             versions,
             stamps,
@@ -165,13 +169,14 @@ impl Cache {
         self.valued.set_day(day);
     }
 
-    /// Keeps nothing any more, and gives all numbers anew.
+    /// Keeps nothing any more, and gives all numbers anew, which is counted.
     pub(crate) fn empty(&mut self)
         ensures { IsEmptied self.old self.new }
     {
         drop_stamps(&mut self.stamps);
         drop_versions(&mut self.versions);
         self.last = 0;
+        self.emptied = self.emptied.saturating_add(1);
     }
 
     /// Gives a source the next number as that of its last change.
@@ -203,6 +208,33 @@ impl Cache {
         ensures { self.new ≡ kept_with self.old cell (view value) moved }
     {
         self.last += 1;
+        self.valued.put(cell, value);
+        self.confirm(cell, moved);
+    }
+
+    /// Gives the numbers after those that another cache gave, and counts on.
+    pub(crate) fn begin_after(&mut self, other: &Cache)
+        ensures { self.new ≡ record self.old { emptied = other.now.emptied; last = other.now.last } }
+    {
+        self.emptied = other.emptied;
+        self.last = other.last;
+    }
+
+    /// Takes the value of a cell out.
+    pub(crate) fn take(&mut self, cell: u32) -> Value
+        requires { cell < length self.old.values.cells }
+        ensures value { view result ≡ value_of self.old cell }
+        ensures left { self.new ≡ taken_from self.old cell }
+    {
+        self.valued.take(cell)
+    }
+
+    /// Gives a cell a value, and says that it was checked now.
+    pub(crate) fn receive(&mut self, cell: u32, value: Value, moved: u64)
+        requires stamp { cell < length self.old.stamps }
+        requires value { cell < length self.old.values.cells }
+        ensures { self.new ≡ received self.old cell (view value) moved }
+    {
         self.valued.put(cell, value);
         self.confirm(cell, moved);
     }

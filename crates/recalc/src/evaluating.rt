@@ -13,7 +13,9 @@ ghost use Rattle.fx_value.specs.Fits.{fits_in};
 ghost use Rattle.recalc.specs.Asking.{HasRead, IsHeardOf, ToldRows, keeping};
 ghost use Rattle.recalc.specs.Reading.{cell_value};
 ghost use Rattle.recalc.specs.Stops.{end_of as end_by};
+ghost use Rattle.fx_eval.specs.Visits.{AtMost};
 ghost use Rattle.recalc.specs.Values.{CellsFit};
+ghost use Rattle.recalc.specs.Visits.{FormulaVisits, WhereTold};
 ghost use Rattle.row_keeper.specs.Causes.{HasCause};
 ghost use Rattle.row_keeper.specs.declared.keeper.KeeperEnd.TheVariants.{Failed};
 
@@ -31,7 +33,7 @@ use std::alloc::Global;
 use std::sync::ledger::Ledger;
 
 /// Whether a table is among these sources.
-fn reads_table(reads: &[Source]) -> bool
+pub(crate) fn reads_table(reads: &[Source]) -> bool
     ensures { result ≡ reads_any reads.now }
 {
     reads
@@ -77,6 +79,8 @@ pub(crate) fn formula_value<K: Keeper, L: Ledger>(
         IsValueOf (present app.now session.now tables moment) (cell_value (map view values.now)) (option_map view item) info.now (view v)) }
     ensures fits { IfOk result (λ v. fits_in (view v) (shape info.now.ty) ≡ true) }
     ensures steps { IfOk result (λ v. steps.new ≡ steps.old + 1) }
+    ensures visits { IfOk result (λ _. (moment : ℕ) → IsToday moment (view day.now) → WhereTold (K.told keeper.new) (λ rows.
+        AtMost (FormulaVisits app.now session.now rows moment (cell_value (map view values.now)) (option_map view item) info.now) (K.visited keeper.old) (K.visited keeper.new))) }
     ensures read { HasRead (keeping (K.told keeper.old) (K.began keeper.old) (K.shaped keeper.old) (K.in_transaction keeper.old) (K.marks keeper.old) (K.visited keeper.old) (K.loan keeper.old))
         (keeping (K.told keeper.new) (K.began keeper.new) (K.shaped keeper.new) (K.in_transaction keeper.new) (K.marks keeper.new) (K.visited keeper.new) (K.loan keeper.new)) }
     ensures cause { HasCause (K.marks keeper.old) (K.marks keeper.new) result }
@@ -167,6 +171,8 @@ fn value_over_rows<'a, K: Keeper, L: Ledger>(
         IsValueOf (present app.now session.now tables moment) (cell_value (map view values.now)) (option_map view item) info.now (view v)) }
     ensures fits { IfOk result (λ v. fits_in (view v) (shape info.now.ty) ≡ true) }
     ensures steps { IfOk result (λ v. steps.new ≡ steps.old + 1) }
+    ensures visits { IfOk result (λ _. (moment : ℕ) → IsToday moment (view day.now) → WhereTold (K.told keeper.new) (λ rows.
+        AtMost (FormulaVisits app.now session.now rows moment (cell_value (map view values.now)) (option_map view item) info.now) (K.visited keeper.old) (K.visited keeper.new))) }
     ensures read { HasRead (keeping (K.told keeper.old) (K.began keeper.old) (K.shaped keeper.old) (K.in_transaction keeper.old) (K.marks keeper.old) (K.visited keeper.old) (K.loan keeper.old))
         (keeping (K.told keeper.new) (K.began keeper.new) (K.shaped keeper.new) (K.in_transaction keeper.new) (K.marks keeper.new) (K.visited keeper.new) (K.loan keeper.new)) }
     ensures cause { HasCause (K.marks keeper.old) (K.marks keeper.new) result }

@@ -4,11 +4,13 @@
 
 mod bringing;
 mod cache;
+mod carrying;
 mod changing;
 mod choosing;
 pub mod evaluating;
 pub mod given;
 pub mod ids;
+pub mod laws;
 mod needing;
 mod reading;
 pub mod row_reading;
@@ -18,11 +20,13 @@ pub mod stamps;
 mod standing;
 pub mod tables;
 pub mod templates;
+mod trees;
 pub mod valued;
 
 pub use app_semantics;
 use app_semantics::app_cells;
 pub use cache::Cache;
+pub use carrying::old_cells;
 pub use evaluating::end_of;
 pub use fx_env::Steps;
 use fx_eval::fx_plan;

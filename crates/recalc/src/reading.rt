@@ -66,6 +66,10 @@ impl Env for Reading<'_> {
     }
 
     // There are no tables, so that no query can be asked.
+    fn tables(&self) -> Option<&Schema> {
+        None
+    }
+
     fn scan(&mut self, _query: &Query) -> Result<Value, Stop> {
         unreachable!()
     }

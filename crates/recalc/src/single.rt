@@ -9,9 +9,11 @@ ghost use Rattle.recalc.specs.app_semantics.Present.{present};
 ghost use Rattle.recalc.specs.app_semantics.Sound.{IsSound};
 ghost use Rattle.row_keeper.specs.Causes.{HasCause};
 ghost use Rattle.row_keeper.specs.declared.keeper.KeeperEnd.TheVariants.{Failed};
+ghost use Rattle.recalc.specs.Changes.{IsLeftBut};
 ghost use Rattle.recalc.specs.Kept.{HasRoom, IsClean, IsInOrder, value_of as value_in};
 ghost use Rattle.recalc.specs.Outcomes.{IsRightOver};
 ghost use Rattle.recalc.specs.Steps.{Leaves, OncePerCell};
+ghost use Rattle.recalc.specs.Visits.{VisitsPerCell, WhereTold};
 
 use crate::Steps;
 use crate::app_cells::App;
@@ -50,7 +52,10 @@ impl Cache {
         ensures fresh { IsRightOver app.now session.now (K.told keeper.old) moment self.old → OnOk result ((tables : ToldRows) → IsHeardOf (K.told keeper.new) tables →
             IsFreshAt (present app.now session.now tables moment) (value_in self.new) cell) }
         ensures left { HasRoom self.old.last → Leaves app.now self.old self.new }
+        ensures but { IsLeftBut app.now [] self.old self.new }
         ensures ticks { HasRoom self.old.last → OnOk result (OncePerCell app.now (cell ∷ []) self.old self.new steps.old steps.new) }
+        ensures visits { IsRightOver app.now session.now (K.told keeper.old) moment self.old → HasRoom self.old.last → OnOk result (WhereTold (K.told keeper.new) (λ rows.
+            VisitsPerCell app.now session.now rows moment (cell ∷ []) self.old self.new steps.old steps.new (K.visited keeper.old) (K.visited keeper.new))) }
         ensures slow { HasRoom self.old.last → OnOk result (self.new.last + steps.old ≤ self.old.last + steps.new) }
         ensures read { HasRead (keeping (K.told keeper.old) (K.began keeper.old) (K.shaped keeper.old) (K.in_transaction keeper.old) (K.marks keeper.old) (K.visited keeper.old) (K.loan keeper.old))
             (keeping (K.told keeper.new) (K.began keeper.new) (K.shaped keeper.new) (K.in_transaction keeper.new) (K.marks keeper.new) (K.visited keeper.new) (K.loan keeper.new)) }

@@ -1,5 +1,5 @@
 // Tables of a keeper, as formulas ask for them.
-ghost use Rattle.std.specs.Prelude.{◌≡◌, ◌≤◌, IfOk, IsSome, OnErr, slice_get};
+ghost use Rattle.std.specs.Prelude.{◌≡◌, ◌+◌, ◌≤◌, IfOk, IfSome, IsSome, OnErr, length, slice_get};
 ghost use Rattle.fx_base.specs.Silence.{Goes, IsLost};
 ghost use Rattle.fx_base.specs.Telling.{Stays};
 ghost use Rattle.fx_data.specs.ValueView.{view};
@@ -8,6 +8,7 @@ ghost use Rattle.recalc.specs.Asking.{HasRead, keeping};
 ghost use Rattle.recalc.specs.Queries.{IsTableValue, whole_table as whole_query};
 ghost use Rattle.row_keeper.specs.Causes.{HasCause};
 ghost use Rattle.row_keeper.specs.Tables.{rows_told};
+ghost use Rattle.row_queries.specs.TableRows.{rows_at};
 
 use crate::fx_plan::ranges::everything;
 use fx_base::Memory;
@@ -35,7 +36,7 @@ fn whole_table(alloc: Global, table: u16) -> Result<Query, Memory>
     })
 }
 
-/// The value of a table: all of its rows.
+/// The value of a table: all of its rows, each of which is visited once.
 pub fn table_value<K: Keeper>(
     alloc: Global,
     keeper: &mut K,
@@ -52,6 +53,7 @@ pub fn table_value<K: Keeper>(
     ensures shaped { K.shaped keeper.new ≡ K.shaped keeper.old }
     ensures mode { K.in_transaction keeper.new ≡ K.in_transaction keeper.old }
     ensures visited { K.visited keeper.old ≤ K.visited keeper.new }
+    ensures most { IfSome (rows_told (K.told keeper.new)) (λ rows. K.visited keeper.new ≤ K.visited keeper.old + length (rows_at rows table)) }
     ensures loan { K.loan keeper.new ≡ K.loan keeper.old }
 {
     // Called for what it says: rows that stand by rising numbers are asked in that order.

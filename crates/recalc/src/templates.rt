@@ -13,10 +13,13 @@ ghost use Rattle.fx_scalar.specs.ScalarFunctions.{IsToday};
 ghost use Rattle.fx_semantics.specs.Around.{record_of};
 ghost use Rattle.fx_semantics.specs.Sound.{IsItemFit};
 ghost use Rattle.fx_typing.specs.Typing.{item_of};
+ghost use Rattle.fx_eval.specs.Visits.{AtMost};
 ghost use Rattle.recalc.specs.Asking.{HasRead, IsHeardOf, ToldRows, keeping};
+ghost use Rattle.recalc.specs.ItemVisits.{ItemVisits};
 ghost use Rattle.recalc.specs.Reading.{cell_value};
 ghost use Rattle.recalc.specs.Templates.{IsTemplateProperty, StandsIn, steps_of};
 ghost use Rattle.recalc.specs.Values.{CellsFit, value_of};
+ghost use Rattle.recalc.specs.Visits.{WhereTold};
 ghost use Rattle.row_keeper.specs.Causes.{HasCause};
 
 use crate::app_cells::App;
@@ -71,6 +74,8 @@ pub fn is_visible_for_item<K: Keeper, L: Ledger>(
     ensures shows { IfOk result (λ b. (moment : ℕ) (tables : ToldRows) → IsToday moment valued.now.day → IsHeardOf (K.told keeper.new) tables →
         (v : Data) × IsPropertyForItem (present app.now session.now tables moment) (value_of valued.now) (record_of row.now) control (codes "Visible") (boolean true) v × (b ≡ is_true_of v)) }
     ensures steps { IfOk result (λ b. steps.new ≡ steps.old + steps_of (leaning.cell_of_property app.now.names control (codes "Visible"))) }
+    ensures visits { IfOk result (λ _. (moment : ℕ) → IsToday moment valued.now.day → WhereTold (K.told keeper.new) (λ rows.
+        AtMost (ItemVisits app.now session.now rows moment (value_of valued.now) (record_of row.now) (leaning.cell_of_property app.now.names control (codes "Visible"))) (K.visited keeper.old) (K.visited keeper.new))) }
     ensures read { HasRead (keeping (K.told keeper.old) (K.began keeper.old) (K.shaped keeper.old) (K.in_transaction keeper.old) (K.marks keeper.old) (K.visited keeper.old) (K.loan keeper.old))
         (keeping (K.told keeper.new) (K.began keeper.new) (K.shaped keeper.new) (K.in_transaction keeper.new) (K.marks keeper.new) (K.visited keeper.new) (K.loan keeper.new)) }
     ensures cause { HasCause (K.marks keeper.old) (K.marks keeper.new) result }
@@ -108,6 +113,8 @@ pub fn property_for_item<K: Keeper, L: Ledger>(
     ensures shows { IfOk result (λ v. (moment : ℕ) (tables : ToldRows) → IsToday moment valued.now.day → IsHeardOf (K.told keeper.new) tables →
         IsPropertyForItem (present app.now session.now tables moment) (value_of valued.now) (record_of row.now) control name.now (view unwritten) (view v)) }
     ensures steps { IfOk result (λ v. steps.new ≡ steps.old + steps_of (leaning.cell_of_property app.now.names control name.now)) }
+    ensures visits { IfOk result (λ _. (moment : ℕ) → IsToday moment valued.now.day → WhereTold (K.told keeper.new) (λ rows.
+        AtMost (ItemVisits app.now session.now rows moment (value_of valued.now) (record_of row.now) (leaning.cell_of_property app.now.names control name.now)) (K.visited keeper.old) (K.visited keeper.new))) }
     ensures read { HasRead (keeping (K.told keeper.old) (K.began keeper.old) (K.shaped keeper.old) (K.in_transaction keeper.old) (K.marks keeper.old) (K.visited keeper.old) (K.loan keeper.old))
         (keeping (K.told keeper.new) (K.began keeper.new) (K.shaped keeper.new) (K.in_transaction keeper.new) (K.marks keeper.new) (K.visited keeper.new) (K.loan keeper.new)) }
     ensures cause { HasCause (K.marks keeper.old) (K.marks keeper.new) result }
@@ -143,6 +150,8 @@ fn cell_for_item<K: Keeper, L: Ledger>(
     ensures shows { IfOk result (λ v. (moment : ℕ) (tables : ToldRows) → IsToday moment valued.now.day → IsHeardOf (K.told keeper.new) tables →
         (c : Info) × (slice_get app.now.cells cell ≡ Some c) × IsValueOf (present app.now session.now tables moment) (value_of valued.now) (Some (record_of row.now)) c (view v)) }
     ensures steps { IfOk result (λ v. steps.new ≡ steps.old + 1) }
+    ensures visits { IfOk result (λ _. (moment : ℕ) → IsToday moment valued.now.day → WhereTold (K.told keeper.new) (λ rows.
+        AtMost (ItemVisits app.now session.now rows moment (value_of valued.now) (record_of row.now) (Some cell)) (K.visited keeper.old) (K.visited keeper.new))) }
     ensures read { HasRead (keeping (K.told keeper.old) (K.began keeper.old) (K.shaped keeper.old) (K.in_transaction keeper.old) (K.marks keeper.old) (K.visited keeper.old) (K.loan keeper.old))
         (keeping (K.told keeper.new) (K.began keeper.new) (K.shaped keeper.new) (K.in_transaction keeper.new) (K.marks keeper.new) (K.visited keeper.new) (K.loan keeper.new)) }
     ensures cause { HasCause (K.marks keeper.old) (K.marks keeper.new) result }

@@ -28,6 +28,7 @@ use row_keeper::{Keeper, KeeperEnd};
 use session_state::Session;
 use std::alloc::Global;
 use std::marker::Model;
+use std::mem;
 use std::sync::ledger::Ledger;
 
 /// The value of each cell of an app, by its number, and the day. Of a formula that acts, or that sees an item, it is blank.
@@ -52,7 +53,7 @@ impl Model for Valued {
 }
 
 impl Valued {
-    ghost use Rattle.std.specs.Prelude.{◌≡◌, ◌+◌, ◌<◌, ℕ, false, true, IfOk, IsErrOf, Some, length, map, replicate, slice_get, slice_set};
+    ghost use Rattle.std.specs.Prelude.{◌≡◌, ◌+◌, ◌<◌, ℕ, false, true, IfOk, IsErrOf, None, Some, length, map, replicate, slice_get, slice_set};
     ghost use Rattle.app_semantics.specs.Fresh.{IsCellValue, IsValueOf};
     ghost use Rattle.app_semantics.specs.Holding.{HoldsFitting};
     ghost use Rattle.app_semantics.specs.Needed.{stands_alone as is_by_itself};
@@ -68,6 +69,8 @@ impl Valued {
     ghost use Rattle.fx_value.specs.Fits.{fits_in};
     ghost use Rattle.recalc.specs.Asking.{CanAsk, HasRead, IsHeardOf, ReadsNone, ToldRows, keeping};
     ghost use Rattle.recalc.specs.Values.{CellsFit, value_of};
+    ghost use Rattle.fx_eval.specs.Visits.{AtMost};
+    ghost use Rattle.recalc.specs.Visits.{FormulaVisits, WhereTold};
     ghost use Rattle.row_keeper.specs.Causes.{HasCause};
     ghost use Rattle.row_keeper.specs.declared.keeper.KeeperEnd.TheVariants.{Failed};
     ghost use Rattle.session_state.specs.Sessions.{Holds};
@@ -87,6 +90,15 @@ impl Valued {
         ensures { self.new ≡ record self.old { cells = slice_set self.old.cells cell (view value) } }
     {
         self.values[cell as usize] = value;
+    }
+
+    /// Takes the value of a cell out, and leaves a blank one.
+    pub fn take(&mut self, cell: u32) -> Value
+        requires { cell < length self.old.cells }
+        ensures value { view result ≡ value_of self.old cell }
+        ensures left { self.new ≡ record self.old { cells = slice_set self.old.cells cell blank } }
+    {
+        mem::replace(&mut self.values[cell as usize], Value::Blank)
     }
 
     /// Another day begins.
@@ -153,6 +165,8 @@ impl Valued {
             IsCellValue (present app.now session.now tables moment) (value_of self.now) info.now (view v)) }
         ensures fits { IfOk result (λ v. fits_in (view v) (shape info.now.ty) ≡ true) }
         ensures steps { IfOk result (λ v. steps.new ≡ steps.old + 1) }
+        ensures visits { IfOk result (λ _. (moment : ℕ) → IsToday moment self.now.day → WhereTold (K.told keeper.new) (λ rows.
+            AtMost (FormulaVisits app.now session.now rows moment (value_of self.now) None info.now) (K.visited keeper.old) (K.visited keeper.new))) }
         ensures read { HasRead (keeping (K.told keeper.old) (K.began keeper.old) (K.shaped keeper.old) (K.in_transaction keeper.old) (K.marks keeper.old) (K.visited keeper.old) (K.loan keeper.old))
             (keeping (K.told keeper.new) (K.began keeper.new) (K.shaped keeper.new) (K.in_transaction keeper.new) (K.marks keeper.new) (K.visited keeper.new) (K.loan keeper.new)) }
         ensures cause { HasCause (K.marks keeper.old) (K.marks keeper.new) result }
@@ -188,6 +202,8 @@ impl Valued {
             IsValueOf (present app.now session.now tables moment) (value_of self.now) (Some (view item)) info.now (view v)) }
         ensures fits { IfOk result (λ v. fits_in (view v) (shape info.now.ty) ≡ true) }
         ensures steps { IfOk result (λ v. steps.new ≡ steps.old + 1) }
+        ensures visits { IfOk result (λ _. (moment : ℕ) → IsToday moment self.now.day → WhereTold (K.told keeper.new) (λ rows.
+            AtMost (FormulaVisits app.now session.now rows moment (value_of self.now) (Some (view item)) info.now) (K.visited keeper.old) (K.visited keeper.new))) }
         ensures read { HasRead (keeping (K.told keeper.old) (K.began keeper.old) (K.shaped keeper.old) (K.in_transaction keeper.old) (K.marks keeper.old) (K.visited keeper.old) (K.loan keeper.old))
             (keeping (K.told keeper.new) (K.began keeper.new) (K.shaped keeper.new) (K.in_transaction keeper.new) (K.marks keeper.new) (K.visited keeper.new) (K.loan keeper.new)) }
         ensures cause { HasCause (K.marks keeper.old) (K.marks keeper.new) result }

@@ -19,9 +19,12 @@ use Rattle.fx_trees.specs.declared.sources.Source.{Source}
 use Rattle.fx_trees.specs.declared.names.Names.{Names}
 use Rattle.recalc.specs.Asking.{HasRead, IsHeardOf, ToldRows, keeping}
 use Rattle.recalc.specs.Reading.{cell_value, told_over, types_over}
-use Rattle.row_keeper.specs.Tables.{Tables, rows_told}
+use Rattle.row_keeper.specs.Tables.{Tables, rows_of, rows_told}
 use Rattle.row_queries.specs.declared.rows.Row.{Row}
 use Rattle.session_state.specs.Sessions.{SessionState}
+use Rattle.fx_eval.specs.Visits.{AskedTables, AtMost, Visits}
+use Rattle.recalc.proofs.CellVisits.{over_rows}
+use Rattle.recalc.specs.Visits.{FormulaVisits, WhereTold}
 use Rattle.recalc.proofs.Evaluated.{carried, has_read, same_values, values_over, whole}
 use Rattle.recalc.proofs.Tellings.{is_ready_over, is_value_over, outermost}
 use Rattle.recalc.proofs.evaluating.value_over_rows.Goals as goal
@@ -97,3 +100,36 @@ returns-clause-read g c =
     (has_read c.args.app.now.names env.names.now c.as_slice.result.now env.reads.now (view c.args.day.now) (view env.today.now) c.args.session.now env.session.now (map view c.args.values.now) (map view env.values.now)
     c.args.app.now.limit env.limit _ _ _ _ _ _ _ _ _ _ _ _ _ _ _ _ c.requires.shaped env.shaped c.eval.ensures.fixed c.eval.ensures.told c.eval.ensures.marks c.eval.ensures.visited
     (g.met.K.Keeper.quiet c.args.keeper.now) (g.met.K.Keeper.quiet env.keeper.now))
+
+pub returns-in-Ok-clause-visits : goal.returns-in-Ok-clause-visits
+returns-in-Ok-clause-visits g c =
+    let n : Names = c.args.app.now.names in
+    let s : SessionState = c.args.session.now in
+    let cells : List Data = map view c.args.values.now in
+    let day : Data = view c.args.day.now in
+    let info : CellInfo = c.args.info.now in
+    let env = c.eval.new.env in
+    let told : Option Tables = g.K.Keeper.told env.keeper.now in
+    let was : Option Tables = g.K.Keeper.told c.args.keeper.now in
+    let lost = IsLost (g.K.Keeper.marks c.args.keeper.now) (g.K.Keeper.marks env.keeper.now) in
+    let f = told_over day n s cells (g.K.Keeper.began c.args.keeper.now) in
+    let other = told_over (view env.today.now) env.names.now env.session.now (map view env.values.now) (g.K.Keeper.began env.keeper.now) in
+    let types : Source → Option Shape = types_over n info.reads (told_on day n s None (cell_value cells)) in
+    let same = same_values lost f other (whole day n s cells (g.K.Keeper.began c.args.keeper.now)) (whole (view env.today.now) env.names.now env.session.now (map view env.values.now) (g.K.Keeper.began env.keeper.now)) was told c.eval.ensures.told ∙ values_over day n s cells (g.K.Keeper.began c.args.keeper.now) told in
+    let empty : held c.new.result.items c.args.item None ≡ outermost (option_map view c.args.item) = ap (λ (vs : List Value). held vs c.args.item None) c.new.ensures.items in
+    carried (λ (k : g.row.K.Denot). (moment : ℕ) → IsToday moment day → WhereTold (g.K.Keeper.told k) (λ rows.
+    AtMost (FormulaVisits c.args.app.now s rows moment (cell_value cells) (option_map view c.args.item) info) (g.K.Keeper.visited c.args.keeper.now) (g.K.Keeper.visited k)))
+    env.keeper.now _ (search rules)
+    (λ moment today t is.
+    let tables : AskedTables = record { shapes = n.schema.tables; rows = rows_of t.states } in
+    let seen = c.in-Ok.ensures.visits (other t) (ap (option_map other) is) in
+    let own : Some ((other t).values) ≡ Some (told_on day n s (Some (rows_of t.states)) (cell_value cells)) =
+    subst (λ (z : Option Tables). values_told (option_map other z) ≡ option_map (λ (rows : List (List Row)). told_on day n s (Some rows) (cell_value cells)) (rows_told z)) is same in (
+      seen.0,
+      over_rows c.args.app.now s (rows_of t.states) moment (cell_value cells) day info (option_map view c.args.item) seen.0 today c.requires.tables
+          (subst (λ (z : Term). Visits tables z (around types (Some (told_on day n s (Some (rows_of t.states)) (cell_value cells))) (outermost (option_map view c.args.item))) seen.0) c.requires.taken
+          (subst (λ (o : Option (Source → Data)). Visits tables info.taken (around types o (outermost (option_map view c.args.item))) seen.0) own
+          (subst (λ (rs : List Source). Visits tables info.taken (around (types_over n rs (told_on day n s None (cell_value cells))) (Some ((other t).values)) (outermost (option_map view c.args.item))) seen.0) c.as_slice.ensures
+          (subst (λ (h : Held). Visits tables info.taken (around (types_over n c.as_slice.result.now (told_on day n s None (cell_value cells))) (Some ((other t).values)) h) seen.0) empty seen.1)))),
+      seen.2,
+    ))

@@ -8,6 +8,8 @@ use Rattle.fx_semantics.specs.Sound.{IsItemFit}
 use Rattle.fx_value.specs.Columns.{Row}
 use Rattle.fx_typing.specs.Typing.{item_of}
 use Rattle.recalc.specs.Values.{value_of}
+use Rattle.recalc.specs.Visits.{FormulaVisits}
+use Rattle.row_keeper.specs.Tables.{rows_of}
 use Rattle.recalc.proofs.ForItems.{sees_item, template_cell, template_there}
 use Rattle.recalc.proofs.templates.cell_for_item.Goals as goal
 
@@ -29,6 +31,19 @@ returns-clause-shows g c =
       c.in-Some.ensures,
       subst (λ (r : Row). IsValueOf (present c.args.app.now c.args.session.now tables moment) (value_of c.args.valued.now) (Some (record_of r)) c.in-Some.info.now (view v)) c.in_ok-fields-in-Some.ensures (h moment tables today heard),
     )) c.in_item.ensures.value
+
+pub returns-clause-visits : goal.returns-clause-visits
+returns-clause-visits g c =
+    IfOk-weaker c.in_item.result _ _ (λ v h moment today t told.
+    let one = h moment today t told in (
+      one.0,
+      (
+        c.in-Some.info.now,
+        c.in-Some.ensures,
+        subst (λ (r : Row). FormulaVisits c.args.app.now c.args.session.now (rows_of t.states) moment (value_of c.args.valued.now) (Some (record_of r)) c.in-Some.info.now one.0) c.in_ok-fields-in-Some.ensures one.1,
+      ),
+      one.2,
+    )) c.in_item.ensures.visits
 
 pub unreachable-requires : goal.unreachable-requires
 unreachable-requires g c = omega (arith, template_there c.args.app.now c.args.gallery c.args.cell c.requires.cell, c.in-None.ensures)

@@ -7,3 +7,6 @@ property_for_item-requires-clause-property g c = visible_for c.args.app.now c.ar
 
 pub returns-clause-shows : goal.returns-clause-shows
 returns-clause-shows g c = λ moment tables today heard. (view c.in_ok-visible.visible, c.in_ok-visible.ensures.shows moment tables today heard, c.is_true.ensures)
+
+pub returns-clause-visits : goal.returns-clause-visits
+returns-clause-visits g c = c.in_ok-visible.ensures.visits

@@ -4,6 +4,9 @@ use Rattle.recalc.proofs.Asked.{read_none, read_on, still_asks}
 use Rattle.recalc.specs.Asking.{Keeping, keeping}
 use Rattle.recalc.specs.app_cells.declared.app.App.{App}
 use Rattle.recalc.proofs.Marking.{at}
+use Rattle.recalc.proofs.CellVisits.{Visited, all_visits, told_back, visited_more}
+use Rattle.row_keeper.specs.Tables.{rows_of}
+use Rattle.recalc.proofs.Turns.{ticks_more, ticks_start}
 use Rattle.recalc.proofs.Turns.{all_made, all_ticks, brought_more, brought_start, has_next, may_rise, parts_clean, steps_rise}
 use Rattle.recalc.specs.Kept.{Kept}
 use Rattle.recalc.specs.Steps.{Leaves}
@@ -45,6 +48,8 @@ loop-number-init g c = record {
   read = read_none (keeping (g.K.Keeper.told c.args.keeper.now) (g.K.Keeper.began c.args.keeper.now) (g.K.Keeper.shaped c.args.keeper.now) (g.K.Keeper.in_transaction c.args.keeper.now) (g.K.Keeper.marks c.args.keeper.now) (g.K.Keeper.visited c.args.keeper.now) (g.K.Keeper.loan c.args.keeper.now));
   alone = λ none. refl;
   idle = λ same. refl;
+  visits = λ right t told. ticks_start (Visited c.args.app.now c.args.session.now (rows_of t.states) c.args.moment (g.K.Keeper.visited c.args.keeper.now) (g.K.Keeper.visited c.args.keeper.now)) c.args.app.now c.args.roots.now c.args.self.now c.args.steps.now
+      (0, refl, omega arith);
 }
 
 pub loop-number-preserved : goal.loop-number-preserved
@@ -65,6 +70,16 @@ loop-number-preserved g c =
           let risen = steps_rise c.args.app.now c.args.roots.now c.args.marks.now c.args.self.now i c.loop-number.self c.args.steps.now c.loop-number.steps c.loop-number.invariant.brought in
           let more = may_rise c.args.app.now c.args.marks.now (get_or xs i 0) c.loop-number.self c.bring.new.self c.loop-number.steps c.bring.new.steps c.in_ok-bring.ensures.ticks in
           c.in_ok-bring.ensures.idle (omega (arith, same, risen, more)) ∙ c.loop-number.invariant.idle (omega (arith, same, risen, more));
+      visits = λ right t told.
+          let rows = rows_of t.states in
+          let there = told_back before after c.in_ok-bring.ensures.read t told in
+          let step = visited_more c.args.app.now c.args.session.now rows c.args.moment (get_or xs i 0) c.loop-number.steps c.bring.new.steps (g.K.Keeper.visited c.args.keeper.now) (g.K.Keeper.visited c.loop-number.keeper) (g.K.Keeper.visited c.bring.new.keeper)
+          (c.in_ok-bring.ensures.visits (c.loop-number.invariant.right right) t told) in
+          ticks_more c.args.app.now c.args.roots.now c.args.marks.now c.args.self.now i (get_or xs i 0) c.loop-number.self c.bring.new.self c.args.steps.now c.loop-number.steps c.bring.new.steps c.requires.sound
+          (lent c.args.app.now xs i c.as_slice-order.ensures c.loop-number-test.true) (item c.args.app.now xs i c.as_slice-order.ensures) c.requires.marks c.loop-number.invariant.brought
+          (Visited c.args.app.now c.args.session.now rows c.args.moment (g.K.Keeper.visited c.args.keeper.now) (g.K.Keeper.visited c.loop-number.keeper))
+          (Visited c.args.app.now c.args.session.now rows c.args.moment (g.K.Keeper.visited c.args.keeper.now) (g.K.Keeper.visited c.bring.new.keeper)) step.0 step.1 c.in_ok-bring.ensures.brought c.in_ok-bring.ensures.ticks
+          (c.loop-number.invariant.visits right t there);
     }
 
 pub returns-in_err-bring-clause-left : goal.returns-in_err-bring-clause-left
@@ -83,3 +98,8 @@ returns-clause-ticks g c =
 
 pub returns-in_err-bring-clause-right : goal.returns-in_err-bring-clause-right
 returns-in_err-bring-clause-right g c = λ h. c.in_err-bring.ensures.right (c.loop-number.invariant.right h)
+
+pub returns-clause-visits : goal.returns-clause-visits
+returns-clause-visits g c = λ right t told.
+    all_visits c.args.app.now c.args.session.now (rows_of t.states) c.args.moment c.args.roots.now c.args.self.now c.loop-number.self c.loop-number.number-index c.args.steps.now c.loop-number.steps (g.K.Keeper.visited c.args.keeper.now) (g.K.Keeper.visited c.loop-number.keeper)
+    (c.loop-number.invariant.visits right t told)

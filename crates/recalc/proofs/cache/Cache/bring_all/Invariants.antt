@@ -1,6 +1,8 @@
 use Rattle.std.proofs.Common.{◌≡◌}
 use Rattle.recalc.specs.Asking.{HasRead, ReadsNone, keeping}
-use Rattle.recalc.proofs.Turns.{IsBroughtTo}
+use Rattle.recalc.proofs.CellVisits.{Visited}
+use Rattle.recalc.proofs.Turns.{IsBroughtTo, TicksWith}
+use Rattle.recalc.specs.Visits.{WhereTold}
 use Rattle.recalc.specs.Kept.{IsInOrder}
 use Rattle.recalc.specs.Outcomes.{IsRightOver}
 use Rattle.recalc.proofs.cache.Cache.bring_all.Given as goal
@@ -15,4 +17,6 @@ invariant-loop-number g l = record {
       (keeping (g.K.Keeper.told l.keeper) (g.K.Keeper.began l.keeper) (g.K.Keeper.shaped l.keeper) (g.K.Keeper.in_transaction l.keeper) (g.K.Keeper.marks l.keeper) (g.K.Keeper.visited l.keeper) (g.K.Keeper.loan l.keeper));
   alone : ReadsNone l.app → l.keeper ≡ l.fn.keeper;
   idle : l.steps ≡ l.fn.steps → l.keeper ≡ l.fn.keeper;
+  visits : IsRightOver l.app l.session (g.K.Keeper.told l.fn.keeper) l.moment l.fn.self → WhereTold (g.K.Keeper.told l.keeper) (λ rows.
+      TicksWith (Visited l.app l.session rows l.moment (g.K.Keeper.visited l.fn.keeper) (g.K.Keeper.visited l.keeper)) l.app l.roots l.fn.self l.self l.number-index l.fn.steps l.steps);
 }

@@ -1,4 +1,4 @@
-use Rattle.std.proofs.Common.{◌≡◌, ◌<◌, ℕ, Some, arith, length, slice_get, subst, sym}
+use Rattle.std.proofs.Common.{None, ◌≡◌, ◌<◌, ℕ, Some, arith, length, slice_get, subst, sym}
 use Rattle.std.proofs.lemmas.Option.{slice_get_within}
 use Rattle.fx_data.specs.ValueView.{view}
 use Rattle.fx_data.specs.Values.{Data}
@@ -10,6 +10,10 @@ use Rattle.recalc.specs.app_cells.declared.app.App.{App}
 use Rattle.recalc.specs.app_cells.declared.app.CellInfo.{CellInfo}
 use Rattle.recalc.specs.app_semantics.Fresh.{IsCellValue}
 use Rattle.recalc.specs.app_semantics.Present.{present}
+use Rattle.fx_eval.specs.Visits.{AtMost}
+use Rattle.recalc.proofs.CellVisits.{leaned_fresh}
+use Rattle.recalc.specs.Visits.{FormulaVisits}
+use Rattle.row_keeper.specs.Tables.{rows_of}
 use Rattle.recalc.proofs.Places.{alone_at}
 use Rattle.recalc.proofs.Setting.{evaluated_brought, evaluated_order, evaluated_right, right_on}
 use Rattle.recalc.specs.Kept.{IsInOrder, Kept}
@@ -74,3 +78,14 @@ returns-clause-brought g c =
     subst (IsBrought c.args.app.now c.args.cell c.args.self.now) (sym c.keep.ensures)
     (evaluated_brought c.args.app.now c.args.self.now c.args.cell c.args.info.now c.requires.sound c.requires.there c.requires.self_alone c.requires.unclean c.requires.leans c.requires.order c.moved-moved.result v
     c.in_ok-value.ensures.fits c.moved-moved.ensures)
+
+pub returns-clause-visits : goal.returns-clause-visits
+returns-clause-visits g c = λ right t told.
+    let before : Keeping = keeping (g.K.Keeper.told c.args.keeper.now) (g.K.Keeper.began c.args.keeper.now) (g.K.Keeper.shaped c.args.keeper.now) (g.K.Keeper.in_transaction c.args.keeper.now) (g.K.Keeper.marks c.args.keeper.now) (g.K.Keeper.visited c.args.keeper.now) (g.K.Keeper.loan c.args.keeper.now) in
+    let after : Keeping = keeping (g.K.Keeper.told c.by_itself.new.keeper) (g.K.Keeper.began c.by_itself.new.keeper) (g.K.Keeper.shaped c.by_itself.new.keeper) (g.K.Keeper.in_transaction c.by_itself.new.keeper) (g.K.Keeper.marks c.by_itself.new.keeper) (g.K.Keeper.visited c.by_itself.new.keeper) (g.K.Keeper.loan c.by_itself.new.keeper) in
+    let seen = subst (λ (w : Values). AtMost (FormulaVisits c.args.app.now c.args.session.now (rows_of t.states) c.args.moment (values.value_of w) None c.args.info.now) (g.K.Keeper.visited c.args.keeper.now) (g.K.Keeper.visited c.by_itself.new.keeper)) c.valued.ensures
+    (c.in_ok-value.ensures.visits c.args.moment (subst (λ (w : Values). IsToday c.args.moment w.day) (sym c.valued.ensures) c.requires.day) t told) in (
+      seen.0,
+      leaned_fresh c.args.app.now c.args.session.now c.args.moment c.args.self.now before after c.args.cell c.args.info.now t c.in_ok-value.ensures.read right c.requires.there c.requires.leans told seen.0 seen.1,
+      seen.2,
+    )

@@ -10,8 +10,9 @@ pub returns : goal.returns
 returns c =
     let len : length c.drop_stamps.new.stamps ≡ c.self.inside.stamps.len = omega (arith, c.drop_stamps.ensures.long, c.deref_mut.ensures.len) in
     let items : (with_items c.self.inside.stamps c.drop_stamps.new.stamps).items ≡ c.drop_stamps.new.stamps = with_items_is c.self.inside.stamps c.drop_stamps.new.stamps len in
-    let new : Kept = record { last = c.self.inside.last; versions = c.self.inside.versions.items; stamps = (with_items c.self.inside.stamps c.drop_stamps.new.stamps).items; values = c.self.inside.valued } in
+    let new : Kept = record { emptied = c.self.inside.emptied; last = c.self.inside.last; versions = c.self.inside.versions.items; stamps = (with_items c.self.inside.stamps c.drop_stamps.new.stamps).items; values = c.self.inside.valued } in
     subst (λ (w : Kept). IsForgotten w new) c.self.view_is (record {
+      emptied = refl;
       last = refl;
       versions = refl;
       stamps = λ k. ap (λ (xs : List (Option Stamp)). get_or xs k None) items ∙ c.drop_stamps.ensures.none k;

@@ -15,4 +15,4 @@ returns-clause-order c =
     let versions : c.in_ok-versions.versions.items ≡ replicate c.in_ok-places.places 0 = search rules in
     let stamps : c.in_ok-stamps.stamps.items ≡ replicate c.len-count.result None = search rules in
     let values : c.in_ok-valued.valued.cells ≡ replicate c.len-count.result blank = c.in_ok-valued.ensures.cells in
-    new_order c.args.app.now c.in_ok-places.places _ few hold refl versions (stamps ∙ ap (λ n. replicate n None) long) (values ∙ ap (λ n. replicate n blank) long)
+    new_order c.args.app.now c.in_ok-places.places _ few hold refl refl versions (stamps ∙ ap (λ n. replicate n None) long) (values ∙ ap (λ n. replicate n blank) long)

@@ -5,5 +5,5 @@ use Rattle.recalc.proofs.cache.Cache.raise.Goals as goal
 
 pub returns : goal.returns
 returns c =
-    let made : ℕ → Kept = λ p. record { last = c.self.inside.last + 1; versions = set c.self.inside.versions.items p (c.self.inside.last + 1); stamps = c.self.inside.stamps.items; values = c.self.inside.valued } in
+    let made : ℕ → Kept = λ p. record { emptied = c.self.inside.emptied; last = c.self.inside.last + 1; versions = set c.self.inside.versions.items p (c.self.inside.last + 1); stamps = c.self.inside.stamps.items; values = c.self.inside.valued } in
     ap made c.place.ensures ∙ ap (λ (w : Kept). raised w c.args.source) c.self.view_is

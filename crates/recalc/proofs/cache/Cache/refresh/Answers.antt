@@ -3,7 +3,11 @@ use Rattle.std.proofs.lemmas.Result.{on_ok_weaker}
 use Rattle.std.specs.Prelude.{OnOk}
 use Rattle.recalc.specs.Asking.{IsHeardOf, ToldRows}
 use Rattle.fx_scalar.specs.ScalarFunctions.{IsToday}
+use Rattle.recalc.proofs.CellVisits.{no_visits}
+use Rattle.recalc.specs.Visits.{VisitsPerCell, WhereTold}
+use Rattle.row_keeper.specs.Tables.{rows_of}
 use Rattle.recalc.proofs.Freshening.{clean_fresh}
+use Rattle.recalc.proofs.Leaving.{brought_left, left_same, left_then, made_left}
 use Rattle.recalc.proofs.Turns.{leaves_start, no_ticks}
 use Rattle.recalc.specs.Kept.{Kept}
 use Rattle.recalc.specs.Outcomes.{HasNumbers}
@@ -16,6 +20,9 @@ returns-then-all_stand-clause-fresh g c = λ right tables k heard root.
 
 pub returns-then-all_stand-clause-left : goal.returns-then-all_stand-clause-left
 returns-then-all_stand-clause-left g c = λ room. leaves_start c.args.app.now c.args.self.now
+
+pub returns-then-all_stand-clause-but : goal.returns-then-all_stand-clause-but
+returns-then-all_stand-clause-but g c = left_same c.args.app.now [] c.args.self.now
 
 pub returns-then-all_stand-clause-ticks : goal.returns-then-all_stand-clause-ticks
 returns-then-all_stand-clause-ticks g c = λ room. no_ticks c.args.app.now c.args.roots.now c.args.self.now c.args.self.now c.args.steps.now
@@ -35,6 +42,9 @@ returns-in_err-marks-clause-day g c = (c.make_numbers.ensures.numbers c.args.app
 pub returns-in_err-marks-clause-left : goal.returns-in_err-marks-clause-left
 returns-in_err-marks-clause-left g c = λ room.
     subst (λ (x : Kept). Leaves c.args.app.now c.args.self.now x) (sym ((c.make_numbers.ensures.numbers c.args.app.now).same room)) (leaves_start c.args.app.now c.args.self.now)
+
+pub returns-in_err-marks-clause-but : goal.returns-in_err-marks-clause-but
+returns-in_err-marks-clause-but g c = made_left c.args.app.now c.args.self.now c.make_numbers.new.self (c.make_numbers.ensures.numbers c.args.app.now)
 
 pub bring_all-requires-clause-order : goal.bring_all-requires-clause-order
 bring_all-requires-clause-order g c = (c.make_numbers.ensures.numbers c.args.app.now).order c.requires.order
@@ -66,3 +76,19 @@ returns-clause-ticks g c = λ room.
 pub returns-clause-slow : goal.returns-clause-slow
 returns-clause-slow g c = λ room.
     subst (λ (x : Kept). OnOk c.bring_all.result (c.bring_all.new.self.last + c.args.steps.now ≤ x.last + c.bring_all.new.steps)) ((c.make_numbers.ensures.numbers c.args.app.now).same room) c.bring_all.ensures.slow
+
+pub returns-clause-but : goal.returns-clause-but
+returns-clause-but g c =
+    left_then c.args.app.now [] c.args.self.now c.make_numbers.new.self c.bring_all.new.self
+    (made_left c.args.app.now c.args.self.now c.make_numbers.new.self (c.make_numbers.ensures.numbers c.args.app.now)) (brought_left c.args.app.now c.make_numbers.new.self c.bring_all.new.self c.bring_all.ensures.left)
+
+pub returns-then-all_stand-clause-visits : goal.returns-then-all_stand-clause-visits
+returns-then-all_stand-clause-visits g c = λ right room t told.
+    no_visits c.args.app.now c.args.session.now (rows_of t.states) c.args.moment c.args.roots.now c.args.self.now c.args.steps.now (g.K.Keeper.visited c.args.keeper.now)
+
+pub returns-clause-visits : goal.returns-clause-visits
+returns-clause-visits g c = λ right room.
+    let same = (c.make_numbers.ensures.numbers c.args.app.now).same room in
+    subst (λ (x : Kept). OnOk c.bring_all.result (WhereTold (g.K.Keeper.told c.bring_all.new.keeper) (λ rows.
+    VisitsPerCell c.args.app.now c.args.session.now rows c.args.moment c.args.roots.now x c.bring_all.new.self c.args.steps.now c.bring_all.new.steps (g.K.Keeper.visited c.args.keeper.now) (g.K.Keeper.visited c.bring_all.new.keeper)))) same
+    (c.bring_all.ensures.visits (λ tables heard. (c.make_numbers.ensures.numbers c.args.app.now).right c.args.session.now tables c.args.moment [] (right tables heard)))

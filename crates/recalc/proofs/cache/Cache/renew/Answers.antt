@@ -1,6 +1,7 @@
 use Rattle.std.proofs.Common.{◌≡◌, ◌<◌, ℕ, ap, arith, inl, inr, length, refl, subst, sym}
 use Rattle.std.proofs.lemmas.Option.{slice_get_within}
 use Rattle.std.proofs.lemmas.Result.{on_ok_weaker}
+use Rattle.recalc.proofs.CellVisits.{ok_two}
 use Rattle.recalc.proofs.Setting.{confirmed_brought, confirmed_order, confirmed_right}
 use Rattle.recalc.specs.Kept.{IsInOrder, Kept}
 use Rattle.recalc.specs.Outcomes.{IsRightOver}
@@ -43,3 +44,9 @@ returns-in-None-clause-ticks g c = on_ok_weaker c.evaluate.result (λ s. inl (s.
 
 pub returns-in-None-clause-idle : goal.returns-in-None-clause-idle
 returns-in-None-clause-idle g c = on_ok_weaker c.evaluate.result (λ s same. let one = s.0 in absurd (omega (arith, one, same))) c.evaluate.ensures.stepped
+
+pub returns-in-Some-clause-visits : goal.returns-in-Some-clause-visits
+returns-in-Some-clause-visits g c = λ right t told. inr (refl, omega arith)
+
+pub returns-in-None-clause-visits : goal.returns-in-None-clause-visits
+returns-in-None-clause-visits g c = λ right. ok_two c.evaluate.result (λ s v t told. inl (s.0, v t told)) c.evaluate.ensures.stepped (c.evaluate.ensures.visits right)

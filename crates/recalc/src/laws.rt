@@ -1,0 +1,13 @@
+// Laws of the rows that cells visit.
+ghost use Rattle.recalc.specs.Visits.{OneCellVisits};
+
+use crate::app_semantics::one_fresh_at;
+use crate::fx_semantics::one_value;
+
+/// A law, and no work: how many rows evaluating a cell visits is one number, where all that its app reads is told.
+pub fn cell_visits_are_one()
+    ensures { OneCellVisits }
+{
+    one_value();
+    one_fresh_at();
+}
