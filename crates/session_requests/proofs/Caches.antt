@@ -38,7 +38,8 @@ use Rattle.recalc.specs.app_semantics.Chosen.{chosen_of}
 use Rattle.recalc.specs.app_semantics.Present.{Gives, IsTable, given_or, input_of, items_of, present, selected_of, unset_at, value_or}
 use Rattle.recalc.specs.app_semantics.Sound.{IsSound}
 use Rattle.recalc.proofs.Agreeing.{changed}
-use Rattle.recalc.specs.Changes.{AreSameBut}
+use Rattle.recalc.proofs.Leaving.{left_same, left_then, left_wider}
+use Rattle.recalc.specs.Changes.{AreSameBut, IsLeftBut}
 use Rattle.recalc.specs.Kept.{IsInOrder, IsRight, IsSourceOf, Kept, place_of}
 use Rattle.recalc.specs.Outcomes.{IsRightOver}
 use Rattle.fx_data.specs.declared.aggregates.Totals.{Totals}
@@ -399,6 +400,29 @@ later_more n ws us h = drop-append-le n ws us h
 pub earlier_more : (n : ℕ) (ws us : List Source) → n ≤ length ws → take n (ws ++ us) ≡ take n ws
 earlier_more n ws us h = take-append-le n ws us h
 
+among_taken : (n : ℕ) (ys : List Source) (x : Source) → IsAmong x (take n ys) → IsAmong x ys
+among_taken zero ys x h = absurd h
+among_taken (suc n) [] x h = absurd h
+among_taken (suc n) (y ∷ ys) x (inl e) = inl e
+among_taken (suc n) (y ∷ ys) x (inr l) = inr (among_taken n ys x l)
+
+-- what was written before is among what is now
+pub among_before : (xs ys : List Source) → take (length xs) ys ≡ xs → (x : Source) → IsAmong x xs → IsAmong x ys
+among_before xs ys front x h = among_taken (length xs) ys x (subst (λ (l : List Source). IsAmong x l) (sym front) h)
+
+-- clean cells are left so but for what was noted as well
+left_told : (a : App) (ws : List Source) (o : Option Source) (start old new : Kept) → IsOneOf a.names o → IsTouchedIf a o old new → IsLeftBut a ws start old → IsLeftBut a (ws ++ option_to_list o) start new
+left_told a ws None start old new one same left = subst (IsLeftBut a (ws ++ []) start) (sym same) (left_wider a ws (ws ++ []) start old (λ x l. among_left x ws [] l) left)
+left_told a ws (Some s) start old new one touched left =
+    let t = touched (plain_of a.names s one) in
+    left_then a (ws ++ s ∷ []) start old new (left_wider a ws (ws ++ s ∷ []) start old (λ x l. among_left x ws (s ∷ []) l) left)
+    (left_wider a (s ∷ []) (ws ++ s ∷ []) old new (λ x l. among_right x ws (s ∷ []) l) t.but)
+
+-- so they are where something was given or chosen
+pub given_left : (a : App) (ws : List Source) (o : Option Source) (old new : Kept) → AreSources a.names (option_to_list o) → IsTouchedIf a o old new → IsLeftBut a (ws ++ option_to_list o) old new
+given_left a ws None old new own h = left_told a ws None old old new tt h (left_same a ws old)
+given_left a ws (Some x) old new own h = left_told a ws (Some x) old old new (own x (inl refl)) h (left_same a ws old)
+
 -- ---- a change as a whole
 -- what was done to a session's cache, and noted: the source is one of the app's, and the session differs in it alone
 pub record IsNoted (a : App) (o : Option Source) (s r : SessionState) (ws us : List Source) (old new : Kept) : Type 0 where
@@ -422,6 +446,9 @@ module _ (a : App) (o : Option Source) (before s r : SessionState) (ws us : List
 
   pub noted_but : AreSessionsBut a.names ws before s → AreSessionsBut a.names us before r
   noted_but but = subst (λ (xs : List Source). AreSessionsBut a.names xs before r) (sym h.wrote) (sessions_more a.names ws (option_to_list o) before s r but h.but)
+
+  pub noted_left : (start : Kept) → IsLeftBut a ws start old → IsLeftBut a us start new
+  noted_left start left = subst (λ (xs : List Source). IsLeftBut a xs start new) (sym h.wrote) (left_told a ws o start old new h.one h.touched left)
 
   pub noted_counted : n ≤ length ws → n ≤ length us
   noted_counted low = let long : length us ≡ length ws + length (option_to_list o) = ap length h.wrote ∙ length-append ws (option_to_list o) in omega (arith, low, long)

@@ -27,3 +27,4 @@ pub mod Undone
 pub mod Looked
 pub mod Resting
 pub mod Giving
+pub mod Written

@@ -66,7 +66,7 @@ later_first ws began told e = λ t u p q k far.
     ap (λ (z : Tables). state_at z.states k) same
 
 -- where no screen was navigated to, nothing follows
-arrived_same : (s : SessionState) → s.navigated ≡ false → arrived s ≡ s
+pub arrived_same : (s : SessionState) → s.navigated ≡ false → arrived s ≡ s
 arrived_same s e = λ i. record s { navigated = sym e i }
 
 pub run_alone : (lost : Type 0) (a : App) (m : ℕ) (trigger : Trigger) (item : Option Data) (s r q : SessionState) (value : Data) (x y : Option Tables) → r.navigated ≡ false → q ≡ arrived r →

@@ -1,5 +1,5 @@
 -- What stands of a session's cache where the session or the tables have changed, and where they are as they were.
-use Rattle.std.proofs.Common.{◌≡◌, ℕ, suc, ◌+◌, ◌<◌, List, [], ◌∷◌, drop, get_or, length, arith, Option, Some, None, refl, sym, subst, ap, ◌∙◌, inl}
+use Rattle.std.proofs.Common.{◌≡◌, ℕ, suc, ◌+◌, ◌<◌, List, [], ◌∷◌, drop, get_or, length, arith, Option, Some, None, refl, sym, subst, ap, ◌∙◌, inl, inr}
 use Rattle.std.proofs.Math.Logic.{∥∥₁_map}
 use Rattle.std.proofs.Math.Seq.{drop-cons}
 use Rattle.std.specs.Option.{option_to_list}
@@ -8,6 +8,7 @@ use Rattle.fx_base.proofs.Silences.{goes_two, later_then}
 use Rattle.fx_base.specs.Silence.{Goes, IsLater, IsLost, Marks}
 use Rattle.fx_base.specs.Telling.{Stays}
 use Rattle.fx_scalar.specs.ScalarFunctions.{IsToday}
+use Rattle.fx_trees.specs.Reads.{IsAmong}
 use Rattle.fx_trees.specs.declared.names.Names.{Names}
 use Rattle.fx_trees.specs.declared.sources.Source.{Source}
 use Rattle.recalc.specs.Asking.{IsHeardOf, ToldRows}
@@ -15,7 +16,8 @@ use Rattle.recalc.specs.app_cells.declared.app.App.{App}
 use Rattle.recalc.specs.app_semantics.Present.{present}
 use Rattle.recalc.specs.app_semantics.Sound.{IsSound}
 use Rattle.recalc.proofs.Agreeing.{changed}
-use Rattle.recalc.specs.Changes.{IsTouched}
+use Rattle.recalc.proofs.Leaving.{left_same, left_then, left_wider}
+use Rattle.recalc.specs.Changes.{IsLeftBut, IsTouched}
 use Rattle.recalc.specs.Kept.{IsInOrder, IsRight, Kept}
 use Rattle.row_keeper.specs.Tables.{Tables, rows_of, state_at}
 use Rattle.row_queries.specs.declared.rows.Row.{Row}
@@ -105,17 +107,25 @@ pending_undone a ws before s began told m c sound but later quiet h =
 pub record AreTouchedTo (a : App) (ws rest : List Source) (old new : Kept) : Type 0 where
   pub order : IsInOrder a old → IsInOrder a new
   pub right : (s : SessionState) (tables : ToldRows) (m : ℕ) → IsRight (present a s tables m) ws old → IsRight (present a s tables m) rest new
+  pub within : (x : Source) → IsAmong x rest → IsAmong x ws
+  pub but : IsLeftBut a ws old new
   pub day : new.values.day ≡ old.values.day
 
 pub touched_first : (a : App) (ws : List Source) (c : Kept) → AreTouchedTo a ws ws c c
-touched_first a ws c = record { order = λ o. o; right = λ s tables m r. r; day = refl }
+touched_first a ws c = record { order = λ o. o; right = λ s tables m r. r; within = λ x l. l; but = left_same a ws c; day = refl }
 
 pub touched_more : (a : App) (ws rest : List Source) (x : Source) (old mid new : Kept) → IsTouched a x mid new → AreTouchedTo a ws (x ∷ rest) old mid → AreTouchedTo a ws rest old new
 touched_more a ws rest x old mid new t h = record {
   order = λ o. t.order (h.order o);
   right = λ s tables m r. t.right s tables m rest (h.right s tables m r);
+  within = λ y l. h.within y (inr l);
+  but = left_then a ws old mid new h.but (left_wider a (x ∷ []) ws mid new (one_of (h.within x (inl refl))) t.but);
   day = t.day ∙ h.day;
 }
+  where
+    one_of : IsAmong x ws → (y : Source) → IsAmong y (x ∷ []) → IsAmong y ws
+    one_of there y (inl e) = subst (λ (z : Source). IsAmong z ws) e there
+    one_of there y (inr none) = absurd none
 
 pub touched_step : (a : App) (ws : List Source) (i : ℕ) (d : Source) (old mid new : Kept) → i < length ws → IsTouched a (get_or ws i d) mid new → AreTouchedTo a ws (drop i ws) old mid → AreTouchedTo a ws (drop (i + 1) ws) old new
 touched_step a ws i d old mid new low t h =
@@ -127,12 +137,13 @@ pub touched_all : (a : App) (ws rest : List Source) (old new : Kept) → rest �
 touched_all a ws rest old new e h = record {
   order = h.order;
   right = λ s tables m r. subst (λ (l : List Source). IsRight (present a s tables m) l new) e (h.right s tables m r);
+  but = h.but;
   day = h.day;
 }
 
 -- one source, or none
 pub touched_if : (a : App) (o : Option Source) (old new : Kept) → AreSources a.names (option_to_list o) → IsTouchedIf a o old new → AreTouched a (option_to_list o) old new
-touched_if a None old new own h = subst (AreTouched a [] old) (sym h) (record { order = λ o. o; right = λ s tables m r. r; day = refl })
+touched_if a None old new own h = subst (AreTouched a [] old) (sym h) (record { order = λ o. o; right = λ s tables m r. r; but = left_same a [] old; day = refl })
 touched_if a (Some x) old new own h = touched_all a (x ∷ []) [] old new refl (touched_more a (x ∷ []) [] x old old new (h (plain_of a.names x (own x (inl refl)))) (touched_first a (x ∷ []) old))
 
 -- ---- tables that were written

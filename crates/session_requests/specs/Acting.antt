@@ -1,5 +1,5 @@
 -- What an event or an input that passed its checks does to its session and to tables.
-use Rattle.std.specs.Prelude.{◌≡◌, ◌<◌, ℕ, Bool, true, false, List, [], ◌∷◌, length, slice_get, slice_set, Option, Some, None, Result, Ok, Err, option_and_then, option_map}
+use Rattle.std.specs.Prelude.{◌≡◌, ◌<◌, ◌++◌, ℕ, Bool, true, false, List, [], ◌∷◌, length, slice_get, slice_set, Option, Some, None, Result, Ok, Err, option_and_then, option_map}
 use Rattle.std.specs.List.{position}
 use Rattle.fx_data.specs.Values.{Data}
 use Rattle.fx_data.specs.declared.controls.Control.{Control}
@@ -20,7 +20,7 @@ use Rattle.request_checks.specs.Replies.{refusal_reply}
 use Rattle.request_checks.specs.declared.directory.Named.{Named}
 use Rattle.row_keeper.specs.Tables.{Tables}
 use Rattle.session_requests.specs.Caching.{AreSessionsBut, IsCached}
-use Rattle.session_requests.specs.Requests.{Accepts}
+use Rattle.session_requests.specs.Requests.{Accepts, AcceptsWriting}
 use Rattle.session_requests.specs.declared.trigger.Trigger.{Trigger}
 use Rattle.session_requests.specs.declared.trigger.Trigger.TheVariants.{OnChange, OnCheck, OnSelect, OnUncheck}
 use Rattle.session_state.specs.Sessions.{SessionState}
@@ -106,3 +106,21 @@ abbrev pub EndsEvent : Type 0 → App → ℕ → List ℕ → List ℕ → ℕ 
 EndsEvent lost app moment name body seq s values (Err r) told sessions said told' sessions' = IsRefused r told sessions said told' sessions'
 EndsEvent lost app moment name body seq s values (Ok t) told sessions said told' sessions' =
     TakesEffect lost app moment (OnSelect t.control) (item_seen app.names values t.item) name body seq (with_target t s) told sessions said told' sessions'
+
+-- ---- what is written
+
+-- what is given or chosen, and then what the request writes
+abbrev pub EffectWrites : Type 0 → App → ℕ → Trigger → Option Data → List Source → SessionState → Option Tables → Option Tables → List Source → Type 0
+EffectWrites lost app moment trigger item given s told told' xs = (ws : List Source) × (xs ≡ given ++ ws) × AcceptsWriting lost app moment trigger item s told told' ws
+
+-- an input writes what is given and what acts, or nothing where it is refused
+abbrev pub InputWrites : Type 0 → App → ℕ → SessionState → (ℕ → Data) → Result Given Refusal → Option Tables → Option Tables → List Source → Type 0
+InputWrites lost app moment s values (Err r) told told' xs = xs ≡ []
+InputWrites lost app moment s values (Ok g) told told' xs =
+    EffectWrites lost app moment (input_trigger app.names (with_input g s) values g.0) None (source.Input g.0 ∷ []) (with_input g s) told told' xs
+
+-- and so does an event what it chooses and what acts
+abbrev pub EventWrites : Type 0 → App → ℕ → SessionState → (ℕ → Data) → Result Target Refusal → Option Tables → Option Tables → List Source → Type 0
+EventWrites lost app moment s values (Err r) told told' xs = xs ≡ []
+EventWrites lost app moment s values (Ok t) told told' xs =
+    EffectWrites lost app moment (OnSelect t.control) (item_seen app.names values t.item) (chosen_by t.item) (with_target t s) told told' xs

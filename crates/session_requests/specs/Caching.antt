@@ -15,7 +15,7 @@ use Rattle.recalc.specs.app_cells.Reach.{is_cell}
 use Rattle.recalc.specs.app_cells.declared.app.App.{App}
 use Rattle.recalc.specs.app_semantics.Needed.{IsFreshAt}
 use Rattle.recalc.specs.app_semantics.Present.{Present, present}
-use Rattle.recalc.specs.Changes.{IsTouched}
+use Rattle.recalc.specs.Changes.{IsLeftBut, IsTouched}
 use Rattle.recalc.specs.Kept.{IsInOrder, IsRight, IsSourceOf, Kept}
 use Rattle.recalc.specs.Outcomes.{IsRightOver}
 use Rattle.row_keeper.specs.Tables.{Tables}
@@ -63,4 +63,10 @@ IsTouchedIf a (Some s) old new = is_cell s ≡ false → IsTouched a s old new
 pub record AreTouched (a : App) (ws : List Source) (old new : Kept) : Type 0 where
   pub order : IsInOrder a old → IsInOrder a new
   pub right : (s : SessionState) (tables : ToldRows) (m : ℕ) → IsRight (present a s tables m) ws old → IsRight (present a s tables m) [] new
+  pub but : IsLeftBut a ws old new
   pub day : new.values.day ≡ old.values.day
+
+-- CLEAN CELLS ARE LEFT SO from any start on, but those that reach what was written until now, where the same was so of what was
+-- written before
+abbrev pub LeavesBut : App → List Source → Kept → List Source → Kept → Type 0
+LeavesBut a before old after new = (start : Kept) → IsLeftBut a before start old → IsLeftBut a after start new

@@ -16,6 +16,7 @@ use Rattle.fx_trees.specs.declared.sources.Source.TheVariants as source
 use Rattle.fx_value.specs.Order.{IsScalar}
 use Rattle.recalc.specs.app_cells.declared.app.App.{App}
 use Rattle.recalc.specs.Holds.{holds_prop}
+use Rattle.recalc.specs.Changes.{IsLeftBut}
 use Rattle.recalc.specs.Kept.{AreLow, IsClean, IsCurrent, IsInOrder, IsSettled, IsSourceOf, Kept, stamp_of}
 use Rattle.recalc.specs.declared.stamps.Stamp.{Stamp}
 use Rattle.row_keeper.specs.Tables.{AreStatesOf, IsStateOf, TableState, Tables}
@@ -103,6 +104,9 @@ settled_prop c d n = stamped_prop (stamp_of c d) (λ (f : Stamp). f.moved ≤ n)
 
 low_prop : (c : Kept) → IsProp (AreLow c)
 low_prop c = hlevel props
+
+pub left_prop : (a : App) (xs : List Source) (c d : Kept) → IsProp (IsLeftBut a xs c d)
+left_prop a xs c d = hlevel (clean_prop, props)
 
 pub cache_prop : (a : App) (c : Kept) → IsProp (IsInOrder a c)
 cache_prop a c = hlevel (clean_prop, settled_prop, low_prop, data_set, Bool-set, props)

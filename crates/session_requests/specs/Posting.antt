@@ -13,6 +13,7 @@ use Rattle.recalc.specs.fx_semantics.Rows.{rows_in}
 use Rattle.fx_value.specs.Columns.{Row as Fields}
 use Rattle.fx_trees.specs.declared.names.ControlName.{ControlName}
 use Rattle.fx_trees.specs.declared.names.Names.{Names}
+use Rattle.fx_trees.specs.declared.sources.Source.{Source}
 use Rattle.request_checks.specs.Checks.{checks, session_of}
 use Rattle.request_checks.specs.Directory.{find}
 use Rattle.request_checks.specs.declared.directory.Named.{Named}
@@ -22,7 +23,7 @@ use Rattle.row_keeper.specs.Tables.{Tables, rows_told}
 use Rattle.session_state.specs.Changes.{FitsNames}
 use Rattle.session_state.specs.Sessions.{SessionState}
 use Rattle.view_text.specs.declared.refused.Refusal.{Refusal}
-use Rattle.session_requests.specs.Acting.{EndsEvent, EndsInput}
+use Rattle.session_requests.specs.Acting.{EndsEvent, EndsInput, EventWrites, InputWrites}
 use Rattle.session_requests.specs.Bodies.{event_in, input_in}
 use Rattle.session_requests.specs.Caching.{AreFreshAt}
 use Rattle.session_requests.specs.Shown.{control_named}
@@ -80,6 +81,11 @@ pub record SendsInput (lost : Type 0) (app : App) (moment : ℕ) (name body : Li
   pub fresh : ∥ AreFreshAt (present app session (rows_told seen) moment) (InputLooksAt app i) values ∥₁
   pub ends : EndsInput lost app moment name body i.seq session values (input_target app.names session values i) seen sessions said told' sessions'
 
+-- which sources it writes
+abbrev pub SendsInputWriting : Type 0 → App → ℕ → List ℕ → List ℕ → Input → Option Tables → List (Named SessionState) → List ℕ → Option Tables → List (Named SessionState) → List Source → Type 0
+SendsInputWriting lost app moment name body i told sessions said told' sessions' xs =
+    (h : SendsInput lost app moment name body i told sessions said told' sessions') × InputWrites lost app moment h.session h.values (input_target app.names h.session h.values i) h.seen told' xs
+
 abbrev pub PostsInputChecked : Type 0 → App → ℕ → List ℕ → List ℕ → Result Input (List ℕ) → Option Tables → List (Named SessionState) → List ℕ → Option Tables → List (Named SessionState) → Type 0
 PostsInputChecked lost app moment name body (Err words) told sessions said told' sessions' = (said ≡ words) × (sessions' ≡ sessions) × (told' ≡ told)
 PostsInputChecked lost app moment name body (Ok i) told sessions said told' sessions' = SendsInput lost app moment name body i told sessions said told' sessions'
@@ -125,6 +131,11 @@ pub record SendsEvent (lost : Type 0) (app : App) (moment : ℕ) (name body : Li
   pub verdict : Result Target Refusal
   pub judged : IsVerdict (present app session (rows_told seen) moment) values (event_target app.names session values e) verdict
   pub ends : EndsEvent lost app moment name body e.seq session values verdict seen sessions said told' sessions'
+
+-- which sources it writes
+abbrev pub SendsEventWriting : Type 0 → App → ℕ → List ℕ → List ℕ → Event → Option Tables → List (Named SessionState) → List ℕ → Option Tables → List (Named SessionState) → List Source → Type 0
+SendsEventWriting lost app moment name body e told sessions said told' sessions' xs =
+    (h : SendsEvent lost app moment name body e told sessions said told' sessions') × EventWrites lost app moment h.session h.values h.verdict h.seen told' xs
 
 abbrev pub PostsEventChecked : Type 0 → App → ℕ → List ℕ → List ℕ → Result Event (List ℕ) → Option Tables → List (Named SessionState) → List ℕ → Option Tables → List (Named SessionState) → Type 0
 PostsEventChecked lost app moment name body (Err words) told sessions said told' sessions' = (said ≡ words) × (sessions' ≡ sessions) × (told' ≡ told)

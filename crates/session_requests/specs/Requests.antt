@@ -7,7 +7,8 @@ use Rattle.recalc.specs.app_cells.declared.app.App.{App}
 use Rattle.row_keeper.specs.Tables.{Tables}
 use Rattle.session_state.specs.Changes.{FitsNames}
 use Rattle.session_state.specs.Sessions.{SessionState}
-use Rattle.session_requests.specs.Running.{Runs}
+use Rattle.fx_trees.specs.declared.sources.Source.{Source}
+use Rattle.session_requests.specs.Running.{Runs, RunsWriting}
 use Rattle.session_requests.specs.Scenes.{begun, quiet, scene}
 use Rattle.session_requests.specs.declared.trigger.Trigger.{Trigger}
 use Rattle.view_text.specs.ViewText.{event_text}
@@ -26,3 +27,7 @@ pub record Accepts (lost : Type 0) (a : App) (m : ℕ) (trigger : Trigger) (item
   pub said_is : said ≡ accepted_reply seq value end
   pub left : r ≡ quiet end
   pub fits : FitsNames a.names r
+
+-- what it writes, besides what is given or chosen
+abbrev pub AcceptsWriting : Type 0 → App → ℕ → Trigger → Option Data → SessionState → Option Tables → Option Tables → List Source → Type 0
+AcceptsWriting lost a m trigger item s told told' ws = (value : Data) × (end : SessionState) × Goes lost (λ (t u : Tables). RunsWriting a m trigger item (scene t (begun s)) value (scene u end) ws) told told'

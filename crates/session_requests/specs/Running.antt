@@ -1,5 +1,5 @@
 -- What the formulas of one request do, one after another.
-use Rattle.std.specs.Prelude.{◌≡◌, ℕ, Bool, true, false, List, Option, None, Some, slice_get}
+use Rattle.std.specs.Prelude.{◌≡◌, ◌++◌, ℕ, Bool, true, false, List, [], Option, None, Some, slice_get}
 use Rattle.session_requests.specs.Performing.{Acts}
 use Rattle.recalc.specs.app_cells.declared.app.App.{App}
 use Rattle.recalc.specs.app_cells.declared.app.CellInfo.{CellInfo}
@@ -50,3 +50,29 @@ pub record Opens (a : App) (m : ℕ) (s t : Scene) : Type 0 where
   pub end : Scene
   pub acts : IsTriggered a m OnStart None s value end
   pub shown : IsShown a m end t
+
+-- ---- the sources that are written
+
+-- by a formula that acts
+abbrev pub wrote_acted : (a : App) (m : ℕ) (o : Option ℕ) (item : Option Data) (s : Scene) (value : Data) (t : Scene) → IsActed a m o item s value t → List Source
+wrote_acted a m None item s value t h = []
+wrote_acted a m (Some k) item s value t h = h.wrote
+
+-- by a screen that is shown
+abbrev pub wrote_shown : (a : App) (m : ℕ) (s t : Scene) → IsShown a m s t → List Source
+wrote_shown a m s t h = wrote_acted a m (cell_at (OnVisible s.session.screen) a) None (scene s.tables (arrived s.session)) h.value h.end h.acts
+
+abbrev pub wrote_followed : (a : App) (m : ℕ) (b : Bool) (s t : Scene) → IsFollowed a m b s t → List Source
+wrote_followed a m true s t h = wrote_shown a m s t h
+wrote_followed a m false s t h = []
+
+abbrev pub ActsWriting : App → ℕ → Option ℕ → Option Data → Scene → Data → Scene → List Source → Type 0
+ActsWriting a m o item s value t ws = (h : IsActed a m o item s value t) × (ws ≡ wrote_acted a m o item s value t h)
+
+abbrev pub ShowsWriting : App → ℕ → Scene → Scene → List Source → Type 0
+ShowsWriting a m s t ws = (h : IsShown a m s t) × (ws ≡ wrote_shown a m s t h)
+
+-- WHAT A REQUEST WRITES at a trigger: the sources that the formula writes, and then those of the screen that is shown.
+abbrev pub RunsWriting : App → ℕ → Trigger → Option Data → Scene → Data → Scene → List Source → Type 0
+RunsWriting a m trigger item s value t ws =
+    (h : Runs a m trigger item s value t) × (ws ≡ wrote_acted a m (cell_at trigger a) item s value h.end h.acts ++ wrote_followed a m h.end.session.navigated h.end t h.follows)

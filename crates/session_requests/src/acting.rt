@@ -15,12 +15,13 @@ ghost use Rattle.session_requests.specs.Triggers.{ItemFits};
 ghost use Rattle.session_state.specs.Changes.{FitsNames};
 ghost use Rattle.session_state.specs.Sessions.{Holds};
 ghost use Rattle.row_requests.specs.Written.{AreTablesBut};
+ghost use Rattle.recalc.specs.Changes.{IsLeftBut};
 ghost use Rattle.recalc.specs.Kept.{place_of as place_of_source, value_of};
 ghost use Rattle.request_checks.specs.Directory.{find};
 ghost use Rattle.recalc.specs.app_cells.declared.app.App.{App as AnApp};
 ghost use Rattle.session_state.specs.Sessions.{SessionState};
 ghost use Rattle.session_requests.specs.Caching.{AreSources, IsCached, IsTouchedIf};
-ghost use Rattle.session_requests.specs.Acting.{EndsEvent, EndsInput, TakesEffect, answered, IsBefore, chosen_by as chosen_by_item, input_trigger as input_trigger_of, item_seen as item_seen_of, trigger_of as trigger_of_kind, with_input, with_target};
+ghost use Rattle.session_requests.specs.Acting.{EffectWrites, EndsEvent, EndsInput, EventWrites, InputWrites, IsBefore, TakesEffect, answered, chosen_by as chosen_by_item, input_trigger as input_trigger_of, item_seen as item_seen_of, trigger_of as trigger_of_kind, with_input, with_target};
 ghost use Rattle.session_requests.specs.Posting.{SessionsFit};
 ghost use Rattle.session_requests.specs.Shown.{cell_values};
 ghost use Rattle.session_requests.specs.Targets.{IsTarget, input_target};
@@ -155,6 +156,7 @@ fn item_seen(
 }
 
 /// Ends an input of a session whose formulas have these values: what is accepted acts, and what is refused leaves all.
+#[tactic(auto, using(recalc::proofs::Leaving::left_same))]
 pub(crate) fn end_input<K: Keeper, L: Ledger>(
     alloc: Global,
     app: &App,
@@ -195,6 +197,8 @@ pub(crate) fn end_input<K: Keeper, L: Ledger>(
     ensures cached { (s : SessionState) → find name.now sessions.new.items ≡ Some s → IsCached app.now s (K.told keeper.new) moment cache.new }
     ensures tables { Goes (IsLost (K.marks keeper.old) (K.marks keeper.new)) (AreTablesBut wrote.new.items) (K.told keeper.old) (K.told keeper.new) }
     ensures sources { AreSources app.now.names wrote.new.items }
+    ensures clean { IsLeftBut app.now wrote.new.items cache.old cache.new }
+    ensures wrote { IfOk result (λ r. InputWrites (IsLost (K.marks keeper.old) (K.marks keeper.new)) app.now moment session (value_of cache.old) verdict (K.told keeper.old) (K.told keeper.new) wrote.new.items) }
     ensures loan { K.loan keeper.new ≡ K.loan keeper.old }
 {
     match verdict {
@@ -212,6 +216,7 @@ pub(crate) fn end_input<K: Keeper, L: Ledger>(
 }
 
 /// Ends an event of a session whose formulas have these values: what is accepted acts, and what is refused leaves all.
+#[tactic(auto, using(recalc::proofs::Leaving::left_same))]
 pub(crate) fn end_event<K: Keeper, L: Ledger>(
     alloc: Global,
     app: &App,
@@ -252,6 +257,8 @@ pub(crate) fn end_event<K: Keeper, L: Ledger>(
     ensures cached { (s : SessionState) → find name.now sessions.new.items ≡ Some s → IsCached app.now s (K.told keeper.new) moment cache.new }
     ensures tables { Goes (IsLost (K.marks keeper.old) (K.marks keeper.new)) (AreTablesBut wrote.new.items) (K.told keeper.old) (K.told keeper.new) }
     ensures sources { AreSources app.now.names wrote.new.items }
+    ensures clean { IsLeftBut app.now wrote.new.items cache.old cache.new }
+    ensures wrote { IfOk result (λ r. EventWrites (IsLost (K.marks keeper.old) (K.marks keeper.new)) app.now moment session (value_of cache.old) verdict (K.told keeper.old) (K.told keeper.new) wrote.new.items) }
     ensures loan { K.loan keeper.new ≡ K.loan keeper.old }
 {
     match verdict {
@@ -282,6 +289,7 @@ fn session_of<'a>(sessions: &'a [Named<Session>], name: &Words) -> &'a Session
 
 /// Does what an accepted request does to its session, in which what is given or chosen stands already: it acts, is answered and
 /// is kept. What stops leaves the sessions and the tables, and the cache of the session then stands as it was.
+#[tactic(auto, using(recalc::proofs::Leaving::left_same))]
 fn take_effect<K: Keeper, L: Ledger>(
     alloc: Global,
     app: &App,
@@ -323,6 +331,8 @@ fn take_effect<K: Keeper, L: Ledger>(
     ensures cached { (s : SessionState) → find name.now sessions.new.items ≡ Some s → IsCached app.now s (K.told keeper.new) moment cache.new }
     ensures tables { Goes (IsLost (K.marks keeper.old) (K.marks keeper.new)) (AreTablesBut wrote.new.items) (K.told keeper.old) (K.told keeper.new) }
     ensures sources { AreSources app.now.names wrote.new.items }
+    ensures clean { IsLeftBut app.now wrote.new.items cache.old cache.new }
+    ensures wrote { IfOk result (λ r. EffectWrites (IsLost (K.marks keeper.old) (K.marks keeper.new)) app.now moment trigger (option_map view item) (option_to_list given) session (K.told keeper.old) (K.told keeper.new) wrote.new.items) }
     ensures loan { K.loan keeper.new ≡ K.loan keeper.old }
 {
     let body = Vec::from_slice(alloc, body)?;

@@ -1,5 +1,5 @@
 //! The cells on which leans who reads sources.
-ghost use Rattle.std.specs.Prelude.{◌≡◌, ◌++◌, ℕ, IfOk, IfSome, OnOk, Some, true};
+ghost use Rattle.std.specs.Prelude.{◌≡◌, ◌++◌, [], ℕ, IfOk, IfSome, OnOk, Some, true};
 ghost use Rattle.std.specs.List.{Contains};
 ghost use Rattle.std.specs.Option.{option_to_list};
 ghost use Rattle.recalc.specs.Asking.{HasRead, IsHeardOf, ToldRows, keeping};
@@ -11,6 +11,7 @@ ghost use Rattle.recalc.specs.app_semantics.Sound.{IsSound};
 ghost use Rattle.fx_scalar.specs.ScalarFunctions.{IsToday};
 ghost use Rattle.fx_trees.specs.Reads.{IsAmong, sources_in};
 ghost use Rattle.fx_trees.specs.declared.sources.Source.{Source as Src};
+ghost use Rattle.recalc.specs.Changes.{IsLeftBut};
 ghost use Rattle.recalc.specs.Kept.{IsInOrder, value_of};
 ghost use Rattle.recalc.specs.Outcomes.{IsRightOver};
 ghost use Rattle.row_keeper.specs.Causes.{HasCause};
@@ -69,7 +70,7 @@ pub(crate) fn cells_behind(alloc: Global, app: &App, reads: &[Source]) -> Result
 }
 
 /// Brings the cells up to date on which a formula leans. Then the values that are kept are fresh at those.
-#[tactic(auto, using(recalc::proofs::Asked::read_none))]
+#[tactic(auto, using(recalc::proofs::Asked::read_none, recalc::proofs::Leaving::left_same))]
 pub(crate) fn refresh_behind<K: Keeper, L: Ledger>(
     alloc: Global,
     app: &App,
@@ -86,6 +87,7 @@ pub(crate) fn refresh_behind<K: Keeper, L: Ledger>(
     requires order { IsInOrder app.now cache.old }
     requires day { IsToday moment cache.old.values.day }
     ensures order { IsInOrder app.now cache.new }
+    ensures but { IsLeftBut app.now [] cache.old cache.new }
     ensures day { cache.new.values.day ≡ cache.old.values.day }
     ensures right { IsRightOver app.now session.now (K.told keeper.old) moment cache.old → IsRightOver app.now session.now (K.told keeper.new) moment cache.new }
     ensures fresh { OnOk result (IsRightOver app.now session.now (K.told keeper.old) moment cache.old → (tables : ToldRows) (x : Src) → IsHeardOf (K.told keeper.new) tables → IsAmong x (sources_in core.now) →

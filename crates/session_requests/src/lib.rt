@@ -20,6 +20,7 @@ pub mod performing;
 pub mod posting;
 mod running;
 mod shown;
+mod start;
 pub mod target;
 pub mod transaction;
 pub mod trigger;

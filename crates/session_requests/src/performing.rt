@@ -9,14 +9,16 @@ ghost use Rattle.fx_semantics.specs.Sound.{IsItemFit};
 ghost use Rattle.fx_typing.specs.Typing.{item_of};
 ghost use Rattle.fx_value.specs.Fits.{fits_in};
 ghost use Rattle.recalc.specs.app_semantics.Sound.{IsSound};
+ghost use Rattle.recalc.specs.Changes.{IsLeftBut};
 ghost use Rattle.row_keeper.specs.Causes.{HasCause};
 ghost use Rattle.row_requests.specs.Sound.{AreSound};
 ghost use Rattle.session_state.specs.Changes.{FitsNames};
-ghost use Rattle.session_requests.specs.Caching.{AreLater, AreSessionsBut, AreSources, IsCached};
+ghost use Rattle.session_requests.specs.Caching.{AreLater, AreSessionsBut, AreSources, IsCached, LeavesBut};
 ghost use Rattle.session_requests.specs.Performing.{Acts, IsActing, Leaves};
 
 use crate::accepted::{Accepted, SoundApp};
 use crate::app_cells::{App, CellInfo};
+use crate::start::Start;
 use crate::world::SessionWorld;
 use fx_behave::act;
 use fx_data::Value;
@@ -28,6 +30,7 @@ use recalc::{Cache, end_of};
 use row_keeper::{Keeper, KeeperEnd};
 use session_state::Session;
 use std::alloc::Global;
+use std::marker::{Brand, PhantomData};
 use std::sync::ledger::Ledger;
 
 /// Performs a behaviour formula of an app over a session and the tables of a keeper, at a moment in seconds since 1970-01-01
@@ -62,6 +65,7 @@ pub fn perform<K: Keeper, L: Ledger>(
     ensures prefix { take (length wrote.old.items) wrote.new.items ≡ wrote.old.items }
     ensures cached { IsCached app.now session.new (K.told keeper.new) moment cache.new }
     ensures sources { AreSources app.now.names wrote.new.items }
+    ensures clean { LeavesBut app.now wrote.old.items cache.old wrote.new.items cache.new }
     ensures but { AreSessionsBut app.now.names wrote.new.items before.now session.new }
     ensures later { AreLater wrote.new.items (K.began keeper.new) (K.told keeper.new) }
     ensures leaves { Goes (IsLost (K.marks keeper.old) (K.marks keeper.new)) (λ t u. Leaves app.now moment t session.old u session.new) (K.told keeper.old) (K.told keeper.new) }
@@ -78,7 +82,7 @@ pub fn perform<K: Keeper, L: Ledger>(
     let day = today(alloc, moment)?;
     let accepted = Accepted::new(app);
     let earlier = wrote.len();
-    perform_over(
+    perform_over::<_, _, _, Brand>(
         alloc, &accepted, before, session, cache, keeper, moment, &day, info, item, wrote, earlier,
         steps,
     )
@@ -86,7 +90,7 @@ pub fn perform<K: Keeper, L: Ledger>(
 
 // The same on the day of the moment, where so many sources were written earlier. The world holds references alone, so that what
 // it leaves of each is known.
-fn perform_over<'a, A: SoundApp, K: Keeper, L: Ledger>(
+fn perform_over<'a, A: SoundApp, K: Keeper, L: Ledger, S: Start>(
     alloc: Global,
     app: &'a A,
     before: &'a Session,
@@ -113,11 +117,13 @@ fn perform_over<'a, A: SoundApp, K: Keeper, L: Ledger>(
     requires sources { AreSources (A.app app.now).names wrote.old.items }
     requires but { AreSessionsBut (A.app app.now).names wrote.old.items before.now session.old }
     requires later { AreLater wrote.old.items (K.began keeper.old) (K.told keeper.old) }
+    requires clean { IsLeftBut (A.app app.now) wrote.old.items S.start cache.old }
     ensures acted { IfOk result (λ v. Goes (IsLost (K.marks keeper.old) (K.marks keeper.new))
         (λ t u. Acts (A.app app.now) moment info.now (option_map view item) t session.old (view v) u session.new (drop (length wrote.old.items) wrote.new.items)) (K.told keeper.old) (K.told keeper.new)) }
     ensures prefix { take (length wrote.old.items) wrote.new.items ≡ wrote.old.items }
     ensures cached { IsCached (A.app app.now) session.new (K.told keeper.new) moment cache.new }
     ensures sources { AreSources (A.app app.now).names wrote.new.items }
+    ensures clean { IsLeftBut (A.app app.now) wrote.new.items S.start cache.new }
     ensures but { AreSessionsBut (A.app app.now).names wrote.new.items before.now session.new }
     ensures later { AreLater wrote.new.items (K.began keeper.new) (K.told keeper.new) }
     ensures leaves { Goes (IsLost (K.marks keeper.old) (K.marks keeper.new)) (λ t u. Leaves (A.app app.now) moment t session.old u session.new) (K.told keeper.old) (K.told keeper.new) }
@@ -133,7 +139,7 @@ fn perform_over<'a, A: SoundApp, K: Keeper, L: Ledger>(
 {
     // Called for what it says: the app is sound.
     app.is_sound();
-    let mut world = SessionWorld {
+    let mut world: SessionWorld<'_, A, K, S> = SessionWorld {
         alloc,
         app,
         moment,
@@ -144,6 +150,7 @@ fn perform_over<'a, A: SoundApp, K: Keeper, L: Ledger>(
         keeper,
         wrote,
         earlier,
+        start: PhantomData,
     };
     let mut scope = Scope {
         rows: Vec::new(alloc),

@@ -14,12 +14,13 @@ ghost use Rattle.row_keeper.specs.Causes.{HasCause};
 ghost use Rattle.row_keeper.specs.Tables.{rows_told};
 ghost use Rattle.row_requests.specs.Sound.{AreSound};
 ghost use Rattle.row_requests.specs.Written.{AreTablesBut};
+ghost use Rattle.recalc.specs.Changes.{IsLeftBut};
 ghost use Rattle.recalc.specs.Kept.{value_of};
 ghost use Rattle.session_state.specs.Changes.{FitsNames};
 ghost use Rattle.session_state.specs.Sessions.{SessionState};
 ghost use Rattle.view_text.specs.RefusalText.{Fits};
 ghost use Rattle.session_requests.specs.Caching.{AreFreshAt, AreSources, IsCached};
-ghost use Rattle.session_requests.specs.Posting.{EventLooksAt, InputLooksAt, IsVerdict, SendsEvent, SendsInput, SessionsFit};
+ghost use Rattle.session_requests.specs.Posting.{EventLooksAt, InputLooksAt, IsVerdict, SendsEvent, SendsEventWriting, SendsInput, SendsInputWriting, SessionsFit};
 ghost use Rattle.session_requests.specs.Targets.{IsTarget, event_target as event_target_of, or_refused};
 
 use crate::acting::{end_event, end_input};
@@ -47,6 +48,7 @@ use view_text::Refusal;
 /// a refusal: no control (15), one that takes no input (16) or isn't shown (17), or a value that it doesn't take (20). Null takes away
 /// what was given. No other session changes. What stops leaves the sessions and the tables. The cache of the session stands
 /// afterwards in all cases, and `wrote` is told the sources that were written. It works on a copy of the session.
+#[tactic(auto, using(recalc::proofs::Leaving::left_same))]
 pub fn send_input<K: Keeper, L: Ledger>(
     alloc: Global,
     app: &App,
@@ -82,6 +84,8 @@ pub fn send_input<K: Keeper, L: Ledger>(
     ensures cached { (s : SessionState) → find name.now sessions.new.items ≡ Some s → IsCached app.now s (K.told keeper.new) moment cache.new }
     ensures tables { Goes (IsLost (K.marks keeper.old) (K.marks keeper.new)) (AreTablesBut wrote.new.items) (K.told keeper.old) (K.told keeper.new) }
     ensures sources { AreSources app.now.names wrote.new.items }
+    ensures clean { IsLeftBut app.now wrote.new.items cache.old cache.new }
+    ensures wrote { IfOk result (λ r. SendsInputWriting (IsLost (K.marks keeper.old) (K.marks keeper.new)) app.now moment name.now body.now input (K.told keeper.old) sessions.old.items (said r) (K.told keeper.new) sessions.new.items wrote.new.items) }
     ensures loan { K.loan keeper.new ≡ K.loan keeper.old }
 {
     match place_of(sessions, name) {
@@ -97,7 +101,7 @@ pub fn send_input<K: Keeper, L: Ledger>(
 }
 
 /// Brings up to date what the checks of an input look at.
-#[tactic(auto, using(recalc::proofs::Asked::read_none))]
+#[tactic(auto, using(recalc::proofs::Asked::read_none, recalc::proofs::Leaving::left_same))]
 fn look_for_input<K: Keeper, L: Ledger>(
     alloc: Global,
     app: &App,
@@ -113,6 +117,7 @@ fn look_for_input<K: Keeper, L: Ledger>(
     requires cached { IsCached app.now session.now (K.told keeper.old) moment cache.old }
     requires shaped { K.shaped keeper.old ≡ Some app.now.names.schema }
     ensures cached { IsCached app.now session.now (K.told keeper.new) moment cache.new }
+    ensures clean { IsLeftBut app.now [] cache.old cache.new }
     ensures fresh { OnOk result ∥ ((tables : ToldRows) → IsHeardOf (K.told keeper.new) tables → AreFreshAt (present app.now session.now tables moment) (InputLooksAt app.now input.now) (value_of cache.new)) ∥₁ }
     ensures read { HasRead (keeping (K.told keeper.old) (K.began keeper.old) (K.shaped keeper.old) (K.in_transaction keeper.old) (K.marks keeper.old) (K.visited keeper.old) (K.loan keeper.old))
         (keeping (K.told keeper.new) (K.began keeper.new) (K.shaped keeper.new) (K.in_transaction keeper.new) (K.marks keeper.new) (K.visited keeper.new) (K.loan keeper.new)) }
@@ -167,6 +172,8 @@ fn act_input<K: Keeper, L: Ledger>(
     ensures cached { (s : SessionState) → find name.now sessions.new.items ≡ Some s → IsCached app.now s (K.told keeper.new) moment cache.new }
     ensures tables { Goes (IsLost (K.marks keeper.old) (K.marks keeper.new)) (AreTablesBut wrote.new.items) (K.told keeper.old) (K.told keeper.new) }
     ensures sources { AreSources app.now.names wrote.new.items }
+    ensures clean { IsLeftBut app.now wrote.new.items cache.old cache.new }
+    ensures wrote { IfOk result (λ r. SendsInputWriting (IsLost (K.marks keeper.old) (K.marks keeper.new)) app.now moment name.now body.now input (K.told keeper.old) sessions.old.items (said r) (K.told keeper.new) sessions.new.items wrote.new.items) }
     ensures loan { K.loan keeper.new ≡ K.loan keeper.old }
 {
     fitting_holds();
@@ -186,6 +193,7 @@ fn act_input<K: Keeper, L: Ledger>(
 /// in a gallery that isn't visible for the item (17). No other session changes. What stops leaves the sessions and the tables. The
 /// cache of the session stands afterwards in all cases, and `wrote` is told the sources that were written. It works on a copy of the
 /// session.
+#[tactic(auto, using(recalc::proofs::Leaving::left_same))]
 pub fn send_event<K: Keeper, L: Ledger>(
     alloc: Global,
     app: &App,
@@ -221,6 +229,8 @@ pub fn send_event<K: Keeper, L: Ledger>(
     ensures cached { (s : SessionState) → find name.now sessions.new.items ≡ Some s → IsCached app.now s (K.told keeper.new) moment cache.new }
     ensures tables { Goes (IsLost (K.marks keeper.old) (K.marks keeper.new)) (AreTablesBut wrote.new.items) (K.told keeper.old) (K.told keeper.new) }
     ensures sources { AreSources app.now.names wrote.new.items }
+    ensures clean { IsLeftBut app.now wrote.new.items cache.old cache.new }
+    ensures wrote { IfOk result (λ r. SendsEventWriting (IsLost (K.marks keeper.old) (K.marks keeper.new)) app.now moment name.now body.now event.now (K.told keeper.old) sessions.old.items (said r) (K.told keeper.new) sessions.new.items wrote.new.items) }
     ensures loan { K.loan keeper.new ≡ K.loan keeper.old }
 {
     match place_of(sessions, name) {
@@ -236,7 +246,7 @@ pub fn send_event<K: Keeper, L: Ledger>(
 }
 
 /// Brings up to date what the checks of an event look at.
-#[tactic(auto, using(recalc::proofs::Asked::read_none))]
+#[tactic(auto, using(recalc::proofs::Asked::read_none, recalc::proofs::Leaving::left_same))]
 fn look_for_event<K: Keeper, L: Ledger>(
     alloc: Global,
     app: &App,
@@ -252,6 +262,7 @@ fn look_for_event<K: Keeper, L: Ledger>(
     requires cached { IsCached app.now session.now (K.told keeper.old) moment cache.old }
     requires shaped { K.shaped keeper.old ≡ Some app.now.names.schema }
     ensures cached { IsCached app.now session.now (K.told keeper.new) moment cache.new }
+    ensures clean { IsLeftBut app.now [] cache.old cache.new }
     ensures fresh { OnOk result ∥ ((tables : ToldRows) → IsHeardOf (K.told keeper.new) tables → AreFreshAt (present app.now session.now tables moment) (EventLooksAt app.now event.now) (value_of cache.new)) ∥₁ }
     ensures read { HasRead (keeping (K.told keeper.old) (K.began keeper.old) (K.shaped keeper.old) (K.in_transaction keeper.old) (K.marks keeper.old) (K.visited keeper.old) (K.loan keeper.old))
         (keeping (K.told keeper.new) (K.began keeper.new) (K.shaped keeper.new) (K.in_transaction keeper.new) (K.marks keeper.new) (K.visited keeper.new) (K.loan keeper.new)) }
@@ -306,6 +317,8 @@ fn act_event<K: Keeper, L: Ledger>(
     ensures cached { (s : SessionState) → find name.now sessions.new.items ≡ Some s → IsCached app.now s (K.told keeper.new) moment cache.new }
     ensures tables { Goes (IsLost (K.marks keeper.old) (K.marks keeper.new)) (AreTablesBut wrote.new.items) (K.told keeper.old) (K.told keeper.new) }
     ensures sources { AreSources app.now.names wrote.new.items }
+    ensures clean { IsLeftBut app.now wrote.new.items cache.old cache.new }
+    ensures wrote { IfOk result (λ r. SendsEventWriting (IsLost (K.marks keeper.old) (K.marks keeper.new)) app.now moment name.now body.now event.now (K.told keeper.old) sessions.old.items (said r) (K.told keeper.new) sessions.new.items wrote.new.items) }
     ensures loan { K.loan keeper.new ≡ K.loan keeper.old }
 {
     fitting_holds();

@@ -1,15 +1,15 @@
 //! Formulas that act in a request, one after another.
-ghost use Rattle.std.specs.Prelude.{◌≡◌, IfOk, None, OnOk, Some, option_map, true};
+ghost use Rattle.std.specs.Prelude.{◌≡◌, IfOk, None, OnOk, Some, drop, length, option_map, take, true};
 ghost use Rattle.recalc.specs.app_semantics.Sound.{IsSound};
 ghost use Rattle.fx_base.specs.Silence.{Goes, IsLost};
 ghost use Rattle.fx_base.specs.Telling.{Stays};
 ghost use Rattle.fx_data.specs.ValueView.{view};
 ghost use Rattle.row_keeper.specs.Causes.{HasCause};
 ghost use Rattle.row_requests.specs.Sound.{AreSound};
-ghost use Rattle.session_requests.specs.Caching.{AreLater, AreSessionsBut, AreSources, IsCached};
-ghost use Rattle.session_requests.specs.Running.{IsShown, IsTriggered, Opens, Runs};
+ghost use Rattle.session_requests.specs.Caching.{AreLater, AreSessionsBut, AreSources, IsCached, LeavesBut};
+ghost use Rattle.session_requests.specs.Running.{ActsWriting, IsShown, IsTriggered, Opens, Runs, RunsWriting, ShowsWriting};
 ghost use Rattle.session_requests.specs.Scenes.{scene};
-ghost use Rattle.session_requests.specs.Triggers.{ItemFits};
+ghost use Rattle.session_requests.specs.Triggers.{ItemFits, cell_at as cell_of};
 ghost use Rattle.session_state.specs.Changes.{FitsNames};
 
 use crate::app_cells::App;
@@ -60,6 +60,10 @@ fn act<K: Keeper, L: Ledger>(
     ensures but { AreSessionsBut app.now.names wrote.new.items before.now session.new }
     ensures later { AreLater wrote.new.items (K.began keeper.new) (K.told keeper.new) }
     ensures sources { AreSources app.now.names wrote.new.items }
+    ensures clean { LeavesBut app.now wrote.old.items cache.old wrote.new.items cache.new }
+    ensures wrote { IfOk result (λ v. Goes (IsLost (K.marks keeper.old) (K.marks keeper.new))
+        (λ t u. ActsWriting app.now moment (cell_of trigger app.now) (option_map view item) (scene t session.old) (view v) (scene u session.new) (drop (length wrote.old.items) wrote.new.items)) (K.told keeper.old) (K.told keeper.new)) }
+    ensures prefix { take (length wrote.old.items) wrote.new.items ≡ wrote.old.items }
     ensures loan { K.loan keeper.new ≡ K.loan keeper.old }
 {
     // The law is called for what it says of formulas that act.
@@ -108,6 +112,10 @@ fn show<K: Keeper, L: Ledger>(
     ensures but { AreSessionsBut app.now.names wrote.new.items before.now session.new }
     ensures later { AreLater wrote.new.items (K.began keeper.new) (K.told keeper.new) }
     ensures sources { AreSources app.now.names wrote.new.items }
+    ensures clean { LeavesBut app.now wrote.old.items cache.old wrote.new.items cache.new }
+    ensures wrote { OnOk result (Goes (IsLost (K.marks keeper.old) (K.marks keeper.new))
+        (λ t u. ShowsWriting app.now moment (scene t session.old) (scene u session.new) (drop (length wrote.old.items) wrote.new.items)) (K.told keeper.old) (K.told keeper.new)) }
+    ensures prefix { take (length wrote.old.items) wrote.new.items ≡ wrote.old.items }
     ensures loan { K.loan keeper.new ≡ K.loan keeper.old }
 {
     session.take_navigated();
@@ -156,6 +164,10 @@ pub(crate) fn run<K: Keeper, L: Ledger>(
     ensures but { AreSessionsBut app.now.names wrote.new.items before.now session.new }
     ensures later { AreLater wrote.new.items (K.began keeper.new) (K.told keeper.new) }
     ensures sources { AreSources app.now.names wrote.new.items }
+    ensures clean { LeavesBut app.now wrote.old.items cache.old wrote.new.items cache.new }
+    ensures wrote { IfOk result (λ v. Goes (IsLost (K.marks keeper.old) (K.marks keeper.new))
+        (λ t u. RunsWriting app.now moment trigger (option_map view item) (scene t session.old) (view v) (scene u session.new) (drop (length wrote.old.items) wrote.new.items)) (K.told keeper.old) (K.told keeper.new)) }
+    ensures prefix { take (length wrote.old.items) wrote.new.items ≡ wrote.old.items }
     ensures loan { K.loan keeper.new ≡ K.loan keeper.old }
 {
     let value = act(

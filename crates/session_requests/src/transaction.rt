@@ -1,5 +1,5 @@
 //! Accepted events and inputs, each in one transaction.
-ghost use Rattle.std.specs.Prelude.{◌≡◌, IfOk, OnErr, OnOk, Some, false, option_map, true};
+ghost use Rattle.std.specs.Prelude.{◌≡◌, IfOk, OnErr, OnOk, Some, drop, false, length, option_map, take, true};
 ghost use Rattle.fx_base.specs.Silence.{Goes, IsLost};
 ghost use Rattle.fx_base.specs.Telling.{Stays};
 ghost use Rattle.fx_data.specs.ValueView.{view};
@@ -10,8 +10,8 @@ ghost use Rattle.row_requests.specs.Sound.{AreSound};
 ghost use Rattle.row_requests.specs.Written.{AreTablesBut};
 ghost use Rattle.recalc.specs.app_cells.declared.app.App.{App as AnApp};
 ghost use Rattle.recalc.specs.Kept.{IsInOrder};
-ghost use Rattle.session_requests.specs.Caching.{AreLater, AreSessionsBut, AreSources, AreTouched, IsCached, IsPending};
-ghost use Rattle.session_requests.specs.Requests.{Accepts, accepted_reply};
+ghost use Rattle.session_requests.specs.Caching.{AreLater, AreSessionsBut, AreSources, AreTouched, IsCached, IsPending, LeavesBut};
+ghost use Rattle.session_requests.specs.Requests.{Accepts, AcceptsWriting, accepted_reply};
 ghost use Rattle.session_requests.specs.Scenes.{quiet};
 ghost use Rattle.session_requests.specs.Triggers.{ItemFits};
 ghost use Rattle.session_state.specs.Changes.{FitsNames};
@@ -76,6 +76,9 @@ fn prepare<K: Keeper, L: Ledger>(
     ensures pending { IsPending app.now before.now (K.began keeper.new) moment wrote.new.items cache.new }
     ensures later { AreLater wrote.new.items (K.began keeper.new) (K.told keeper.new) }
     ensures sources { AreSources app.now.names wrote.new.items }
+    ensures clean { LeavesBut app.now wrote.old.items cache.old wrote.new.items cache.new }
+    ensures wrote { IfOk result (λ r. AcceptsWriting (IsLost (K.marks keeper.old) (K.marks keeper.new)) app.now moment trigger (option_map view item) session (K.told keeper.old) (K.told keeper.new) (drop (length wrote.old.items) wrote.new.items)) }
+    ensures prefix { take (length wrote.old.items) wrote.new.items ≡ wrote.old.items }
     ensures loan { K.loan keeper.new ≡ K.loan keeper.old }
 {
     session.take_notices();
@@ -151,6 +154,9 @@ fn transact<K: Keeper, L: Ledger>(
     ensures pending { OnErr result (IsPending app.now before.now (K.told keeper.new) moment wrote.new.items cache.new) }
     ensures tables { OnOk result (Goes (IsLost (K.marks keeper.old) (K.marks keeper.new)) (AreTablesBut wrote.new.items) (K.told keeper.old) (K.told keeper.new)) }
     ensures sources { AreSources app.now.names wrote.new.items }
+    ensures clean { LeavesBut app.now wrote.old.items cache.old wrote.new.items cache.new }
+    ensures wrote { IfOk result (λ r. AcceptsWriting (IsLost (K.marks keeper.old) (K.marks keeper.new)) app.now moment trigger (option_map view item) session (K.told keeper.old) (K.told keeper.new) (drop (length wrote.old.items) wrote.new.items)) }
+    ensures prefix { take (length wrote.old.items) wrote.new.items ≡ wrote.old.items }
     ensures loan { K.loan keeper.new ≡ K.loan keeper.old }
 {
     match keeper.begin() {
@@ -219,6 +225,9 @@ pub fn accept_request<K: Keeper, L: Ledger>(
     ensures undone { OnErr result (IsCached app.now before.now (K.told keeper.new) moment cache.new) }
     ensures tables { Goes (IsLost (K.marks keeper.old) (K.marks keeper.new)) (AreTablesBut wrote.new.items) (K.told keeper.old) (K.told keeper.new) }
     ensures sources { AreSources app.now.names wrote.new.items }
+    ensures clean { LeavesBut app.now wrote.old.items cache.old wrote.new.items cache.new }
+    ensures wrote { IfOk result (λ r. AcceptsWriting (IsLost (K.marks keeper.old) (K.marks keeper.new)) app.now moment trigger (option_map view item) session (K.told keeper.old) (K.told keeper.new) (drop (length wrote.old.items) wrote.new.items)) }
+    ensures prefix { take (length wrote.old.items) wrote.new.items ≡ wrote.old.items }
     ensures loan { K.loan keeper.new ≡ K.loan keeper.old }
 {
     match transact(

@@ -7,19 +7,21 @@ ghost use Rattle.fx_deeds.specs.State.{State};
 ghost use Rattle.fx_scalar.specs.ScalarFunctions.{IsToday};
 ghost use Rattle.fx_trees.specs.Lawful.{IsLawfulSchema};
 ghost use Rattle.recalc.specs.Schemas.{schema_prop, shaped_prop};
+ghost use Rattle.recalc.specs.Changes.{IsLeftBut};
 ghost use Rattle.recalc.specs.Kept.{IsInOrder};
 ghost use Rattle.recalc.specs.Outcomes.{IsRightOver};
 ghost use Rattle.row_requests.specs.Sound.{AreSound};
 ghost use Rattle.session_state.specs.Changes.{FitsNames};
 ghost use Rattle.session_requests.specs.Anchors.{anchor};
 ghost use Rattle.session_requests.specs.Caching.{AreSessionsBut, AreSources};
-ghost use Rattle.session_requests.specs.Facts.{cache_prop, names_prop, sessions_prop, sound_prop, sources_prop};
+ghost use Rattle.session_requests.specs.Facts.{cache_prop, left_prop, names_prop, sessions_prop, sound_prop, sources_prop};
 ghost use Rattle.session_requests.specs.Grounds.{Grounds, gives, grounds};
 ghost use Rattle.session_requests.specs.WorldLaws.{collections_told, rows_are, state_told};
 ghost use Rattle.session_requests.specs.Worlds.{fixed_in, told_in};
 
 use crate::accepted::SoundApp;
 use crate::behind::refresh_behind;
+use crate::start::Start;
 use crate::writing::{note, when, written, written_by};
 use fx_base::Memory;
 use fx_data::{Totals, Value};
@@ -32,12 +34,13 @@ use row_queries::{Cells, Query, rows_fit};
 use row_values::scan;
 use session_state::{Change, Session};
 use std::alloc::Global;
+use std::marker::PhantomData;
 use std::sync::ledger::Ledger;
 
 /// An app at a moment and on its day, a session of it whose values fit, with its cache, and a keeper that is shaped by its schema
 /// and in a transaction. The cache is right at each moment, and the session is as the request found it but for what was written.
 #[derive(Drop)]
-pub(crate) struct SessionWorld<'a, A: SoundApp, K: Keeper> {
+pub(crate) struct SessionWorld<'a, A: SoundApp, K: Keeper, S: Start> {
     pub(crate) alloc: Global,
     pub(crate) app: &'a A,
     pub(crate) moment: u64,
@@ -51,6 +54,7 @@ pub(crate) struct SessionWorld<'a, A: SoundApp, K: Keeper> {
     pub(crate) wrote: &'a mut Vec<Source>,
     /// How many of them were written earlier.
     pub(crate) earlier: usize,
+    pub(crate) start: PhantomData<S>,
     ghost today: { ∥ IsToday moment (view day.now) ∥₁ },
     ghost lawful: { IsLawfulSchema (A.app app.now).names.schema } by { schema_prop (A.app app.now).names.schema },
     ghost shaped: { K.shaped keeper.now ≡ Some (A.app app.now).names.schema } by { shaped_prop (K.shaped keeper.now) (Some (A.app app.now).names.schema) },
@@ -63,9 +67,10 @@ pub(crate) struct SessionWorld<'a, A: SoundApp, K: Keeper> {
     ghost listed: { AreSources (A.app app.now).names wrote.now.items } by { sources_prop (A.app app.now).names wrote.now.items },
     ghost but: { AreSessionsBut (A.app app.now).names wrote.now.items before.now session.now } by { sessions_prop (A.app app.now).names wrote.now.items before.now session.now },
     ghost counted: { earlier ≤ length wrote.now.items },
+    ghost left: { IsLeftBut (A.app app.now) wrote.now.items S.start cache.now } by { left_prop (A.app app.now) wrote.now.items S.start cache.now },
 }
 
-impl<A: SoundApp, K: Keeper> Env for SessionWorld<'_, A, K> {
+impl<A: SoundApp, K: Keeper, S: Start> Env for SessionWorld<'_, A, K, S> {
     ghost Beside = { State Grounds };
 
     ghost fixed = { λ w. fixed_in (anchor (A.app w.app.now) w.moment w.before.now (take w.earlier w.wrote.now.items)) w.session.ghost_name w.cache.ghost_name w.keeper.ghost_name w.wrote.ghost_name (K.loan w.keeper.now) (K.in_transaction w.keeper.now) };
@@ -135,7 +140,7 @@ impl<A: SoundApp, K: Keeper> Env for SessionWorld<'_, A, K> {
     }
 }
 
-impl<A: SoundApp, K: Keeper> World for SessionWorld<'_, A, K> {
+impl<A: SoundApp, K: Keeper, S: Start> World for SessionWorld<'_, A, K, S> {
     ghost App = { Grounds };
 
     ghost gives = { gives };

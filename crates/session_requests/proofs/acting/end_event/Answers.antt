@@ -3,6 +3,8 @@ use Rattle.fx_base.specs.Silence.{IsLost}
 use Rattle.fx_data.specs.ValueView.{view}
 use Rattle.fx_data.specs.Values.{Data}
 use Rattle.recalc.specs.Kept.{value_of}
+use Rattle.std.specs.Option.{option_to_list}
+use Rattle.session_requests.proofs.Written.{event_written}
 use Rattle.session_requests.specs.Triggers.{ItemFits}
 use Rattle.session_requests.specs.declared.trigger.Trigger.TheVariants.{OnSelect}
 use Rattle.session_state.specs.Changes.{FitsNames}
@@ -58,3 +60,9 @@ take_effect-requires-clause-given g c =
     target_source names c.in-Ok.target _
     (item_within names (value_of c.args.cache.now) c.in-Ok.target c.requires.sound.names (of_ok (IsTarget names (value_of c.args.cache.now)) c.args.verdict c.in-Ok.target c.requires.verdict c.in-Ok.is))
     c.chosen_by-chosen.ensures
+
+pub returns-in_ok-item-in-Ok-clause-wrote : goal.returns-in_ok-item-in-Ok-clause-wrote
+returns-in_ok-item-in-Ok-clause-wrote g c =
+    event_written (IsLost (g.K.Keeper.marks c.args.keeper.now) (g.K.Keeper.marks c.take_effect.new.keeper)) c.args.app.now c.args.moment c.args.session c.choose.new.session (value_of c.args.cache.now) c.args.verdict c.in-Ok.target
+    (option_map view c.in_ok-item-in-Ok.item) (option_to_list c.chosen_by-chosen.result) (g.K.Keeper.told c.args.keeper.now) (g.K.Keeper.told c.take_effect.new.keeper) c.take_effect.new.wrote.items c.take_effect.result
+    c.in-Ok.is c.in_ok-item-in-Ok.ensures c.choose.ensures c.chosen_by-chosen.ensures c.take_effect.ensures.wrote

@@ -4,6 +4,8 @@ use Rattle.fx_data.specs.Values.{blank}
 use Rattle.recalc.specs.app_semantics.Present.{input_of}
 use Rattle.recalc.specs.app_semantics.Properties.{is_true}
 use Rattle.recalc.specs.Kept.{value_of}
+use Rattle.fx_base.specs.Silence.{IsLost}
+use Rattle.session_requests.proofs.Written.{input_written}
 use Rattle.session_requests.specs.Triggers.{ItemFits}
 use Rattle.session_requests.specs.declared.trigger.Trigger.{Trigger}
 use Rattle.session_state.specs.Changes.{FitsNames}
@@ -61,3 +63,10 @@ pub take_effect-requires-clause-given : goal.take_effect-requires-clause-given
 take_effect-requires-clause-given g c =
     let given : Given = (c.in-Ok.control, c.in-Ok.given) in
     input_source c.args.app.now.names c.in-Ok.control (unwrap_or c.in-Ok.given blank) (given_of c.args.app.now.names c.args.session (value_of c.args.cache.now) c.args.verdict given c.requires.verdict c.in-Ok.is)
+
+pub returns-in_ok-trigger-in-Ok-clause-wrote : goal.returns-in_ok-trigger-in-Ok-clause-wrote
+returns-in_ok-trigger-in-Ok-clause-wrote g c =
+    let given : Given = (c.in-Ok.control, c.in-Ok.given) in
+    input_written (IsLost (g.K.Keeper.marks c.args.keeper.now) (g.K.Keeper.marks c.take_effect.new.keeper)) c.args.app.now c.args.moment c.args.session c.give.new.session (value_of c.args.cache.now) c.args.verdict given
+    c.in_ok-trigger-in-Ok.trigger (g.K.Keeper.told c.args.keeper.now) (g.K.Keeper.told c.take_effect.new.keeper) c.take_effect.new.wrote.items c.take_effect.result
+    c.in-Ok.is c.in_ok-trigger-in-Ok.ensures c.give.ensures c.take_effect.ensures.wrote

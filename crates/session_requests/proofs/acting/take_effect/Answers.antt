@@ -1,7 +1,12 @@
-use Rattle.std.proofs.Common.{List, Some, [], ap, subst, sym, ◌++◌, ◌≡◌, ◌∙◌}
+use Rattle.std.proofs.Common.{List, Some, [], ap, drop, length, subst, sym, ◌++◌, ◌≡◌, ◌∙◌}
 use Rattle.std.specs.Option.{option_to_list}
 use Rattle.fx_trees.specs.declared.sources.Source.{Source}
 use Rattle.request_checks.specs.Directory.{find}
+use Rattle.recalc.proofs.Leaving.{left_same}
+use Rattle.recalc.specs.Changes.{IsLeftBut}
+use Rattle.recalc.specs.Kept.{Kept}
+use Rattle.session_requests.proofs.Written.{front_then}
+use Rattle.session_requests.proofs.Caches.{given_left}
 use Rattle.session_requests.specs.Caching.{AreSessionsBut, IsCached}
 use Rattle.session_requests.proofs.Giving.{given_told}
 use Rattle.session_requests.proofs.Resting.{before_is, cached_found, cached_kept}
@@ -52,3 +57,29 @@ pub returns-in-Err-clause-cached : goal.returns-in-Err-clause-cached
 returns-in-Err-clause-cached g c = λ s found.
     cached_found c.args.app.now c.args.name.now c.requires.before.before (g.K.Keeper.told c.accept_request.new.keeper) c.args.moment c.accept_request.new.cache c.args.sessions.now.items c.reserve.new.self.items c.in_ok-reserve.ensures.items c.requires.before.found
     (subst (λ (x : SessionState). IsCached c.args.app.now x (g.K.Keeper.told c.accept_request.new.keeper) c.args.moment c.accept_request.new.cache) (sym (before_is c.args.name.now c.args.sessions.now.items c.reserve.new.self.items c.as_slice.result.now c.requires.before.before c.session_of-before.result.now c.requires.before.found c.as_slice.ensures.value c.in_ok-reserve.ensures.items c.session_of-before.ensures)) c.in-Err.ensures.undone) s found
+
+pub returns-in_err-tell-clause-clean : goal.returns-in_err-tell-clause-clean
+returns-in_err-tell-clause-clean g c =
+    subst (λ (z : Kept). IsLeftBut c.args.app.now c.tell.new.wrote.items c.args.cache.now z) (sym c.in_err-tell.ensures.stopped.1) (left_same c.args.app.now c.tell.new.wrote.items c.args.cache.now)
+
+pub returns-in-Ok-clause-clean : goal.returns-in-Ok-clause-clean
+returns-in-Ok-clause-clean g c =
+    c.accept_request.ensures.clean c.args.cache.now
+    (subst (λ (ws : List Source). IsLeftBut c.args.app.now ws c.args.cache.now c.tell.new.cache) (sym c.in_ok-tell.ensures.wrote)
+    (given_left c.args.app.now c.args.wrote.now.items c.args.given c.args.cache.now c.tell.new.cache c.requires.given (c.in_ok-tell.ensures.told c.args.app.now)))
+
+pub returns-in-Err-clause-clean : goal.returns-in-Err-clause-clean
+returns-in-Err-clause-clean g c =
+    c.accept_request.ensures.clean c.args.cache.now
+    (subst (λ (ws : List Source). IsLeftBut c.args.app.now ws c.args.cache.now c.tell.new.cache) (sym c.in_ok-tell.ensures.wrote)
+    (given_left c.args.app.now c.args.wrote.now.items c.args.given c.args.cache.now c.tell.new.cache c.requires.given (c.in_ok-tell.ensures.told c.args.app.now)))
+
+pub returns-in-Ok-clause-wrote : goal.returns-in-Ok-clause-wrote
+returns-in-Ok-clause-wrote g c =
+    let us = c.tell.new.wrote.items in
+    let ws = c.accept_request.new.wrote.items in (
+      drop (length us) ws,
+      front_then us ws c.accept_request.ensures.prefix
+          ∙ ap (λ (l : List Source). l ++ drop (length us) ws) (c.in_ok-tell.ensures.wrote ∙ ap (λ (l : List Source). l ++ option_to_list c.args.given) c.requires.wrote),
+      c.in-Ok.ensures.wrote,
+    )

@@ -12,6 +12,7 @@ use Rattle.fx_env.specs.Scopes.{Held, held}
 use Rattle.fx_trees.specs.SourceTypes.{sources}
 use Rattle.fx_trees.specs.declared.sources.Source.{Source}
 use Rattle.recalc.specs.app_cells.declared.app.App.{App}
+use Rattle.recalc.specs.Changes.{IsLeftBut}
 use Rattle.recalc.specs.Kept.{Kept}
 use Rattle.row_requests.specs.Sound.{AreSound}
 use Rattle.session_state.specs.Changes.{FitsNames}
@@ -355,3 +356,24 @@ returns-clause-loan g c =
     let now = w.keeper.now in
     let kept = keeper_same (anchor (g.A.SoundApp.app w.app.now) w.moment w.before.now (take w.earlier w.wrote.now.items)) (anchor (g.A.SoundApp.app c.args.app.now) c.args.moment c.args.before.now (take c.args.earlier c.args.wrote.now.items)) _ _ _ _ _ _ _ _ _ _ _ _ c.act.ensures.passed.fixed in
     carried (λ (k : g.row.K.Denot). g.K.Keeper.loan k ≡ g.K.Keeper.loan old) now _ (search (rules, kept)) (loan_same (anchor (g.A.SoundApp.app w.app.now) w.moment w.before.now (take w.earlier w.wrote.now.items)) (anchor (g.A.SoundApp.app c.args.app.now) c.args.moment c.args.before.now (take c.args.earlier c.args.wrote.now.items)) _ _ _ _ _ _ _ _ _ _ _ _ c.act.ensures.passed.fixed)
+
+pub invariant_of-world-clause-left : goal.invariant_of-world-clause-left
+invariant_of-world-clause-left g c = c.requires.clean
+
+pub returns-in-Ok-clause-clean : goal.returns-in-Ok-clause-clean
+returns-in-Ok-clause-clean g c =
+    let w = c.act.new.world in
+    let cached = cache_same (anchor (g.A.SoundApp.app w.app.now) w.moment w.before.now (take w.earlier w.wrote.now.items)) (anchor (g.A.SoundApp.app c.args.app.now) c.args.moment c.args.before.now (take c.args.earlier c.args.wrote.now.items)) _ _ _ _ _ _ _ _ _ _ _ _ c.act.ensures.passed.fixed in
+    let listed = wrote_same (anchor (g.A.SoundApp.app w.app.now) w.moment w.before.now (take w.earlier w.wrote.now.items)) (anchor (g.A.SoundApp.app c.args.app.now) c.args.moment c.args.before.now (take c.args.earlier c.args.wrote.now.items)) _ _ _ _ _ _ _ _ _ _ _ _ c.act.ensures.passed.fixed in
+    let stands = stands_same (anchor (g.A.SoundApp.app w.app.now) w.moment w.before.now (take w.earlier w.wrote.now.items)) (anchor (g.A.SoundApp.app c.args.app.now) c.args.moment c.args.before.now (take c.args.earlier c.args.wrote.now.items)) _ _ _ _ _ _ _ _ _ _ _ _ c.act.ensures.passed.fixed in
+    carried_both (λ (z : Kept) (zs : List Source). IsLeftBut (g.A.SoundApp.app c.args.app.now) zs g.S.Start.start z) w.cache.now _ w.wrote.now.items _ (search (rules, cached)) (search (rules, listed))
+    (subst (λ (a : App). IsLeftBut a w.wrote.now.items g.S.Start.start w.cache.now) stands.app w.left)
+
+pub returns-clause-clean : goal.returns-clause-clean
+returns-clause-clean g c =
+    let w = c.act.new.world in
+    let cached = cache_same (anchor (g.A.SoundApp.app w.app.now) w.moment w.before.now (take w.earlier w.wrote.now.items)) (anchor (g.A.SoundApp.app c.args.app.now) c.args.moment c.args.before.now (take c.args.earlier c.args.wrote.now.items)) _ _ _ _ _ _ _ _ _ _ _ _ c.act.ensures.passed.fixed in
+    let listed = wrote_same (anchor (g.A.SoundApp.app w.app.now) w.moment w.before.now (take w.earlier w.wrote.now.items)) (anchor (g.A.SoundApp.app c.args.app.now) c.args.moment c.args.before.now (take c.args.earlier c.args.wrote.now.items)) _ _ _ _ _ _ _ _ _ _ _ _ c.act.ensures.passed.fixed in
+    let stands = stands_same (anchor (g.A.SoundApp.app w.app.now) w.moment w.before.now (take w.earlier w.wrote.now.items)) (anchor (g.A.SoundApp.app c.args.app.now) c.args.moment c.args.before.now (take c.args.earlier c.args.wrote.now.items)) _ _ _ _ _ _ _ _ _ _ _ _ c.act.ensures.passed.fixed in
+    carried_both (λ (z : Kept) (zs : List Source). IsLeftBut (g.A.SoundApp.app c.args.app.now) zs g.S.Start.start z) w.cache.now _ w.wrote.now.items _ (search (rules, cached)) (search (rules, listed))
+    (subst (λ (a : App). IsLeftBut a w.wrote.now.items g.S.Start.start w.cache.now) stands.app w.left)

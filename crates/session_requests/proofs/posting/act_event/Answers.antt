@@ -5,6 +5,7 @@ use Rattle.recalc.specs.Values.{Values}
 use Rattle.recalc.specs.Values as cells
 use Rattle.recalc.specs.app_semantics.Present.{present}
 use Rattle.fx_base.specs.Silence.{IsLost}
+use Rattle.recalc.proofs.Leaving.{left_all, left_then}
 use Rattle.session_requests.specs.Posting.{IsVerdict}
 use Rattle.session_requests.specs.Targets.{event_target}
 use Rattle.session_requests.proofs.Resting.{cached_found}
@@ -15,6 +16,7 @@ use Rattle.recalc.specs.Asking.{Keeping, keeping}
 use Rattle.recalc.specs.Kept.{value_of}
 use Rattle.request_checks.specs.Replies.{said}
 use Rattle.row_keeper.specs.Tables.{rows_told}
+use Rattle.session_requests.proofs.Written.{event_writes_lost, ok_both}
 use Rattle.session_requests.proofs.Posted.{event_lost, stays_lost}
 use Rattle.session_requests.proofs.posting.act_event.Goals as goal
 
@@ -53,3 +55,45 @@ pub returns-in_err-verdict-clause-cached : goal.returns-in_err-verdict-clause-ca
 returns-in_err-verdict-clause-cached g c = λ s found.
     cached_found c.args.app.now c.args.name.now c.args.session (g.K.Keeper.told c.judge_event.new.keeper) c.args.moment c.look_for_event.new.cache c.args.sessions.now.items c.args.sessions.now.items refl c.requires.found
     (cached_stays c.args.app.now c.args.session (IsLost (g.K.Keeper.marks c.look_for_event.new.keeper) (g.K.Keeper.marks c.judge_event.new.keeper)) (g.K.Keeper.told c.look_for_event.new.keeper) (g.K.Keeper.told c.judge_event.new.keeper) c.args.moment c.look_for_event.new.cache c.judge_event.ensures.read.told c.look_for_event.ensures.cached) s found
+
+pub returns-in_err-look_for_event-clause-clean : goal.returns-in_err-look_for_event-clause-clean
+returns-in_err-look_for_event-clause-clean g c = left_all c.args.app.now c.args.wrote.now.items c.args.cache.now c.look_for_event.new.cache c.look_for_event.ensures.clean
+
+pub returns-in_err-verdict-clause-clean : goal.returns-in_err-verdict-clause-clean
+returns-in_err-verdict-clause-clean g c = left_all c.args.app.now c.args.wrote.now.items c.args.cache.now c.look_for_event.new.cache c.look_for_event.ensures.clean
+
+pub returns-clause-clean : goal.returns-clause-clean
+returns-clause-clean g c =
+    let app = c.args.app.now in
+    let ws = c.end_event.new.wrote.items in
+    left_then app ws c.args.cache.now c.look_for_event.new.cache c.end_event.new.cache (left_all app ws c.args.cache.now c.look_for_event.new.cache c.look_for_event.ensures.clean) c.end_event.ensures.clean
+
+pub returns-clause-wrote : goal.returns-clause-wrote
+returns-clause-wrote g c =
+    let told = g.K.Keeper.told in
+    let marks = g.K.Keeper.marks in
+    let app = c.args.app.now in
+    let values = value_of c.look_for_event.new.cache in
+    let before = marks c.args.keeper.now in
+    let seen = told c.judge_event.new.keeper in
+    let judged = marks c.judge_event.new.keeper in
+    let now = marks c.end_event.new.keeper in
+    let first : Keeping = keeping (told c.args.keeper.now) (g.K.Keeper.began c.args.keeper.now) (g.K.Keeper.shaped c.args.keeper.now) (g.K.Keeper.in_transaction c.args.keeper.now) (marks c.args.keeper.now) (g.K.Keeper.visited c.args.keeper.now) (g.K.Keeper.loan c.args.keeper.now) in
+    let second : Keeping = keeping (told c.look_for_event.new.keeper) (g.K.Keeper.began c.look_for_event.new.keeper) (g.K.Keeper.shaped c.look_for_event.new.keeper) (g.K.Keeper.in_transaction c.look_for_event.new.keeper) (marks c.look_for_event.new.keeper) (g.K.Keeper.visited c.look_for_event.new.keeper) (g.K.Keeper.loan c.look_for_event.new.keeper) in
+    let third : Keeping = keeping seen (g.K.Keeper.began c.judge_event.new.keeper) (g.K.Keeper.shaped c.judge_event.new.keeper) (g.K.Keeper.in_transaction c.judge_event.new.keeper) judged (g.K.Keeper.visited c.judge_event.new.keeper) (g.K.Keeper.loan c.judge_event.new.keeper) in
+    let read = read_on first second third c.look_for_event.ensures.read c.in_ok-verdict.ensures.read in
+    IfOk-weaker c.end_event.result _ _ (λ r both. (
+      record {
+        session = c.args.session;
+        found = c.requires.found;
+        seen = seen;
+        stays = stays_lost before judged now c.end_event.ensures.cause.later (told c.args.keeper.now) seen read.told;
+        values = values;
+        fresh = ∥∥₁_map c.in_ok-look_for_event.ensures.fresh (λ f. f (rows_told seen) (heard_before second third c.in_ok-verdict.ensures.read (rows_told seen) (heard_told seen)));
+        verdict = c.in_ok-verdict.verdict;
+        judged = subst (λ (w : Values). IsVerdict (present app c.args.session (rows_told seen) c.args.moment) (cells.value_of w) (event_target app.names c.args.session (cells.value_of w) c.args.event.now) c.in_ok-verdict.verdict) c.valued.ensures
+            (c.in_ok-verdict.ensures.judged c.args.moment (subst (λ (w : Values). IsToday c.args.moment w.day) (sym c.valued.ensures) c.look_for_event.ensures.cached.day));
+        ends = event_lost before judged now app c.args.moment c.args.name.now c.args.body.now c.args.event.now.seq c.args.session values c.in_ok-verdict.verdict seen (told c.end_event.new.keeper) c.args.sessions.now.items c.end_event.new.sessions.items (said r) read.later both.0;
+      },
+      event_writes_lost before judged now app c.args.moment c.args.session values c.in_ok-verdict.verdict seen (told c.end_event.new.keeper) c.end_event.new.wrote.items read.later both.1,
+    )) (ok_both _ _ c.end_event.result c.end_event.ensures.done c.end_event.ensures.wrote)

@@ -8,8 +8,10 @@ use Rattle.recalc.specs.Values.{Values}
 use Rattle.recalc.specs.Kept.{value_of}
 use Rattle.request_checks.specs.Replies.{said}
 use Rattle.view_text.specs.declared.refused.Refusal.{Refusal}
-use Rattle.session_requests.specs.Acting.{EndsInput}
+use Rattle.recalc.proofs.Leaving.{left_all, left_then}
+use Rattle.session_requests.specs.Acting.{EndsInput, InputWrites}
 use Rattle.session_requests.specs.Targets.{Given}
+use Rattle.session_requests.proofs.Written.{input_writes_lost, ok_both}
 use Rattle.session_requests.proofs.Posted.{input_lost, input_over, stays_lost}
 use Rattle.session_requests.proofs.posting.act_input.Goals as goal
 
@@ -39,3 +41,39 @@ returns-clause-done g c =
       ends = subst (λ (v : Result Given Refusal). EndsInput (IsLost before now) app c.args.moment c.args.name.now c.args.body.now c.args.input.seq c.args.session values v seen c.args.sessions.now.items (said r) (told c.end_input.new.keeper) c.end_input.new.sessions.items) is
           (input_lost before valued now app c.args.moment c.args.name.now c.args.body.now c.args.input.seq c.args.session values c.input_target-verdict.result seen (told c.end_input.new.keeper) c.args.sessions.now.items c.end_input.new.sessions.items (said r) read.later h);
     }) c.end_input.ensures.done
+
+pub returns-in_err-look_for_input-clause-clean : goal.returns-in_err-look_for_input-clause-clean
+returns-in_err-look_for_input-clause-clean g c = left_all c.args.app.now c.args.wrote.now.items c.args.cache.now c.look_for_input.new.cache c.look_for_input.ensures.clean
+
+pub returns-clause-clean : goal.returns-clause-clean
+returns-clause-clean g c =
+    let app = c.args.app.now in
+    let ws = c.end_input.new.wrote.items in
+    left_then app ws c.args.cache.now c.look_for_input.new.cache c.end_input.new.cache (left_all app ws c.args.cache.now c.look_for_input.new.cache c.look_for_input.ensures.clean) c.end_input.ensures.clean
+
+pub returns-clause-wrote : goal.returns-clause-wrote
+returns-clause-wrote g c =
+    let told = g.K.Keeper.told in
+    let marks = g.K.Keeper.marks in
+    let app = c.args.app.now in
+    let values = value_of c.look_for_input.new.cache in
+    let before = marks c.args.keeper.now in
+    let seen = told c.look_for_input.new.keeper in
+    let valued = marks c.look_for_input.new.keeper in
+    let now = marks c.end_input.new.keeper in
+    let read = c.look_for_input.ensures.read in
+    let is = input_over app.names c.args.session c.args.input c.as_slice-values.result.now c.look_for_input.new.cache.values c.input_target-verdict.result (c.as_slice-values.ensures ∙ ap (λ (w : Values). w.cells) c.valued.ensures) (c.input_target-verdict.ensures.is c.args.session (sym c.screen.ensures)) in
+    IfOk-weaker c.end_input.result _ _ (λ r both. (
+      record {
+        session = c.args.session;
+        found = c.requires.found;
+        seen = seen;
+        stays = stays_lost before valued now c.end_input.ensures.cause.later (told c.args.keeper.now) seen read.told;
+        values = values;
+        fresh = ∥∥₁_map c.in_ok-look_for_input.ensures.fresh (λ f. f (rows_told seen) (heard_told seen));
+        ends = subst (λ (v : Result Given Refusal). EndsInput (IsLost before now) app c.args.moment c.args.name.now c.args.body.now c.args.input.seq c.args.session values v seen c.args.sessions.now.items (said r) (told c.end_input.new.keeper) c.end_input.new.sessions.items) is
+            (input_lost before valued now app c.args.moment c.args.name.now c.args.body.now c.args.input.seq c.args.session values c.input_target-verdict.result seen (told c.end_input.new.keeper) c.args.sessions.now.items c.end_input.new.sessions.items (said r) read.later both.0);
+      },
+      subst (λ (v : Result Given Refusal). InputWrites (IsLost before now) app c.args.moment c.args.session values v seen (told c.end_input.new.keeper) c.end_input.new.wrote.items) is
+          (input_writes_lost before valued now app c.args.moment c.args.session values c.input_target-verdict.result seen (told c.end_input.new.keeper) c.end_input.new.wrote.items read.later both.1),
+    )) (ok_both _ _ c.end_input.result c.end_input.ensures.done c.end_input.ensures.wrote)

@@ -2,6 +2,8 @@ use Rattle.std.proofs.Common.{◌≡◌, Option, Some, drop, length, option_map,
 use Rattle.std.proofs.lemmas.Result.{IfOk-weaker}
 use Rattle.fx_base.specs.Silence.{IsLost}
 use Rattle.fx_data.specs.ValueView.{view}
+use Rattle.std.proofs.Math.Seq.{take-length}
+use Rattle.session_requests.proofs.Written.{none_written, some_written}
 use Rattle.session_requests.specs.Triggers.{cell_at}
 use Rattle.session_requests.proofs.Chains.{acted_some}
 use Rattle.session_requests.proofs.RequestFitting.{is_acting, item_fits, there_at}
@@ -28,3 +30,25 @@ returns-in-Some-clause-done g c =
     (sym c.in-Some.ensures.place)
     (there_at c.args.app.now.cells c.as_slice.result.now c.in-Some.place c.index-as_slice-place.result c.as_slice.ensures c.in-Some.ensures.within c.index-as_slice-place.is)
     h) c.perform.ensures.acted
+
+pub returns-in-None-clause-clean : goal.returns-in-None-clause-clean
+returns-in-None-clause-clean g c = λ start left. left
+
+pub returns-in-Some-clause-wrote : goal.returns-in-Some-clause-wrote
+returns-in-Some-clause-wrote g c =
+    let told = g.K.Keeper.told in
+    let marks = g.K.Keeper.marks in
+    IfOk-weaker c.perform.result _ _ (λ v h.
+    some_written c.args.app.now c.args.moment (cell_at c.args.trigger c.args.app.now) (option_map view c.args.item) c.in-Some.place c.index-as_slice-place.result c.args.session.now c.perform.new.session
+    (view v) (drop (length c.args.wrote.now.items) c.perform.new.wrote.items) (IsLost (marks c.args.keeper.now) (marks c.perform.new.keeper)) (told c.args.keeper.now) (told c.perform.new.keeper)
+    (sym c.in-Some.ensures.place)
+    (there_at c.args.app.now.cells c.as_slice.result.now c.in-Some.place c.index-as_slice-place.result c.as_slice.ensures c.in-Some.ensures.within c.index-as_slice-place.is)
+    h) c.perform.ensures.acted
+
+pub returns-in-None-clause-wrote : goal.returns-in-None-clause-wrote
+returns-in-None-clause-wrote g c =
+    none_written c.args.app.now c.args.moment (cell_at c.args.trigger c.args.app.now) (option_map view c.args.item) c.args.session.now c.args.wrote.now.items
+    (IsLost (g.K.Keeper.marks c.args.keeper.now) (g.K.Keeper.marks c.args.keeper.now)) (g.K.Keeper.told c.args.keeper.now) (sym c.in-None.ensures.place)
+
+pub returns-in-None-clause-prefix : goal.returns-in-None-clause-prefix
+returns-in-None-clause-prefix g c = take-length c.args.wrote.now.items

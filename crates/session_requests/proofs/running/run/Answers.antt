@@ -1,6 +1,7 @@
-use Rattle.std.proofs.Common.{[], ◌∙◌, option_map, sym}
+use Rattle.std.proofs.Common.{[], ◌∙◌, drop, length, option_map, sym}
 use Rattle.fx_base.specs.Silence.{IsLost}
 use Rattle.fx_data.specs.ValueView.{view}
+use Rattle.session_requests.proofs.Written.{alone_written, arrived_same_as, both_written, front_two}
 use Rattle.session_requests.proofs.RequestFitting.{fits_arrived}
 use Rattle.session_requests.proofs.Resting.{arrived_but, run_alone}
 use Rattle.session_requests.proofs.Undone.{but_then, cached_as}
@@ -36,3 +37,29 @@ pub returns-then-not-take_navigated-clause-done : goal.returns-then-not-take_nav
 returns-then-not-take_navigated-clause-done g c =
     run_alone (IsLost (g.K.Keeper.marks c.args.keeper.now) (g.K.Keeper.marks c.act.new.keeper)) c.args.app.now c.args.moment c.args.trigger (option_map view c.args.item) c.args.session.now c.act.new.session c.take_navigated.new.self (view c.in_ok-value.value)
     (g.K.Keeper.told c.args.keeper.now) (g.K.Keeper.told c.act.new.keeper) (sym c.take_navigated.ensures.navigated ∙ c.if-not-take_navigated.true) c.take_navigated.ensures.taken c.in_ok-value.ensures.done
+
+pub returns-in_err-show-clause-clean : goal.returns-in_err-show-clause-clean
+returns-in_err-show-clause-clean g c = λ start left. c.show.ensures.clean start (c.act.ensures.clean start left)
+
+pub returns-clause-clean : goal.returns-clause-clean
+returns-clause-clean g c = λ start left. c.show.ensures.clean start (c.act.ensures.clean start left)
+
+pub returns-then-not-take_navigated-clause-wrote : goal.returns-then-not-take_navigated-clause-wrote
+returns-then-not-take_navigated-clause-wrote g c =
+    let off = sym c.take_navigated.ensures.navigated ∙ c.if-not-take_navigated.true in
+    alone_written (IsLost (g.K.Keeper.marks c.args.keeper.now) (g.K.Keeper.marks c.act.new.keeper)) c.args.app.now c.args.moment c.args.trigger (option_map view c.args.item) c.args.session.now c.act.new.session c.take_navigated.new.self (view c.in_ok-value.value)
+    (drop (length c.args.wrote.now.items) c.act.new.wrote.items) (g.K.Keeper.told c.args.keeper.now) (g.K.Keeper.told c.act.new.keeper) off (arrived_same_as c.act.new.session c.take_navigated.new.self off c.take_navigated.ensures.taken) c.in_ok-value.ensures.wrote
+
+pub returns-in_err-show-clause-prefix : goal.returns-in_err-show-clause-prefix
+returns-in_err-show-clause-prefix g c = front_two c.args.wrote.now.items c.act.new.wrote.items c.show.new.wrote.items c.act.ensures.prefix c.show.ensures.prefix
+
+pub returns-clause-prefix : goal.returns-clause-prefix
+returns-clause-prefix g c = front_two c.args.wrote.now.items c.act.new.wrote.items c.show.new.wrote.items c.act.ensures.prefix c.show.ensures.prefix
+
+pub returns-clause-wrote : goal.returns-clause-wrote
+returns-clause-wrote g c =
+    let told = g.K.Keeper.told in
+    let marks = g.K.Keeper.marks in
+    both_written (marks c.args.keeper.now) (marks c.act.new.keeper) (marks c.show.new.keeper) c.args.app.now c.args.moment c.args.trigger (option_map view c.args.item) c.args.session.now c.act.new.session c.take_navigated.new.self c.show.new.session (view c.in_ok-value.value)
+    c.args.wrote.now.items c.act.new.wrote.items c.show.new.wrote.items (told c.args.keeper.now) (told c.act.new.keeper) (told c.show.new.keeper) c.act.ensures.cause.later c.show.ensures.cause.later
+    (sym c.take_navigated.ensures.navigated ∙ c.if-not-take_navigated.false) c.take_navigated.ensures.taken c.act.ensures.prefix c.show.ensures.prefix c.in_ok-value.ensures.wrote c.in_ok-show.ensures.wrote

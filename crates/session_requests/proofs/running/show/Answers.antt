@@ -1,4 +1,7 @@
-use Rattle.std.proofs.Common.{[]}
+use Rattle.std.proofs.Common.{[], ◌∙◌, ap, drop, length}
+use Rattle.fx_base.specs.Silence.{IsLost}
+use Rattle.session_state.specs.Sessions.{SessionState}
+use Rattle.session_requests.proofs.Written.{shown_written}
 use Rattle.session_requests.proofs.RequestFitting.{fits_arrived}
 use Rattle.session_requests.proofs.Resting.{arrived_but}
 use Rattle.session_requests.proofs.Undone.{but_then, cached_as}
@@ -29,3 +32,9 @@ pub returns-clause-but : goal.returns-clause-but
 returns-clause-but g c =
     but_then c.args.app.now.names c.act.new.wrote.items c.args.before.now c.act.new.session c.take_navigated-2.new.self c.in_ok-act.ensures.but
     (arrived_but c.args.app.now.names c.act.new.wrote.items c.act.new.session c.take_navigated-2.new.self c.take_navigated-2.ensures.taken)
+
+pub returns-clause-wrote : goal.returns-clause-wrote
+returns-clause-wrote g c =
+    shown_written c.args.app.now c.args.moment c.screen.result c.args.session.now c.take_navigated.new.self c.act.new.session c.take_navigated-2.new.self _ (drop (length c.args.wrote.now.items) c.act.new.wrote.items)
+    (IsLost (g.K.Keeper.marks c.args.keeper.now) (g.K.Keeper.marks c.act.new.keeper)) (g.K.Keeper.told c.args.keeper.now) (g.K.Keeper.told c.act.new.keeper) c.take_navigated.ensures.taken c.take_navigated-2.ensures.taken
+    (c.screen.ensures ∙ ap (λ (s : SessionState). s.screen) c.take_navigated.ensures.taken) c.in_ok-act.ensures.wrote

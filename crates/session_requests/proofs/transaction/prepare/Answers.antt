@@ -1,9 +1,9 @@
-use Rattle.std.proofs.Common.{Option, [], option_map, subst}
+use Rattle.std.proofs.Common.{Option, [], drop, length, option_map, subst}
 use Rattle.fx_base.specs.Silence.{Goes, IsLost}
 use Rattle.fx_data.specs.ValueView.{view}
 use Rattle.row_keeper.specs.Tables.{Tables}
 use Rattle.session_state.specs.Sessions.{SessionState}
-use Rattle.session_requests.specs.Running.{Runs}
+use Rattle.session_requests.specs.Running.{Runs, RunsWriting}
 use Rattle.session_requests.specs.Scenes.{scene}
 use Rattle.session_requests.proofs.RequestFitting.{fits_begun, fits_quiet, is_begun}
 use Rattle.session_requests.proofs.Resting.{begun_but, quiet_but}
@@ -59,3 +59,16 @@ pub returns-in_err-replied-clause-pending : goal.returns-in_err-replied-clause-p
 returns-in_err-replied-clause-pending g c =
     pending_undone c.args.app.now c.run.new.wrote.items c.args.before.now c.run.new.session (g.K.Keeper.began c.run.new.keeper) (g.K.Keeper.told c.run.new.keeper) c.args.moment c.run.new.cache c.requires.sound
     c.run.ensures.but c.run.ensures.later (g.met.K.Keeper.quiet c.run.new.keeper) c.run.ensures.cached
+
+pub returns-clause-wrote : goal.returns-clause-wrote
+returns-clause-wrote g c =
+    let told = g.K.Keeper.told in
+    let marks = g.K.Keeper.marks in
+    let end = c.run.new.session in
+    let value = view c.in_ok-value.value in (
+      value,
+      end,
+      subst (λ (s : SessionState). Goes (IsLost (marks c.args.keeper.now) (marks c.run.new.keeper))
+          (λ (t u : Tables). RunsWriting c.args.app.now c.args.moment c.args.trigger (option_map view c.args.item) (scene t s) value (scene u end) (drop (length c.args.wrote.now.items) c.run.new.wrote.items)) (told c.args.keeper.now) (told c.run.new.keeper))
+          (is_begun c.args.session c.take_notices.new.self c.take_navigated.new.self c.take_notices.ensures.none c.take_navigated.ensures.taken) c.in_ok-value.ensures.wrote,
+    )

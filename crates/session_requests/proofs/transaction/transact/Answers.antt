@@ -1,9 +1,11 @@
-use Rattle.std.proofs.Common.{Option, option_map, refl, subst}
+use Rattle.std.proofs.Common.{Option, drop, length, option_map, refl, subst}
 use Rattle.fx_base.specs.Silence.{Goes, IsLost}
 use Rattle.fx_base.specs.Telling.{Stays}
 use Rattle.fx_data.specs.ValueView.{view}
 use Rattle.row_keeper.specs.Tables.{Tables}
-use Rattle.session_requests.specs.Running.{Runs}
+use Rattle.std.proofs.Math.Seq.{take-length}
+use Rattle.session_requests.proofs.Written.{told_through}
+use Rattle.session_requests.specs.Running.{Runs, RunsWriting}
 use Rattle.session_requests.specs.Scenes.{begun, scene}
 use Rattle.session_requests.proofs.Resting.{later_first}
 use Rattle.session_requests.proofs.Undone.{but_back, cached_pending, cached_stays, pending_stays, tables_through}
@@ -60,3 +62,39 @@ returns-in-Err-prepare-clause-pending g c =
     let marks = g.K.Keeper.marks in
     pending_stays c.args.app.now c.args.before.now (IsLost (marks c.prepare.new.keeper) (marks c.back.new.self)) (g.K.Keeper.began c.prepare.new.keeper) (g.K.Keeper.told c.back.new.self) c.args.moment c.prepare.new.wrote.items c.prepare.new.cache
     c.back.ensures.tables c.prepare.ensures.pending
+
+pub returns-in-Err-clause-clean : goal.returns-in-Err-clause-clean
+returns-in-Err-clause-clean g c = λ start left. left
+
+pub returns-in-Ok-settle-clause-wrote : goal.returns-in-Ok-settle-clause-wrote
+returns-in-Ok-settle-clause-wrote g c =
+    let told = g.K.Keeper.told in
+    let marks = g.K.Keeper.marks in
+    let h = c.in-Ok-prepare.ensures.wrote in (
+      h.0,
+      h.1,
+      told_through (marks c.args.keeper.now) (marks c.begin.new.self) (marks c.prepare.new.keeper) (marks c.settle.new.keeper)
+          (λ (t u : Tables). RunsWriting c.args.app.now c.args.moment c.args.trigger (option_map view c.args.item) (scene t (begun c.args.session)) h.0 (scene u h.1) (drop (length c.args.wrote.now.items) c.prepare.new.wrote.items))
+          (told c.args.keeper.now) (told c.begin.new.self) (told c.prepare.new.keeper) (told c.settle.new.keeper) c.begin.ensures.cause.later c.prepare.ensures.cause.later c.settle.ensures.cause.later
+          c.begin.ensures.tables h.2 (c.in-Ok-settle.ensures.kept refl),
+    )
+
+pub returns-in-Err-clause-prefix : goal.returns-in-Err-clause-prefix
+returns-in-Err-clause-prefix g c = take-length c.args.wrote.now.items
+
+pub returns-in-Ok-settle-clause-accepts : goal.returns-in-Ok-settle-clause-accepts
+returns-in-Ok-settle-clause-accepts g c =
+    let told = g.K.Keeper.told in
+    let marks = g.K.Keeper.marks in
+    let h = c.in-Ok-prepare.ensures.accepts in
+    record {
+      value = h.value;
+      end = h.end;
+      runs = told_through (marks c.args.keeper.now) (marks c.begin.new.self) (marks c.prepare.new.keeper) (marks c.settle.new.keeper)
+          (λ (t u : Tables). Runs c.args.app.now c.args.moment c.args.trigger (option_map view c.args.item) (scene t (begun c.args.session)) h.value (scene u h.end))
+          (told c.args.keeper.now) (told c.begin.new.self) (told c.prepare.new.keeper) (told c.settle.new.keeper) c.begin.ensures.cause.later c.prepare.ensures.cause.later c.settle.ensures.cause.later
+          c.begin.ensures.tables h.runs (c.in-Ok-settle.ensures.kept refl);
+      said_is = h.said_is;
+      left = h.left;
+      fits = h.fits;
+    }

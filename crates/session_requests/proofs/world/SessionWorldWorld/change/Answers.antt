@@ -8,10 +8,11 @@ use Rattle.fx_trees.specs.declared.sources.Source.{Source}
 use Rattle.recalc.specs.Outcomes.{IsRightOver}
 use Rattle.session_state.specs.Changes.{FitsNames}
 use Rattle.session_state.specs.Sessions.{SessionState}
+use Rattle.recalc.specs.Changes.{IsLeftBut}
 use Rattle.session_requests.specs.Caching.{AreSessionsBut, AreSources}
 use Rattle.session_requests.specs.Grounds.{grounds}
 use Rattle.session_requests.proofs.Anchoring.{fixed_as}
-use Rattle.session_requests.proofs.Caches.{IsOneOf, has_place, noted_but, noted_counted, noted_day, noted_earlier, noted_later_as, noted_listed, noted_order, noted_right, session_noted, when_is, written_is}
+use Rattle.session_requests.proofs.Caches.{IsOneOf, has_place, noted_but, noted_counted, noted_day, noted_earlier, noted_later_as, noted_left, noted_listed, noted_order, noted_right, session_noted, when_is, written_is}
 use Rattle.session_requests.proofs.Changing.{is_there, session_goes}
 use Rattle.session_requests.proofs.WorldEnding.{told_state}
 use Rattle.session_requests.proofs.world.SessionWorldWorld.change.Goals as goal
@@ -110,3 +111,15 @@ returns-in-Ok-clause-done g c =
     let more = noted_later_as (g.A.SoundApp.app w.app.now) c.when.result w.before.now w.session.now c.change.new.self w.wrote.now.items c.note.new.wrote.items w.cache.now c.note.new.cache w.moment w.earlier (g.K.Keeper.told w.keeper.now) n _ (ap option_to_list c.when.ensures) w.counted in
     subst (λ (xs : List Source). Goes lost (IsChanged c.args.change c.in-Ok.done) (told_state (view w.day.now) h w.session.now w.cache.now.values.cells (drop w.earlier w.wrote.now.items) (g.K.Keeper.told w.keeper.now)) (told_state (view w.day.now) h c.change.new.self c.note.new.cache.values.cells xs (g.K.Keeper.told w.keeper.now))) (sym more)
     (session_goes lost c.args.change c.in-Ok.done (view w.day.now) h w.session.now c.change.new.self w.cache.now.values.cells c.note.new.cache.values.cells (drop w.earlier w.wrote.now.items) c.written-source.result (g.K.Keeper.told w.keeper.now) c.written-source.ensures c.in-Ok.ensures.answer c.in-Ok.ensures.changed)
+
+pub invariant_of-self-in-Ok-clause-left : goal.invariant_of-self-in-Ok-clause-left
+invariant_of-self-in-Ok-clause-left g c =
+    let w = c.args.self.now in
+    let n = session_noted (g.A.SoundApp.app w.app.now) c.args.change c.in-Ok.done c.written-source.result c.when.result w.session.now c.change.new.self w.wrote.now.items c.reserve.new.self.items c.note.new.wrote.items w.cache.now c.note.new.cache c.requires c.written-source.ensures c.when.ensures c.in-Ok.ensures.changed
+    c.note.ensures.wrote c.in_ok-reserve.ensures.items (c.note.ensures.touched (g.A.SoundApp.app w.app.now)) in
+    noted_left (g.A.SoundApp.app w.app.now) c.when.result w.before.now w.session.now c.change.new.self w.wrote.now.items c.note.new.wrote.items w.cache.now c.note.new.cache w.moment w.earlier (g.K.Keeper.told w.keeper.now) n g.S.Start.start w.left
+
+pub invariant_of-self-in-Err-clause-left : goal.invariant_of-self-in-Err-clause-left
+invariant_of-self-in-Err-clause-left g c =
+    let w = c.args.self.now in
+    subst (λ (xs : List Source). IsLeftBut (g.A.SoundApp.app w.app.now) xs g.S.Start.start w.cache.now) (sym c.in_ok-reserve.ensures.items) w.left

@@ -6,10 +6,11 @@ use Rattle.fx_trees.specs.declared.sources.Source.{Source}
 use Rattle.row_keeper.specs.Changes.{Inserts}
 use Rattle.row_keeper.specs.Tables.{columns_at, shapes_of}
 use Rattle.row_requests.specs.Written.{AreTablesBut}
+use Rattle.recalc.specs.Changes.{IsLeftBut}
 use Rattle.session_requests.specs.Caching.{AreSessionsBut, AreSources}
 use Rattle.session_requests.proofs.Readying.{sound_stays}
 use Rattle.session_requests.proofs.Anchoring.{fixed_as}
-use Rattle.session_requests.proofs.Caches.{has_place, inserted_but, noted_but, noted_counted, noted_day, noted_earlier, noted_later_as, noted_listed, noted_order, put_is, right_stays, table_noted, tables_told, there_and}
+use Rattle.session_requests.proofs.Caches.{has_place, inserted_but, noted_but, noted_counted, noted_day, noted_earlier, noted_later_as, noted_left, noted_listed, noted_order, put_is, right_stays, table_noted, tables_told, there_and}
 use Rattle.session_requests.proofs.Keeping.{inserted, inserted_sound}
 use Rattle.session_requests.proofs.world.SessionWorldWorld.insert.Goals as goal
 
@@ -77,6 +78,7 @@ invariant_of-self-in-Err-1 g c =
       listed = subst (λ (xs : List Source). AreSources (g.A.SoundApp.app w.app.now).names xs) (sym c.in_ok-reserve.ensures.items) w.listed;
       but = subst (λ (xs : List Source). AreSessionsBut (g.A.SoundApp.app w.app.now).names xs w.before.now w.session.now) (sym c.in_ok-reserve.ensures.items) w.but;
       counted = subst (λ (xs : List Source). w.earlier ≤ length xs) (sym c.in_ok-reserve.ensures.items) w.counted;
+      left = subst (λ (xs : List Source). IsLeftBut (g.A.SoundApp.app w.app.now) xs g.S.Start.start w.cache.now) (sym c.in_ok-reserve.ensures.items) w.left;
     }
 
 pub returns-in-Ok-clause-fixed : goal.returns-in-Ok-clause-fixed
@@ -100,3 +102,10 @@ returns-in-Ok-clause-put g c =
     (g.K.Keeper.began w.keeper.now) (g.K.Keeper.began c.insert.new.self) (g.K.Keeper.told w.keeper.now) (g.K.Keeper.told c.insert.new.self) w.shaped
     (noted_later_as (g.A.SoundApp.app w.app.now) c.written_by.result w.before.now w.session.now w.session.now w.wrote.now.items c.note.new.wrote.items w.cache.now c.note.new.cache w.moment w.earlier (g.K.Keeper.told w.keeper.now) n _ c.written_by.ensures w.counted)
     (g.met.K.Keeper.heard c.insert.new.self) c.in-Ok.ensures.put c.in-Ok.ensures.began
+
+pub invariant_of-self-in-Ok-clause-left : goal.invariant_of-self-in-Ok-clause-left
+invariant_of-self-in-Ok-clause-left g c =
+    let w = c.args.self.now in
+    let n = table_noted (g.A.SoundApp.app w.app.now) c.written_by.result w.session.now w.wrote.now.items c.reserve.new.self.items c.note.new.wrote.items w.cache.now c.note.new.cache (put_is (g.A.SoundApp.app w.app.now).names c.in-Ok.put c.args.table c.written_by.result (there_and _ (g.A.SoundApp.app w.app.now).names.schema.tables c.args.table c.requires) c.written_by.ensures)
+    c.note.ensures.wrote c.in_ok-reserve.ensures.items (c.note.ensures.touched (g.A.SoundApp.app w.app.now)) in
+    noted_left (g.A.SoundApp.app w.app.now) c.written_by.result w.before.now w.session.now w.session.now w.wrote.now.items c.note.new.wrote.items w.cache.now c.note.new.cache w.moment w.earlier (g.K.Keeper.told w.keeper.now) n g.S.Start.start w.left

@@ -1,4 +1,4 @@
-use Rattle.std.proofs.Common.{◌≡◌, ◌∙◌, Some, subst, sym}
+use Rattle.std.proofs.Common.{◌≡◌, ◌∙◌, [], Some, subst, sym}
 use Rattle.std.proofs.Math.Logic.{∥∥₁_map}
 use Rattle.std.specs.Prelude.{drop}
 use Rattle.fx_base.specs.Silence.{IsLost}
@@ -9,6 +9,8 @@ use Rattle.recalc.specs.app_semantics.Holding.{HoldsFitting}
 use Rattle.recalc.specs.app_semantics.Sound.{IsSound}
 use Rattle.fx_data.specs.Values.{Data}
 use Rattle.fx_scalar.specs.ScalarFunctions.{IsToday}
+use Rattle.recalc.proofs.Leaving.{left_all, left_then}
+use Rattle.recalc.specs.Changes.{IsLeftBut}
 use Rattle.recalc.specs.Kept.{IsInOrder, value_of}
 use Rattle.recalc.specs.Outcomes.{IsRightOver}
 use Rattle.session_requests.specs.Grounds.{grounds}
@@ -62,3 +64,10 @@ invariant_of-self-clause-shaped g c = c.refresh_behind.ensures.read.shaped ∙ c
 
 pub invariant_of-self-clause-begun : goal.invariant_of-self-clause-begun
 invariant_of-self-clause-begun g c = c.refresh_behind.ensures.read.mode ∙ c.args.self.now.begun
+
+pub invariant_of-self-clause-left : goal.invariant_of-self-clause-left
+invariant_of-self-clause-left g c =
+    let w = c.args.self.now in
+    let app = g.A.SoundApp.app w.app.now in
+    left_then app w.wrote.now.items g.S.Start.start w.cache.now c.refresh_behind.new.cache w.left
+    (left_all app w.wrote.now.items w.cache.now c.refresh_behind.new.cache (subst (λ (a : App). IsLeftBut a [] w.cache.now c.refresh_behind.new.cache) c.get-app.ensures c.refresh_behind.ensures.but))
