@@ -18,14 +18,14 @@ pub none_given : {C A : Type 0} (P : ℕ → C → Option A → Type 0) (k i : �
 none_given {C} {A} P k i cs given first e =
     subst (λ (n : ℕ). GivenUpTo P k cs n given) (sym first) (subst (λ (xs : List A). GivenUpTo P k cs 0 xs) (sym e) (none P k cs))
 
-split : {C : Type 0} (cs : List C) (i : ℕ) (c : C) → i < length cs → c ≡ get_or cs i c → drop i cs ≡ c ∷ drop (i + 1) cs
+pub split : {C : Type 0} (cs : List C) (i : ℕ) (c : C) → i < length cs → c ≡ get_or cs i c → drop i cs ≡ c ∷ drop (i + 1) cs
 split [] i c l e = absurd (omega (arith, l))
 split (x ∷ cs) zero c l e = ap (λ y. y ∷ cs) (sym e)
 split (x ∷ cs) (suc i) c l e =
     let same : suc i + 1 ≡ suc (i + 1) = omega arith in
     split cs i c (omega (arith, l)) e ∙ ap (λ n. c ∷ drop n (x ∷ cs)) (sym same)
 
-put_more : {A : Type 0} (o : Option A) (rest : List A) → put o rest ≡ put o [] ++ rest
+pub put_more : {A : Type 0} (o : Option A) (rest : List A) → put o rest ≡ put o [] ++ rest
 put_more (Some x) rest = refl
 put_more None rest = refl
 

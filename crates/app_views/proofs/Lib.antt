@@ -9,3 +9,4 @@ pub mod Pages
 pub mod Places
 pub mod Replies
 pub mod Single
+pub mod Visiting

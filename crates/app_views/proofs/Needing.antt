@@ -67,6 +67,7 @@ pub leaves_none : (a : App) (c : Kept) → Leaves a c c
 leaves_none a c = record {
   still = λ k h. h;
   later = record { still = λ k h. h; moved = λ k e f x y same. ap (λ (s : Stamp). s.moved) (one_stamp e f (stamp_of c k) x y) };
+  emptied = refl;
   versions = refl;
   day = refl;
 }

@@ -1,6 +1,7 @@
 pub mod Looking
 pub mod Bounds
 pub mod Views
+pub mod Visits
 pub mod Galleries
 pub mod Ready
 pub mod Shows

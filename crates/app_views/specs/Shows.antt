@@ -1,5 +1,5 @@
 -- What is said to sessions that ask for their view, or for the items of a gallery.
-use Rattle.std.specs.Prelude.{◌≡◌, ℕ, List, Option, Some, None, IsSome}
+use Rattle.std.specs.Prelude.{◌≡◌, ◌≤◌, ℕ, List, Option, Some, None, IsSome}
 use Rattle.std.specs.List.{AllByRecursion}
 use Rattle.recalc.specs.app_cells.declared.app.App.{App}
 use Rattle.recalc.specs.app_semantics.Present.{Present, present}
@@ -7,6 +7,7 @@ use Rattle.app_views.specs.Bounds.{AreMade, AreSteps, items_steps, shown_steps}
 use Rattle.app_views.specs.Galleries.{gallery_named}
 use Rattle.app_views.specs.Looking.{is_it, is_on}
 use Rattle.app_views.specs.Views.{AreFreshItems, IsFreshView}
+use Rattle.app_views.specs.Visits.{AreRowsVisited, GivenItemsVisit, ScreenVisits}
 use Rattle.app_wire.specs.ReplyBytes.{refusal, reply}
 use Rattle.fx_base.specs.Silence.{Goes}
 use Rattle.fx_base.specs.Telling.{Stays}
@@ -15,6 +16,7 @@ use Rattle.recalc.specs.Kept.{Kept}
 use Rattle.request_checks.specs.Directory.{find}
 use Rattle.request_checks.specs.declared.directory.Named.{Named}
 use Rattle.row_keeper.specs.Tables.{Tables, rows_told}
+use Rattle.row_queries.specs.declared.rows.Row.{Row}
 use Rattle.session_state.specs.Changes.{FitsNames}
 use Rattle.session_state.specs.Sessions.{SessionState}
 use Rattle.view_text.specs.ViewText.{items_text, view_text}
@@ -38,6 +40,11 @@ ShowsViewTo lost app moment (Some s) tables said tables' =
 abbrev pub CostsView : App → SessionState → Kept → Kept → ℕ → ℕ → List ℕ → Type 0
 CostsView a s old new before after said =
     (v : View) × (said ≡ reply 200 (view_text v)) × AreSteps a (is_on a.names s.screen) old new (shown_steps a.names v.shown) before after
+
+-- THE ROWS THAT A VIEW VISITS, where those of tables are these: of the same cells and formulas
+abbrev pub VisitsView : App → SessionState → List (List Row) → ℕ → Kept → Kept → ℕ → ℕ → ℕ → List ℕ → Type 0
+VisitsView a s rows m old new steps before now said =
+    ∥ ((v : View) × (said ≡ reply 200 (view_text v)) × AreRowsVisited a s rows m (is_on a.names s.screen) old new (λ values. ScreenVisits a s rows m values v.shown) steps before now) ∥₁
 
 -- THE route of views
 abbrev pub ShowsView : Type 0 → ℕ → App → List ℕ → List (Named SessionState) → Option Tables → List ℕ → Option Tables → Type 0
@@ -63,6 +70,12 @@ SaysItemsOf lost p from (Some g) tables said tables' = ((o : Option Items) × �
 abbrev pub CostsItems : App → Option ℕ → Kept → Kept → ℕ → ℕ → List ℕ → Type 0
 CostsItems a None old new before after said = (new ≡ old) × (after ≡ before)
 CostsItems a (Some g) old new before after said = (o : Option Items) × (said ≡ items_reply o) × AreSteps a (is_it g) old new (items_steps a.names g o) before after
+
+-- THE ROWS THAT ITEMS VISIT, likewise
+abbrev pub VisitsItems : App → SessionState → List (List Row) → ℕ → ℕ → Option ℕ → Kept → Kept → ℕ → ℕ → ℕ → List ℕ → Type 0
+VisitsItems a s rows m from None old new steps before now said = now ≤ before
+VisitsItems a s rows m from (Some g) old new steps before now said =
+    ∥ ((o : Option Items) × (said ≡ items_reply o) × AreRowsVisited a s rows m (is_it g) old new (λ values. GivenItemsVisit a s rows m values g from o) steps before now) ∥₁
 
 -- the cells are clean to which the items look
 abbrev pub MakesItems : App → Option ℕ → Kept → Type 0

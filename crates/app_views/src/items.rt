@@ -8,12 +8,16 @@ ghost use Rattle.app_views.specs.Looking.{is_it};
 ghost use Rattle.app_views.specs.Galleries.{gallery_named as named_gallery, is_gallery as is_gallery_kind, is_gallery_named as is_named_gallery};
 ghost use Rattle.app_views.specs.Ready.{CanShow, IsGalleryOf, IsItemOf};
 ghost use Rattle.app_views.specs.Views.{AreFreshItems, AreGiven, AreItemsFrom, AreRowItems, AreSeenItems, IsItemAt, fault_in as fault_of, is_seen_at as is_seen_by_number};
+ghost use Rattle.app_views.specs.Visits.{AreRowsVisited, AreVisited, GivenItemsVisit, ItemAtVisits, ItemsVisit, RowItemsVisit};
 ghost use Rattle.fx_data.specs.ValueView.{view};
 ghost use Rattle.fx_scalar.specs.ScalarFunctions.{IsToday};
 ghost use Rattle.recalc.specs.fx_semantics.Rows.{rows_in as rows_of_value};
 ghost use Rattle.fx_value.specs.Columns.{Row};
 ghost use Rattle.recalc.specs.Asking.{HasRead, IsHeardOf, ToldRows, keeping};
 ghost use Rattle.recalc.specs.Values.{value_of};
+ghost use Rattle.recalc.specs.Visits.{WhereTold};
+ghost use Rattle.recalc.specs.fx_eval.Visits.{AtMost};
+ghost use Rattle.recalc.specs.Changes.{IsLeftBut};
 ghost use Rattle.recalc.specs.Kept.{HasRoom, IsInOrder};
 ghost use Rattle.recalc.specs.Outcomes.{IsRightOver};
 ghost use Rattle.recalc.specs.Steps.{Leaves};
@@ -55,6 +59,8 @@ fn item_view<K: Keeper, L: Ledger>(
     requires shaped { K.shaped keeper.old ≡ Some app.now.names.schema }
     ensures shows { IfOk result (λ i. (moment : ℕ) (tables : ToldRows) → IsToday moment valued.now.day → IsHeardOf (K.told keeper.new) tables → IsItemAt (present app.now session.now tables moment) (value_of valued.now) gallery at row.now (Some i)) }
     ensures ticks { IfOk result (λ i. steps.new ≤ steps.old + formulas_for app.now.names (is_it gallery)) }
+    ensures visits { IfOk result (λ i. (moment : ℕ) → IsToday moment valued.now.day → WhereTold (K.told keeper.new) (λ told.
+        AtMost (ItemAtVisits app.now session.now told moment (value_of valued.now) gallery at row.now (Some i)) (K.visited keeper.old) (K.visited keeper.new))) }
     ensures read { HasRead (keeping (K.told keeper.old) (K.began keeper.old) (K.shaped keeper.old) (K.in_transaction keeper.old) (K.marks keeper.old) (K.visited keeper.old) (K.loan keeper.old))
         (keeping (K.told keeper.new) (K.began keeper.new) (K.shaped keeper.new) (K.in_transaction keeper.new) (K.marks keeper.new) (K.visited keeper.new) (K.loan keeper.new)) }
     ensures cause { HasCause (K.marks keeper.old) (K.marks keeper.new) result }
@@ -84,6 +90,8 @@ fn item_views<K: Keeper, L: Ledger>(
     requires shaped { K.shaped keeper.old ≡ Some app.now.names.schema }
     ensures shows { IfOk result (λ l. (moment : ℕ) (tables : ToldRows) → IsToday moment valued.now.day → IsHeardOf (K.told keeper.new) tables → AreGiven (IsItemAt (present app.now session.now tables moment) (value_of valued.now) gallery) first rows.now l) }
     ensures ticks { IfOk result (λ l. steps.new ≤ steps.old + length l * formulas_for app.now.names (is_it gallery)) }
+    ensures visits { IfOk result (λ l. (moment : ℕ) → IsToday moment valued.now.day → WhereTold (K.told keeper.new) (λ told.
+        AtMost (AreVisited (ItemAtVisits app.now session.now told moment (value_of valued.now) gallery) first rows.now l) (K.visited keeper.old) (K.visited keeper.new))) }
     ensures read { HasRead (keeping (K.told keeper.old) (K.began keeper.old) (K.shaped keeper.old) (K.in_transaction keeper.old) (K.marks keeper.old) (K.visited keeper.old) (K.loan keeper.old))
         (keeping (K.told keeper.new) (K.began keeper.new) (K.shaped keeper.new) (K.in_transaction keeper.new) (K.marks keeper.new) (K.visited keeper.new) (K.loan keeper.new)) }
     ensures cause { HasCause (K.marks keeper.old) (K.marks keeper.new) result }
@@ -126,6 +134,8 @@ fn table_items<K: Keeper, L: Ledger>(
     requires shaped { K.shaped keeper.old ≡ Some app.now.names.schema }
     ensures shows { IfOk result (λ i. (moment : ℕ) (tables : ToldRows) → IsToday moment valued.now.day → IsHeardOf (K.told keeper.new) tables → AreRowItems (present app.now session.now tables moment) (value_of valued.now) gallery from rows.now i) }
     ensures ticks { IfOk result (λ i. steps.new ≤ steps.old + length i.list * formulas_for app.now.names (is_it gallery)) }
+    ensures visits { IfOk result (λ i. (moment : ℕ) → IsToday moment valued.now.day → WhereTold (K.told keeper.new) (λ told.
+        AtMost (RowItemsVisit app.now session.now told moment (value_of valued.now) gallery from rows.now i) (K.visited keeper.old) (K.visited keeper.new))) }
     ensures read { HasRead (keeping (K.told keeper.old) (K.began keeper.old) (K.shaped keeper.old) (K.in_transaction keeper.old) (K.marks keeper.old) (K.visited keeper.old) (K.loan keeper.old))
         (keeping (K.told keeper.new) (K.began keeper.new) (K.shaped keeper.new) (K.in_transaction keeper.new) (K.marks keeper.new) (K.visited keeper.new) (K.loan keeper.new)) }
     ensures cause { HasCause (K.marks keeper.old) (K.marks keeper.new) result }
@@ -168,6 +178,8 @@ pub(crate) fn items_from<K: Keeper, L: Ledger>(
     requires shaped { K.shaped keeper.old ≡ Some app.now.names.schema }
     ensures shows { IfOk result (λ i. (moment : ℕ) (tables : ToldRows) → IsToday moment valued.now.day → IsHeardOf (K.told keeper.new) tables → AreItemsFrom (present app.now session.now tables moment) (value_of valued.now) gallery from i) }
     ensures ticks { IfOk result (λ i. steps.new ≤ steps.old + length i.list * formulas_for app.now.names (is_it gallery)) }
+    ensures visits { IfOk result (λ i. (moment : ℕ) → IsToday moment valued.now.day → WhereTold (K.told keeper.new) (λ told.
+        AtMost (ItemsVisit app.now session.now told moment (value_of valued.now) gallery from i) (K.visited keeper.old) (K.visited keeper.new))) }
     ensures read { HasRead (keeping (K.told keeper.old) (K.began keeper.old) (K.shaped keeper.old) (K.in_transaction keeper.old) (K.marks keeper.old) (K.visited keeper.old) (K.loan keeper.old))
         (keeping (K.told keeper.new) (K.began keeper.new) (K.shaped keeper.new) (K.in_transaction keeper.new) (K.marks keeper.new) (K.visited keeper.new) (K.loan keeper.new)) }
     ensures cause { HasCause (K.marks keeper.old) (K.marks keeper.new) result }
@@ -254,8 +266,11 @@ pub fn items_of<K: Keeper, L: Ledger>(
     ensures right { IsRightOver app.now session.now (K.told keeper.old) moment cache.old → IsRightOver app.now session.now (K.told keeper.new) moment cache.new }
     ensures day { cache.new.values.day ≡ cache.old.values.day }
     ensures left { HasRoom cache.old.last → Leaves app.now cache.old cache.new }
+    ensures but { IsLeftBut app.now [] cache.old cache.new }
     ensures made { OnOk result (AreMade app.now (is_it gallery) cache.new) }
     ensures ticks { IfOk result (λ o. HasRoom cache.old.last → AreSteps app.now (is_it gallery) cache.old cache.new (items_steps app.now.names gallery o) steps.old steps.new) }
+    ensures visits { IfOk result (λ o. IsRightOver app.now session.now (K.told keeper.old) moment cache.old → HasRoom cache.old.last → WhereTold (K.told keeper.new) (λ told.
+        AreRowsVisited app.now session.now told moment (is_it gallery) cache.old cache.new (λ values. GivenItemsVisit app.now session.now told moment values gallery from o) steps.old (K.visited keeper.old) (K.visited keeper.new))) }
     ensures read { HasRead (keeping (K.told keeper.old) (K.began keeper.old) (K.shaped keeper.old) (K.in_transaction keeper.old) (K.marks keeper.old) (K.visited keeper.old) (K.loan keeper.old))
         (keeping (K.told keeper.new) (K.began keeper.new) (K.shaped keeper.new) (K.in_transaction keeper.new) (K.marks keeper.new) (K.visited keeper.new) (K.loan keeper.new)) }
     ensures cause { HasCause (K.marks keeper.old) (K.marks keeper.new) result }
@@ -291,6 +306,8 @@ fn items_by<K: Keeper, L: Ledger>(
     requires shaped { K.shaped keeper.old ≡ Some app.now.names.schema }
     ensures shows { IfOk result (λ o. (moment : ℕ) (tables : ToldRows) → IsToday moment valued.now.day → IsHeardOf (K.told keeper.new) tables → AreSeenItems (present app.now session.now tables moment) (value_of valued.now) gallery from o) }
     ensures ticks { IfOk result (λ o. steps.new ≤ steps.old + items_steps app.now.names gallery o) }
+    ensures visits { IfOk result (λ o. (moment : ℕ) → IsToday moment valued.now.day → WhereTold (K.told keeper.new) (λ told.
+        AtMost (GivenItemsVisit app.now session.now told moment (value_of valued.now) gallery from o) (K.visited keeper.old) (K.visited keeper.new))) }
     ensures read { HasRead (keeping (K.told keeper.old) (K.began keeper.old) (K.shaped keeper.old) (K.in_transaction keeper.old) (K.marks keeper.old) (K.visited keeper.old) (K.loan keeper.old))
         (keeping (K.told keeper.new) (K.began keeper.new) (K.shaped keeper.new) (K.in_transaction keeper.new) (K.marks keeper.new) (K.visited keeper.new) (K.loan keeper.new)) }
     ensures cause { HasCause (K.marks keeper.old) (K.marks keeper.new) result }

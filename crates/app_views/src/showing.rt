@@ -1,19 +1,21 @@
 //! What is shown to sessions.
-ghost use Rattle.std.specs.Prelude.{◌≡◌, IfOk, IsErrOf, IsSome, OnOk, Some};
+ghost use Rattle.std.specs.Prelude.{◌≡◌, [], IfOk, IsErrOf, IsSome, OnOk, Some};
 ghost use Rattle.app_views.specs.Bounds.{AreMade};
 ghost use Rattle.app_views.specs.Galleries.{gallery_named as named_gallery};
 ghost use Rattle.app_views.specs.Looking.{is_on};
 ghost use Rattle.app_views.specs.Ready.{IsGalleryOf};
-ghost use Rattle.app_views.specs.Shows.{CostsItems, CostsView, MakesItems, SaysItemsOf, ShowsItemsTo, ShowsViewTo, items_reply as reply_of_items};
+ghost use Rattle.app_views.specs.Shows.{CostsItems, CostsView, MakesItems, SaysItemsOf, ShowsItemsTo, ShowsViewTo, VisitsItems, VisitsView, items_reply as reply_of_items};
 ghost use Rattle.app_wire.specs.ReplyBytes.{reply};
 ghost use Rattle.recalc.specs.Asking.{HasRead, keeping};
 ghost use Rattle.recalc.specs.app_semantics.Present.{present};
 ghost use Rattle.recalc.specs.app_semantics.Sound.{IsSound};
 ghost use Rattle.fx_base.specs.Silence.{IsLost};
 ghost use Rattle.fx_scalar.specs.ScalarFunctions.{IsToday};
+ghost use Rattle.recalc.specs.Changes.{IsLeftBut};
 ghost use Rattle.recalc.specs.Kept.{HasRoom, IsInOrder};
 ghost use Rattle.recalc.specs.Outcomes.{IsRightOver};
 ghost use Rattle.recalc.specs.Steps.{Leaves};
+ghost use Rattle.recalc.specs.Visits.{WhereTold};
 ghost use Rattle.request_checks.specs.Replies.{IsReply, said};
 ghost use Rattle.row_keeper.specs.Causes.{HasCause};
 ghost use Rattle.row_keeper.specs.Tables.{rows_told};
@@ -59,8 +61,10 @@ pub fn show_view<K: Keeper, L: Ledger>(
     ensures right { ∥ IsRightOver app.now session.now (K.told keeper.new) moment cache.new ∥₁ }
     ensures day { cache.new.values.day ≡ cache.old.values.day }
     ensures left { HasRoom cache.old.last → Leaves app.now cache.old cache.new }
+    ensures but { IsLeftBut app.now [] cache.old cache.new }
     ensures made { OnOk result (AreMade app.now (is_on app.now.names session.now.screen) cache.new) }
     ensures ticks { IfOk result (λ r. HasRoom cache.old.last → CostsView app.now session.now cache.old cache.new steps.old steps.new (said r)) }
+    ensures visits { IfOk result (λ r. HasRoom cache.old.last → WhereTold (K.told keeper.new) (λ told. VisitsView app.now session.now told moment cache.old cache.new steps.old (K.visited keeper.old) (K.visited keeper.new) (said r))) }
     ensures read { HasRead (keeping (K.told keeper.old) (K.began keeper.old) (K.shaped keeper.old) (K.in_transaction keeper.old) (K.marks keeper.old) (K.visited keeper.old) (K.loan keeper.old))
         (keeping (K.told keeper.new) (K.began keeper.new) (K.shaped keeper.new) (K.in_transaction keeper.new) (K.marks keeper.new) (K.visited keeper.new) (K.loan keeper.new)) }
     ensures cause { HasCause (K.marks keeper.old) (K.marks keeper.new) result }
@@ -83,7 +87,7 @@ fn view_reply(alloc: Global, view: &View) -> Result<Reply, Memory>
 /// moment in seconds since 1970-01-01 UTC: a hundred at most. It is refused of no such gallery (15), and of one that isn't on the
 /// current screen or isn't visible (17). What is kept for it is right afterwards, also where it stops; the cells to which the items
 /// look are then clean, and what was clean stays so. `Failed` only where the keeper counted a fault.
-#[tactic(auto, using(recalc::proofs::Asked::read_none, crate::proofs::Needing::leaves_none))]
+#[tactic(auto, using(recalc::proofs::Asked::read_none, crate::proofs::Needing::leaves_none, recalc::proofs::Leaving::left_same))]
 pub fn show_items<K: Keeper, L: Ledger>(
     alloc: Global,
     app: &App,
@@ -108,8 +112,10 @@ pub fn show_items<K: Keeper, L: Ledger>(
     ensures right { ∥ IsRightOver app.now session.now (K.told keeper.new) moment cache.new ∥₁ }
     ensures day { cache.new.values.day ≡ cache.old.values.day }
     ensures left { HasRoom cache.old.last → Leaves app.now cache.old cache.new }
+    ensures but { IsLeftBut app.now [] cache.old cache.new }
     ensures made { OnOk result (MakesItems app.now (named_gallery gallery.now app.now.names) cache.new) }
     ensures ticks { IfOk result (λ r. HasRoom cache.old.last → CostsItems app.now (named_gallery gallery.now app.now.names) cache.old cache.new steps.old steps.new (said r)) }
+    ensures visits { IfOk result (λ r. HasRoom cache.old.last → WhereTold (K.told keeper.new) (λ told. VisitsItems app.now session.now told moment from (named_gallery gallery.now app.now.names) cache.old cache.new steps.old (K.visited keeper.old) (K.visited keeper.new) (said r))) }
     ensures read { HasRead (keeping (K.told keeper.old) (K.began keeper.old) (K.shaped keeper.old) (K.in_transaction keeper.old) (K.marks keeper.old) (K.visited keeper.old) (K.loan keeper.old))
         (keeping (K.told keeper.new) (K.began keeper.new) (K.shaped keeper.new) (K.in_transaction keeper.new) (K.marks keeper.new) (K.visited keeper.new) (K.loan keeper.new)) }
     ensures cause { HasCause (K.marks keeper.old) (K.marks keeper.new) result }
@@ -147,8 +153,10 @@ fn show_items_of<K: Keeper, L: Ledger>(
     ensures right { ∥ IsRightOver app.now session.now (K.told keeper.new) moment cache.new ∥₁ }
     ensures day { cache.new.values.day ≡ cache.old.values.day }
     ensures left { HasRoom cache.old.last → Leaves app.now cache.old cache.new }
+    ensures but { IsLeftBut app.now [] cache.old cache.new }
     ensures made { OnOk result (MakesItems app.now (Some gallery) cache.new) }
     ensures ticks { IfOk result (λ r. HasRoom cache.old.last → CostsItems app.now (Some gallery) cache.old cache.new steps.old steps.new (said r)) }
+    ensures visits { IfOk result (λ r. HasRoom cache.old.last → WhereTold (K.told keeper.new) (λ told. VisitsItems app.now session.now told moment from (Some gallery) cache.old cache.new steps.old (K.visited keeper.old) (K.visited keeper.new) (said r))) }
     ensures read { HasRead (keeping (K.told keeper.old) (K.began keeper.old) (K.shaped keeper.old) (K.in_transaction keeper.old) (K.marks keeper.old) (K.visited keeper.old) (K.loan keeper.old))
         (keeping (K.told keeper.new) (K.began keeper.new) (K.shaped keeper.new) (K.in_transaction keeper.new) (K.marks keeper.new) (K.visited keeper.new) (K.loan keeper.new)) }
     ensures cause { HasCause (K.marks keeper.old) (K.marks keeper.new) result }

@@ -7,9 +7,13 @@ ghost use Rattle.app_views.specs.Bounds.{AreMade, AreSteps, items_steps, shown_s
 ghost use Rattle.app_views.specs.Looking.{is_on};
 ghost use Rattle.app_views.specs.Ready.{CanShow};
 ghost use Rattle.app_views.specs.Views.{AreGiven, IsFreshView, IsShown, IsShownControl, IsView, ShowsFirstItems, is_shown as is_shown_of, put};
+ghost use Rattle.app_views.specs.Visits.{AreRowsVisited, GivenItemsVisit, ScreenVisits, ShownVisits};
 ghost use Rattle.fx_scalar.specs.ScalarFunctions.{IsToday};
 ghost use Rattle.recalc.specs.Asking.{HasRead, IsHeardOf, ToldRows, keeping};
 ghost use Rattle.recalc.specs.Values.{value_of};
+ghost use Rattle.recalc.specs.Visits.{WhereTold};
+ghost use Rattle.recalc.specs.fx_eval.Visits.{AtMost};
+ghost use Rattle.recalc.specs.Changes.{IsLeftBut};
 ghost use Rattle.recalc.specs.Kept.{HasRoom, IsInOrder};
 ghost use Rattle.recalc.specs.Outcomes.{IsRightOver};
 ghost use Rattle.recalc.specs.Steps.{Leaves};
@@ -33,7 +37,7 @@ use view_text::{Items, Shown, ShownList, View};
 /// What a session shows at a moment, in seconds since 1970-01-01 UTC: its screen, and the controls that are shown on it, in
 /// the order of the app. What was kept right stays so, also where it stops; the cells that are looked at are clean afterwards, and
 /// what was clean stays so. `Failed` only where the keeper counted a fault.
-#[tactic(auto, using(recalc::proofs::Asked::read_none, recalc::proofs::Asked::read_on, crate::proofs::Needing::leaves_none))]
+#[tactic(auto, using(recalc::proofs::Asked::read_none, recalc::proofs::Asked::read_on, crate::proofs::Needing::leaves_none, recalc::proofs::Leaving::left_same))]
 pub fn view_of<K: Keeper, L: Ledger>(
     alloc: Global,
     app: &App,
@@ -54,8 +58,11 @@ pub fn view_of<K: Keeper, L: Ledger>(
     ensures right { IsRightOver app.now session.now (K.told keeper.old) moment cache.old → IsRightOver app.now session.now (K.told keeper.new) moment cache.new }
     ensures day { cache.new.values.day ≡ cache.old.values.day }
     ensures left { HasRoom cache.old.last → Leaves app.now cache.old cache.new }
+    ensures but { IsLeftBut app.now [] cache.old cache.new }
     ensures made { OnOk result (AreMade app.now (is_on app.now.names session.now.screen) cache.new) }
     ensures ticks { IfOk result (λ v. HasRoom cache.old.last → AreSteps app.now (is_on app.now.names session.now.screen) cache.old cache.new (shown_steps app.now.names v.shown) steps.old steps.new) }
+    ensures visits { IfOk result (λ v. IsRightOver app.now session.now (K.told keeper.old) moment cache.old → HasRoom cache.old.last → WhereTold (K.told keeper.new) (λ told.
+        AreRowsVisited app.now session.now told moment (is_on app.now.names session.now.screen) cache.old cache.new (λ values. ScreenVisits app.now session.now told moment values v.shown) steps.old (K.visited keeper.old) (K.visited keeper.new))) }
     ensures read { HasRead (keeping (K.told keeper.old) (K.began keeper.old) (K.shaped keeper.old) (K.in_transaction keeper.old) (K.marks keeper.old) (K.visited keeper.old) (K.loan keeper.old))
         (keeping (K.told keeper.new) (K.began keeper.new) (K.shaped keeper.new) (K.in_transaction keeper.new) (K.marks keeper.new) (K.visited keeper.new) (K.loan keeper.new)) }
     ensures cause { HasCause (K.marks keeper.old) (K.marks keeper.new) result }
@@ -81,6 +88,8 @@ fn view_by<K: Keeper, L: Ledger>(
     requires shaped { K.shaped keeper.old ≡ Some app.now.names.schema }
     ensures shows { IfOk result (λ v. (moment : ℕ) (tables : ToldRows) → IsToday moment valued.now.day → IsHeardOf (K.told keeper.new) tables → IsView (present app.now session.now tables moment) (value_of valued.now) v) }
     ensures ticks { IfOk result (λ v. steps.new ≤ steps.old + shown_steps app.now.names v.shown) }
+    ensures visits { IfOk result (λ v. (moment : ℕ) → IsToday moment valued.now.day → WhereTold (K.told keeper.new) (λ told.
+        AtMost (ScreenVisits app.now session.now told moment (value_of valued.now) v.shown) (K.visited keeper.old) (K.visited keeper.new))) }
     ensures read { HasRead (keeping (K.told keeper.old) (K.began keeper.old) (K.shaped keeper.old) (K.in_transaction keeper.old) (K.marks keeper.old) (K.visited keeper.old) (K.loan keeper.old))
         (keeping (K.told keeper.new) (K.began keeper.new) (K.shaped keeper.new) (K.in_transaction keeper.new) (K.marks keeper.new) (K.visited keeper.new) (K.loan keeper.new)) }
     ensures cause { HasCause (K.marks keeper.old) (K.marks keeper.new) result }
@@ -110,6 +119,8 @@ fn all_shown<K: Keeper, L: Ledger>(
     requires shaped { K.shaped keeper.old ≡ Some app.now.names.schema }
     ensures shows { IfOk result (λ l. (moment : ℕ) (tables : ToldRows) → IsToday moment valued.now.day → IsHeardOf (K.told keeper.new) tables → AreGiven (IsShown (present app.now session.now tables moment) (value_of valued.now)) 0 app.now.names.controls l) }
     ensures ticks { IfOk result (λ l. steps.new ≤ steps.old + shown_steps app.now.names l) }
+    ensures visits { IfOk result (λ l. (moment : ℕ) → IsToday moment valued.now.day → WhereTold (K.told keeper.new) (λ told.
+        AtMost (ScreenVisits app.now session.now told moment (value_of valued.now) l) (K.visited keeper.old) (K.visited keeper.new))) }
     ensures read { HasRead (keeping (K.told keeper.old) (K.began keeper.old) (K.shaped keeper.old) (K.in_transaction keeper.old) (K.marks keeper.old) (K.visited keeper.old) (K.loan keeper.old))
         (keeping (K.told keeper.new) (K.began keeper.new) (K.shaped keeper.new) (K.in_transaction keeper.new) (K.marks keeper.new) (K.visited keeper.new) (K.loan keeper.new)) }
     ensures cause { HasCause (K.marks keeper.old) (K.marks keeper.new) result }
@@ -155,6 +166,8 @@ fn shown_control<K: Keeper, L: Ledger>(
     requires shaped { K.shaped keeper.old ≡ Some app.now.names.schema }
     ensures shows { IfOk result (λ o. (moment : ℕ) (tables : ToldRows) → IsToday moment valued.now.day → IsHeardOf (K.told keeper.new) tables → IsShown (present app.now session.now tables moment) (value_of valued.now) number control.now o) }
     ensures ticks { IfOk result (λ o. steps.new ≤ steps.old + shown_steps app.now.names (put o [])) }
+    ensures visits { IfOk result (λ o. (moment : ℕ) → IsToday moment valued.now.day → WhereTold (K.told keeper.new) (λ told.
+        AtMost (ShownVisits app.now session.now told moment (value_of valued.now) number control.now o) (K.visited keeper.old) (K.visited keeper.new))) }
     ensures read { HasRead (keeping (K.told keeper.old) (K.began keeper.old) (K.shaped keeper.old) (K.in_transaction keeper.old) (K.marks keeper.old) (K.visited keeper.old) (K.loan keeper.old))
         (keeping (K.told keeper.new) (K.began keeper.new) (K.shaped keeper.new) (K.in_transaction keeper.new) (K.marks keeper.new) (K.visited keeper.new) (K.loan keeper.new)) }
     ensures cause { HasCause (K.marks keeper.old) (K.marks keeper.new) result }
@@ -184,6 +197,8 @@ fn shown_with<K: Keeper, L: Ledger>(
     requires shaped { K.shaped keeper.old ≡ Some app.now.names.schema }
     ensures shows { IfOk result (λ s. (moment : ℕ) (tables : ToldRows) → IsToday moment valued.now.day → IsHeardOf (K.told keeper.new) tables → IsShownControl (present app.now session.now tables moment) (value_of valued.now) number control.now s) }
     ensures ticks { IfOk result (λ s. steps.new ≤ steps.old + shown_steps app.now.names (s ∷ [])) }
+    ensures visits { IfOk result (λ s. (moment : ℕ) → IsToday moment valued.now.day → WhereTold (K.told keeper.new) (λ told.
+        AtMost (ShownVisits app.now session.now told moment (value_of valued.now) number control.now (Some s)) (K.visited keeper.old) (K.visited keeper.new))) }
     ensures read { HasRead (keeping (K.told keeper.old) (K.began keeper.old) (K.shaped keeper.old) (K.in_transaction keeper.old) (K.marks keeper.old) (K.visited keeper.old) (K.loan keeper.old))
         (keeping (K.told keeper.new) (K.began keeper.new) (K.shaped keeper.new) (K.in_transaction keeper.new) (K.marks keeper.new) (K.visited keeper.new) (K.loan keeper.new)) }
     ensures cause { HasCause (K.marks keeper.old) (K.marks keeper.new) result }
@@ -217,6 +232,8 @@ fn shown_items<K: Keeper, L: Ledger>(
     requires shaped { K.shaped keeper.old ≡ Some app.now.names.schema }
     ensures shows { IfOk result (λ o. (moment : ℕ) (tables : ToldRows) → IsToday moment valued.now.day → IsHeardOf (K.told keeper.new) tables → ShowsFirstItems (present app.now session.now tables moment) (value_of valued.now) number control.now.kind o) }
     ensures ticks { IfOk result (λ o. steps.new ≤ steps.old + items_steps app.now.names number o) }
+    ensures visits { IfOk result (λ o. (moment : ℕ) → IsToday moment valued.now.day → WhereTold (K.told keeper.new) (λ told.
+        AtMost (GivenItemsVisit app.now session.now told moment (value_of valued.now) number 1 o) (K.visited keeper.old) (K.visited keeper.new))) }
     ensures read { HasRead (keeping (K.told keeper.old) (K.began keeper.old) (K.shaped keeper.old) (K.in_transaction keeper.old) (K.marks keeper.old) (K.visited keeper.old) (K.loan keeper.old))
         (keeping (K.told keeper.new) (K.began keeper.new) (K.shaped keeper.new) (K.in_transaction keeper.new) (K.marks keeper.new) (K.visited keeper.new) (K.loan keeper.new)) }
     ensures cause { HasCause (K.marks keeper.old) (K.marks keeper.new) result }

@@ -1,3 +1,7 @@
+use Rattle.app_views.specs.Visits.{ItemAtVisits}
+use Rattle.app_views.proofs.Visiting.{VisitedUpTo}
+use Rattle.recalc.specs.fx_eval.Visits.{AtMost}
+use Rattle.recalc.specs.Visits.{WhereTold}
 use Rattle.std.proofs.Common.{◌≡◌, ◌+◌, ◌*◌, ◌≤◌, length, ℕ}
 use Rattle.recalc.specs.app_semantics.Present.{present}
 use Rattle.app_views.specs.Bounds.{formulas_for}
@@ -14,6 +18,7 @@ invariant-loop-row g l = record {
   at : l.at ≡ l.first + l.row-index;
   ticks : l.steps ≤ l.fn.steps + length l.list * formulas_for l.app.names (is_it l.gallery);
   given : (moment : ℕ) (tables : ToldRows) → IsToday moment l.valued.day → IsHeardOf (g.K.Keeper.told l.keeper) tables → GivenUpTo (IsItemAt (present l.app l.session tables moment) (value_of l.valued) l.gallery) l.first l.rows l.row-index l.list;
+  visits : (moment : ℕ) → IsToday moment l.valued.day → WhereTold (g.K.Keeper.told l.keeper) (λ told. AtMost (VisitedUpTo (ItemAtVisits l.app l.session told moment (value_of l.valued) l.gallery) l.first l.rows l.row-index l.list) (g.K.Keeper.visited l.fn.keeper) (g.K.Keeper.visited l.keeper));
   read : HasRead (keeping (g.K.Keeper.told l.fn.keeper) (g.K.Keeper.began l.fn.keeper) (g.K.Keeper.shaped l.fn.keeper) (g.K.Keeper.in_transaction l.fn.keeper) (g.K.Keeper.marks l.fn.keeper) (g.K.Keeper.visited l.fn.keeper) (g.K.Keeper.loan l.fn.keeper))
       (keeping (g.K.Keeper.told l.keeper) (g.K.Keeper.began l.keeper) (g.K.Keeper.shaped l.keeper) (g.K.Keeper.in_transaction l.keeper) (g.K.Keeper.marks l.keeper) (g.K.Keeper.visited l.keeper) (g.K.Keeper.loan l.keeper));
 }

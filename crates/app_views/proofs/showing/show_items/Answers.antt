@@ -1,10 +1,10 @@
-use Rattle.std.proofs.Common.{Option, refl, subst, ℕ}
+use Rattle.std.proofs.Common.{Option, refl, subst, ℕ, arith}
 use Rattle.std.proofs.lemmas.Result.{IfOk-weaker}
 use Rattle.recalc.specs.app_semantics.Present.{present}
-use Rattle.app_views.specs.Shows.{CostsItems, MakesItems, SaysItemsOf}
+use Rattle.app_views.specs.Shows.{CostsItems, MakesItems, SaysItemsOf, VisitsItems}
 use Rattle.fx_base.specs.Silence.{IsLost}
 use Rattle.request_checks.specs.Replies.{said}
-use Rattle.row_keeper.specs.Tables.{rows_told}
+use Rattle.row_keeper.specs.Tables.{rows_told, rows_of}
 use Rattle.app_views.proofs.showing.show_items.Goals as goal
 
 pub gallery_named-requires : goal.gallery_named-requires
@@ -35,3 +35,14 @@ returns-in-Some-clause-ticks g c =
     IfOk-weaker c.show_items_of.result _ _ (λ r h room.
     subst (λ (o : Option ℕ). CostsItems c.args.app.now o c.args.cache.now c.show_items_of.new.cache c.args.steps.now c.show_items_of.new.steps (said r)) c.in-Some.ensures.place (h room))
     c.show_items_of.ensures.ticks
+
+pub returns-in-Some-clause-visits : goal.returns-in-Some-clause-visits
+returns-in-Some-clause-visits g c =
+    IfOk-weaker c.show_items_of.result _ _ (λ r h room t told.
+    subst (λ (o : Option ℕ). VisitsItems c.args.app.now c.args.session.now (rows_of t.states) c.args.moment c.args.from o c.args.cache.now c.show_items_of.new.cache c.args.steps.now (g.K.Keeper.visited c.args.keeper.now) (g.K.Keeper.visited c.show_items_of.new.keeper) (said r)) c.in-Some.ensures.place (h room t told))
+    c.show_items_of.ensures.visits
+
+pub returns-in_ok-refuse_plain-in-None-clause-visits : goal.returns-in_ok-refuse_plain-in-None-clause-visits
+returns-in_ok-refuse_plain-in-None-clause-visits g c = λ room t told.
+    subst (λ (o : Option ℕ). VisitsItems c.args.app.now c.args.session.now (rows_of t.states) c.args.moment c.args.from o c.args.cache.now c.args.cache.now c.args.steps.now (g.K.Keeper.visited c.args.keeper.now) (g.K.Keeper.visited c.args.keeper.now) (said c.in_ok-refuse_plain-in-None.field-0)) c.in-None.ensures.place
+    (omega arith)

@@ -16,3 +16,6 @@ returns-in_err-items-clause-right g c = ∥∥₁_map c.requires.right c.items_o
 
 pub returns-in_err-items_reply-clause-right : goal.returns-in_err-items_reply-clause-right
 returns-in_err-items_reply-clause-right g c = ∥∥₁_map c.requires.right c.items_of.ensures.right
+
+pub returns-clause-visits : goal.returns-clause-visits
+returns-clause-visits g c = λ room t told. ∥∥₁_map c.requires.right (λ right. (c.in_ok-items.items, c.in_ok-items_reply.ensures.done, c.in_ok-items.ensures.visits right room t told))

@@ -16,3 +16,6 @@ returns-in_err-view-clause-right g c = ∥∥₁_map c.requires.right c.view_of.
 
 pub returns-in_err-view_reply-clause-right : goal.returns-in_err-view_reply-clause-right
 returns-in_err-view_reply-clause-right g c = ∥∥₁_map c.requires.right c.view_of.ensures.right
+
+pub returns-clause-visits : goal.returns-clause-visits
+returns-clause-visits g c = λ room t told. ∥∥₁_map c.requires.right (λ right. (c.in_ok-view.view, c.in_ok-view_reply.ensures.done, c.in_ok-view.ensures.visits right room t told))

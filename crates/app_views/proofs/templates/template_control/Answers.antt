@@ -1,4 +1,10 @@
-use Rattle.std.proofs.Common.{arith, sym, ◌∙◌}
+use Rattle.app_views.proofs.Visiting.{both_most}
+use Rattle.app_views.specs.Visits.{PropertyVisits}
+use Rattle.recalc.proofs.CellVisits.{told_back}
+use Rattle.row_keeper.specs.Tables.{rows_of}
+use Rattle.recalc.specs.Values.{value_of}
+use Rattle.recalc.specs.fx_semantics.Around.{record_of}
+use Rattle.std.proofs.Common.{arith, sym, ◌∙◌, codes}
 use Rattle.fx_data.specs.ValueView.{view}
 use Rattle.recalc.proofs.Asked.{heard_before}
 use Rattle.recalc.specs.Asking.{Keeping, keeping}
@@ -37,3 +43,14 @@ returns-in_ok-shown-clause-ticks g c = omega (arith, c.in_ok-visible.ensures.ste
 
 pub returns-else-visible-clause-ticks : goal.returns-else-visible-clause-ticks
 returns-else-visible-clause-ticks g c = omega (arith, c.in_ok-visible.ensures.steps)
+
+pub returns-in_ok-shown-clause-visits : goal.returns-in_ok-shown-clause-visits
+returns-in_ok-shown-clause-visits g c = λ moment today t told.
+    let before : Keeping = keeping (g.K.Keeper.told c.is_visible_for_item.new.keeper) (g.K.Keeper.began c.is_visible_for_item.new.keeper) (g.K.Keeper.shaped c.is_visible_for_item.new.keeper) (g.K.Keeper.in_transaction c.is_visible_for_item.new.keeper) (g.K.Keeper.marks c.is_visible_for_item.new.keeper) (g.K.Keeper.visited c.is_visible_for_item.new.keeper) (g.K.Keeper.loan c.is_visible_for_item.new.keeper) in
+    let after : Keeping = keeping (g.K.Keeper.told c.text_for.new.keeper) (g.K.Keeper.began c.text_for.new.keeper) (g.K.Keeper.shaped c.text_for.new.keeper) (g.K.Keeper.in_transaction c.text_for.new.keeper) (g.K.Keeper.marks c.text_for.new.keeper) (g.K.Keeper.visited c.text_for.new.keeper) (g.K.Keeper.loan c.text_for.new.keeper) in
+    both_most (PropertyVisits c.args.app.now c.args.session.now (rows_of t.states) moment (value_of c.args.valued.now) (record_of c.args.row.now) c.args.number (codes "Visible")) (PropertyVisits c.args.app.now c.args.session.now (rows_of t.states) moment (value_of c.args.valued.now) (record_of c.args.row.now) c.args.number (codes "Text"))
+    (g.K.Keeper.visited c.args.keeper.now) (g.K.Keeper.visited c.is_visible_for_item.new.keeper) (g.K.Keeper.visited c.text_for.new.keeper)
+    (c.in_ok-visible.ensures.visits moment today t (told_back before after c.in_ok-text.ensures.read t told)) (c.in_ok-text.ensures.visits moment today t told)
+
+pub returns-else-visible-clause-visits : goal.returns-else-visible-clause-visits
+returns-else-visible-clause-visits g c = c.in_ok-visible.ensures.visits

@@ -23,3 +23,6 @@ returns-clause-shows g c =
 
 pub returns-clause-ticks : goal.returns-clause-ticks
 returns-clause-ticks g c = c.property_for_item.ensures.steps
+
+pub returns-clause-visits : goal.returns-clause-visits
+returns-clause-visits g c = c.property_for_item.ensures.visits

@@ -1,4 +1,4 @@
-use Rattle.std.proofs.Common.{Some, subst, sym, ◌∙◌}
+use Rattle.std.proofs.Common.{Some, subst, sym, ◌∙◌, arith, refl}
 use Rattle.recalc.specs.app_semantics.Present.{present}
 use Rattle.app_views.specs.Views.{ShowsFirstItems}
 use Rattle.fx_data.specs.declared.controls.Control.{Control}
@@ -19,3 +19,9 @@ returns-in_ok-items-clause-shows g c = λ moment tables today heard.
 pub returns-else-is_gallery-clause-shows : goal.returns-else-is_gallery-clause-shows
 returns-else-is_gallery-clause-shows g c = λ moment tables today heard.
     no_items (present c.args.app.now c.args.session.now tables moment) (value_of c.args.valued.now) c.args.number c.args.control.now.kind (sym c.is_gallery.ensures ∙ c.if-is_gallery.false)
+
+pub returns-in_ok-items-clause-visits : goal.returns-in_ok-items-clause-visits
+returns-in_ok-items-clause-visits g c = c.in_ok-items.ensures.visits
+
+pub returns-else-is_gallery-clause-visits : goal.returns-else-is_gallery-clause-visits
+returns-else-is_gallery-clause-visits g c = λ moment today t told. (0, refl, omega arith)

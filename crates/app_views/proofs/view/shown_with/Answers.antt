@@ -11,3 +11,6 @@ returns-clause-ticks g c =
     let shown : Shown = record { name = c.in_ok-name.name; kind = c.args.control.now.kind; values = c.in_ok-values.values; items = c.in_ok-items.items } in
     let less = shown_one c.args.app.now.names c.args.number c.args.control.now shown c.in_ok-items.items c.requires.control c.in_ok-name.ensures refl in
     omega (arith, less, c.in_ok-items.ensures.ticks)
+
+pub returns-clause-visits : goal.returns-clause-visits
+returns-clause-visits g c = c.in_ok-items.ensures.visits

@@ -12,3 +12,6 @@ returns-clause-shows g c = λ moment tables today heard. record {
       ∙ ap (λ (w : List ℕ). Some w) (sym c.in_ok-screen-in-Some.ensures);
   shown = c.in_ok-shown.ensures.shows moment tables today heard;
 }
+
+pub returns-clause-visits : goal.returns-clause-visits
+returns-clause-visits g c = c.in_ok-shown.ensures.visits
