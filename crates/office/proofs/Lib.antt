@@ -3,7 +3,9 @@ pub mod Alone
 pub mod Caching
 pub mod Directories
 pub mod Edits
+pub mod GoingOver
 pub mod Isolation
+pub mod Leaving
 pub mod NamedCells
 pub mod OneAnswer
 pub mod Places

@@ -9,7 +9,8 @@ use Rattle.app_cells.specs.declared.app.App.{App}
 use Rattle.fx_trees.specs.Reads.{IsAmong}
 use Rattle.fx_trees.specs.declared.sources.Source.{Source}
 use Rattle.fx_trees.specs.declared.sources.Source.TheVariants as source
-use Rattle.recalc.specs.Changes.{IsTouched}
+use Rattle.recalc.proofs.Leaving.{left_same, left_then, left_wider}
+use Rattle.recalc.specs.Changes.{IsLeftBut, IsTouched}
 use Rattle.recalc.specs.Kept.{HasRoom, IsClean, IsInOrder, IsRight, Kept}
 use Rattle.recalc.specs.Asking.{ToldRows}
 use Rattle.recalc.specs.app_cells.Reach.{Reaches, is_cell}
@@ -17,7 +18,7 @@ use Rattle.recalc.specs.app_semantics.Present.{present}
 use Rattle.request_checks.specs.declared.directory.Named.{Named}
 use Rattle.session_state.specs.Sessions.{SessionState}
 use Rattle.office.proofs.Places.{cases_of, one_at, set_here, set_same, set_there, some_at, there_too}
-use Rattle.office.specs.Caches.{AreEach, AreNew, AreTouched, IsNew, is_table, tables_in}
+use Rattle.office.specs.Caches.{AreEach, AreTouched, is_table, tables_in}
 
 -- ---- cache after cache
 
@@ -116,14 +117,6 @@ at_among [] i d below = absurd (omega (arith, below))
 at_among (x ∷ xs) zero d below = inl refl
 at_among (x ∷ xs) (suc i) d below = inr (at_among xs i d (omega (arith, below)))
 
--- ---- new caches
-
-pub new_more : (a : App) (m : ℕ) (ss : List (Named SessionState)) (cs : List (Named Kept)) (s : Named SessionState) (c : Named Kept) → AreNew a m ss cs → c.name ≡ s.name → IsNew a m c.it → AreNew a m (ss ++ s ∷ []) (cs ++ c ∷ [])
-new_more a m [] [] s c h named is = (named, is, tt)
-new_more a m [] (d ∷ cs) s c h named is = absurd h
-new_more a m (x ∷ ss) [] s c h named is = absurd h
-new_more a m (x ∷ ss) (d ∷ cs) s c h named is = (h.0, h.1, new_more a m ss cs s c h.2 named is)
-
 -- ---- source after source
 
 -- of sources these were touched and those not yet
@@ -132,6 +125,7 @@ pub record IsOnTheWay (a : App) (xs ys zs : List Source) (old new : Kept) : Type
   pub right : (s : SessionState) (tables : ToldRows) (m : ℕ) → IsRight (present a s tables m) xs old → IsRight (present a s tables m) zs new
   pub last : HasRoom (old.last + length ys) → new.last ≡ old.last + length ys
   pub left : HasRoom (old.last + length ys) → (k : ℕ) → ((x : Source) → IsAmong x ys → Reaches a k x → ⊥) → IsClean a old k → IsClean a new k
+  pub but : IsLeftBut a ys old new
   pub day : new.values.day ≡ old.values.day
 
 among_left : (x : Source) (ys : List Source) (s : Source) → IsAmong x ys → IsAmong x (ys ++ s ∷ [])
@@ -149,9 +143,14 @@ way_on a xs ys zs s old mid new h t = record {
   right = λ r tables m k. t.right r tables m zs (h.right r tables m k);
   last = λ room. (t.kept (now room)).2 ∙ ap (λ n. n + 1) (h.last (before room)) ∙ sum;
   left = λ room k far clean. t.left (now room) k (λ z. far s (among_last ys s) z) (h.left (before room) k (λ x among z. far x (among_left x ys s among) z) clean);
+  but = left_then a (ys ++ s ∷ []) old mid new (left_wider a ys (ys ++ s ∷ []) old mid (λ x among. among_left x ys s among) h.but) (left_wider a (s ∷ []) (ys ++ s ∷ []) mid new last_one t.but);
   day = t.day ∙ h.day;
 }
   where
+    last_one : (x : Source) → IsAmong x (s ∷ []) → IsAmong x (ys ++ s ∷ [])
+    last_one x (inl e) = subst (λ (z : Source). IsAmong z (ys ++ s ∷ [])) e (among_last ys s)
+    last_one x (inr none) = absurd none
+
     more : length (ys ++ s ∷ []) ≡ length ys + 1
     more = length-append ys (s ∷ [])
 
@@ -165,11 +164,21 @@ way_on a xs ys zs s old mid new h t = record {
     now room = let is = h.last (before room) in omega (arith, room, more, is)
 
 pub way_ends : (a : App) (xs : List Source) (old new : Kept) → IsOnTheWay a xs xs [] old new → AreTouched a xs old new
-way_ends a xs old new h = record { order = h.order; right = h.right; left = h.left; day = h.day }
+way_ends a xs old new h = record { order = h.order; right = h.right; left = h.left; but = h.but; day = h.day }
 
 -- the tables among sources, one after another
 abbrev pub IsAt : App → List Source → ℕ → Kept → Kept → Type 0
 IsAt a xs i old new = IsOnTheWay a (tables_in xs) (tables_in (take i xs)) (tables_in (drop i xs)) old new
+
+pub at_start : (a : App) (xs : List Source) (c : Kept) → IsAt a xs 0 c c
+at_start a xs c = record {
+  order = λ o. o;
+  right = λ s tables m r. r;
+  last = λ room. omega arith;
+  left = λ room k far clean. clean;
+  but = left_same a [] c;
+  day = refl;
+}
 
 tables_both : (xs ys : List Source) → tables_in (xs ++ ys) ≡ tables_in xs ++ tables_in ys
 tables_both [] ys = refl
@@ -179,10 +188,10 @@ tables_both (x ∷ xs) ys = by (is_table x) refl (tables_both xs ys)
     by true e rest = grind (arith, common_steps, e, rest)
     by false e rest = grind (arith, common_steps, e, rest)
 
-one_table : (s : Source) (xs : List Source) → is_table s ≡ true → tables_in (s ∷ xs) ≡ s ∷ tables_in xs
+pub one_table : (s : Source) (xs : List Source) → is_table s ≡ true → tables_in (s ∷ xs) ≡ s ∷ tables_in xs
 one_table s xs e = grind (arith, common_steps, e)
 
-no_table : (s : Source) (xs : List Source) → is_table s ≡ false → tables_in (s ∷ xs) ≡ tables_in xs
+pub no_table : (s : Source) (xs : List Source) → is_table s ≡ false → tables_in (s ∷ xs) ≡ tables_in xs
 no_table s xs e = grind (arith, common_steps, e)
 
 drop_one : (xs : List Source) (i : ℕ) (d : Source) → i < length xs → drop i xs ≡ get_or xs i d ∷ drop (i + 1) xs

@@ -188,14 +188,14 @@ order_after a x y m name ss rs cs p old now h place changes cached k c there = b
         subst (λ (z : Named Kept). IsInOrder a z.it) (sym same) (cached r.0.it here.1).order
     by (inr far) = kept_order a x m ss cs h k c (set_back cs k p c new far there)
 
-other_itself : (p : ℕ) → is_other (Some p) p ≡ false
+pub other_itself : (p : ℕ) → is_other (Some p) p ≡ false
 other_itself p = by (nat_eq p p) refl
   where
     by : (b : Bool) → nat_eq p p ≡ b → not (nat_eq p p) ≡ false
     by true e = ap not e
     by false e = absurd (grind (arith, e))
 
-other_apart : (p k : ℕ) → (k ≡ p → ⊥) → is_other (Some p) k ≡ true
+pub other_apart : (p k : ℕ) → (k ≡ p → ⊥) → is_other (Some p) k ≡ true
 other_apart p k far = by (nat_eq p k) refl
   where
     by : (b : Bool) → nat_eq p k ≡ b → not (nat_eq p k) ≡ true

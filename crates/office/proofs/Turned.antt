@@ -1,18 +1,15 @@
--- Caches on another day, and over an edited app.
-use Rattle.std.proofs.Common.{◌≡◌, ℕ, ◌/◌, List, [], ◌∷◌, Option, refl, ◌∙◌, subst}
+-- Caches on another day.
+use Rattle.std.proofs.Common.{◌≡◌, ℕ, ◌/◌, List, Option, refl, ◌∙◌, subst}
 use Rattle.app_cells.specs.declared.app.App.{App}
 use Rattle.app_loader.specs.app_semantics.Sound.{IsSound}
-use Rattle.fx_trees.specs.declared.names.Names.{Names}
 use Rattle.recalc.specs.Kept.{Kept}
 use Rattle.request_checks.specs.declared.directory.Named.{Named}
 use Rattle.row_keeper.specs.Tables.{Tables}
-use Rattle.session_state.specs.Carrying.{carried}
 use Rattle.session_state.specs.Sessions.{SessionState}
-use Rattle.office.specs.Caches.{AreEach, AreKept, AreNew, IsCacheOf, IsTurned}
-use Rattle.office.specs.DeskEdits.{all_carried}
+use Rattle.office.specs.Caches.{AreEach, AreKept, IsCacheOf, IsTurned}
 use Rattle.office.proofs.Caching.{kept_at, kept_by, kept_each, kept_long}
 use Rattle.office.proofs.Places.{one_at}
-use Rattle.office.proofs.Touching.{day_cached, new_cached, turned_cached}
+use Rattle.office.proofs.Touching.{day_cached, turned_cached}
 
 -- all were told of another day
 pub kept_turned : (a : App) (x : Option Tables) (m n : ℕ) (ss : List (Named SessionState)) (cs ds : List (Named Kept)) → IsSound a → AreKept a x m ss cs → AreEach (λ k. IsTurned n) cs ds → AreKept a x n ss ds
@@ -26,10 +23,3 @@ kept_turned a x m n ss cs ds sound h each =
 pub kept_today : (a : App) (x : Option Tables) (m n : ℕ) (ss : List (Named SessionState)) (cs : List (Named Kept)) → IsSound a → m / 86400 ≡ n / 86400 → AreKept a x m ss cs → AreKept a x n ss cs
 kept_today a x m n ss cs sound e h =
     kept_by a x n ss cs (kept_long a x m ss cs h) (λ k s c at there. let is = kept_at a x m ss cs k s c h at there in record { name = is.name; cached = day_cached a s.it x m n c.it sound e is.cached })
-
--- sessions that went over to an edited app have new caches
-pub kept_new : (b : App) (x : Option Tables) (m : ℕ) (old new : Names) (ss : List (Named SessionState)) (cs : List (Named Kept)) → AreNew b m ss cs → AreKept b x m (all_carried old new ss) cs
-kept_new b x m old new [] [] h = tt
-kept_new b x m old new [] (c ∷ cs) h = absurd h
-kept_new b x m old new (s ∷ ss) [] h = absurd h
-kept_new b x m old new (s ∷ ss) (c ∷ cs) h = (record { name = h.0; cached = new_cached b (carried old new s.it) x m c.it h.1 }, kept_new b x m old new ss cs h.2)

@@ -1,13 +1,14 @@
 -- The caches of sessions.
-use Rattle.std.specs.Prelude.{◌≡◌, ◌+◌, ℕ, Bool, true, false, List, [], ◌∷◌, length, Option, Some, None, nat_eq, not, slice_get}
-use Rattle.std.specs.List.{filter}
+use Rattle.std.specs.Prelude.{◌≡◌, ◌⊎◌, ◌+◌, ℕ, Bool, true, false, List, [], ◌∷◌, length, Option, Some, None, nat_eq, not, slice_get}
+use Rattle.std.specs.List.{AllByRecursion, filter}
 use Rattle.app_cells.specs.declared.app.App.{App}
 use Rattle.fx_data.specs.Values.{Data}
 use Rattle.fx_scalar.specs.ScalarFunctions.{IsToday}
 use Rattle.fx_trees.specs.Reads.{IsAmong}
 use Rattle.fx_trees.specs.declared.sources.Source.{Source}
 use Rattle.fx_trees.specs.declared.sources.Source.TheVariants as source
-use Rattle.recalc.specs.Changes.{IsTouched, on_day}
+use Rattle.recalc.specs.Carrying.{IsCarried}
+use Rattle.recalc.specs.Changes.{IsLeftBut, IsTouched, on_day}
 use Rattle.recalc.specs.Kept.{HasRoom, IsClean, IsInOrder, IsRight, Kept}
 use Rattle.recalc.specs.Outcomes.{IsEmpty}
 use Rattle.recalc.specs.Asking.{ToldRows}
@@ -37,12 +38,17 @@ pub record IsNew (a : App) (m : ℕ) (c : Kept) : Type 0 where
   pub empty : IsEmpty c
   pub day : IsToday m c.values.day
 
--- each session gets such a cache
-abbrev pub AreNew : App → ℕ → List (Named SessionState) → List (Named Kept) → Type 0
-AreNew a m [] [] = Unit {0}
-AreNew a m [] (c ∷ cs) = ⊥
-AreNew a m (s ∷ ss) [] = ⊥
-AreNew a m (s ∷ ss) (c ∷ cs) = (c.name ≡ s.name) × IsNew a m c.it × AreNew a m ss cs
+-- caches can go over to an edited app: they are in order and of the day of this moment, and there is a new one for each
+pub record CanGoOver (old new : App) (m : ℕ) (caches : List (Named Kept)) (rooms : List Kept) : Type 0 where
+  pub order : (k : ℕ) (c : Named Kept) → slice_get caches k ≡ Some c → IsInOrder old c.it
+  pub days : (k : ℕ) (c : Named Kept) → slice_get caches k ≡ Some c → IsToday m c.it.values.day
+  pub are_new : AllByRecursion (IsNew new m) rooms
+  pub enough : length rooms ≡ length caches
+
+-- BESIDE AN EDIT: the app stays, and so does a cache; or the cache went over to the edited app, in which what the edit left stays
+-- clean
+abbrev pub WentOver : App → App → Kept → Kept → Type 0
+WentOver old new c d = ((new ≡ old) × (d ≡ c)) ⊎ IsCarried old new c d
 
 -- ---- what caches are told
 
@@ -73,6 +79,7 @@ pub record AreTouched (a : App) (xs : List Source) (old new : Kept) : Type 0 whe
   pub order : IsInOrder a old → IsInOrder a new
   pub right : (s : SessionState) (tables : ToldRows) (m : ℕ) → IsRight (present a s tables m) xs old → IsRight (present a s tables m) [] new
   pub left : HasRoom (old.last + length xs) → (k : ℕ) → ((x : Source) → IsAmong x xs → Reaches a k x → ⊥) → IsClean a old k → IsClean a new k
+  pub but : IsLeftBut a xs old new
   pub day : new.values.day ≡ old.values.day
 
 -- a place isn't this one

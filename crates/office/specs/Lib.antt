@@ -2,6 +2,7 @@ pub mod Answers
 pub mod Caches
 pub mod Editing
 pub mod Isolation
+pub mod Leaving
 pub mod NamedReply
 pub mod Ready
 pub mod Sessions

@@ -1,13 +1,15 @@
 //! The caches of sessions: each session has one, under its name.
 ghost use Rattle.std.specs.Prelude.{◌≡◌, ◌<◌, ℕ, IfOk, OnErr, length, slice_get, Some, vec_capacity};
 ghost use Rattle.std.specs.List.{AllByRecursion};
+ghost use Rattle.app_loader.specs.app_semantics.Sound.{IsSound};
 ghost use Rattle.fx_data.specs.ValueView.{view};
 ghost use Rattle.fx_scalar.specs.ScalarFunctions.{IsToday};
 ghost use Rattle.fx_trees.specs.declared.sources.Source.TheVariants.{Today};
+ghost use Rattle.recalc.specs.Carrying.{AreOldCells, IsCarried, IsEditOf};
 ghost use Rattle.recalc.specs.Kept.{IsInOrder, Kept, place_of};
 ghost use Rattle.request_checks.specs.declared.directory.Named.{Named as Under};
 ghost use Rattle.session_requests.specs.Caching.{AreSources};
-ghost use Rattle.office.specs.Caches.{AreEach, AreNew, AreTouched, IsNew, IsToldAside, IsTurned, is_other as is_other_of, is_table as is_table_of, tables_in};
+ghost use Rattle.office.specs.Caches.{AreEach, AreTouched, CanGoOver, IsNew, IsToldAside, IsTurned, is_other as is_other_of, is_table as is_table_of, tables_in};
 
 use app_cells::App;
 use fx_base::Memory;
@@ -16,7 +18,6 @@ use fx_scalar::today;
 use fx_trees::Source;
 use recalc::Cache;
 use request_checks::Named;
-use session_state::Session;
 use std::alloc::Global;
 
 /// How many seconds a day has.
@@ -30,23 +31,45 @@ pub(crate) fn new_cache(alloc: Global, app: &App, moment: u64) -> Result<Cache, 
     Cache::new(alloc, app, day)
 }
 
-/// Such a cache for each session.
+/// So many of them.
 pub(crate) fn new_caches(
     alloc: Global,
     app: &App,
-    sessions: &[Named<Session>],
     moment: u64,
-) -> Result<Vec<Named<Cache>>, Memory>
-    ensures { IfOk result (λ v. AreNew app.now moment sessions.now v.items) }
+    count: usize,
+) -> Result<Vec<Cache>, Memory>
+    ensures count { IfOk result (λ v. length v.items ≡ count) }
+    ensures new { IfOk result (λ v. AllByRecursion (IsNew app.now moment) v.items) }
 {
     let mut caches = Vec::new(alloc);
-    for session in sessions {
-        caches.push(Named {
-            name: session.name.copy(alloc)?,
-            it: new_cache(alloc, app, moment)?,
-        })?;
+    for _ in 0..count {
+        caches.push(new_cache(alloc, app, moment)?)?;
     }
     Ok(caches)
+}
+
+/// Each cache goes over to an edited app, and into one of the new caches. `cells` are the cells that the edit left. It takes no
+/// memory.
+pub(crate) fn carry_all(
+    caches: &mut Vec<Named<Cache>>,
+    mut rooms: Vec<Cache>,
+    old: &App,
+    new: &App,
+    cells: &[Option<usize>],
+)
+    requires was_sound { IsSound old.now }
+    requires sound { IsSound new.now }
+    requires edit { IsEditOf old.now new.now }
+    requires cells { AreOldCells old.now new.now cells.now }
+    requires can { (moment : ℕ) × CanGoOver old.now new.now moment caches.old.items rooms.items }
+    ensures { AreEach (λ k. IsCarried old.now new.now) caches.old.items caches.new.items }
+{
+    for at in 0..caches.len() {
+        match rooms.pop() {
+            Some(room) => caches[at].it.carry(room, old, new, cells),
+            None => unreachable!(),
+        }
+    }
 }
 
 /// So many times the day of a moment.

@@ -1,5 +1,5 @@
 //! The office, one request at a time.
-ghost use Rattle.std.specs.Prelude.{◌≡◌, ◌≢◌, ◌<◌, Err, IfOk, IsErrOf, Ok, OnErr, Some, false, length};
+ghost use Rattle.std.specs.Prelude.{◌≡◌, ◌≢◌, ◌⊎◌, ◌<◌, Err, IfOk, IsErrOf, Ok, OnErr, Some, false, length};
 ghost use Rattle.fx_base.specs.Silence.{IsLater, IsLost};
 ghost use Rattle.app_loader.specs.Edits.{IsLoaded};
 ghost use Rattle.app_loader.specs.app_semantics.Sound.{IsSound};
@@ -10,6 +10,8 @@ ghost use Rattle.app_wire.specs.declared.route.RouteEnd.TheVariants.{Memory as N
 ghost use Rattle.request_checks.specs.Replies.{IsReply, said};
 ghost use Rattle.row_requests.specs.Sound.{AreSound};
 ghost use Rattle.session_requests.specs.Opening.{CanOpen};
+ghost use Rattle.app_wire.specs.ReplyBytes.{refusal};
+ghost use Rattle.office.specs.Leaving.{ActsClean, AreEachLeft, LeavesActed, LeavesBy, LeavesClean, nothing, turned};
 ghost use Rattle.office.specs.State.{schema_of, started};
 ghost use Rattle.office.specs.Step.{Answered, Does, Left, Reaches, ReachesKeeper, Step};
 
@@ -131,6 +133,8 @@ impl<K: Keeper + Drop> Office<K> {
         ensures answered { Answered self.old.state self.old.marks moment (asked request.now) (said result) self.new.marks self.new.state }
         ensures later { IsLater self.old.marks self.new.marks }
         ensures whole { IsReply result }
+        ensures clean { LeavesClean self.old.state self.old.moment self.old.caches moment (asked request.now) self.new.state self.new.caches }
+        ensures acted { LeavesActed (IsLost self.old.marks self.new.marks) self.old.state self.old.moment self.old.caches moment (asked request.now) (said result) self.new.state self.new.caches ⊎ ((said result ≡ refusal 26) ⊎ (said result ≡ refusal 25)) }
         ensures loan { self.new.loan ≡ self.old.loan }
     {
         match self.carry_out(request, moment, steps) {
@@ -152,6 +156,8 @@ impl<K: Keeper + Drop> Office<K> {
         ensures stopped { OnErr result (Left (IsLost self.old.marks self.new.marks) self.old.state self.new.state) }
         ensures reached { IsErrOf result Failed → ReachesKeeper self.old.state (asked request.now) }
         ensures cause { HasCause self.old.marks self.new.marks result }
+        ensures clean { LeavesClean self.old.state self.old.moment self.old.caches moment (asked request.now) self.new.state self.new.caches }
+        ensures acted { IfOk result (λ r. LeavesActed (IsLost self.old.marks self.new.marks) self.old.state self.old.moment self.old.caches moment (asked request.now) (said r) self.new.state self.new.caches) }
         ensures loan { self.new.loan ≡ self.old.loan }
     {
         match self.routes.route(self.alloc, request) {
@@ -171,6 +177,7 @@ impl<K: Keeper + Drop> Office<K> {
         ensures marks { self.new.marks ≡ self.old.marks }
         ensures loan { self.new.loan ≡ self.old.loan }
         ensures moment { IfOk result (λ _. self.new.moment ≡ moment) }
+        ensures clean { AreEachLeft self.old.state.app (turned self.old.moment moment) self.old.caches self.new.caches }
     {
         if moment / DAY != self.moment / DAY {
             turn_all(self.alloc, &mut self.caches, moment)?;
@@ -180,7 +187,7 @@ impl<K: Keeper + Drop> Office<K> {
     }
 
     /// Takes the route of a request, at the moment to which the office went over.
-    #[tactic(auto, unfolding(crate::specs::Step::Does, crate::specs::Step::Reaches))]
+    #[tactic(auto, unfolding(crate::specs::Step::Does, crate::specs::Step::Reaches, crate::specs::Leaving::LeavesBy, crate::specs::Leaving::ActsClean))]
     fn take<L: Ledger>(
         &mut self,
         route: Route,
@@ -192,6 +199,8 @@ impl<K: Keeper + Drop> Office<K> {
         ensures stopped { OnErr result (Left (IsLost self.old.marks self.new.marks) self.old.state self.new.state) }
         ensures reached { IsErrOf result Failed → Reaches route request.now.body.items self.old.state }
         ensures cause { HasCause self.old.marks self.new.marks result }
+        ensures clean { LeavesBy route nothing request.now.body.items self.old.state self.new.state self.old.caches self.new.caches }
+        ensures acted { IfOk result (λ r. ActsClean (IsLost self.old.marks self.new.marks) self.old.moment route nothing request.now.body.items self.old.state (said r) self.new.state self.old.caches self.new.caches) }
         ensures loan { self.new.loan ≡ self.old.loan }
     {
         let moment = self.moment;

@@ -1,5 +1,5 @@
 //! The named formulas of an app, shown.
-ghost use Rattle.std.specs.Prelude.{◌≡◌, IfOk, IsErrOf, OnOk, map, string_bytes};
+ghost use Rattle.std.specs.Prelude.{◌≡◌, [], IfOk, IsErrOf, OnOk, map, string_bytes};
 ghost use Rattle.app_loader.specs.app_semantics.Holding.{HoldsFitting};
 ghost use Rattle.app_loader.specs.app_semantics.Present.{present};
 ghost use Rattle.app_loader.specs.app_semantics.Sound.{IsSound};
@@ -9,9 +9,11 @@ ghost use Rattle.row_keeper.specs.Causes.{HasCause};
 ghost use Rattle.row_keeper.specs.declared.keeper.KeeperEnd.TheVariants.{Failed};
 ghost use Rattle.fx_scalar.specs.ScalarFunctions.{IsToday};
 ghost use Rattle.office.specs.NamedReply.{AreNamedMade, IsNamedBody, IsNamedList, named_cells, named_values, shown};
+ghost use Rattle.recalc.specs.Changes.{IsLeftBut};
 ghost use Rattle.recalc.specs.Kept.{HasRoom, IsInOrder};
 ghost use Rattle.recalc.specs.Outcomes.{IsRightOver};
 ghost use Rattle.recalc.specs.Steps.{Leaves, OncePerCell};
+ghost use Rattle.recalc.specs.Visits.{VisitsPerCell, WhereTold};
 
 use app_cells::App;
 use fx_base::Memory;
@@ -73,7 +75,7 @@ fn named_roots(alloc: Global, app: &App) -> Result<Vec<u32>, Memory>
 }
 
 /// The named formulas of an app with their values over a session, of which some may be kept.
-#[tactic(auto, using(app_views::proofs::Needing::leaves_none))]
+#[tactic(auto, using(app_views::proofs::Needing::leaves_none, recalc::proofs::Leaving::left_same))]
 fn kept_list<K: Keeper, L: Ledger>(
     alloc: Global,
     app: &App,
@@ -93,8 +95,11 @@ fn kept_list<K: Keeper, L: Ledger>(
     ensures right { IsRightOver app.now session.now (K.told keeper.old) moment cache.old → IsRightOver app.now session.now (K.told keeper.new) moment cache.new }
     ensures day { cache.new.values.day ≡ cache.old.values.day }
     ensures left { HasRoom cache.old.last → Leaves app.now cache.old cache.new }
+    ensures but { IsLeftBut app.now [] cache.old cache.new }
     ensures made { OnOk result (AreNamedMade app.now cache.new) }
     ensures ticks { OnOk result (HasRoom cache.old.last → OncePerCell app.now (named_cells app.now) cache.old cache.new steps.old steps.new) }
+    ensures visits { OnOk result (IsRightOver app.now session.now (K.told keeper.old) moment cache.old → HasRoom cache.old.last → WhereTold (K.told keeper.new) (λ told.
+        VisitsPerCell app.now session.now told moment (named_cells app.now) cache.old cache.new steps.old steps.new (K.visited keeper.old) (K.visited keeper.new))) }
     ensures idle { OnOk result (steps.new ≡ steps.old → keeper.new ≡ keeper.old) }
     ensures read { HasRead (keeping (K.told keeper.old) (K.began keeper.old) (K.shaped keeper.old) (K.in_transaction keeper.old) (K.marks keeper.old) (K.visited keeper.old) (K.loan keeper.old))
         (keeping (K.told keeper.new) (K.began keeper.new) (K.shaped keeper.new) (K.in_transaction keeper.new) (K.marks keeper.new) (K.visited keeper.new) (K.loan keeper.new)) }
@@ -107,7 +112,7 @@ fn kept_list<K: Keeper, L: Ledger>(
 
 /// The body of the reply that shows each named formula with its value. What is kept is right afterwards, also where it stops; the
 /// cells that the named formulas need are then clean, and what was clean stays so. `Failed` only where the keeper counted a fault.
-#[tactic(auto, using(app_views::proofs::Needing::leaves_none))]
+#[tactic(auto, using(app_views::proofs::Needing::leaves_none, recalc::proofs::Leaving::left_same))]
 pub(crate) fn named_body<K: Keeper, L: Ledger>(
     alloc: Global,
     app: &App,
@@ -128,8 +133,11 @@ pub(crate) fn named_body<K: Keeper, L: Ledger>(
     ensures right { ∥ IsRightOver app.now session.now (K.told keeper.new) moment cache.new ∥₁ }
     ensures day { cache.new.values.day ≡ cache.old.values.day }
     ensures left { HasRoom cache.old.last → Leaves app.now cache.old cache.new }
+    ensures but { IsLeftBut app.now [] cache.old cache.new }
     ensures made { OnOk result (AreNamedMade app.now cache.new) }
     ensures ticks { OnOk result (HasRoom cache.old.last → OncePerCell app.now (named_cells app.now) cache.old cache.new steps.old steps.new) }
+    ensures visits { OnOk result (HasRoom cache.old.last → WhereTold (K.told keeper.new) (λ told.
+        ∥ VisitsPerCell app.now session.now told moment (named_cells app.now) cache.old cache.new steps.old steps.new (K.visited keeper.old) (K.visited keeper.new) ∥₁)) }
     ensures idle { OnOk result (steps.new ≡ steps.old → keeper.new ≡ keeper.old) }
     ensures read { HasRead (keeping (K.told keeper.old) (K.began keeper.old) (K.shaped keeper.old) (K.in_transaction keeper.old) (K.marks keeper.old) (K.visited keeper.old) (K.loan keeper.old))
         (keeping (K.told keeper.new) (K.began keeper.new) (K.shaped keeper.new) (K.in_transaction keeper.new) (K.marks keeper.new) (K.visited keeper.new) (K.loan keeper.new)) }

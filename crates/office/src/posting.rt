@@ -3,7 +3,7 @@ ghost use Rattle.std.specs.Prelude.{◌≡◌, IfOk, OnErr, Option};
 ghost use Rattle.app_loader.specs.app_edits.Frames.{frame_of};
 ghost use Rattle.app_loader.specs.Edits.{IsLoaded};
 ghost use Rattle.app_loader.specs.app_semantics.Sound.{IsSound};
-ghost use Rattle.office.specs.Caches.{AreKept};
+ghost use Rattle.office.specs.Caches.{AreEach, AreKept, WentOver};
 ghost use Rattle.office.specs.DeskEdits.{MakesEdit, PostsEdit};
 ghost use Rattle.office.specs.Ready.{AreFit};
 ghost use Rattle.request_checks.specs.Checked.{SessionsKeepReplies};
@@ -13,13 +13,13 @@ ghost use Rattle.session_state.specs.Changes.{HoldsTables};
 
 use crate::accepting::{accept, keep, refuse};
 use crate::carrying::{carry, make_room};
-use crate::keeping::new_caches;
+use crate::keeping::{carry_all, new_caches};
 use app_cells::App;
 use app_loader::edit;
 use fx_base::Memory;
 use fx_data::Words;
 use fx_trees::AppEnd;
-use recalc::Cache;
+use recalc::{Cache, old_cells};
 use request_checks::{Checked, Edit, Named, Reply, check_desk};
 use session_state::{Desk, Session};
 use std::alloc::Global;
@@ -27,8 +27,9 @@ use std::alloc::Global;
 /// A desk edits a formula, under a number. The app becomes the edited one, and the reply is kept; or nothing changes and the
 /// reply is a refusal: no JSON (9), another shape (10), a desk too many (12), another number (13, 14), or the rules that the
 /// edited app breaks (24). The last request once more gets the kept reply. Nothing but the app's formulas, this desk's record
-/// and what sessions hold can change: each session goes over to the edited app and gets a new cache, for which all memory is
+/// and what sessions hold can change: each session goes over to the edited app, and its cache with what the edit left. All memory is
 /// taken before.
+#[tactic(auto, using(crate::proofs::GoingOver::each_left))]
 pub fn post_edit(
     alloc: Global,
     app: &mut App,
@@ -45,6 +46,7 @@ pub fn post_edit(
     requires fit { AreFit app.old.names sessions.old.items }
     requires kept { KeepReplies desks.old.items }
     requires replies { SessionsKeepReplies sessions.old.items }
+    requires cached { (told : Option Tables) × AreKept app.old told moment sessions.old.items caches.old.items }
     ensures done { IfOk result (λ r. PostsEdit name.now body.now (record { app = app.old; sessions = sessions.old.items; desks = desks.old.items }) (said r) (record { app = app.new; sessions = sessions.new.items; desks = desks.new.items })) }
     ensures whole { IfOk result IsReply }
     ensures app { OnErr result (app.new ≡ app.old) }
@@ -58,6 +60,7 @@ pub fn post_edit(
     ensures kept { KeepReplies desks.new.items }
     ensures replies { SessionsKeepReplies sessions.new.items }
     ensures caches { (told : Option Tables) → AreKept app.old told moment sessions.old.items caches.old.items → AreKept app.new told moment sessions.new.items caches.new.items }
+    ensures over { AreEach (λ k. WentOver app.old app.new) caches.old.items caches.new.items }
 {
     match check_desk::<Edit>(alloc, desks, name, body)? {
         Checked::Says(reply) => Ok(reply),
@@ -68,6 +71,7 @@ pub fn post_edit(
 }
 
 /// Makes an edit that passed the checks of numbered requests.
+#[tactic(auto, using(crate::proofs::GoingOver::each_left))]
 fn make_edit(
     alloc: Global,
     app: &mut App,
@@ -85,6 +89,7 @@ fn make_edit(
     requires fit { AreFit app.old.names sessions.old.items }
     requires kept { KeepReplies desks.old.items }
     requires replies { SessionsKeepReplies sessions.old.items }
+    requires cached { (told : Option Tables) × AreKept app.old told moment sessions.old.items caches.old.items }
     ensures done { IfOk result (λ r. MakesEdit name.now body.now asked.now (record { app = app.old; sessions = sessions.old.items; desks = desks.old.items }) (said r) (record { app = app.new; sessions = sessions.new.items; desks = desks.new.items })) }
     ensures whole { IfOk result IsReply }
     ensures app { OnErr result (app.new ≡ app.old) }
@@ -98,16 +103,18 @@ fn make_edit(
     ensures kept { KeepReplies desks.new.items }
     ensures replies { SessionsKeepReplies sessions.new.items }
     ensures caches { (told : Option Tables) → AreKept app.old told moment sessions.old.items caches.old.items → AreKept app.new told moment sessions.new.items caches.new.items }
+    ensures over { AreEach (λ k. WentOver app.old app.new) caches.old.items caches.new.items }
 {
     let accepted = accept(alloc, name, asked.seq, body)?;
     desks.reserve(1)?;
     match edit(alloc, app, asked.cell.as_str(), asked.text.as_str()) {
         Ok(edited) => {
-            let rooms = new_caches(alloc, &edited, sessions, moment)?;
+            let rooms = new_caches(alloc, &edited, moment, caches.len())?;
+            let cells = old_cells(alloc, app, &edited)?;
             make_room(sessions, &edited.names)?;
             carry(sessions, &app.names, &edited.names);
+            carry_all(caches, rooms, app, &edited, &cells);
             *app = edited;
-            *caches = rooms;
             Ok(keep(alloc, desks, asked.seq, accepted))
         }
         Err(AppEnd::Refused(breaks)) => refuse(alloc, &breaks),

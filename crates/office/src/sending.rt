@@ -1,12 +1,16 @@
 //! What is sent: sessions send events and inputs, and desks changes of rows. The caches of the others are told which tables were
 //! written.
-ghost use Rattle.std.specs.Prelude.{◌≡◌, ℕ, false, IfOk, IsErrOf, IsSome, List, OnErr, Some, slice_get};
+ghost use Rattle.std.specs.Prelude.{◌≡◌, ℕ, false, IfOk, IsErrOf, IsSome, List, Ok, OnErr, Some, slice_get};
 ghost use Rattle.app_loader.specs.app_semantics.Sound.{IsSound};
 ghost use Rattle.fx_base.specs.Silence.{Goes, IsLost};
 ghost use Rattle.fx_base.specs.Telling.{Stays};
 ghost use Rattle.recalc.specs.Kept.{IsInOrder, Kept};
 ghost use Rattle.request_checks.specs.Checked.{SessionsKeepReplies};
+ghost use Rattle.request_checks.specs.Checks.{checks, session_of};
 ghost use Rattle.request_checks.specs.Directory.{find};
+ghost use Rattle.session_requests.specs.Bodies.{event_in, input_in};
+ghost use Rattle.session_requests.specs.declared.event.Event.{Event as AnEvent};
+ghost use Rattle.session_requests.specs.declared.input.Input.{Input as AnInput};
 ghost use Rattle.request_checks.specs.Replies.{IsReply, KeepReplies, said};
 ghost use Rattle.request_checks.specs.declared.directory.Named.{Named as Under};
 ghost use Rattle.row_keeper.specs.Causes.{HasCause};
@@ -15,7 +19,9 @@ ghost use Rattle.row_requests.specs.DeskRows.{PostsRows, ReachesRows};
 ghost use Rattle.row_requests.specs.Sound.{AreSound};
 ghost use Rattle.session_requests.specs.Posting.{PostsEvent, PostsInput, ReachesEvent, ReachesInput, SendsEvent, SendsInput};
 ghost use Rattle.session_state.specs.Sessions.{SessionState};
+ghost use Rattle.row_requests.specs.Written.{IsNamedBy};
 ghost use Rattle.office.specs.Caches.{AreKept};
+ghost use Rattle.office.specs.Leaving.{AreEachLeft, AreLeftBeside, EventLeaves, InputLeaves, any_table, nothing};
 ghost use Rattle.office.specs.Ready.{AreFit};
 
 use crate::keeping::touch_others;
@@ -31,6 +37,7 @@ use std::alloc::Global;
 use std::sync::ledger::Ledger;
 
 /// A session sends what its user gave to a control, under a number.
+#[tactic(auto, using(crate::proofs::Leaving::beside_same))]
 pub(crate) fn post_input<K: Keeper, L: Ledger>(
     alloc: Global,
     app: &App,
@@ -57,6 +64,8 @@ pub(crate) fn post_input<K: Keeper, L: Ledger>(
     ensures fit { AreFit app.now.names sessions.new.items }
     ensures replies { SessionsKeepReplies sessions.new.items }
     ensures kept { AreKept app.now (K.told keeper.new) moment sessions.new.items caches.new.items }
+    ensures clean { AreLeftBeside app.now name.now any_table caches.old.items caches.new.items }
+    ensures own { IfOk result (λ r. InputLeaves (IsLost (K.marks keeper.old) (K.marks keeper.new)) app.now moment name.now nothing body.now (checks input_in (λ (i : AnInput). i.seq) (session_of name.now sessions.old.items) body.now) (K.told keeper.old) sessions.old.items (said r) (K.told keeper.new) sessions.new.items caches.old.items caches.new.items) }
     ensures rows { AreSound app.now.names.schema (K.told keeper.new) }
     ensures shaped { K.shaped keeper.new ≡ Some app.now.names.schema }
     ensures idle { K.in_transaction keeper.new ≡ false }
@@ -72,6 +81,7 @@ pub(crate) fn post_input<K: Keeper, L: Ledger>(
 }
 
 /// The same, of an input that passed the checks of numbered requests.
+#[tactic(auto, using(crate::proofs::Leaving::beside_same))]
 fn act_input<K: Keeper, L: Ledger>(
     alloc: Global,
     app: &App,
@@ -99,6 +109,8 @@ fn act_input<K: Keeper, L: Ledger>(
     ensures fit { AreFit app.now.names sessions.new.items }
     ensures replies { SessionsKeepReplies sessions.new.items }
     ensures kept { AreKept app.now (K.told keeper.new) moment sessions.new.items caches.new.items }
+    ensures clean { AreLeftBeside app.now name.now any_table caches.old.items caches.new.items }
+    ensures own { IfOk result (λ r. InputLeaves (IsLost (K.marks keeper.old) (K.marks keeper.new)) app.now moment name.now nothing body.now (Ok input) (K.told keeper.old) sessions.old.items (said r) (K.told keeper.new) sessions.new.items caches.old.items caches.new.items) }
     ensures rows { AreSound app.now.names.schema (K.told keeper.new) }
     ensures shaped { K.shaped keeper.new ≡ Some app.now.names.schema }
     ensures idle { K.in_transaction keeper.new ≡ false }
@@ -120,6 +132,7 @@ fn act_input<K: Keeper, L: Ledger>(
 }
 
 /// A session sends an event of a control, under a number.
+#[tactic(auto, using(crate::proofs::Leaving::beside_same))]
 pub(crate) fn post_event<K: Keeper, L: Ledger>(
     alloc: Global,
     app: &App,
@@ -146,6 +159,8 @@ pub(crate) fn post_event<K: Keeper, L: Ledger>(
     ensures fit { AreFit app.now.names sessions.new.items }
     ensures replies { SessionsKeepReplies sessions.new.items }
     ensures kept { AreKept app.now (K.told keeper.new) moment sessions.new.items caches.new.items }
+    ensures clean { AreLeftBeside app.now name.now any_table caches.old.items caches.new.items }
+    ensures own { IfOk result (λ r. EventLeaves (IsLost (K.marks keeper.old) (K.marks keeper.new)) app.now moment name.now nothing body.now (checks event_in (λ (e : AnEvent). e.seq) (session_of name.now sessions.old.items) body.now) (K.told keeper.old) sessions.old.items (said r) (K.told keeper.new) sessions.new.items caches.old.items caches.new.items) }
     ensures rows { AreSound app.now.names.schema (K.told keeper.new) }
     ensures shaped { K.shaped keeper.new ≡ Some app.now.names.schema }
     ensures idle { K.in_transaction keeper.new ≡ false }
@@ -161,6 +176,7 @@ pub(crate) fn post_event<K: Keeper, L: Ledger>(
 }
 
 /// The same, of an event that passed the checks of numbered requests.
+#[tactic(auto, using(crate::proofs::Leaving::beside_same))]
 fn act_event<K: Keeper, L: Ledger>(
     alloc: Global,
     app: &App,
@@ -188,6 +204,8 @@ fn act_event<K: Keeper, L: Ledger>(
     ensures fit { AreFit app.now.names sessions.new.items }
     ensures replies { SessionsKeepReplies sessions.new.items }
     ensures kept { AreKept app.now (K.told keeper.new) moment sessions.new.items caches.new.items }
+    ensures clean { AreLeftBeside app.now name.now any_table caches.old.items caches.new.items }
+    ensures own { IfOk result (λ r. EventLeaves (IsLost (K.marks keeper.old) (K.marks keeper.new)) app.now moment name.now nothing body.now (Ok event.now) (K.told keeper.old) sessions.old.items (said r) (K.told keeper.new) sessions.new.items caches.old.items caches.new.items) }
     ensures rows { AreSound app.now.names.schema (K.told keeper.new) }
     ensures shaped { K.shaped keeper.new ≡ Some app.now.names.schema }
     ensures idle { K.in_transaction keeper.new ≡ false }
@@ -228,6 +246,7 @@ pub(crate) fn change_rows<K: Keeper>(
     ensures whole { IfOk result IsReply }
     ensures stopped { OnErr result (Goes (IsLost (K.marks keeper.old) (K.marks keeper.new)) Stays (K.told keeper.old) (K.told keeper.new)) }
     ensures same { OnErr result (desks.new.items ≡ desks.old.items) }
+    ensures clean { AreEachLeft app.now (IsNamedBy app.now.names.schema.tables desks.old.items name.now body.now) caches.old.items caches.new.items }
     ensures kept { (m : ℕ) (sessions : List (Under SessionState)) → AreKept app.now (K.told keeper.old) m sessions caches.old.items → AreKept app.now (K.told keeper.new) m sessions caches.new.items }
     ensures reached { IsErrOf result Failed → ReachesRows name.now body.now desks.old.items }
     ensures cause { HasCause (K.marks keeper.old) (K.marks keeper.new) result }

@@ -1,5 +1,5 @@
 //! Sessions: they begin, end, and are shown what they ask for.
-ghost use Rattle.std.specs.Prelude.{◌≡◌, ℕ, false, IfOk, IsErrOf, List, OnErr, Option, Some};
+ghost use Rattle.std.specs.Prelude.{◌≡◌, [], ℕ, false, IfOk, IsErrOf, List, OnErr, Option, Some};
 ghost use Rattle.app_wire.specs.ReplyBytes.{reply};
 ghost use Rattle.request_checks.specs.Checked.{SessionsKeepReplies};
 ghost use Rattle.request_checks.specs.Replies.{IsReply, said};
@@ -9,7 +9,9 @@ ghost use Rattle.fx_trees.specs.declared.names.Names.{Names as Known};
 ghost use Rattle.app_cells.specs.declared.app.App.{App as AnApp};
 ghost use Rattle.row_keeper.specs.Tables.{Tables};
 ghost use Rattle.app_views.specs.Shows.{ReachesItems, ReachesView, ShowsItems, ShowsView};
-ghost use Rattle.office.specs.Caches.{AreKept};
+ghost use Rattle.recalc.specs.Changes.{IsLeftBut};
+ghost use Rattle.office.specs.Caches.{AreEach, AreKept};
+ghost use Rattle.office.specs.Leaving.{AreLeft, AreLeftBeside, any_table, nothing};
 ghost use Rattle.office.specs.Ready.{AreFit};
 ghost use Rattle.fx_base.specs.Silence.{Goes, IsLost};
 ghost use Rattle.fx_base.specs.Telling.{Stays};
@@ -42,6 +44,7 @@ pub const MOST_SESSIONS: usize = 256;
 /// Opens a session, if it isn't live: the formulas act that an app has for this, in one transaction of the keeper. It gets a
 /// cache, and those of the others are told which tables were written. What stops leaves the sessions and the tables. `Failed`
 /// only where the keeper counted a fault.
+#[tactic(auto, using(crate::proofs::Leaving::beside_same))]
 pub(crate) fn begin<K: Keeper, L: Ledger>(
     alloc: Global,
     app: &App,
@@ -68,6 +71,7 @@ pub(crate) fn begin<K: Keeper, L: Ledger>(
     ensures fit { AreFit app.now.names sessions.new.items }
     ensures replies { SessionsKeepReplies sessions.new.items }
     ensures kept { AreKept app.now (K.told keeper.new) moment sessions.new.items caches.new.items }
+    ensures clean { AreLeftBeside app.now name any_table caches.old.items caches.new.items }
     ensures rows { AreSound app.now.names.schema (K.told keeper.new) }
     ensures shaped { K.shaped keeper.new ≡ Some app.now.names.schema }
     ensures idle { K.in_transaction keeper.new ≡ false }
@@ -106,6 +110,7 @@ pub(crate) fn end(
     ensures fit { (names : Known) → AreFit names sessions.old.items → AreFit names sessions.new.items }
     ensures replies { SessionsKeepReplies sessions.old.items → SessionsKeepReplies sessions.new.items }
     ensures kept { (app : AnApp) (told : Option Tables) (m : ℕ) → AreKept app told m sessions.old.items caches.old.items → AreKept app told m sessions.new.items caches.new.items }
+    ensures clean { (app : AnApp) → AreLeft app nothing caches.old.items caches.new.items }
     ensures whole { IfOk result IsReply }
     ensures stopped { OnErr result (sessions.new.items ≡ sessions.old.items) }
 {
@@ -123,7 +128,7 @@ fn remove<T: Drop>(list: &mut Vec<Named<T>>, name: &Words)
 }
 
 /// Shows a live session its view, as it is at a moment over the rows of a keeper. `Failed` only where it counted a fault.
-#[tactic(auto, using(crate::proofs::StepLemmas::read_nothing))]
+#[tactic(auto, using(crate::proofs::StepLemmas::read_nothing, crate::proofs::Leaving::each_same))]
 pub(crate) fn show_view_to<K: Keeper, L: Ledger>(
     alloc: Global,
     app: &App,
@@ -142,6 +147,7 @@ pub(crate) fn show_view_to<K: Keeper, L: Ledger>(
     ensures whole { IfOk result IsReply }
     ensures reached { IsErrOf result Failed → ReachesView name.now sessions.now }
     ensures kept { AreKept app.now (K.told keeper.new) moment sessions.now caches.new.items }
+    ensures clean { AreEach (λ k. IsLeftBut app.now []) caches.old.items caches.new.items }
     ensures read { HasRead (keeping (K.told keeper.old) (K.began keeper.old) (K.shaped keeper.old) (K.in_transaction keeper.old) (K.marks keeper.old) (K.visited keeper.old) (K.loan keeper.old))
         (keeping (K.told keeper.new) (K.began keeper.new) (K.shaped keeper.new) (K.in_transaction keeper.new) (K.marks keeper.new) (K.visited keeper.new) (K.loan keeper.new)) }
     ensures cause { HasCause (K.marks keeper.old) (K.marks keeper.new) result }
@@ -163,7 +169,7 @@ pub(crate) fn show_view_to<K: Keeper, L: Ledger>(
 
 /// Shows a live session the items of a gallery from a position on, of which 0 counts as 1. `Failed` only where the keeper counted
 /// a fault.
-#[tactic(auto, using(crate::proofs::StepLemmas::read_nothing))]
+#[tactic(auto, using(crate::proofs::StepLemmas::read_nothing, crate::proofs::Leaving::each_same))]
 pub(crate) fn show_items_to<K: Keeper, L: Ledger>(
     alloc: Global,
     app: &App,
@@ -184,6 +190,7 @@ pub(crate) fn show_items_to<K: Keeper, L: Ledger>(
     ensures whole { IfOk result IsReply }
     ensures reached { IsErrOf result Failed → ReachesItems app.now name.now gallery.now sessions.now }
     ensures kept { AreKept app.now (K.told keeper.new) moment sessions.now caches.new.items }
+    ensures clean { AreEach (λ k. IsLeftBut app.now []) caches.old.items caches.new.items }
     ensures read { HasRead (keeping (K.told keeper.old) (K.began keeper.old) (K.shaped keeper.old) (K.in_transaction keeper.old) (K.marks keeper.old) (K.visited keeper.old) (K.loan keeper.old))
         (keeping (K.told keeper.new) (K.began keeper.new) (K.shaped keeper.new) (K.in_transaction keeper.new) (K.marks keeper.new) (K.visited keeper.new) (K.loan keeper.new)) }
     ensures cause { HasCause (K.marks keeper.old) (K.marks keeper.new) result }
@@ -199,7 +206,7 @@ pub(crate) fn show_items_to<K: Keeper, L: Ledger>(
 }
 
 /// Shows the named formulas to a live session. `Failed` only where the keeper counted a fault.
-#[tactic(auto, using(crate::proofs::StepLemmas::read_nothing))]
+#[tactic(auto, using(crate::proofs::StepLemmas::read_nothing, crate::proofs::Leaving::each_same))]
 pub(crate) fn show_named<K: Keeper, L: Ledger>(
     alloc: Global,
     app: &App,
@@ -218,6 +225,7 @@ pub(crate) fn show_named<K: Keeper, L: Ledger>(
     ensures whole { IfOk result IsReply }
     ensures reached { IsErrOf result Failed → ReachesNamed name.now sessions.now }
     ensures kept { AreKept app.now (K.told keeper.new) moment sessions.now caches.new.items }
+    ensures clean { AreEach (λ k. IsLeftBut app.now []) caches.old.items caches.new.items }
     ensures read { HasRead (keeping (K.told keeper.old) (K.began keeper.old) (K.shaped keeper.old) (K.in_transaction keeper.old) (K.marks keeper.old) (K.visited keeper.old) (K.loan keeper.old))
         (keeping (K.told keeper.new) (K.began keeper.new) (K.shaped keeper.new) (K.in_transaction keeper.new) (K.marks keeper.new) (K.visited keeper.new) (K.loan keeper.new)) }
     ensures cause { HasCause (K.marks keeper.old) (K.marks keeper.new) result }

@@ -1,6 +1,10 @@
-use Rattle.std.proofs.Common.{take}
-use Rattle.office.specs.Caches.{AreNew}
+use Rattle.std.proofs.Common.{◌≡◌, length}
+use Rattle.std.specs.List.{AllByRecursion}
+use Rattle.office.specs.Caches.{IsNew}
 use Rattle.office.proofs.keeping.new_caches.Given as goal
 
-abbrev pub invariant-loop-session : goal.invariant-loop-session
-invariant-loop-session l = AreNew l.app l.moment (take l.session-index l.sessions) l.caches.items
+abbrev pub invariant-loop : goal.invariant-loop
+invariant-loop l = record {
+  count : length l.caches.items ≡ l.counter;
+  new : AllByRecursion (IsNew l.app l.moment) l.caches.items;
+}

@@ -1,7 +1,7 @@
 use Rattle.std.proofs.Common.{◌≡◌, ◌+◌, ◌∙◌, arith, get_or, length, sym, subst}
 use Rattle.fx_trees.specs.declared.sources.Source.TheVariants.{Cell}
 use Rattle.recalc.specs.Kept.{Kept}
-use Rattle.office.proofs.Rounds.{IsAt, at_among, at_end, at_other, at_table, plain_table}
+use Rattle.office.proofs.Rounds.{IsAt, at_among, at_end, at_other, at_start, at_table, plain_table}
 use Rattle.office.proofs.keeping.touch.Goals.{then-is_table, else-is_table}
 use Rattle.office.proofs.keeping.touch.Goals as goal
 
@@ -9,6 +9,9 @@ pub touched-requires : goal.touched-requires
 touched-requires c =
     let s = get_or c.args.wrote.now c.loop-source.source-index (Cell 0) in
     (c.loop-source.invariant.order c.requires.order).places s (c.requires.sources s (at_among c.args.wrote.now c.loop-source.source-index (Cell 0) c.loop-source-test.true))
+
+pub loop-source-init : goal.loop-source-init
+loop-source-init c = at_start c.args.app.now c.args.wrote.now c.args.cache.now
 
 pub loop-source-preserved : goal.loop-source-preserved
 loop-source-preserved c =

@@ -4,6 +4,8 @@ use Rattle.app_loader.specs.app_semantics.Present.{Present, present}
 use Rattle.office.proofs.NamedCells.{named_alone, named_fresh, named_made}
 use Rattle.office.specs.NamedReply.{AreNamedFresh}
 use Rattle.recalc.specs.Steps.{OncePerCell}
+use Rattle.recalc.specs.Visits.{VisitsPerCell}
+use Rattle.row_keeper.specs.Tables.{rows_of}
 use Rattle.session_requests.specs.recalc.Values.{Values, value_of}
 use Rattle.office.proofs.named.kept_list.Goals as goal
 
@@ -28,3 +30,8 @@ pub returns-clause-ticks : goal.returns-clause-ticks
 returns-clause-ticks g c = λ room.
     subst (λ (ks : List ℕ). OncePerCell c.args.app.now ks c.args.cache.now c.refresh.new.self c.args.steps.now c.refresh.new.steps) (c.deref.ensures.value ∙ c.in_ok-roots.ensures)
     (c.in_ok-refresh.ensures.ticks room)
+
+pub returns-clause-visits : goal.returns-clause-visits
+returns-clause-visits g c = λ right room t told.
+    subst (λ (ks : List ℕ). VisitsPerCell c.args.app.now c.args.session.now (rows_of t.states) c.args.moment ks c.args.cache.now c.refresh.new.self c.args.steps.now c.refresh.new.steps (g.K.Keeper.visited c.args.keeper.now) (g.K.Keeper.visited c.refresh.new.keeper))
+    (c.deref.ensures.value ∙ c.in_ok-roots.ensures) (c.in_ok-refresh.ensures.visits right room t told)

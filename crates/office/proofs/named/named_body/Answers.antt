@@ -17,3 +17,6 @@ returns-in_err-rows-clause-right g c = ∥∥₁_map c.requires.right c.kept_lis
 
 pub returns-in_err-named_json-clause-right : goal.returns-in_err-named_json-clause-right
 returns-in_err-named_json-clause-right g c = ∥∥₁_map c.requires.right c.kept_list.ensures.right
+
+pub returns-clause-visits : goal.returns-clause-visits
+returns-clause-visits g c = λ room t told. ∥∥₁_map c.requires.right (λ right. c.in_ok-rows.ensures.visits right room t told)

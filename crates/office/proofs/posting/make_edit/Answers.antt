@@ -1,18 +1,23 @@
-use Rattle.std.proofs.Common.{◌∙◌, List, Ok, ap, subst, sym}
+use Rattle.std.proofs.Common.{◌∙◌, ℕ, List, Ok, Option, ap, subst, sym}
 use Rattle.app_loader.specs.Edits.{JudgedEdit}
 use Rattle.fx_data.specs.Words.{scalars_of}
+use Rattle.recalc.specs.Carrying.{AreOldCells}
 use Rattle.request_checks.specs.Checked.{SessionsKeepReplies}
-use Rattle.request_checks.specs.Replies.{said}
+use Rattle.request_checks.specs.Replies.{IsAccepted, KeepReplies, said}
 use Rattle.request_checks.specs.declared.directory.Named.{Named}
+use Rattle.serde_json.specs.Written.{compact_text}
+use Rattle.session_state.specs.Once.{Kept}
 use Rattle.session_state.specs.Sessions.{SessionState}
-use Rattle.office.specs.Caches.{AreKept, AreNew}
+use Rattle.office.specs.Caches.{AreKept}
+use Rattle.office.specs.DeskEdits.{seq_data}
 use Rattle.office.specs.Ready.{AreFit}
 use Rattle.office.specs.Rooms.{HaveNoRoom, HaveRoom}
 use Rattle.office.proofs.Desks.{kept_so}
+use Rattle.office.proofs.Directories.{put_all}
 use Rattle.office.proofs.Edits.{alike, carried_fit, carried_keep}
+use Rattle.office.proofs.GoingOver.{can_go_over, each_over, edit_of, kept_over}
 use Rattle.office.proofs.Rooms.{have_none, have_room}
 use Rattle.office.proofs.Writing.{carried_all, roomy}
-use Rattle.office.proofs.Turned.{kept_new}
 use Rattle.office.proofs.posting.make_edit.Goals as goal
 
 pub make_room-requires : goal.make_room-requires
@@ -48,6 +53,13 @@ returns-in-Ok-clause-fit c =
     subst (λ (l : List (Named SessionState)). AreFit c.in-Ok.edited.names l) (sym sessions)
     (carried_fit c.args.app.now.names c.in-Ok.edited.names c.args.sessions.now.items (alike c.args.app.now c.in-Ok.edited c.in-Ok.ensures.frame) c.in-Ok.ensures.tables c.requires.fit)
 
+pub returns-in-Ok-clause-kept : goal.returns-in-Ok-clause-kept
+returns-in-Ok-clause-kept c =
+    let desk : Kept = record { last = c.args.asked.now.seq; body = c.in_ok-accepted.accepted.body.items; reply = c.in_ok-accepted.accepted.kept.items } in
+    subst KeepReplies (sym c.keep.ensures.kept)
+    (put_all Kept (λ (n : Named Kept). IsAccepted n.it.reply) c.in_ok-accepted.accepted.name desk c.reserve.new.self.items (subst KeepReplies (sym c.in_ok-reserve.ensures.items) c.requires.kept)
+    (compact_text (seq_data c.args.asked.now.seq), c.in_ok-accepted.ensures.kept))
+
 pub returns-in-Ok-clause-replies : goal.returns-in-Ok-clause-replies
 returns-in-Ok-clause-replies c =
     let read = roomy c.args.sessions.now.len c.in-Ok.edited.names c.args.sessions.now.items c.deref_mut.result.now c.make_room.new.sessions c.deref_mut-in-Ok.result.now
@@ -56,13 +68,26 @@ returns-in-Ok-clause-replies c =
     c.args.sessions.now.ok.0 read c.carry.ensures in
     subst SessionsKeepReplies (sym sessions) (carried_keep c.args.app.now.names c.in-Ok.edited.names c.args.sessions.now.items c.requires.replies)
 
+pub carry_all-requires-clause-edit : goal.carry_all-requires-clause-edit
+carry_all-requires-clause-edit c = edit_of c.args.app.now c.in-Ok.edited c.in-Ok.ensures.frame
+
+pub carry_all-requires-clause-cells : goal.carry_all-requires-clause-cells
+carry_all-requires-clause-cells c = subst (λ (l : List (Option ℕ)). AreOldCells c.args.app.now c.in-Ok.edited l) (sym c.deref.ensures.value) c.in_ok-cells-in-Ok.ensures
+
+pub carry_all-requires-clause-can : goal.carry_all-requires-clause-can
+carry_all-requires-clause-can c = (
+  c.args.moment,
+  can_go_over c.args.app.now c.in-Ok.edited c.requires.cached.0 c.args.moment c.args.sessions.now.items c.args.caches.now.items c.in_ok-rooms-in-Ok.rooms.items c.requires.cached.1 c.in_ok-rooms-in-Ok.ensures.new (c.in_ok-rooms-in-Ok.ensures.count ∙ c.len.ensures ∙ c.args.caches.now.ok.0),
+)
+
 pub returns-in-Ok-clause-caches : goal.returns-in-Ok-clause-caches
 returns-in-Ok-clause-caches c = λ told kept.
     let read = roomy c.args.sessions.now.len c.in-Ok.edited.names c.args.sessions.now.items c.deref_mut.result.now c.make_room.new.sessions c.deref_mut-in-Ok.result.now
     c.args.sessions.now.ok.0 c.deref_mut.ensures.value c.in_ok-make_room-in-Ok.ensures.made c.deref_mut-in-Ok.ensures.value in
     let sessions = carried_all c.args.sessions.now.len c.args.app.now.names c.in-Ok.edited.names c.args.sessions.now.items c.deref_mut-in-Ok.result.now _ c.carry.new.sessions
     c.args.sessions.now.ok.0 read c.carry.ensures in
-    let rooms = c.in_ok-rooms-in-Ok.rooms.items in
-    subst (λ (l : List (Named SessionState)). AreKept c.in-Ok.edited told c.args.moment l rooms) (sym sessions)
-    (kept_new c.in-Ok.edited told c.args.moment c.args.app.now.names c.in-Ok.edited.names c.args.sessions.now.items rooms
-    (subst (λ (l : List (Named SessionState)). AreNew c.in-Ok.edited c.args.moment l rooms) c.deref.ensures.value c.in_ok-rooms-in-Ok.ensures))
+    subst (λ (l : List (Named SessionState)). AreKept c.in-Ok.edited told c.args.moment l c.carry_all.new.caches.items) (sym sessions)
+    (kept_over c.args.app.now c.in-Ok.edited told c.args.moment c.args.sessions.now.items c.args.caches.now.items c.carry_all.new.caches.items c.requires.fit kept c.carry_all.ensures)
+
+pub returns-in-Ok-clause-over : goal.returns-in-Ok-clause-over
+returns-in-Ok-clause-over c = each_over c.args.app.now c.in-Ok.edited c.args.caches.now.items c.carry_all.new.caches.items c.carry_all.ensures

@@ -1,4 +1,4 @@
-use Rattle.std.proofs.Common.{◌≡◌, ◌<◌, List, length, Some, arith, subst, sym}
+use Rattle.std.proofs.Common.{◌≡◌, ◌<◌, ◌∙◌, List, length, Some, arith, subst, sym}
 use Rattle.std.specs.List.{position}
 use Rattle.fx_base.specs.Silence.{Goes, IsLost}
 use Rattle.fx_trees.specs.declared.sources.Source.{Source}
@@ -7,6 +7,11 @@ use Rattle.request_checks.specs.Replies.{said}
 use Rattle.request_checks.specs.declared.directory.Named.{Named}
 use Rattle.row_requests.specs.Written.{AreTablesBut}
 use Rattle.session_state.specs.Sessions.{SessionState}
+use Rattle.office.specs.Leaving.{any_table}
+use Rattle.recalc.specs.Changes.{IsLeftBut}
+use Rattle.session_requests.specs.Posting.{SendsEventWriting}
+use Rattle.office.proofs.Leaving.{acted_told, at_told, beside_any, beside_stopped, beside_told}
+use Rattle.office.proofs.Caching.{one_place}
 use Rattle.office.proofs.Sent.{cached_there, kept_sent, kept_stopped, order_after, place_within, sends_event}
 use Rattle.office.proofs.sending.act_event.Goals as goal
 
@@ -57,3 +62,49 @@ returns-clause-kept g c =
     kept_sent app m lost c.deref-in-Some.result.now (told c.args.keeper.now) (told c.send_event.new.keeper) name ss rs cs c.touch_others.new.caches.items c.in-Some.place c.index_mut.result.now c.send_event.new.cache
     c.requires.sound (subst (λ (ws : List Source). Goes lost (AreTablesBut ws) (told c.args.keeper.now) (told c.send_event.new.keeper)) (sym c.deref-in-Some.ensures.value) c.send_event.ensures.tables) c.requires.kept (sym place) c.index_mut.ensures.value
     changes c.send_event.ensures.cached c.touch_others.ensures.told
+
+pub returns-in_err-reply-in-Some-clause-clean : goal.returns-in_err-reply-in-Some-clause-clean
+returns-in_err-reply-in-Some-clause-clean g c =
+    let name = c.args.name.now in
+    let told = g.K.Keeper.told c.args.keeper.now in
+    let ss = c.args.sessions.now.items in
+    let cs = c.args.caches.now.items in
+    let place = subst (λ (l : List (Named SessionState)). Some c.in-Some.place ≡ position (is_named name) l) c.deref.ensures.value c.in-Some.ensures.place in
+    let within : c.in-Some.place < length ss = subst (λ (l : List (Named SessionState)). c.in-Some.place < length l) c.deref.ensures.value c.in-Some.ensures.within in
+    let here = place_within c.args.app.now told c.args.moment ss cs c.in-Some.place c.requires.kept within in
+    let beside = one_place c.args.app.now told c.args.moment name ss cs c.requires.kept ∙ sym place in
+    beside_stopped c.args.app.now name any_table cs c.in-Some.place c.index_mut.result.now c.send_event.new.cache here c.index_mut.ensures.value beside
+
+pub returns-clause-clean : goal.returns-clause-clean
+returns-clause-clean g c =
+    let name = c.args.name.now in
+    let told = g.K.Keeper.told c.args.keeper.now in
+    let ss = c.args.sessions.now.items in
+    let cs = c.args.caches.now.items in
+    let place = subst (λ (l : List (Named SessionState)). Some c.in-Some.place ≡ position (is_named name) l) c.deref.ensures.value c.in-Some.ensures.place in
+    let within : c.in-Some.place < length ss = subst (λ (l : List (Named SessionState)). c.in-Some.place < length l) c.deref.ensures.value c.in-Some.ensures.within in
+    let here = place_within c.args.app.now told c.args.moment ss cs c.in-Some.place c.requires.kept within in
+    let beside = one_place c.args.app.now told c.args.moment name ss cs c.requires.kept ∙ sym place in
+    beside_any c.args.app.now name c.deref-in-Some.result.now cs c.touch_others.new.caches.items
+    (beside_told c.args.app.now name c.deref-in-Some.result.now cs c.touch_others.new.caches.items c.in-Some.place c.index_mut.result.now c.send_event.new.cache here c.index_mut.ensures.value beside c.touch_others.ensures.told)
+
+pub returns-clause-own : goal.returns-clause-own
+returns-clause-own g c =
+    let name = c.args.name.now in
+    let told = g.K.Keeper.told c.args.keeper.now in
+    let ss = c.args.sessions.now.items in
+    let cs = c.args.caches.now.items in
+    let place = subst (λ (l : List (Named SessionState)). Some c.in-Some.place ≡ position (is_named name) l) c.deref.ensures.value c.in-Some.ensures.place in
+    let within : c.in-Some.place < length ss = subst (λ (l : List (Named SessionState)). c.in-Some.place < length l) c.deref.ensures.value c.in-Some.ensures.within in
+    let here = place_within c.args.app.now told c.args.moment ss cs c.in-Some.place c.requires.kept within in
+    let beside = one_place c.args.app.now told c.args.moment name ss cs c.requires.kept ∙ sym place in
+    let ws = c.deref-in-Some.result.now in
+    let ds = c.touch_others.new.caches.items in
+    let lost = IsLost (g.K.Keeper.marks c.args.keeper.now) (g.K.Keeper.marks c.send_event.new.keeper) in (
+      ws,
+      subst (λ (l : List Source). SendsEventWriting lost c.args.app.now c.args.moment name c.args.body.now c.args.event.now told ss (said c.in_ok-reply-in-Some.reply) (g.K.Keeper.told c.send_event.new.keeper) c.send_event.new.sessions.items l) (sym c.deref-in-Some.ensures.value) c.in_ok-reply-in-Some.ensures.wrote,
+      acted_told c.args.app.now name ws cs ds
+          (at_told c.args.app.now name ws cs ds c.in-Some.place c.index_mut.result.now c.send_event.new.cache here c.index_mut.ensures.value beside c.touch_others.ensures.told
+          (subst (λ (l : List Source). IsLeftBut c.args.app.now l c.index_mut.result.now.it c.send_event.new.cache) (sym c.deref-in-Some.ensures.value) c.send_event.ensures.clean))
+          (beside_told c.args.app.now name ws cs ds c.in-Some.place c.index_mut.result.now c.send_event.new.cache here c.index_mut.ensures.value beside c.touch_others.ensures.told),
+    )

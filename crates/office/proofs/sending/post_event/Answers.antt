@@ -1,4 +1,4 @@
-use Rattle.std.proofs.Common.{◌≡◌, ℕ, List, Result, Ok, subst, sym}
+use Rattle.std.proofs.Common.{◌≡◌, ℕ, List, Result, Ok, Err, subst, sym}
 use Rattle.std.specs.Prelude.{IsSome}
 use Rattle.std.proofs.lemmas.Result.{IfOk-weaker}
 use Rattle.fx_base.specs.Silence.{IsLost}
@@ -11,6 +11,8 @@ use Rattle.session_requests.specs.Bodies.{event_in}
 use Rattle.session_requests.specs.Posting.{PostsEventChecked}
 use Rattle.session_requests.specs.declared.event.Event.{Event}
 use Rattle.session_state.specs.Sessions.{SessionState}
+use Rattle.office.specs.Leaving.{EventLeaves, nothing}
+use Rattle.office.proofs.Leaving.{acted_same}
 use Rattle.office.proofs.sending.post_event.Goals as goal
 
 pub act_event-requires-clause-live : goal.act_event-requires-clause-live
@@ -33,3 +35,23 @@ pub returns-in-Acts-clause-reached : goal.returns-in-Acts-clause-reached
 returns-in-Acts-clause-reached g c = λ failed.
     let passed = rw c.in-Acts.is at c.in_ok-reply.ensures.is in
     (c.in-Acts.event, subst (λ (l : List (Named SessionState)). checks event_in (λ (e : Event). e.seq) (session_of c.args.name.now l) c.args.body.now ≡ Ok c.in-Acts.event) c.deref.ensures.value passed)
+
+pub returns-in-Acts-clause-own : goal.returns-in-Acts-clause-own
+returns-in-Acts-clause-own g c =
+    let told = g.K.Keeper.told in
+    let name = c.args.name.now in
+    let lost = IsLost (g.K.Keeper.marks c.args.keeper.now) (g.K.Keeper.marks c.act_event.new.keeper) in
+    let passed = rw c.in-Acts.is at c.in_ok-reply.ensures.is in
+    let is = subst (λ (l : List (Named SessionState)). checks event_in (λ (e : Event). e.seq) (session_of name l) c.args.body.now ≡ Ok c.in-Acts.event) c.deref.ensures.value passed in
+    IfOk-weaker c.act_event.result _ _ (λ r own.
+    subst (λ (x : Result Event (List ℕ)). EventLeaves lost c.args.app.now c.args.moment name nothing c.args.body.now x (told c.args.keeper.now) c.args.sessions.now.items (said r) (told c.act_event.new.keeper) c.act_event.new.sessions.items c.args.caches.now.items c.act_event.new.caches.items) (sym is) own) c.act_event.ensures.own
+
+pub returns-in-Says-clause-own : goal.returns-in-Says-clause-own
+returns-in-Says-clause-own g c =
+    let told = g.K.Keeper.told c.args.keeper.now in
+    let name = c.args.name.now in
+    let lost = IsLost (g.K.Keeper.marks c.args.keeper.now) (g.K.Keeper.marks c.args.keeper.now) in
+    let passed = rw c.in-Says.is at c.in_ok-reply.ensures.is in
+    let is = subst (λ (l : List (Named SessionState)). checks event_in (λ (e : Event). e.seq) (session_of name l) c.args.body.now ≡ Err (said c.in-Says.reply)) c.deref.ensures.value passed in
+    subst (λ (x : Result Event (List ℕ)). EventLeaves lost c.args.app.now c.args.moment name nothing c.args.body.now x told c.args.sessions.now.items (said c.in-Says.reply) told c.args.sessions.now.items c.args.caches.now.items c.args.caches.now.items) (sym is)
+    (acted_same c.args.app.now name c.args.caches.now.items)

@@ -8,6 +8,8 @@ use Rattle.session_state.specs.Changes.{FitsNames}
 use Rattle.session_state.specs.Sessions.{SessionState, opened}
 use Rattle.office.specs.Caches.{AreEach, AreKept, IsToldAside, tables_in}
 use Rattle.office.specs.Ready.{AreFit}
+use Rattle.office.specs.Leaving.{AreLeftBeside, any_table}
+use Rattle.office.proofs.Leaving.{beside_begun, beside_same}
 use Rattle.office.proofs.Directories.{begun_keep, put_all}
 use Rattle.office.proofs.Sent.{kept_begun, kept_order, kept_still}
 use Rattle.office.proofs.Touching.{new_cached}
@@ -53,3 +55,25 @@ returns-clause-kept g c =
     c.requires.sound c.open_session.ensures.tables c.requires.kept c.in_ok-reserve.ensures.items c.in_ok-reserve-2.ensures.items
     (subst (λ (ws : List Source). AreEach (IsToldAside c.args.app.now None (tables_in ws)) c.reserve-2.new.self.items c.touch_others.new.caches.items) c.deref-2.ensures.value c.touch_others.ensures.told)
     c.put.ensures c.put-2.ensures c.in_ok-copy.ensures c.in_ok-session.ensures.cached
+
+pub returns-in_err-reserve-2-clause-clean : goal.returns-in_err-reserve-2-clause-clean
+returns-in_err-reserve-2-clause-clean g c =
+    subst (λ (l : List (Named Kept)). AreLeftBeside c.args.app.now c.args.name any_table c.args.caches.now.items l) (sym c.in_err-reserve-2.ensures.items) (beside_same c.args.app.now c.args.name any_table c.args.caches.now.items)
+
+pub returns-in_err-copy-clause-clean : goal.returns-in_err-copy-clause-clean
+returns-in_err-copy-clause-clean g c =
+    subst (λ (l : List (Named Kept)). AreLeftBeside c.args.app.now c.args.name any_table c.args.caches.now.items l) (sym c.in_ok-reserve-2.ensures.items) (beside_same c.args.app.now c.args.name any_table c.args.caches.now.items)
+
+pub returns-in_err-cache-clause-clean : goal.returns-in_err-cache-clause-clean
+returns-in_err-cache-clause-clean g c =
+    subst (λ (l : List (Named Kept)). AreLeftBeside c.args.app.now c.args.name any_table c.args.caches.now.items l) (sym c.in_ok-reserve-2.ensures.items) (beside_same c.args.app.now c.args.name any_table c.args.caches.now.items)
+
+pub returns-in_err-session-clause-clean : goal.returns-in_err-session-clause-clean
+returns-in_err-session-clause-clean g c =
+    subst (λ (l : List (Named Kept)). AreLeftBeside c.args.app.now c.args.name any_table c.args.caches.now.items l) (sym c.in_ok-reserve-2.ensures.items) (beside_same c.args.app.now c.args.name any_table c.args.caches.now.items)
+
+pub returns-clause-clean : goal.returns-clause-clean
+returns-clause-clean g c =
+    beside_begun c.args.app.now c.args.name c.in_ok-copy.copy c.open_session.new.wrote.items c.args.caches.now.items c.reserve-2.new.self.items c.touch_others.new.caches.items c.put-2.new.list.items c.open_session.new.cache
+    c.in_ok-reserve-2.ensures.items c.in_ok-copy.ensures
+    (subst (λ (ws : List Source). AreEach (IsToldAside c.args.app.now None (tables_in ws)) c.reserve-2.new.self.items c.touch_others.new.caches.items) c.deref-2.ensures.value c.touch_others.ensures.told) c.put-2.ensures

@@ -7,6 +7,8 @@ use Rattle.office.specs.Ready.{AreFit}
 use Rattle.office.specs.Sessions.{without}
 use Rattle.recalc.specs.Kept.{Kept}
 use Rattle.office.specs.Caches.{AreKept}
+use Rattle.office.specs.Leaving.{AreLeft, nothing}
+use Rattle.office.proofs.Leaving.{left_unchanged, left_without}
 use Rattle.office.proofs.Caching.{kept_without}
 use Rattle.office.proofs.Directories.{without_all}
 use Rattle.office.proofs.sessions.end.Goals as goal
@@ -25,3 +27,10 @@ pub returns-clause-kept : goal.returns-clause-kept
 returns-clause-kept c = λ app told m kept.
     subst (λ (l : List (Named SessionState)). AreKept app told m l c.remove-2.new.list.items) (sym c.remove.ensures)
     (subst (λ (l : List (Named Kept)). AreKept app told m (without c.args.name.now c.args.sessions.now.items) l) (sym c.remove-2.ensures) (kept_without app told m c.args.name.now c.args.sessions.now.items c.args.caches.now.items kept))
+
+pub returns-in_err-reply-clause-clean : goal.returns-in_err-reply-clause-clean
+returns-in_err-reply-clause-clean c = λ app. left_unchanged app c.args.caches.now.items
+
+pub returns-clause-clean : goal.returns-clause-clean
+returns-clause-clean c = λ app.
+    subst (λ (l : List (Named Kept)). AreLeft app nothing c.args.caches.now.items l) (sym c.remove-2.ensures) (left_without app c.args.name.now c.args.caches.now.items)

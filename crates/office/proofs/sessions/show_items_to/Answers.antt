@@ -1,10 +1,11 @@
-use Rattle.std.proofs.Common.{◌<◌, length, Option, Some, arith, get_or, refl, subst, sym}
+use Rattle.std.proofs.Common.{[], ◌<◌, length, Option, Some, arith, get_or, refl, subst, sym}
 use Rattle.std.specs.Prelude.{IsSome}
 use Rattle.std.proofs.lemmas.Result.{IfOk-weaker}
 use Rattle.app_views.specs.Shows.{ShowsItemsTo}
 use Rattle.fx_base.specs.Silence.{IsLost}
 use Rattle.request_checks.specs.Replies.{said}
 use Rattle.session_state.specs.Sessions.{SessionState}
+use Rattle.office.proofs.Leaving.{each_set}
 use Rattle.office.proofs.Sent.{found_here, kept_after, place_within, shown_there}
 use Rattle.office.proofs.sessions.show_items_to.Goals as goal
 
@@ -43,3 +44,8 @@ returns-clause-kept g c =
     kept_after c.args.app.now c.args.moment (IsLost (g.K.Keeper.marks c.args.keeper.now) (g.K.Keeper.marks c.show_items.new.keeper)) (told c.args.keeper.now) (told c.show_items.new.keeper)
     c.args.sessions.now c.args.caches.now.items c.in-Some.place c.index-sessions-place.result c.index_mut.result.now c.show_items.new.cache
     c.requires.kept c.in-Some.ensures.within c.index_mut.ensures.value c.show_items.ensures.read.told c.show_items.ensures.order c.show_items.ensures.right c.show_items.ensures.day
+
+pub returns-clause-clean : goal.returns-clause-clean
+returns-clause-clean g c =
+    let within = place_within c.args.app.now (g.K.Keeper.told c.args.keeper.now) c.args.moment c.args.sessions.now c.args.caches.now.items c.in-Some.place c.requires.kept c.in-Some.ensures.within in
+    each_set c.args.app.now [] c.args.caches.now.items c.in-Some.place c.index_mut.result.now c.show_items.new.cache within c.index_mut.ensures.value c.show_items.ensures.but

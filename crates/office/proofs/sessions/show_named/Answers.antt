@@ -1,4 +1,4 @@
-use Rattle.std.proofs.Common.{◌<◌, Option, ap, arith, length, refl, string_bytes, subst, sym, ◌∙◌}
+use Rattle.std.proofs.Common.{[], ◌<◌, Option, ap, arith, length, refl, string_bytes, subst, sym, ◌∙◌}
 use Rattle.std.specs.Prelude.{IsSome}
 use Rattle.app_wire.specs.ReplyBytes.{reply}
 use Rattle.fx_base.specs.Silence.{IsLost}
@@ -7,6 +7,7 @@ use Rattle.row_keeper.specs.Tables.{rows_told}
 use Rattle.recalc.proofs.Asked.{heard_told}
 use Rattle.session_state.specs.Sessions.{SessionState}
 use Rattle.office.specs.Sessions.{ShowsNamedTo}
+use Rattle.office.proofs.Leaving.{each_set}
 use Rattle.office.proofs.Sent.{found_here, kept_after, place_within, shown_there}
 use Rattle.office.proofs.sessions.show_named.Goals as goal
 
@@ -60,3 +61,18 @@ returns-clause-kept g c =
     kept_after c.args.app.now c.args.moment (IsLost (g.K.Keeper.marks c.args.keeper.now) (g.K.Keeper.marks c.named_body.new.keeper)) (told c.args.keeper.now) (told c.named_body.new.keeper)
     c.args.sessions.now c.args.caches.now.items c.in-Some.place c.index-sessions-place.result c.index_mut.result.now c.named_body.new.cache
     c.requires.kept c.in-Some.ensures.within c.index_mut.ensures.value c.named_body.ensures.read.told c.named_body.ensures.order c.named_body.ensures.right c.named_body.ensures.day
+
+pub returns-in_err-body-clause-clean : goal.returns-in_err-body-clause-clean
+returns-in_err-body-clause-clean g c =
+    let within = place_within c.args.app.now (g.K.Keeper.told c.args.keeper.now) c.args.moment c.args.sessions.now c.args.caches.now.items c.in-Some.place c.requires.kept c.in-Some.ensures.within in
+    each_set c.args.app.now [] c.args.caches.now.items c.in-Some.place c.index_mut.result.now c.named_body.new.cache within c.index_mut.ensures.value c.named_body.ensures.but
+
+pub returns-in_err-accept-clause-clean : goal.returns-in_err-accept-clause-clean
+returns-in_err-accept-clause-clean g c =
+    let within = place_within c.args.app.now (g.K.Keeper.told c.args.keeper.now) c.args.moment c.args.sessions.now c.args.caches.now.items c.in-Some.place c.requires.kept c.in-Some.ensures.within in
+    each_set c.args.app.now [] c.args.caches.now.items c.in-Some.place c.index_mut.result.now c.named_body.new.cache within c.index_mut.ensures.value c.named_body.ensures.but
+
+pub returns-clause-clean : goal.returns-clause-clean
+returns-clause-clean g c =
+    let within = place_within c.args.app.now (g.K.Keeper.told c.args.keeper.now) c.args.moment c.args.sessions.now c.args.caches.now.items c.in-Some.place c.requires.kept c.in-Some.ensures.within in
+    each_set c.args.app.now [] c.args.caches.now.items c.in-Some.place c.index_mut.result.now c.named_body.new.cache within c.index_mut.ensures.value c.named_body.ensures.but

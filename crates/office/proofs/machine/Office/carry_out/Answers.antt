@@ -1,7 +1,8 @@
-use Rattle.std.proofs.Common.{refl}
+use Rattle.std.proofs.Common.{inl, inr, refl}
 use Rattle.std.proofs.lemmas.Result.{IfOk-weaker}
 use Rattle.app_wire.specs.Framing.{asked}
 use Rattle.request_checks.specs.Replies.{said}
+use Rattle.office.proofs.Leaving.{acts_then, leaves_same, leaves_then, leaves_unrouted}
 use Rattle.office.proofs.StepLemmas.{left_all, routed_then, unrouted, wrong_method}
 use Rattle.office.proofs.machine.Office.carry_out.Goals as goal
 
@@ -21,3 +22,32 @@ returns-in-Err-WrongMethod-clause-step g c =
 
 pub returns-in-Err-Memory-clause-stopped : goal.returns-in-Err-Memory-clause-stopped
 returns-in-Err-Memory-clause-stopped g c = left_all _ _ _ refl
+
+pub returns-in-Ok-turn-clause-clean : goal.returns-in-Ok-turn-clause-clean
+returns-in-Ok-turn-clause-clean g c =
+    leaves_then c.args.self.now.state c.turn.new.self.state c.take.new.self.state c.args.self.now.moment c.args.moment (asked c.args.request.now) c.in-Ok.route c.args.self.now.caches c.turn.new.self.caches c.take.new.self.caches c.in-Ok.ensures c.turn.ensures.state
+    c.turn.ensures.clean c.take.ensures.clean
+
+pub returns-in-Err-clause-clean : goal.returns-in-Err-clause-clean
+returns-in-Err-clause-clean g c = leaves_unrouted c.args.self.now.state c.turn.new.self.state c.args.self.now.moment c.args.moment (asked c.args.request.now) c.args.self.now.caches c.turn.new.self.caches c.turn.ensures.clean
+
+pub returns-in-Err-NoRoute-clause-clean : goal.returns-in-Err-NoRoute-clause-clean
+returns-in-Err-NoRoute-clause-clean g c = leaves_same c.args.self.now.state c.args.self.now.state c.args.self.now.moment c.args.moment (asked c.args.request.now) c.args.self.now.caches
+
+pub returns-in-Err-WrongMethod-clause-clean : goal.returns-in-Err-WrongMethod-clause-clean
+returns-in-Err-WrongMethod-clause-clean g c = leaves_same c.args.self.now.state c.args.self.now.state c.args.self.now.moment c.args.moment (asked c.args.request.now) c.args.self.now.caches
+
+pub returns-in-Err-Memory-clause-clean : goal.returns-in-Err-Memory-clause-clean
+returns-in-Err-Memory-clause-clean g c = leaves_same c.args.self.now.state c.args.self.now.state c.args.self.now.moment c.args.moment (asked c.args.request.now) c.args.self.now.caches
+
+pub returns-in-Ok-turn-clause-acted : goal.returns-in-Ok-turn-clause-acted
+returns-in-Ok-turn-clause-acted g c =
+    IfOk-weaker c.take.result _ _ (λ r acts.
+    acts_then _ _ _ c.args.self.now.state c.turn.new.self.state c.take.new.self.state c.args.self.now.moment _ c.args.moment (asked c.args.request.now) c.in-Ok.route (said r) c.args.self.now.caches c.turn.new.self.caches c.take.new.self.caches
+    c.in-Ok.ensures c.turn.ensures.state c.turn.ensures.marks c.in-Ok-turn.ensures.moment c.turn.ensures.clean acts) c.take.ensures.acted
+
+pub returns-in-Err-NoRoute-clause-acted : goal.returns-in-Err-NoRoute-clause-acted
+returns-in-Err-NoRoute-clause-acted g c = inr (inl c.fixed_refusal.ensures.said)
+
+pub returns-in-Err-WrongMethod-clause-acted : goal.returns-in-Err-WrongMethod-clause-acted
+returns-in-Err-WrongMethod-clause-acted g c = inr (inr c.fixed_refusal-in-Err-WrongMethod.ensures.said)

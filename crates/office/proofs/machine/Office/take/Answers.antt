@@ -1,9 +1,16 @@
-use Rattle.std.proofs.Common.{List, ap, subst, sym, ◌∙◌}
+use Rattle.std.proofs.Common.{[], ℕ, List, ap, refl, subst, sym, ◌∙◌}
+use Rattle.std.proofs.lemmas.Result.{IfOk-weaker}
 use Rattle.fx_base.specs.Silence.{IsLost}
 use Rattle.fx_trees.specs.declared.schema.Schema.{Schema}
+use Rattle.request_checks.specs.Replies.{said}
 use Rattle.request_checks.specs.declared.directory.Named.{Named}
 use Rattle.row_requests.specs.Sound.{AreSound}
 use Rattle.session_state.specs.Sessions.{SessionState}
+use Rattle.app_wire.specs.declared.route.Route.{Route}
+use Rattle.app_wire.specs.declared.route.Route.TheVariants.{Begin, End, View, Named as Formulas, Items, Event, Input, Rows, Edit, Page, Plan, Graph}
+use Rattle.row_requests.specs.Written.{IsNamedBy}
+use Rattle.office.specs.Leaving.{AreEachLeft}
+use Rattle.office.proofs.Leaving.{acts_event, acts_input, acts_quiet, each_same, leaves_begin, leaves_by, leaves_edit, leaves_end, leaves_event, leaves_graph, leaves_input, leaves_items, leaves_named, leaves_page, leaves_plan, leaves_rows, leaves_view, left_still, left_unchanged, ok_always}
 use Rattle.office.proofs.Edits.{ready_edited}
 use Rattle.office.proofs.Sent.{kept_order, kept_still}
 use Rattle.office.specs.Caches.{AreKept}
@@ -110,3 +117,124 @@ invariant_of-self-in-Page g c =
       cached = kept_still c.self.inside.app c.self.inside.moment (IsLost (g.K.Keeper.marks c.self.inside.keeper) (g.K.Keeper.marks keeper)) (g.K.Keeper.told c.self.inside.keeper) (g.K.Keeper.told keeper)
           c.self.inside.sessions.items c.self.inside.caches.items c.show_page.ensures.still ready.cached;
     }
+
+pub post_edit-requires-clause-cached : goal.post_edit-requires-clause-cached
+post_edit-requires-clause-cached g c = (g.K.Keeper.told c.self.inside.keeper, c.self.invariant.cached)
+
+pub returns-in-View-clause-clean : goal.returns-in-View-clause-clean
+returns-in-View-clause-clean g c =
+    let body = c.args.request.now.body.items in
+    leaves_by c.args.route (View c.in-View.name) body c.args.self.now _ _ c.show_view_to.new.caches.items c.in-View.is c.self.view_is (leaves_view c.in-View.name body _ _ c.self.inside.caches.items c.show_view_to.new.caches.items (left_still c.self.inside.app c.self.inside.caches.items c.show_view_to.new.caches.items c.show_view_to.ensures.clean))
+
+pub returns-in-Named-clause-clean : goal.returns-in-Named-clause-clean
+returns-in-Named-clause-clean g c =
+    let body = c.args.request.now.body.items in
+    leaves_by c.args.route (Formulas c.in-Named.name) body c.args.self.now _ _ c.show_named.new.caches.items c.in-Named.is c.self.view_is (leaves_named c.in-Named.name body _ _ c.self.inside.caches.items c.show_named.new.caches.items (left_still c.self.inside.app c.self.inside.caches.items c.show_named.new.caches.items c.show_named.ensures.clean))
+
+pub returns-in-Items-clause-clean : goal.returns-in-Items-clause-clean
+returns-in-Items-clause-clean g c =
+    let body = c.args.request.now.body.items in
+    leaves_by c.args.route (Items c.in-Items.name c.in-Items.gallery c.in-Items.from) body c.args.self.now _ _ c.show_items_to.new.caches.items c.in-Items.is c.self.view_is (leaves_items c.in-Items.name c.in-Items.gallery c.in-Items.from body _ _ c.self.inside.caches.items c.show_items_to.new.caches.items (left_still c.self.inside.app c.self.inside.caches.items c.show_items_to.new.caches.items c.show_items_to.ensures.clean))
+
+pub returns-in-Page-clause-clean : goal.returns-in-Page-clause-clean
+returns-in-Page-clause-clean g c =
+    let body = c.args.request.now.body.items in
+    leaves_by c.args.route (Page c.in-Page.table c.in-Page.after) body c.args.self.now _ _ c.self.inside.caches.items c.in-Page.is c.self.view_is (leaves_page c.in-Page.table c.in-Page.after body _ _ c.self.inside.caches.items c.self.inside.caches.items (left_still c.self.inside.app c.self.inside.caches.items c.self.inside.caches.items (each_same c.self.inside.app [] c.self.inside.caches.items)))
+
+pub returns-in-Ok-show_plan-clause-clean : goal.returns-in-Ok-show_plan-clause-clean
+returns-in-Ok-show_plan-clause-clean g c =
+    let body = c.args.request.now.body.items in
+    let old = c.args.self.now in
+    leaves_by c.args.route Plan body old old old.state old.caches c.in-Plan.is refl (leaves_plan body old.state old.state old.caches old.caches (left_unchanged old.state.app old.caches))
+
+pub returns-in-Plan-clause-clean : goal.returns-in-Plan-clause-clean
+returns-in-Plan-clause-clean g c =
+    let body = c.args.request.now.body.items in
+    let old = c.args.self.now in
+    leaves_by c.args.route Plan body old old old.state old.caches c.in-Plan.is refl (leaves_plan body old.state old.state old.caches old.caches (left_unchanged old.state.app old.caches))
+
+pub returns-in-Ok-show_graph-clause-clean : goal.returns-in-Ok-show_graph-clause-clean
+returns-in-Ok-show_graph-clause-clean g c =
+    let body = c.args.request.now.body.items in
+    let old = c.args.self.now in
+    leaves_by c.args.route Graph body old old old.state old.caches c.in-Graph.is refl (leaves_graph body old.state old.state old.caches old.caches (left_unchanged old.state.app old.caches))
+
+pub returns-in-Rows-clause-clean : goal.returns-in-Rows-clause-clean
+returns-in-Rows-clause-clean g c =
+    let body = c.args.request.now.body.items in
+    leaves_by c.args.route (Rows c.in-Rows.name) body c.args.self.now _ _ c.change_rows.new.caches.items c.in-Rows.is c.self.view_is (leaves_rows c.in-Rows.name body _ _ c.self.inside.caches.items c.change_rows.new.caches.items (subst (λ (l : List ℕ). AreEachLeft c.self.inside.app (IsNamedBy c.self.inside.app.names.schema.tables c.self.inside.desks.items c.in-Rows.name l) c.self.inside.caches.items c.change_rows.new.caches.items) c.deref-in-Rows.ensures.value c.change_rows.ensures.clean))
+
+pub returns-in-Ok-clause-clean : goal.returns-in-Ok-clause-clean
+returns-in-Ok-clause-clean g c =
+    let body = c.args.request.now.body.items in
+    leaves_by c.args.route (End c.in-End.name) body c.args.self.now _ _ c.end.new.caches.items c.in-End.is c.self.view_is (leaves_end c.in-End.name body _ _ c.self.inside.caches.items c.end.new.caches.items (c.end.ensures.clean c.self.inside.app))
+
+pub returns-in-End-clause-clean : goal.returns-in-End-clause-clean
+returns-in-End-clause-clean g c =
+    let body = c.args.request.now.body.items in
+    leaves_by c.args.route (End c.in-End.name) body c.args.self.now _ _ c.end.new.caches.items c.in-End.is c.self.view_is (leaves_end c.in-End.name body _ _ c.self.inside.caches.items c.end.new.caches.items (c.end.ensures.clean c.self.inside.app))
+
+pub returns-in-Ok-post_edit-clause-clean : goal.returns-in-Ok-post_edit-clause-clean
+returns-in-Ok-post_edit-clause-clean g c =
+    let body = c.args.request.now.body.items in
+    leaves_by c.args.route (Edit c.in-Edit.name) body c.args.self.now _ _ c.post_edit.new.caches.items c.in-Edit.is c.self.view_is (leaves_edit c.in-Edit.name body _ _ c.self.inside.caches.items c.post_edit.new.caches.items c.post_edit.ensures.over)
+
+pub returns-in-Edit-clause-clean : goal.returns-in-Edit-clause-clean
+returns-in-Edit-clause-clean g c =
+    let body = c.args.request.now.body.items in
+    leaves_by c.args.route (Edit c.in-Edit.name) body c.args.self.now _ _ c.post_edit.new.caches.items c.in-Edit.is c.self.view_is (leaves_edit c.in-Edit.name body _ _ c.self.inside.caches.items c.post_edit.new.caches.items c.post_edit.ensures.over)
+
+pub returns-in-Begin-clause-clean : goal.returns-in-Begin-clause-clean
+returns-in-Begin-clause-clean g c =
+    let body = c.args.request.now.body.items in
+    leaves_by c.args.route (Begin c.in-Begin.name) body c.args.self.now _ _ c.begin.new.caches.items c.in-Begin.is c.self.view_is (leaves_begin c.in-Begin.name body _ _ c.self.inside.caches.items c.begin.new.caches.items c.begin.ensures.clean)
+
+pub returns-in-Event-clause-clean : goal.returns-in-Event-clause-clean
+returns-in-Event-clause-clean g c =
+    let body = c.args.request.now.body.items in
+    leaves_by c.args.route (Event c.in-Event.name) body c.args.self.now _ _ c.post_event.new.caches.items c.in-Event.is c.self.view_is (leaves_event c.in-Event.name body _ _ c.self.inside.caches.items c.post_event.new.caches.items c.post_event.ensures.clean)
+
+pub returns-in-Input-clause-clean : goal.returns-in-Input-clause-clean
+returns-in-Input-clause-clean g c =
+    let body = c.args.request.now.body.items in
+    leaves_by c.args.route (Input c.in-Input.name) body c.args.self.now _ _ c.post_input.new.caches.items c.in-Input.is c.self.view_is (leaves_input c.in-Input.name body _ _ c.self.inside.caches.items c.post_input.new.caches.items c.post_input.ensures.clean)
+
+pub returns-in-Event-clause-acted : goal.returns-in-Event-clause-acted
+returns-in-Event-clause-acted g c =
+    IfOk-weaker c.post_event.result _ _ (λ r own.
+    acts_event c.args.route c.in-Event.name c.args.request.now.body.items c.deref-in-Event.result.now c.args.self.now _ (g.K.Keeper.marks c.post_event.new.keeper) _ (said r) c.post_event.new.caches.items c.in-Event.is c.self.view_is c.deref-in-Event.ensures.value own) c.post_event.ensures.own
+
+pub returns-in-Input-clause-acted : goal.returns-in-Input-clause-acted
+returns-in-Input-clause-acted g c =
+    IfOk-weaker c.post_input.result _ _ (λ r own.
+    acts_input c.args.route c.in-Input.name c.args.request.now.body.items c.deref-in-Input.result.now c.args.self.now _ (g.K.Keeper.marks c.post_input.new.keeper) _ (said r) c.post_input.new.caches.items c.in-Input.is c.self.view_is c.deref-in-Input.ensures.value own) c.post_input.ensures.own
+
+pub returns-in-View-clause-acted : goal.returns-in-View-clause-acted
+returns-in-View-clause-acted g c = ok_always c.show_view_to.result _ (λ r. acts_quiet c.args.route (View c.in-View.name) _ _ c.args.request.now.body.items _ (said r) _ _ _ c.in-View.is tt)
+
+pub returns-in-Named-clause-acted : goal.returns-in-Named-clause-acted
+returns-in-Named-clause-acted g c = ok_always c.show_named.result _ (λ r. acts_quiet c.args.route (Formulas c.in-Named.name) _ _ c.args.request.now.body.items _ (said r) _ _ _ c.in-Named.is tt)
+
+pub returns-in-Items-clause-acted : goal.returns-in-Items-clause-acted
+returns-in-Items-clause-acted g c = ok_always c.show_items_to.result _ (λ r. acts_quiet c.args.route (Items c.in-Items.name c.in-Items.gallery c.in-Items.from) _ _ c.args.request.now.body.items _ (said r) _ _ _ c.in-Items.is tt)
+
+pub returns-in-Page-clause-acted : goal.returns-in-Page-clause-acted
+returns-in-Page-clause-acted g c = ok_always c.show_page.result _ (λ r. acts_quiet c.args.route (Page c.in-Page.table c.in-Page.after) _ _ c.args.request.now.body.items _ (said r) _ _ _ c.in-Page.is tt)
+
+pub returns-in-Begin-clause-acted : goal.returns-in-Begin-clause-acted
+returns-in-Begin-clause-acted g c = ok_always c.begin.result _ (λ r. acts_quiet c.args.route (Begin c.in-Begin.name) _ _ c.args.request.now.body.items _ (said r) _ _ _ c.in-Begin.is tt)
+
+pub returns-in-Rows-clause-acted : goal.returns-in-Rows-clause-acted
+returns-in-Rows-clause-acted g c = ok_always c.change_rows.result _ (λ r. acts_quiet c.args.route (Rows c.in-Rows.name) _ _ c.args.request.now.body.items _ (said r) _ _ _ c.in-Rows.is tt)
+
+pub returns-in-Ok-clause-acted : goal.returns-in-Ok-clause-acted
+returns-in-Ok-clause-acted g c = acts_quiet c.args.route (End c.in-End.name) _ _ c.args.request.now.body.items _ _ _ _ _ c.in-End.is tt
+
+pub returns-in-Ok-post_edit-clause-acted : goal.returns-in-Ok-post_edit-clause-acted
+returns-in-Ok-post_edit-clause-acted g c = acts_quiet c.args.route (Edit c.in-Edit.name) _ _ c.args.request.now.body.items _ _ _ _ _ c.in-Edit.is tt
+
+pub returns-in-Ok-show_plan-clause-acted : goal.returns-in-Ok-show_plan-clause-acted
+returns-in-Ok-show_plan-clause-acted g c = acts_quiet c.args.route (Plan) _ _ c.args.request.now.body.items _ _ _ _ _ c.in-Plan.is tt
+
+pub returns-in-Ok-show_graph-clause-acted : goal.returns-in-Ok-show_graph-clause-acted
+returns-in-Ok-show_graph-clause-acted g c = acts_quiet c.args.route (Graph) _ _ c.args.request.now.body.items _ _ _ _ _ c.in-Graph.is tt

@@ -1,5 +1,12 @@
-use Rattle.std.proofs.Common.{sym}
+use Rattle.std.proofs.Common.{[], List, subst, sym}
 use Rattle.fx_trees.specs.declared.sources.Source.TheVariants.{Today}
+use Rattle.recalc.specs.Changes.{IsLeftBut}
+use Rattle.recalc.specs.Kept.{Kept}
+use Rattle.request_checks.specs.declared.directory.Named.{Named}
+use Rattle.office.specs.Caches.{AreEach}
+use Rattle.office.specs.Leaving.{AreEachLeft, turned}
+use Rattle.office.specs.State.{Seen}
+use Rattle.office.proofs.Leaving.{each_same, each_turned, left_none}
 use Rattle.office.proofs.Sent.{kept_order}
 use Rattle.office.proofs.StepLemmas.{ready_then}
 use Rattle.office.proofs.Turned.{kept_today, kept_turned}
@@ -23,4 +30,25 @@ invariant_of-self-2 g c =
       | else-moment-self w ↦
           rw w.self-inside-is (ready_then app _ _ told sessions c.self.inside.desks.items caches caches c.self.inside.moment c.args.moment c.self.invariant
           (kept_today app told c.self.inside.moment c.args.moment sessions caches c.self.invariant.accepted (sym w.if-moment-self.false) c.self.invariant.cached))
+    ]
+
+pub returns-in_err-turn_all-clause-clean : goal.returns-in_err-turn_all-clause-clean
+returns-in_err-turn_all-clause-clean g c =
+    let app = c.self.inside.app in
+    let caches = c.self.inside.caches.items in
+    subst (λ (s : Seen). AreEachLeft s.state.app (turned s.moment c.args.moment) s.caches c.turn_all.new.caches.items) c.self.view_is
+    (left_none app (turned c.self.inside.moment c.args.moment) caches c.turn_all.new.caches.items
+    (subst (λ (l : List (Named Kept)). AreEach (λ k. IsLeftBut app []) caches l) (sym c.in_err-turn_all.ensures.stopped) (each_same app [] caches)))
+
+pub returns-clause-clean : goal.returns-clause-clean
+returns-clause-clean g c =
+    let app = c.self.inside.app in
+    let caches = c.self.inside.caches.items in
+    elim c.if-moment-self.branch [
+      | then-moment-self+in_ok-turn_all w ↦
+          rw w.self-inside-is (subst (λ (s : Seen). AreEachLeft s.state.app (turned s.moment c.args.moment) s.caches w.turn_all.new.caches.items) c.self.view_is
+          (each_turned app c.self.inside.moment c.args.moment caches w.turn_all.new.caches.items w.if-moment-self.true w.in_ok-turn_all.ensures.turned))
+      | else-moment-self w ↦
+          rw w.self-inside-is (subst (λ (s : Seen). AreEachLeft s.state.app (turned s.moment c.args.moment) s.caches caches) c.self.view_is
+          (left_none app (turned c.self.inside.moment c.args.moment) caches caches (each_same app [] caches)))
     ]

@@ -1,0 +1,123 @@
+-- Which cells of sessions a request leaves clean.
+use Rattle.std.specs.Prelude.{◌≡◌, ◌≢◌, ◌⊎◌, ℕ, ◌/◌, true, List, [], Option, Some, Result, Ok, Err}
+use Rattle.app_cells.specs.declared.app.App.{App}
+use Rattle.app_wire.specs.Framing.{Asked}
+use Rattle.app_wire.specs.ReplyBytes.{refusal}
+use Rattle.app_wire.specs.Routing.{Routing}
+use Rattle.app_wire.specs.declared.route.Route.{Route}
+use Rattle.app_wire.specs.declared.route.Route.TheVariants.{Begin, End, View, Named as Formulas, Items, Event as OfEvent, Input as OfInput, Rows, Edit, Page, Plan, Graph}
+use Rattle.fx_trees.specs.Reads.{IsAmong}
+use Rattle.fx_trees.specs.declared.sources.Source.{Source}
+use Rattle.fx_trees.specs.declared.sources.Source.TheVariants as source
+use Rattle.recalc.specs.Changes.{IsLeftBut}
+use Rattle.recalc.specs.Kept.{Kept}
+use Rattle.request_checks.specs.Checks.{checks, session_of}
+use Rattle.request_checks.specs.Directory.{find}
+use Rattle.request_checks.specs.declared.directory.Named.{Named}
+use Rattle.row_keeper.specs.Tables.{Tables}
+use Rattle.row_requests.specs.Written.{IsNamedBy}
+use Rattle.session_requests.specs.Bodies.{event_in, input_in}
+use Rattle.session_requests.specs.Posting.{SendsEventWriting, SendsInputWriting}
+use Rattle.session_requests.specs.declared.event.Event.{Event}
+use Rattle.session_requests.specs.declared.input.Input.{Input}
+use Rattle.session_state.specs.Sessions.{SessionState}
+use Rattle.office.specs.Caches.{AreEach, WentOver, is_table}
+use Rattle.office.specs.State.{State, schema_of}
+
+-- what sources are written
+abbrev pub Writing : Type 1
+Writing = Source → Type 0
+
+-- nothing is
+abbrev pub nothing : Writing
+nothing x = ⊥
+
+-- or
+abbrev pub either : Writing → Writing → Writing
+either V W x = V x ⊎ W x
+
+-- EACH CACHE IS LEFT SO: of these sources some changed, and the clean cells that reach none of those stay clean.
+abbrev pub AreEachLeft : App → Writing → List (Named Kept) → List (Named Kept) → Type 0
+AreEachLeft a W old new = (xs : List Source) × ((x : Source) → IsAmong x xs → W x) × AreEach (λ k. IsLeftBut a xs) old new
+
+-- the same of the sessions that live before and after
+abbrev pub AreLeft : App → Writing → List (Named Kept) → List (Named Kept) → Type 0
+AreLeft a W old new =
+    (name : List ℕ) (c d : Kept) → find name old ≡ Some c → find name new ≡ Some d → (xs : List Source) × ((x : Source) → IsAmong x xs → W x) × IsLeftBut a xs c d
+
+-- and of all sessions but the one of a name
+abbrev pub AreLeftBeside : App → List ℕ → Writing → List (Named Kept) → List (Named Kept) → Type 0
+AreLeftBeside a one W old new =
+    (name : List ℕ) (c d : Kept) → one ≢ name → find name old ≡ Some c → find name new ≡ Some d → (xs : List Source) × ((x : Source) → IsAmong x xs → W x) × IsLeftBut a xs c d
+
+-- any tables
+abbrev pub any_table : Writing
+any_table x = is_table x ≡ true
+
+-- the day is another than at the moment before
+abbrev pub turned : ℕ → ℕ → Writing
+turned before now x = (x ≡ source.Today) × (now / 86400 ≢ before / 86400)
+
+-- THE cells that a route leaves clean in all sessions, beside what was written before: of posted rows, those that reach no table that
+-- the changes name; of an edit, those that are carried over to the edited app; and of what a session is shown, and what begins
+-- nothing, all. Where something acts, all other sessions keep those that reach no table; of the one that acts nothing is said here.
+unfoldable pub LeavesBy : Route → Writing → List ℕ → State → State → List (Named Kept) → List (Named Kept) → Type 0
+LeavesBy (Rows desk) V body s t old new = AreLeft s.app (either V (IsNamedBy (schema_of s.app).tables s.desks desk body)) old new
+LeavesBy (Edit desk) V body s t old new = (cs : List (Named Kept)) × AreEachLeft s.app V old cs × AreEach (λ k. WentOver s.app t.app) cs new
+LeavesBy (End name) V body s t old new = AreLeft s.app V old new
+LeavesBy (View name) V body s t old new = AreLeft s.app V old new
+LeavesBy (Formulas name) V body s t old new = AreLeft s.app V old new
+LeavesBy (Items name gallery from) V body s t old new = AreLeft s.app V old new
+LeavesBy (Page table after) V body s t old new = AreLeft s.app V old new
+LeavesBy Plan V body s t old new = AreLeft s.app V old new
+LeavesBy Graph V body s t old new = AreLeft s.app V old new
+LeavesBy (Begin name) V body s t old new = AreLeftBeside s.app name (either V any_table) old new
+LeavesBy (OfEvent name) V body s t old new = AreLeftBeside s.app name (either V any_table) old new
+LeavesBy (OfInput name) V body s t old new = AreLeftBeside s.app name (either V any_table) old new
+
+-- a request without a route leaves all clean cells so, and another one what its route leaves, but for a new day
+abbrev pub LeavesClean : State → ℕ → List (Named Kept) → ℕ → Asked → State → List (Named Kept) → Type 0
+LeavesClean s before old moment request t new =
+    AreLeft s.app (turned before moment) old new
+    ⊎ ((route : Route) × Routing request.method request.path (Ok route) × LeavesBy route (turned before moment) request.body s t old new)
+
+-- ---- what acts
+
+-- the cache of one session, where it lives before and after
+abbrev pub AreLeftAt : App → List ℕ → Writing → List (Named Kept) → List (Named Kept) → Type 0
+AreLeftAt a one W old new = (c d : Kept) → find one old ≡ Some c → find one new ≡ Some d → (xs : List Source) × ((x : Source) → IsAmong x xs → W x) × IsLeftBut a xs c d
+
+-- these sources, and the tables among them
+abbrev pub those : List Source → Writing
+those ws x = IsAmong x ws
+
+abbrev pub tables_of : List Source → Writing
+tables_of ws x = IsAmong x ws × (is_table x ≡ true)
+
+-- a session wrote these sources: its own cache is told of all, and the others of the tables
+abbrev pub AreActed : App → List ℕ → Writing → List Source → List (Named Kept) → List (Named Kept) → Type 0
+AreActed a one V ws old new = AreLeftAt a one (either V (those ws)) old new × AreLeftBeside a one (either V (tables_of ws)) old new
+
+-- an event that was answered wrote what its performing writes by definition, and one that was refused or comes again wrote nothing
+abbrev pub EventLeaves : Type 0 → App → ℕ → List ℕ → Writing → List ℕ → Result Event (List ℕ) → Option Tables → List (Named SessionState) → List ℕ → Option Tables → List (Named SessionState) → List (Named Kept) → List (Named Kept) → Type 0
+EventLeaves lost a m name V body (Err words) told sessions said told' sessions' old new = AreActed a name V [] old new
+EventLeaves lost a m name V body (Ok e) told sessions said told' sessions' old new = (ws : List Source) × SendsEventWriting lost a m name body e told sessions said told' sessions' ws × AreActed a name V ws old new
+
+-- and so did an input
+abbrev pub InputLeaves : Type 0 → App → ℕ → List ℕ → Writing → List ℕ → Result Input (List ℕ) → Option Tables → List (Named SessionState) → List ℕ → Option Tables → List (Named SessionState) → List (Named Kept) → List (Named Kept) → Type 0
+InputLeaves lost a m name V body (Err words) told sessions said told' sessions' old new = AreActed a name V [] old new
+InputLeaves lost a m name V body (Ok i) told sessions said told' sessions' old new = (ws : List Source) × SendsInputWriting lost a m name body i told sessions said told' sessions' ws × AreActed a name V ws old new
+
+-- THE cells that an answered event or input leaves clean in all sessions: those that reach nothing that it wrote.
+unfoldable pub ActsClean : Type 0 → ℕ → Route → Writing → List ℕ → State → List ℕ → State → List (Named Kept) → List (Named Kept) → Type 0
+ActsClean lost m (OfEvent name) V body s said t old new =
+    EventLeaves lost s.app m name V body (checks event_in (λ (e : Event). e.seq) (session_of name s.sessions) body) s.tables s.sessions said t.tables t.sessions old new
+ActsClean lost m (OfInput name) V body s said t old new =
+    InputLeaves lost s.app m name V body (checks input_in (λ (i : Input). i.seq) (session_of name s.sessions) body) s.tables s.sessions said t.tables t.sessions old new
+ActsClean lost m _ V body s said t old new = Unit {0}
+
+-- so it is with a request that has a route
+abbrev pub LeavesActed : Type 0 → State → ℕ → List (Named Kept) → ℕ → Asked → List ℕ → State → List (Named Kept) → Type 0
+LeavesActed lost s before old moment request said t new =
+    ((route : Route) × Routing request.method request.path (Ok route) × ActsClean lost moment route (turned before moment) request.body s said t old new)
+    ⊎ ((said ≡ refusal 7) ⊎ (said ≡ refusal 8))
