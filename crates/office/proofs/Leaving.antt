@@ -170,7 +170,7 @@ left_after_none a V cs ds es first second = λ name c e was is.
 -- ---- those of all sessions but one
 
 -- where a name is found
-find_at_each : (R : ℕ → Kept → Kept → Type 0) (name : List ℕ) (old new : List (Named Kept)) (c : Kept) → AreEach R old new → find name old ≡ Some c
+pub find_at_each : (R : ℕ → Kept → Kept → Type 0) (name : List ℕ) (old new : List (Named Kept)) (c : Kept) → AreEach R old new → find name old ≡ Some c
     → (d : Kept) × (k : ℕ) × (find name new ≡ Some d) × (position (is_named name) old ≡ Some k) × R k c d
 find_at_each R name [] new c each found = absurd (let no : None ≡ Some c = found in cc)
 find_at_each R name (x ∷ xs) [] c each found = absurd (let no : 0 ≡ suc (length xs) = each.long in omega (arith, no))
@@ -417,7 +417,7 @@ each_turned a before now cs ds other each = (
 -- ---- what acts
 
 -- the one at a place is found under its name
-find_placed : (one : List ℕ) (cs : List (Named Kept)) (p : ℕ) (old : Named Kept) → position (is_named one) cs ≡ Some p → slice_get cs p ≡ Some old → find one cs ≡ Some old.it
+pub find_placed : (one : List ℕ) (cs : List (Named Kept)) (p : ℕ) (old : Named Kept) → position (is_named one) cs ≡ Some p → slice_get cs p ≡ Some old → find one cs ≡ Some old.it
 find_placed one cs p old place there = ap (λ o. it_at o cs) place ∙ ap (option_map (λ (n : Named Kept). n.it)) there
 
 -- what became of it, and then of all others

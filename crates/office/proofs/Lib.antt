@@ -1,6 +1,7 @@
 pub mod Again
 pub mod Alone
 pub mod Caching
+pub mod Costs
 pub mod Directories
 pub mod Edits
 pub mod GoingOver

@@ -139,7 +139,7 @@ ready_then app in_transaction by told sessions desks caches later m n ready kept
 
 -- a keeper whose rows were read is left, with all beside it but caches
 pub left_read : (a b : Keeping) (app : App) (sessions : List (Caller SessionState)) (desks : List (Caller Kept)) (caches : List (Caller Values)) (moment : ℕ) (old : Seen)
-    → record { state = record { app = app; tables = a.told; sessions = sessions; desks = desks }; marks = a.marks; loan = a.loan; caches = caches; moment = moment } ≡ old → HasRead a b
+    → record { state = record { app = app; tables = a.told; sessions = sessions; desks = desks }; marks = a.marks; visited = a.visited; loan = a.loan; caches = caches; moment = moment } ≡ old → HasRead a b
     → Left (IsLost old.marks b.marks) old.state (record { app = app; tables = b.told; sessions = sessions; desks = desks })
 left_read a b app sessions desks caches moment old is read =
     subst (λ (o : Seen). Left (IsLost o.marks b.marks) o.state (record { app = app; tables = b.told; sessions = sessions; desks = desks })) is (record { tables = read.told; others = refl })

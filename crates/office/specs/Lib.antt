@@ -1,5 +1,6 @@
 pub mod Answers
 pub mod Caches
+pub mod Costs
 pub mod Editing
 pub mod Isolation
 pub mod Leaving

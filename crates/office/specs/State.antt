@@ -20,11 +20,12 @@ pub record State : Type 0 where
   pub sessions : List (Named SessionState)
   pub desks : List (Named Kept)
 
--- An office as contracts see it: its state, the marks of its keeper, the loan through which it uses a keeper that is lent, the
--- caches of its sessions, and the moment of the last request that had a route.
+-- An office as contracts see it: its state, the marks of its keeper, how many rows that one visited, the loan through which it uses a
+-- keeper that is lent, the caches of its sessions, and the moment of the last request that had a route.
 pub record Seen : Type 0 where
   pub state : State
   pub marks : Marks
+  pub visited : ℕ
   pub loan : Option ℕ
   pub caches : List (Named Values)
   pub moment : ℕ

@@ -11,6 +11,7 @@ ghost use Rattle.request_checks.specs.Replies.{IsReply, said};
 ghost use Rattle.row_requests.specs.Sound.{AreSound};
 ghost use Rattle.session_requests.specs.Opening.{CanOpen};
 ghost use Rattle.app_wire.specs.ReplyBytes.{refusal};
+ghost use Rattle.office.specs.Costs.{CostsAnswered, CostsBy, counts};
 ghost use Rattle.office.specs.Leaving.{ActsClean, AreEachLeft, LeavesActed, LeavesBy, LeavesClean, nothing, turned};
 ghost use Rattle.office.specs.State.{schema_of, started};
 ghost use Rattle.office.specs.Step.{Answered, Does, Left, Reaches, ReachesKeeper, Step};
@@ -66,6 +67,7 @@ impl<K: Keeper + Drop> Model for Office<K> {
     ghost view = { λ o. record {
       state = record { app = o.app; tables = K.told o.keeper; sessions = o.sessions.items; desks = o.desks.items };
       marks = K.marks o.keeper;
+      visited = K.visited o.keeper;
       loan = K.loan o.keeper;
       caches = o.caches.items;
       moment = o.moment;
@@ -92,6 +94,7 @@ impl<K: Keeper + Drop> Office<K> {
         requires sound { AreSound (schema_of app) (K.told keeper) }
         ensures state { IfOk result (λ o. o.state ≡ started app (K.told keeper)) }
         ensures marks { IfOk result (λ o. o.marks ≡ K.marks keeper) }
+        ensures visited { IfOk result (λ o. o.visited ≡ K.visited keeper) }
         ensures loan { IfOk result (λ o. o.loan ≡ K.loan keeper) }
     {
         let routes = Routes::new(alloc)?;
@@ -108,6 +111,7 @@ impl<K: Keeper + Drop> Office<K> {
         requires sound { AreSound (schema_of app) (K.told keeper) }
         ensures state { result.state ≡ started app (K.told keeper) }
         ensures marks { result.marks ≡ K.marks keeper }
+        ensures visited { result.visited ≡ K.visited keeper }
         ensures loan { result.loan ≡ K.loan keeper }
     {
         Office {
@@ -135,6 +139,7 @@ impl<K: Keeper + Drop> Office<K> {
         ensures whole { IsReply result }
         ensures clean { LeavesClean self.old.state self.old.moment self.old.caches moment (asked request.now) self.new.state self.new.caches }
         ensures acted { LeavesActed (IsLost self.old.marks self.new.marks) self.old.state self.old.moment self.old.caches moment (asked request.now) (said result) self.new.state self.new.caches ⊎ ((said result ≡ refusal 26) ⊎ (said result ≡ refusal 25)) }
+        ensures costs { CostsAnswered self.old.state self.old.moment self.old.caches moment (asked request.now) (said result) self.new.state self.new.caches (counts steps.old self.old.visited) (counts steps.new self.new.visited) ⊎ ((said result ≡ refusal 26) ⊎ (said result ≡ refusal 25)) }
         ensures loan { self.new.loan ≡ self.old.loan }
     {
         match self.carry_out(request, moment, steps) {
@@ -158,6 +163,7 @@ impl<K: Keeper + Drop> Office<K> {
         ensures cause { HasCause self.old.marks self.new.marks result }
         ensures clean { LeavesClean self.old.state self.old.moment self.old.caches moment (asked request.now) self.new.state self.new.caches }
         ensures acted { IfOk result (λ r. LeavesActed (IsLost self.old.marks self.new.marks) self.old.state self.old.moment self.old.caches moment (asked request.now) (said r) self.new.state self.new.caches) }
+        ensures costs { IfOk result (λ r. CostsAnswered self.old.state self.old.moment self.old.caches moment (asked request.now) (said r) self.new.state self.new.caches (counts steps.old self.old.visited) (counts steps.new self.new.visited)) }
         ensures loan { self.new.loan ≡ self.old.loan }
     {
         match self.routes.route(self.alloc, request) {
@@ -175,6 +181,7 @@ impl<K: Keeper + Drop> Office<K> {
     fn turn(&mut self, moment: u64) -> Result<(), Memory>
         ensures state { self.new.state ≡ self.old.state }
         ensures marks { self.new.marks ≡ self.old.marks }
+        ensures visited { self.new.visited ≡ self.old.visited }
         ensures loan { self.new.loan ≡ self.old.loan }
         ensures moment { IfOk result (λ _. self.new.moment ≡ moment) }
         ensures clean { AreEachLeft self.old.state.app (turned self.old.moment moment) self.old.caches self.new.caches }
@@ -187,7 +194,7 @@ impl<K: Keeper + Drop> Office<K> {
     }
 
     /// Takes the route of a request, at the moment to which the office went over.
-    #[tactic(auto, unfolding(crate::specs::Step::Does, crate::specs::Step::Reaches, crate::specs::Leaving::LeavesBy, crate::specs::Leaving::ActsClean))]
+    #[tactic(auto, unfolding(crate::specs::Step::Does, crate::specs::Step::Reaches, crate::specs::Costs::CostsBy, crate::specs::Leaving::LeavesBy, crate::specs::Leaving::ActsClean))]
     fn take<L: Ledger>(
         &mut self,
         route: Route,
@@ -201,6 +208,7 @@ impl<K: Keeper + Drop> Office<K> {
         ensures cause { HasCause self.old.marks self.new.marks result }
         ensures clean { LeavesBy route nothing request.now.body.items self.old.state self.new.state self.old.caches self.new.caches }
         ensures acted { IfOk result (λ r. ActsClean (IsLost self.old.marks self.new.marks) self.old.moment route nothing request.now.body.items self.old.state (said r) self.new.state self.old.caches self.new.caches) }
+        ensures costs { IfOk result (λ r. CostsBy route self.old.moment self.old.state (said r) self.new.state self.old.caches self.new.caches (counts steps.old self.old.visited) (counts steps.new self.new.visited)) }
         ensures loan { self.new.loan ≡ self.old.loan }
     {
         let moment = self.moment;
@@ -319,6 +327,7 @@ impl<K: Keeper + Drop> Office<K> {
     pub fn into_keeper(self) -> K
         ensures tables { K.told result ≡ self.state.tables }
         ensures marks { K.marks result ≡ self.marks }
+        ensures visited { K.visited result ≡ self.visited }
         ensures loan { K.loan result ≡ self.loan }
         ensures idle { K.in_transaction result ≡ false }
         ensures shaped { K.shaped result ≡ Some (schema_of self.state.app) }

@@ -20,6 +20,7 @@ impl<K: Keeper + Drop> Office<K> {
         ensures app { result.0 ≡ self.state.app }
         ensures tables { K.told result.1 ≡ self.state.tables }
         ensures marks { K.marks result.1 ≡ self.marks }
+        ensures visited { K.visited result.1 ≡ self.visited }
         ensures loan { K.loan result.1 ≡ self.loan }
         ensures idle { K.in_transaction result.1 ≡ false }
         ensures shaped { K.shaped result.1 ≡ Some (schema_of result.0) }

@@ -1,16 +1,19 @@
 //! Sessions: they begin, end, and are shown what they ask for.
-ghost use Rattle.std.specs.Prelude.{◌≡◌, [], ℕ, false, IfOk, IsErrOf, List, OnErr, Option, Some};
+ghost use Rattle.std.specs.Prelude.{◌≡◌, [], ℕ, false, IfOk, IsErrOf, List, OnErr, OnOk, Option, Some};
 ghost use Rattle.app_wire.specs.ReplyBytes.{reply};
 ghost use Rattle.request_checks.specs.Checked.{SessionsKeepReplies};
+ghost use Rattle.request_checks.specs.Directory.{find};
 ghost use Rattle.request_checks.specs.Replies.{IsReply, said};
 ghost use Rattle.view_text.specs.ReplyText.{ok_text};
 ghost use Rattle.app_loader.specs.app_semantics.Sound.{IsSound};
 ghost use Rattle.fx_trees.specs.declared.names.Names.{Names as Known};
 ghost use Rattle.app_cells.specs.declared.app.App.{App as AnApp};
 ghost use Rattle.row_keeper.specs.Tables.{Tables};
+ghost use Rattle.app_views.specs.Galleries.{gallery_named};
 ghost use Rattle.app_views.specs.Shows.{ReachesItems, ReachesView, ShowsItems, ShowsView};
 ghost use Rattle.recalc.specs.Changes.{IsLeftBut};
 ghost use Rattle.office.specs.Caches.{AreEach, AreKept};
+ghost use Rattle.office.specs.Costs.{CostOfItems, CostOfNamed, CostOfView, CostsTo, counts};
 ghost use Rattle.office.specs.Leaving.{AreLeft, AreLeftBeside, any_table, nothing};
 ghost use Rattle.office.specs.Ready.{AreFit};
 ghost use Rattle.fx_base.specs.Silence.{Goes, IsLost};
@@ -148,6 +151,7 @@ pub(crate) fn show_view_to<K: Keeper, L: Ledger>(
     ensures reached { IsErrOf result Failed → ReachesView name.now sessions.now }
     ensures kept { AreKept app.now (K.told keeper.new) moment sessions.now caches.new.items }
     ensures clean { AreEach (λ k. IsLeftBut app.now []) caches.old.items caches.new.items }
+    ensures costs { IfOk result (λ r. CostsTo (CostOfView app.now (K.told keeper.new) moment (said r)) name.now (find name.now sessions.now) caches.old.items caches.new.items (counts steps.old (K.visited keeper.old)) (counts steps.new (K.visited keeper.new))) }
     ensures read { HasRead (keeping (K.told keeper.old) (K.began keeper.old) (K.shaped keeper.old) (K.in_transaction keeper.old) (K.marks keeper.old) (K.visited keeper.old) (K.loan keeper.old))
         (keeping (K.told keeper.new) (K.began keeper.new) (K.shaped keeper.new) (K.in_transaction keeper.new) (K.marks keeper.new) (K.visited keeper.new) (K.loan keeper.new)) }
     ensures cause { HasCause (K.marks keeper.old) (K.marks keeper.new) result }
@@ -191,6 +195,7 @@ pub(crate) fn show_items_to<K: Keeper, L: Ledger>(
     ensures reached { IsErrOf result Failed → ReachesItems app.now name.now gallery.now sessions.now }
     ensures kept { AreKept app.now (K.told keeper.new) moment sessions.now caches.new.items }
     ensures clean { AreEach (λ k. IsLeftBut app.now []) caches.old.items caches.new.items }
+    ensures costs { IfOk result (λ r. CostsTo (CostOfItems app.now (K.told keeper.new) moment from (gallery_named gallery.now app.now.names) (said r)) name.now (find name.now sessions.now) caches.old.items caches.new.items (counts steps.old (K.visited keeper.old)) (counts steps.new (K.visited keeper.new))) }
     ensures read { HasRead (keeping (K.told keeper.old) (K.began keeper.old) (K.shaped keeper.old) (K.in_transaction keeper.old) (K.marks keeper.old) (K.visited keeper.old) (K.loan keeper.old))
         (keeping (K.told keeper.new) (K.began keeper.new) (K.shaped keeper.new) (K.in_transaction keeper.new) (K.marks keeper.new) (K.visited keeper.new) (K.loan keeper.new)) }
     ensures cause { HasCause (K.marks keeper.old) (K.marks keeper.new) result }
@@ -226,6 +231,7 @@ pub(crate) fn show_named<K: Keeper, L: Ledger>(
     ensures reached { IsErrOf result Failed → ReachesNamed name.now sessions.now }
     ensures kept { AreKept app.now (K.told keeper.new) moment sessions.now caches.new.items }
     ensures clean { AreEach (λ k. IsLeftBut app.now []) caches.old.items caches.new.items }
+    ensures costs { OnOk result (CostsTo (CostOfNamed app.now (K.told keeper.new) moment) name.now (find name.now sessions.now) caches.old.items caches.new.items (counts steps.old (K.visited keeper.old)) (counts steps.new (K.visited keeper.new))) }
     ensures read { HasRead (keeping (K.told keeper.old) (K.began keeper.old) (K.shaped keeper.old) (K.in_transaction keeper.old) (K.marks keeper.old) (K.visited keeper.old) (K.loan keeper.old))
         (keeping (K.told keeper.new) (K.began keeper.new) (K.shaped keeper.new) (K.in_transaction keeper.new) (K.marks keeper.new) (K.visited keeper.new) (K.loan keeper.new)) }
     ensures cause { HasCause (K.marks keeper.old) (K.marks keeper.new) result }

@@ -1,11 +1,14 @@
 use Rattle.std.proofs.Common.{[], ◌<◌, length, Option, Some, arith, get_or, refl, subst, sym}
 use Rattle.std.specs.Prelude.{IsSome}
 use Rattle.std.proofs.lemmas.Result.{IfOk-weaker}
+use Rattle.app_views.specs.Galleries.{gallery_named}
 use Rattle.app_views.specs.Shows.{ShowsItemsTo}
 use Rattle.fx_base.specs.Silence.{IsLost}
 use Rattle.request_checks.specs.Replies.{said}
 use Rattle.session_state.specs.Sessions.{SessionState}
+use Rattle.office.proofs.Costs.{costs_there, ok_all}
 use Rattle.office.proofs.Leaving.{each_set}
+use Rattle.office.specs.Costs.{CostOfItems, counts}
 use Rattle.office.proofs.Sent.{found_here, kept_after, place_within, shown_there}
 use Rattle.office.proofs.sessions.show_items_to.Goals as goal
 
@@ -49,3 +52,10 @@ pub returns-clause-clean : goal.returns-clause-clean
 returns-clause-clean g c =
     let within = place_within c.args.app.now (g.K.Keeper.told c.args.keeper.now) c.args.moment c.args.sessions.now c.args.caches.now.items c.in-Some.place c.requires.kept c.in-Some.ensures.within in
     each_set c.args.app.now [] c.args.caches.now.items c.in-Some.place c.index_mut.result.now c.show_items.new.cache within c.index_mut.ensures.value c.show_items.ensures.but
+
+pub returns-clause-costs : goal.returns-clause-costs
+returns-clause-costs g c =
+    let told = g.K.Keeper.told in
+    ok_all c.show_items.result _ _ _ _ (λ r ticks visits made.
+    costs_there (CostOfItems c.args.app.now (told c.show_items.new.keeper) c.args.moment c.args.from (gallery_named c.args.gallery.now c.args.app.now.names) (said r)) c.args.app.now (told c.args.keeper.now) c.args.moment c.args.name.now c.args.sessions.now c.args.caches.now.items c.in-Some.place c.index-sessions-place.result c.index_mut.result.now c.show_items.new.cache
+    (counts c.args.steps.now (g.K.Keeper.visited c.args.keeper.now)) (counts c.show_items.new.steps (g.K.Keeper.visited c.show_items.new.keeper)) c.requires.kept c.in-Some.ensures.place c.in-Some.ensures.within c.index_mut.ensures.value (made, λ room. (c.show_items.ensures.left room, ticks room, visits room))) c.show_items.ensures.ticks c.show_items.ensures.visits c.show_items.ensures.made

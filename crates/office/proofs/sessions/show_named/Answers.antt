@@ -7,7 +7,9 @@ use Rattle.row_keeper.specs.Tables.{rows_told}
 use Rattle.recalc.proofs.Asked.{heard_told}
 use Rattle.session_state.specs.Sessions.{SessionState}
 use Rattle.office.specs.Sessions.{ShowsNamedTo}
+use Rattle.office.proofs.Costs.{costs_there}
 use Rattle.office.proofs.Leaving.{each_set}
+use Rattle.office.specs.Costs.{CostOfNamed, counts}
 use Rattle.office.proofs.Sent.{found_here, kept_after, place_within, shown_there}
 use Rattle.office.proofs.sessions.show_named.Goals as goal
 
@@ -76,3 +78,10 @@ pub returns-clause-clean : goal.returns-clause-clean
 returns-clause-clean g c =
     let within = place_within c.args.app.now (g.K.Keeper.told c.args.keeper.now) c.args.moment c.args.sessions.now c.args.caches.now.items c.in-Some.place c.requires.kept c.in-Some.ensures.within in
     each_set c.args.app.now [] c.args.caches.now.items c.in-Some.place c.index_mut.result.now c.named_body.new.cache within c.index_mut.ensures.value c.named_body.ensures.but
+
+pub returns-clause-costs : goal.returns-clause-costs
+returns-clause-costs g c =
+    let told = g.K.Keeper.told in
+    costs_there (CostOfNamed c.args.app.now (told c.named_body.new.keeper) c.args.moment) c.args.app.now (told c.args.keeper.now) c.args.moment c.args.name.now c.args.sessions.now c.args.caches.now.items c.in-Some.place c.index-sessions-place.result c.index_mut.result.now c.named_body.new.cache
+    (counts c.args.steps.now (g.K.Keeper.visited c.args.keeper.now)) (counts c.named_body.new.steps (g.K.Keeper.visited c.named_body.new.keeper)) c.requires.kept c.in-Some.ensures.place c.in-Some.ensures.within c.index_mut.ensures.value
+    (c.in_ok-body.ensures.made, λ room. (c.named_body.ensures.left room, c.in_ok-body.ensures.ticks room, c.in_ok-body.ensures.visits room))

@@ -2,6 +2,7 @@ use Rattle.std.proofs.Common.{inl, inr, refl}
 use Rattle.std.proofs.lemmas.Result.{IfOk-weaker}
 use Rattle.app_wire.specs.Framing.{asked}
 use Rattle.request_checks.specs.Replies.{said}
+use Rattle.office.proofs.Costs.{costs_then}
 use Rattle.office.proofs.Leaving.{acts_then, leaves_same, leaves_then, leaves_unrouted}
 use Rattle.office.proofs.StepLemmas.{left_all, routed_then, unrouted, wrong_method}
 use Rattle.office.proofs.machine.Office.carry_out.Goals as goal
@@ -51,3 +52,15 @@ returns-in-Err-NoRoute-clause-acted g c = inr (inl c.fixed_refusal.ensures.said)
 
 pub returns-in-Err-WrongMethod-clause-acted : goal.returns-in-Err-WrongMethod-clause-acted
 returns-in-Err-WrongMethod-clause-acted g c = inr (inr c.fixed_refusal-in-Err-WrongMethod.ensures.said)
+
+pub returns-in-Ok-turn-clause-costs : goal.returns-in-Ok-turn-clause-costs
+returns-in-Ok-turn-clause-costs g c =
+    IfOk-weaker c.take.result _ _ (λ r costs.
+    costs_then c.args.self.now.state c.turn.new.self.state c.take.new.self.state c.args.self.now.moment _ c.args.moment (asked c.args.request.now) c.in-Ok.route (said r) c.args.self.now.caches c.turn.new.self.caches c.take.new.self.caches c.args.steps.now _ _ _
+    c.in-Ok.ensures c.turn.ensures.state c.in-Ok-turn.ensures.moment c.turn.ensures.visited c.turn.ensures.clean costs) c.take.ensures.costs
+
+pub returns-in-Err-NoRoute-clause-costs : goal.returns-in-Err-NoRoute-clause-costs
+returns-in-Err-NoRoute-clause-costs g c = inr (inl c.fixed_refusal.ensures.said, (refl, refl))
+
+pub returns-in-Err-WrongMethod-clause-costs : goal.returns-in-Err-WrongMethod-clause-costs
+returns-in-Err-WrongMethod-clause-costs g c = inr (inr c.fixed_refusal-in-Err-WrongMethod.ensures.said, (refl, refl))

@@ -8,12 +8,17 @@ use Rattle.row_requests.specs.Sound.{AreSound}
 use Rattle.session_state.specs.Sessions.{SessionState}
 use Rattle.app_wire.specs.declared.route.Route.{Route}
 use Rattle.app_wire.specs.declared.route.Route.TheVariants.{Begin, End, View, Named as Formulas, Items, Event, Input, Rows, Edit, Page, Plan, Graph}
+use Rattle.app_views.specs.Galleries.{gallery_named}
+use Rattle.request_checks.specs.Directory.{find}
+use Rattle.row_requests.specs.Page.{VisitsPage}
 use Rattle.row_requests.specs.Written.{IsNamedBy}
 use Rattle.office.specs.Leaving.{AreEachLeft}
 use Rattle.office.proofs.Leaving.{acts_event, acts_input, acts_quiet, each_same, leaves_begin, leaves_by, leaves_edit, leaves_end, leaves_event, leaves_graph, leaves_input, leaves_items, leaves_named, leaves_page, leaves_plan, leaves_rows, leaves_view, left_still, left_unchanged, ok_always}
+use Rattle.office.proofs.Costs.{costs_acting, costs_by, costs_items, costs_named, costs_page, costs_rows, costs_still, costs_view}
 use Rattle.office.proofs.Edits.{ready_edited}
 use Rattle.office.proofs.Sent.{kept_order, kept_still}
 use Rattle.office.specs.Caches.{AreKept}
+use Rattle.office.specs.Costs.{CostOfItems, CostOfNamed, CostOfView, CostsTo, counts}
 use Rattle.office.specs.State.{Seen}
 use Rattle.office.proofs.StepLemmas.{left_read, reaches_event, reaches_input, reaches_items, reaches_named, reaches_page, reaches_view, still_ready, stopped}
 use Rattle.office.proofs.machine.Office.take.Goals as goal
@@ -238,3 +243,81 @@ returns-in-Ok-show_plan-clause-acted g c = acts_quiet c.args.route (Plan) _ _ c.
 
 pub returns-in-Ok-show_graph-clause-acted : goal.returns-in-Ok-show_graph-clause-acted
 returns-in-Ok-show_graph-clause-acted g c = acts_quiet c.args.route (Graph) _ _ c.args.request.now.body.items _ _ _ _ _ c.in-Graph.is tt
+
+pub returns-in-View-clause-costs : goal.returns-in-View-clause-costs
+returns-in-View-clause-costs g c =
+    let told = g.K.Keeper.told c.show_view_to.new.keeper in
+    let before = counts c.args.steps.now (g.K.Keeper.visited c.self.inside.keeper) in
+    let after = counts c.show_view_to.new.steps (g.K.Keeper.visited c.show_view_to.new.keeper) in
+    let cs = c.self.inside.caches.items in
+    let ds = c.show_view_to.new.caches.items in
+    IfOk-weaker c.show_view_to.result _ _ (λ r costs.
+    costs_by c.args.route (View c.in-View.name) c.args.self.now _ (said r) _ ds c.args.steps.now after c.in-View.is c.self.view_is (costs_view c.in-View.name (said r) c.self.inside.moment _ _ cs ds before after
+    (subst (λ (l : List (Named SessionState)). CostsTo (CostOfView c.self.inside.app told c.self.inside.moment (said r)) c.in-View.name (find c.in-View.name l) cs ds before after) c.deref.ensures.value costs))) c.show_view_to.ensures.costs
+
+pub returns-in-Named-clause-costs : goal.returns-in-Named-clause-costs
+returns-in-Named-clause-costs g c =
+    let told = g.K.Keeper.told c.show_named.new.keeper in
+    let before = counts c.args.steps.now (g.K.Keeper.visited c.self.inside.keeper) in
+    let after = counts c.show_named.new.steps (g.K.Keeper.visited c.show_named.new.keeper) in
+    let cs = c.self.inside.caches.items in
+    let ds = c.show_named.new.caches.items in
+    IfOk-weaker c.show_named.result _ _ (λ r costs.
+    costs_by c.args.route (Formulas c.in-Named.name) c.args.self.now _ (said r) _ ds c.args.steps.now after c.in-Named.is c.self.view_is (costs_named c.in-Named.name (said r) c.self.inside.moment _ _ cs ds before after
+    (subst (λ (l : List (Named SessionState)). CostsTo (CostOfNamed c.self.inside.app told c.self.inside.moment) c.in-Named.name (find c.in-Named.name l) cs ds before after) c.deref-in-Named.ensures.value costs))) c.show_named.ensures.costs
+
+pub returns-in-Items-clause-costs : goal.returns-in-Items-clause-costs
+returns-in-Items-clause-costs g c =
+    let told = g.K.Keeper.told c.show_items_to.new.keeper in
+    let before = counts c.args.steps.now (g.K.Keeper.visited c.self.inside.keeper) in
+    let after = counts c.show_items_to.new.steps (g.K.Keeper.visited c.show_items_to.new.keeper) in
+    let cs = c.self.inside.caches.items in
+    let ds = c.show_items_to.new.caches.items in
+    IfOk-weaker c.show_items_to.result _ _ (λ r costs.
+    costs_by c.args.route (Items c.in-Items.name c.in-Items.gallery c.in-Items.from) c.args.self.now _ (said r) _ ds c.args.steps.now after c.in-Items.is c.self.view_is (costs_items c.in-Items.name c.in-Items.gallery c.in-Items.from (said r) c.self.inside.moment _ _ cs ds before after
+    (subst (λ (l : List (Named SessionState)). CostsTo (CostOfItems c.self.inside.app told c.self.inside.moment c.in-Items.from (gallery_named c.in-Items.gallery c.self.inside.app.names) (said r)) c.in-Items.name (find c.in-Items.name l) cs ds before after) c.deref-in-Items.ensures.value costs))) c.show_items_to.ensures.costs
+
+pub returns-in-Page-clause-costs : goal.returns-in-Page-clause-costs
+returns-in-Page-clause-costs g c =
+    let told = g.K.Keeper.told c.self.inside.keeper in
+    let visited = g.K.Keeper.visited in
+    ok_always c.show_page.result _ (λ r.
+    costs_by c.args.route (Page c.in-Page.table c.in-Page.after) c.args.self.now _ (said r) _ c.self.inside.caches.items c.args.steps.now (counts c.args.steps.now (visited c.show_page.new.keeper)) c.in-Page.is c.self.view_is
+    (costs_page c.in-Page.table c.in-Page.after (said r) c.self.inside.moment _ _ c.self.inside.caches.items c.self.inside.caches.items c.args.steps.now (visited c.self.inside.keeper) (visited c.show_page.new.keeper)
+    (subst (λ (s : Schema). VisitsPage s.tables c.in-Page.table c.in-Page.after told (visited c.self.inside.keeper) (visited c.show_page.new.keeper)) c.schema_of.ensures c.show_page.ensures.visits)))
+
+pub returns-in-Rows-clause-costs : goal.returns-in-Rows-clause-costs
+returns-in-Rows-clause-costs g c =
+    let visited = g.K.Keeper.visited in
+    ok_always c.change_rows.result _ (λ r.
+    costs_by c.args.route (Rows c.in-Rows.name) c.args.self.now _ (said r) _ c.change_rows.new.caches.items c.args.steps.now (counts c.args.steps.now (visited c.change_rows.new.keeper)) c.in-Rows.is c.self.view_is
+    (costs_rows c.in-Rows.name (said r) c.self.inside.moment _ _ c.self.inside.caches.items c.change_rows.new.caches.items c.args.steps.now (visited c.self.inside.keeper) (visited c.change_rows.new.keeper)))
+
+pub returns-in-Ok-clause-costs : goal.returns-in-Ok-clause-costs
+returns-in-Ok-clause-costs g c =
+    costs_by c.args.route (End c.in-End.name) c.args.self.now _ _ _ c.end.new.caches.items c.args.steps.now _ c.in-End.is c.self.view_is
+    (costs_still (End c.in-End.name) _ c.self.inside.moment _ _ c.self.inside.caches.items c.end.new.caches.items c.args.steps.now (g.K.Keeper.visited c.self.inside.keeper) tt)
+
+pub returns-in-Ok-post_edit-clause-costs : goal.returns-in-Ok-post_edit-clause-costs
+returns-in-Ok-post_edit-clause-costs g c =
+    costs_by c.args.route (Edit c.in-Edit.name) c.args.self.now _ _ _ c.post_edit.new.caches.items c.args.steps.now _ c.in-Edit.is c.self.view_is
+    (costs_still (Edit c.in-Edit.name) _ c.self.inside.moment _ _ c.self.inside.caches.items c.post_edit.new.caches.items c.args.steps.now (g.K.Keeper.visited c.self.inside.keeper) tt)
+
+pub returns-in-Ok-show_plan-clause-costs : goal.returns-in-Ok-show_plan-clause-costs
+returns-in-Ok-show_plan-clause-costs g c =
+    let old = c.args.self.now in
+    costs_by c.args.route Plan old old _ old.state old.caches c.args.steps.now (counts c.args.steps.now old.visited) c.in-Plan.is refl (costs_still Plan _ old.moment old.state old.state old.caches old.caches c.args.steps.now old.visited tt)
+
+pub returns-in-Ok-show_graph-clause-costs : goal.returns-in-Ok-show_graph-clause-costs
+returns-in-Ok-show_graph-clause-costs g c =
+    let old = c.args.self.now in
+    costs_by c.args.route Graph old old _ old.state old.caches c.args.steps.now (counts c.args.steps.now old.visited) c.in-Graph.is refl (costs_still Graph _ old.moment old.state old.state old.caches old.caches c.args.steps.now old.visited tt)
+
+pub returns-in-Begin-clause-costs : goal.returns-in-Begin-clause-costs
+returns-in-Begin-clause-costs g c = ok_always c.begin.result _ (λ r. costs_acting c.args.route (Begin c.in-Begin.name) (said r) _ _ _ _ _ _ _ c.in-Begin.is tt)
+
+pub returns-in-Event-clause-costs : goal.returns-in-Event-clause-costs
+returns-in-Event-clause-costs g c = ok_always c.post_event.result _ (λ r. costs_acting c.args.route (Event c.in-Event.name) (said r) _ _ _ _ _ _ _ c.in-Event.is tt)
+
+pub returns-in-Input-clause-costs : goal.returns-in-Input-clause-costs
+returns-in-Input-clause-costs g c = ok_always c.post_input.result _ (λ r. costs_acting c.args.route (Input c.in-Input.name) (said r) _ _ _ _ _ _ _ c.in-Input.is tt)
