@@ -5,6 +5,7 @@ pub mod Gathering
 pub mod Giving
 pub mod Looks
 pub mod Needing
+pub mod OneVisits
 pub mod Pages
 pub mod Places
 pub mod Replies

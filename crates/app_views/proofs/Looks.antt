@@ -142,7 +142,7 @@ input_same a of values others r k c s agree own there =
     let named = then_some (cell_of_property a.names k) (default_name (at.0).kind) d at.2 in
     cell_same a of values others k c named.0 s agree own there (default_quiet (at.0).kind named.0 named.1) d named.2))
 
-items_same : (a : App) (of : ℕ → Bool) (values others : ℕ → Data) (k : ℕ) (c : ControlName) → IsSound a → Agrees a of values others → of k ≡ true → slice_get a.names.controls k ≡ Some c → items_of a.names values k ≡ items_of a.names others k
+pub items_same : (a : App) (of : ℕ → Bool) (values others : ℕ → Data) (k : ℕ) (c : ControlName) → IsSound a → Agrees a of values others → of k ≡ true → slice_get a.names.controls k ≡ Some c → items_of a.names values k ≡ items_of a.names others k
 items_same a of values others k c s agree own there = value_same values others (tab no_rows) (items_cell a.names k) (cell_same a of values others k c (codes "Items") s agree own there items_quiet)
 
 visible_same : (a : App) (of : ℕ → Bool) (values others : ℕ → Data) (k : ℕ) (c : ControlName) → IsSound a → Agrees a of values others → of k ≡ true → slice_get a.names.controls k ≡ Some c → is_visible a.names values k ≡ is_visible a.names others k
@@ -183,7 +183,7 @@ both : (a b : Bool) → a ≡ false → b ≡ true → (not a && b) ≡ true
 both true b e f = absurd cc
 both false b e f = f
 
-under : (of : ℕ → Bool) (c : CellInfo) (g : ℕ) → of g ≡ true → c.cell.acts ≡ false → c.cell.item ≡ Some g → is_in_template of c ≡ true
+pub under : (of : ℕ → Bool) (c : CellInfo) (g : ℕ) → of g ≡ true → c.cell.acts ≡ false → c.cell.item ≡ Some g → is_in_template of c ≡ true
 under of c g h calm item = both c.cell.acts (is_one of c.cell.item) calm (ap (is_one of) item ∙ h)
 
 where_map : {P P' : Type 0} (Q : Type 0) (b : Bool) → (P → P') → IsWhere b P Q → IsWhere b P' Q
@@ -220,7 +220,7 @@ control_moved p of values others g item k c s sound agree own there within h = r
   shows = h.shows;
 }
 
-for_moved : (p : Present) (of : ℕ → Bool) (values others : ℕ → Data) (g : ℕ) (item : Data) (k : ℕ) (c : ControlName) (o : Option ItemControl) → IsSound p.app → Agrees p.app of values others → of g ≡ true → slice_get p.app.names.controls k ≡ Some c →
+pub for_moved : (p : Present) (of : ℕ → Bool) (values others : ℕ → Data) (g : ℕ) (item : Data) (k : ℕ) (c : ControlName) (o : Option ItemControl) → IsSound p.app → Agrees p.app of values others → of g ≡ true → slice_get p.app.names.controls k ≡ Some c →
     IsShownFor p values g item k c o → IsShownFor p others g item k c o
 for_moved p of values others g item k c None s agree own there h = λ within.
     let v = h within in
@@ -232,7 +232,7 @@ for_moved p of values others g item k c (Some x) s agree own there h = (
 )
 
 -- the control at a place from the first on
-at : {C : Type 0} (cs : List C) (i n : ℕ) (c : C) → n ≡ 0 + i → slice_get cs i ≡ Some c → slice_get cs n ≡ Some c
+pub at : {C : Type 0} (cs : List C) (i n : ℕ) (c : C) → n ≡ 0 + i → slice_get cs i ≡ Some c → slice_get cs n ≡ Some c
 at {C} cs i n c e there = let same : i ≡ n = omega (arith, e) in subst (λ m. slice_get cs m ≡ Some c) same there
 
 item_moved : (p : Present) (of : ℕ → Bool) (values others : ℕ → Data) (g n : ℕ) (row : Row) (o : Option ItemView) → IsSound p.app → Agrees p.app of values others → of g ≡ true → IsItemAt p values g n row o → IsItemAt p others g n row o
@@ -271,15 +271,15 @@ seen_alike true true x y h = h refl
 seen_alike true false x y h = refl
 seen_alike false b x y h = refl
 
-could : (a b x : Bool) → (a && (b && x)) ≡ true → (a && b) ≡ true
+pub could : (a b x : Bool) → (a && (b && x)) ≡ true → (a && b) ≡ true
 could true true x h = refl
 could true false x h = absurd cc
 could false b x h = absurd cc
 
-on_screen : (n : Names) (s k : ℕ) (c : ControlName) → slice_get n.controls k ≡ Some c → is_on n s k ≡ (is_none c.gallery && (c.screen == s))
+pub on_screen : (n : Names) (s k : ℕ) (c : ControlName) → slice_get n.controls k ≡ Some c → is_on n s k ≡ (is_none c.gallery && (c.screen == s))
 on_screen n s k c there = ap (λ (o : Option ControlName). unwrap_or (option_map (λ (d : ControlName). is_none d.gallery && (d.screen == s)) o) false) there
 
-shown_moved : (p : Present) (values others : ℕ → Data) (k : ℕ) (c : ControlName) (o : Option Shown) → IsSound p.app → Agrees p.app (is_on p.app.names p.session.screen) values others → slice_get p.app.names.controls k ≡ Some c → IsShown p values k c o → IsShown p others k c o
+pub shown_moved : (p : Present) (values others : ℕ → Data) (k : ℕ) (c : ControlName) (o : Option Shown) → IsSound p.app → Agrees p.app (is_on p.app.names p.session.screen) values others → slice_get p.app.names.controls k ≡ Some c → IsShown p values k c o → IsShown p others k c o
 shown_moved p values others k c o s agree there = by o
   where
     of : ℕ → Bool
@@ -310,7 +310,7 @@ view_moved p values others v s agree h = record {
 }
 
 -- ---- the items of a gallery alone
-it_is : (g : ℕ) → is_it g g ≡ true
+pub it_is : (g : ℕ) → is_it g g ≡ true
 it_is g = grind arith
 
 -- AND NEITHER DO ITEMS

@@ -58,7 +58,7 @@ control_one p values item k c s t g h j =
 not_both : (b : Bool) → b ≡ false → b ≡ true → ⊥
 not_both b e f = cc
 
-for_one : (p : Present) (values : ℕ → Data) (gallery : ℕ) (item : Data) → Ground p values → IsSingle (IsShownFor p values gallery item)
+pub for_one : (p : Present) (values : ℕ → Data) (gallery : ℕ) (item : Data) → Ground p values → IsSingle (IsShownFor p values gallery item)
 for_one p values gallery item g k c None None h j = refl
 for_one p values gallery item g k c (Some s) (Some t) h j = ap (λ (x : ItemControl). Some x) (control_one p values item k c s t g h.2 j.2)
 for_one p values gallery item g k c None (Some t) h j =
@@ -119,7 +119,7 @@ shown_control_one p values k c s t g h j =
     let items : s.items ≡ t.items = first_one p values k c.kind s.items t.items g h.items j.items in
     λ i. record { name = name i; kind = kind i; values = shows i; items = items i }
 
-shown_one : (p : Present) (values : ℕ → Data) → Ground p values → IsSingle (IsShown p values)
+pub shown_one : (p : Present) (values : ℕ → Data) → Ground p values → IsSingle (IsShown p values)
 shown_one p values g k c None None h j = refl
 shown_one p values g k c None (Some t) h j = absurd (not_both (is_shown p.app.names p.session values k c) h j.0)
 shown_one p values g k c (Some s) None h j = absurd (not_both (is_shown p.app.names p.session values k c) j h.0)
@@ -140,7 +140,7 @@ abbrev fitting : Option CellInfo → Data → Data
 fitting (Some c) d = if fits_in d (shape c.ty) then d else blank
 fitting None d = d
 
-abbrev masked : App → (ℕ → Data) → ℕ → Data
+abbrev pub masked : App → (ℕ → Data) → ℕ → Data
 masked a values k = fitting (slice_get a.cells k) (values k)
 
 fits_so : (d : Data) (t : Shape) → fits_in (if fits_in d t then d else blank) t ≡ true
@@ -150,20 +150,20 @@ fits_so d t = by (fits_in d t) refl
     by true e = e
     by false e = refl
 
-masked_fits : (a : App) (values : ℕ → Data) → CellsFit a (masked a values)
+pub masked_fits : (a : App) (values : ℕ → Data) → CellsFit a (masked a values)
 masked_fits a values k c there = subst (λ o. fits_in (fitting o (values k)) (shape c.ty) ≡ true) (sym there) (fits_so (values k) (shape c.ty))
 
 masked_same : (a : App) (values : ℕ → Data) (k : ℕ) (c : CellInfo) → slice_get a.cells k ≡ Some c → fits_in (values k) (shape c.ty) ≡ true → values k ≡ masked a values k
 masked_same a values k c there fit = sym (ap (λ o. fitting o (values k)) there ∙ ap (λ (b : Bool). if b then values k else blank) fit)
 
-ground : OneValue → (p : Present) (values : ℕ → Data) → IsSound p.app → HoldsFitting p.app.names p.session → AreKnown p.app p.tables → CellsFit p.app values → Ground p values
+pub ground : OneValue → (p : Present) (values : ℕ → Data) → IsSound p.app → HoldsFitting p.app.names p.session → AreKnown p.app p.tables → CellsFit p.app values → Ground p values
 ground one p values s n known fit = record { one = one; sound = s; holds = n; known = known; fits = fit }
 
 -- fresh values fit where they are looked at, and are the only ones there
-as_masked : (p : Present) (of : ℕ → Bool) (values : ℕ → Data) → IsSound p.app → HoldsFitting p.app.names p.session → AreKnown p.app p.tables → AreFreshFor p values of → Agrees p.app of values (masked p.app values)
+pub as_masked : (p : Present) (of : ℕ → Bool) (values : ℕ → Data) → IsSound p.app → HoldsFitting p.app.names p.session → AreKnown p.app p.tables → AreFreshFor p values of → Agrees p.app of values (masked p.app values)
 as_masked p of values s n known fresh = λ k c looked there. masked_same p.app values k c there (fits_at p values k s n known.fit (fresh k looked) k c there (itself k))
 
-as_other : OneFreshAt → (p : Present) (of : ℕ → Bool) (values others : ℕ → Data) → IsSound p.app → HoldsFitting p.app.names p.session → AreKnown p.app p.tables → AreFreshFor p values of → AreFreshFor p others of → Agrees p.app of others (masked p.app values)
+pub as_other : OneFreshAt → (p : Present) (of : ℕ → Bool) (values others : ℕ → Data) → IsSound p.app → HoldsFitting p.app.names p.session → AreKnown p.app p.tables → AreFreshFor p values of → AreFreshFor p others of → Agrees p.app of others (masked p.app values)
 as_other once p of values others s n known fresh also = λ k c looked there. once p others values k c s n known there (also k looked) (fresh k looked) ∙ as_masked p of values s n known fresh k c looked there
 
 -- ONE VIEW

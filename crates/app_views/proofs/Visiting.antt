@@ -1,7 +1,10 @@
 -- Rows that are visited while lists grow by what each thing gives.
-use Rattle.std.proofs.Common.{◌≡◌, ℕ, suc, ◌+◌, ◌-◌, ◌<◌, ◌≤◌, max, List, [], ◌∷◌, ◌++◌, length, get_or, drop, take, Bool, true, false, Option, Some, None, refl, sym, subst, ap, ◌∙◌, arith}
+use Rattle.std.proofs.Common.{◌≡◌, ℕ, suc, ◌+◌, ◌-◌, ◌<◌, ◌≤◌, max, List, [], ◌++◌, length, get_or, drop, take, Bool, true, false, Option, Some, None, Result, Ok, Err, refl, sym, subst, ap, ◌∙◌, arith}
 use Rattle.std.proofs.Math.ListN.{drop_of_length-le}
 use Rattle.std.proofs.lemmas.List.{append_assoc, append-nil}
+use Rattle.std.specs.Prelude.{IfOk}
+use Rattle.recalc.proofs.Asked.{heard_told}
+use Rattle.recalc.specs.Asking.{IsHeardOf}
 use Rattle.recalc.specs.app_cells.declared.app.App.{App}
 use Rattle.recalc.specs.app_semantics.Present.{items_of}
 use Rattle.fx_data.specs.Values.{Data}
@@ -9,12 +12,22 @@ use Rattle.fx_data.specs.declared.faults.Fault.{Fault}
 use Rattle.recalc.specs.fx_eval.Visits.{AtMost, Both}
 use Rattle.recalc.specs.fx_semantics.Rows.{rows_in}
 use Rattle.fx_value.specs.Columns.{Row as Fields}
+use Rattle.row_keeper.specs.Tables.{Tables, rows_of}
 use Rattle.row_queries.specs.declared.rows.Row.{Row}
 use Rattle.session_state.specs.Sessions.{SessionState}
 use Rattle.view_text.specs.declared.views.Items.{Items}
 use Rattle.app_views.proofs.Giving.{put_more, split}
 use Rattle.app_views.specs.Views.{fault_in, put}
 use Rattle.app_views.specs.Visits.{AreVisited, ItemsUnlessVisit, ItemsVisit, OrNone, RowItemsVisit}
+
+-- where these rows are told, they are heard of
+pub heard_at : (told : Option Tables) (t : Tables) → told ≡ Some t → IsHeardOf told (Some (rows_of t.states))
+heard_at told t is = subst (λ o. IsHeardOf o (Some (rows_of t.states))) (sym is) (heard_told (Some t))
+
+-- what holds of what a call gives, by two of its clauses
+pub ok_both : {X E : Type 0} (r : Result X E) (P Q R : X → Type 0) → ((x : X) → P x → Q x → R x) → IfOk r P → IfOk r Q → IfOk r R
+ok_both (Ok x) P Q R both p q = both x p q
+ok_both (Err e) P Q R both p q = tt
 
 -- ---- bounds
 

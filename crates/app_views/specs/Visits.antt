@@ -21,7 +21,7 @@ use Rattle.view_text.specs.declared.views.ItemView.{ItemView}
 use Rattle.view_text.specs.declared.views.Items.{Items}
 use Rattle.view_text.specs.declared.views.Shown.{Shown}
 use Rattle.app_views.specs.Looking.{AreFreshFor, AreLookedAt}
-use Rattle.app_views.specs.Views.{fault_in, is_in, put}
+use Rattle.app_views.specs.Views.{IsShown, IsShownFor, fault_in, is_in, put}
 
 -- so many rows in all, where P tells how many making what each of these gives visits
 abbrev pub AreVisited : {C A : Type 0} → (ℕ → C → Option A → ℕ → Type 0) → ℕ → List C → List A → ℕ → Type 0
@@ -44,9 +44,9 @@ module _ (a : App) (s : SessionState) (rows : List (List Row)) (m : ℕ) (values
   ControlVisits item k (Some c) n = Both (PropertyVisits item k (codes "Visible")) (PropertyVisits item k (codes "Text")) n
   ControlVisits item k None n = PropertyVisits item k (codes "Visible") n
 
-  -- if it stands in this gallery
+  -- if it stands in this gallery, with what it shows for the item
   abbrev pub TemplateVisits : ℕ → Data → ℕ → ControlName → Option ItemControl → ℕ → Type 0
-  TemplateVisits g item k c o = OrNone (is_in g c.gallery) (ControlVisits item k o)
+  TemplateVisits g item k c o n = IsShownFor (present a s (Some rows) m) values g item k c o × OrNone (is_in g c.gallery) (ControlVisits item k o) n
 
   -- AN ITEM: the controls of the template
   abbrev pub ItemAtVisits : ℕ → ℕ → Fields → Option ItemView → ℕ → Type 0
@@ -71,10 +71,14 @@ module _ (a : App) (s : SessionState) (rows : List (List Row)) (m : ℕ) (values
   GivenItemsVisit g from (Some i) n = ItemsVisit g from i n
   GivenItemsVisit g from None n = n ≡ 0
 
-  -- a control that is shown: the first items of a gallery
+  -- the first items of a gallery, if it is shown
+  abbrev pub FirstItemsVisit : ℕ → Option Shown → ℕ → Type 0
+  FirstItemsVisit k (Some x) n = GivenItemsVisit k 1 x.items n
+  FirstItemsVisit k None n = n ≡ 0
+
+  -- a control, with what it shows
   abbrev pub ShownVisits : ℕ → ControlName → Option Shown → ℕ → Type 0
-  ShownVisits k c (Some x) n = GivenItemsVisit k 1 x.items n
-  ShownVisits k c None n = n ≡ 0
+  ShownVisits k c o n = IsShown (present a s (Some rows) m) values k c o × FirstItemsVisit k o n
 
   -- THE CONTROLS OF A SCREEN
   abbrev pub ScreenVisits : List Shown → ℕ → Type 0

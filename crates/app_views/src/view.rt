@@ -198,7 +198,7 @@ fn shown_with<K: Keeper, L: Ledger>(
     ensures shows { IfOk result (λ s. (moment : ℕ) (tables : ToldRows) → IsToday moment valued.now.day → IsHeardOf (K.told keeper.new) tables → IsShownControl (present app.now session.now tables moment) (value_of valued.now) number control.now s) }
     ensures ticks { IfOk result (λ s. steps.new ≤ steps.old + shown_steps app.now.names (s ∷ [])) }
     ensures visits { IfOk result (λ s. (moment : ℕ) → IsToday moment valued.now.day → WhereTold (K.told keeper.new) (λ told.
-        AtMost (ShownVisits app.now session.now told moment (value_of valued.now) number control.now (Some s)) (K.visited keeper.old) (K.visited keeper.new))) }
+        AtMost (GivenItemsVisit app.now session.now told moment (value_of valued.now) number 1 s.items) (K.visited keeper.old) (K.visited keeper.new))) }
     ensures read { HasRead (keeping (K.told keeper.old) (K.began keeper.old) (K.shaped keeper.old) (K.in_transaction keeper.old) (K.marks keeper.old) (K.visited keeper.old) (K.loan keeper.old))
         (keeping (K.told keeper.new) (K.began keeper.new) (K.shaped keeper.new) (K.in_transaction keeper.new) (K.marks keeper.new) (K.visited keeper.new) (K.loan keeper.new)) }
     ensures cause { HasCause (K.marks keeper.old) (K.marks keeper.new) result }
