@@ -1,3 +1,4 @@
 pub mod Perform
 pub mod Actable
 pub mod Unique
+pub mod Writable

@@ -17,8 +17,10 @@ ghost use Rattle.fx_value.specs.Fits.{fits_in};
 ghost use Rattle.fx_deeds.specs.Fitting.{AreOf};
 ghost use Rattle.fx_deeds.specs.Stages.{Passed, stage};
 ghost use Rattle.fx_deeds.specs.State.{ground};
+ghost use Rattle.fx_deeds.specs.Writable.{WritesOnly};
 ghost use Rattle.fx_behave.specs.Actable.{AreActable, AreBranches, AreRecoveries, AreTwo, CanAct, EndsIn, IsActable, IsActableInside, IsMatchedBy, IsSwitch};
 ghost use Rattle.fx_behave.specs.Perform.{AreEach, ArePerformed, IsAct, IsBranched, IsChain, IsForAll, IsRecovered, IsSwitched, IsUpdateIf, IsWithin, Performs, matching, performing, performings};
+ghost use Rattle.fx_behave.specs.Writable.{AnyMayWrite, MayWrite};
 
 use crate::perform::evaluate;
 use fx_base::Memory;
@@ -48,6 +50,7 @@ pub fn act<W: World, L: Ledger>(
     ensures passed { Passed
         (stage (W.fixed world.old) (W.state world.old) (W.marks world.old) (W.visited world.old))
         (stage (W.fixed world.new) (W.state world.new) (W.marks world.new) (W.visited world.new)) }
+    ensures only { Goes (IsLost (W.marks world.old) (W.marks world.new)) (WritesOnly (MayWrite core.now)) (W.state world.old) (W.state world.new) }
     ensures scope { scope.new ≡ scope.old }
     ensures keeper { IsErrOf result Stop.Keeper → Rose (W.marks world.old).faults (W.marks world.new).faults }
     ensures done { IfOk result (λ v. Goes (IsLost (W.marks world.old) (W.marks world.new)) (λ s t. Performs (ground W.gives (W.fixed world.old)) core.now scope.old (view v) s t) (W.state world.old) (W.state world.new)) }
@@ -69,6 +72,7 @@ fn perform<W: World, L: Ledger>(
     ensures passed { Passed
         (stage (W.fixed world.old) (W.state world.old) (W.marks world.old) (W.visited world.old))
         (stage (W.fixed world.new) (W.state world.new) (W.marks world.new) (W.visited world.new)) }
+    ensures only { Goes (IsLost (W.marks world.old) (W.marks world.new)) (WritesOnly (MayWrite core.now)) (W.state world.old) (W.state world.new) }
     ensures scope { scope.new ≡ scope.old }
     ensures keeper { IsErrOf result Stop.Keeper → Rose (W.marks world.old).faults (W.marks world.new).faults }
     ensures done { IfOk result (λ v. Goes (IsLost (W.marks world.old) (W.marks world.new)) (λ s t. Performs (ground W.gives (W.fixed world.old)) core.now scope.old (view v) s t) (W.state world.old) (W.state world.new)) }
@@ -95,6 +99,7 @@ fn node<W: World, L: Ledger>(
     ensures passed { Passed
         (stage (W.fixed world.old) (W.state world.old) (W.marks world.old) (W.visited world.old))
         (stage (W.fixed world.new) (W.state world.new) (W.marks world.new) (W.visited world.new)) }
+    ensures only { Goes (IsLost (W.marks world.old) (W.marks world.new)) (WritesOnly (MayWrite core.now)) (W.state world.old) (W.state world.new) }
     ensures scope { scope.new ≡ scope.old }
     ensures keeper { IsErrOf result Stop.Keeper → Rose (W.marks world.old).faults (W.marks world.new).faults }
     ensures done { IfOk result (λ v. Goes (IsLost (W.marks world.old) (W.marks world.new)) (λ s t. Performs (ground W.gives (W.fixed world.old)) core.now scope.old (view v) s t) (W.state world.old) (W.state world.new)) }
@@ -156,6 +161,7 @@ fn act_deed<W: World, L: Ledger>(
     ensures passed { Passed
         (stage (W.fixed world.old) (W.state world.old) (W.marks world.old) (W.visited world.old))
         (stage (W.fixed world.new) (W.state world.new) (W.marks world.new) (W.visited world.new)) }
+    ensures only { Goes (IsLost (W.marks world.old) (W.marks world.new)) (WritesOnly (MayWrite (of (deed_head deed.now) (all parts.now)))) (W.state world.old) (W.state world.new) }
     ensures scope { scope.new ≡ scope.old }
     ensures keeper { IsErrOf result Stop.Keeper → Rose (W.marks world.old).faults (W.marks world.new).faults }
     ensures done { IfOk result (λ v. Goes (IsLost (W.marks world.old) (W.marks world.new)) (λ s t. IsAct (ground W.gives (W.fixed world.old)) deed.now (performings (ground W.gives (W.fixed world.old)) (all parts.now)) scope.old s (view v) t) (W.state world.old) (W.state world.new)) }
@@ -184,6 +190,7 @@ fn update_if<W: World, L: Ledger>(
     ensures passed { Passed
         (stage (W.fixed world.old) (W.state world.old) (W.marks world.old) (W.visited world.old))
         (stage (W.fixed world.new) (W.state world.new) (W.marks world.new) (W.visited world.new)) }
+    ensures only { Goes (IsLost (W.marks world.old) (W.marks world.new)) (WritesOnly (MayWrite (of (deed_head (deed.UpdateIf target)) (all parts.now)))) (W.state world.old) (W.state world.new) }
     ensures scope { scope.new ≡ scope.old }
     ensures keeper { IsErrOf result Stop.Keeper → Rose (W.marks world.old).faults (W.marks world.new).faults }
     ensures done { IfOk result (λ v. Goes (IsLost (W.marks world.old) (W.marks world.new)) (λ s t. IsUpdateIf (ground W.gives (W.fixed world.old)) target (performings (ground W.gives (W.fixed world.old)) (all parts.now)) scope.old s (view v) t) (W.state world.old) (W.state world.new)) }
@@ -228,6 +235,7 @@ fn chain<W: World, L: Ledger>(
     ensures passed { Passed
         (stage (W.fixed world.old) (W.state world.old) (W.marks world.old) (W.visited world.old))
         (stage (W.fixed world.new) (W.state world.new) (W.marks world.new) (W.visited world.new)) }
+    ensures only { Goes (IsLost (W.marks world.old) (W.marks world.new)) (WritesOnly (AnyMayWrite (all parts.now))) (W.state world.old) (W.state world.new) }
     ensures scope { scope.new ≡ scope.old }
     ensures keeper { IsErrOf result Stop.Keeper → Rose (W.marks world.old).faults (W.marks world.new).faults }
     ensures done { IfOk result (λ v. Goes (IsLost (W.marks world.old) (W.marks world.new)) (λ s t. IsChain (performings (ground W.gives (W.fixed world.old)) (all parts.now)) scope.old s (view v) t) (W.state world.old) (W.state world.new)) }
@@ -257,6 +265,7 @@ fn branches<W: World, L: Ledger>(
     ensures passed { Passed
         (stage (W.fixed world.old) (W.state world.old) (W.marks world.old) (W.visited world.old))
         (stage (W.fixed world.new) (W.state world.new) (W.marks world.new) (W.visited world.new)) }
+    ensures only { Goes (IsLost (W.marks world.old) (W.marks world.new)) (WritesOnly (AnyMayWrite (all parts.now))) (W.state world.old) (W.state world.new) }
     ensures scope { scope.new ≡ scope.old }
     ensures keeper { IsErrOf result Stop.Keeper → Rose (W.marks world.old).faults (W.marks world.new).faults }
     ensures done { IfOk result (λ v. Goes (IsLost (W.marks world.old) (W.marks world.new)) (λ s t. IsBranched decision_of (performings (ground W.gives (W.fixed world.old)) (all parts.now)) scope.old s (view v) t) (W.state world.old) (W.state world.new)) }
@@ -290,6 +299,7 @@ fn switch<W: World, L: Ledger>(
     ensures passed { Passed
         (stage (W.fixed world.old) (W.state world.old) (W.marks world.old) (W.visited world.old))
         (stage (W.fixed world.new) (W.state world.new) (W.marks world.new) (W.visited world.new)) }
+    ensures only { Goes (IsLost (W.marks world.old) (W.marks world.new)) (WritesOnly (AnyMayWrite (all parts.now))) (W.state world.old) (W.state world.new) }
     ensures scope { scope.new ≡ scope.old }
     ensures keeper { IsErrOf result Stop.Keeper → Rose (W.marks world.old).faults (W.marks world.new).faults }
     ensures done { IfOk result (λ v. Goes (IsLost (W.marks world.old) (W.marks world.new)) (λ s t. IsSwitched (performings (ground W.gives (W.fixed world.old)) (all parts.now)) scope.old s (view v) t) (W.state world.old) (W.state world.new)) }
@@ -319,6 +329,7 @@ fn matches<W: World, L: Ledger>(
     ensures passed { Passed
         (stage (W.fixed world.old) (W.state world.old) (W.marks world.old) (W.visited world.old))
         (stage (W.fixed world.new) (W.state world.new) (W.marks world.new) (W.visited world.new)) }
+    ensures only { Goes (IsLost (W.marks world.old) (W.marks world.new)) (WritesOnly (AnyMayWrite (all parts.now))) (W.state world.old) (W.state world.new) }
     ensures scope { scope.new ≡ scope.old }
     ensures keeper { IsErrOf result Stop.Keeper → Rose (W.marks world.old).faults (W.marks world.new).faults }
     ensures done { IfOk result (λ v. Goes (IsLost (W.marks world.old) (W.marks world.new)) (λ s t. IsBranched (matching (view wanted)) (performings (ground W.gives (W.fixed world.old)) (all parts.now)) scope.old s (view v) t) (W.state world.old) (W.state world.new)) }
@@ -352,6 +363,7 @@ fn recover<W: World, L: Ledger>(
     ensures passed { Passed
         (stage (W.fixed world.old) (W.state world.old) (W.marks world.old) (W.visited world.old))
         (stage (W.fixed world.new) (W.state world.new) (W.marks world.new) (W.visited world.new)) }
+    ensures only { Goes (IsLost (W.marks world.old) (W.marks world.new)) (WritesOnly (AnyMayWrite (all parts.now))) (W.state world.old) (W.state world.new) }
     ensures scope { scope.new ≡ scope.old }
     ensures keeper { IsErrOf result Stop.Keeper → Rose (W.marks world.old).faults (W.marks world.new).faults }
     ensures done { IfOk result (λ v. Goes (IsLost (W.marks world.old) (W.marks world.new)) (λ s t. IsRecovered (none_left_of form.IfError) (performings (ground W.gives (W.fixed world.old)) (all parts.now)) scope.old s (view v) t) (W.state world.old) (W.state world.new)) }
@@ -394,6 +406,7 @@ fn catch_error<W: World, L: Ledger>(
     ensures passed { Passed
         (stage (W.fixed world.old) (W.state world.old) (W.marks world.old) (W.visited world.old))
         (stage (W.fixed world.new) (W.state world.new) (W.marks world.new) (W.visited world.new)) }
+    ensures only { Goes (IsLost (W.marks world.old) (W.marks world.new)) (WritesOnly (MayWrite formula.now)) (W.state world.old) (W.state world.new) }
     ensures scope { scope.new ≡ scope.old }
     ensures keeper { IsErrOf result Stop.Keeper → Rose (W.marks world.old).faults (W.marks world.new).faults }
     ensures done { IfOk result (λ v. Goes (IsLost (W.marks world.old) (W.marks world.new)) (λ s t. Performs (ground W.gives (W.fixed world.old)) formula.now (caught_in scope.old fault.kind fault.message) (view v) s t) (W.state world.old) (W.state world.new)) }
@@ -420,6 +433,7 @@ fn within<W: World, L: Ledger>(
     ensures passed { Passed
         (stage (W.fixed world.old) (W.state world.old) (W.marks world.old) (W.visited world.old))
         (stage (W.fixed world.new) (W.state world.new) (W.marks world.new) (W.visited world.new)) }
+    ensures only { Goes (IsLost (W.marks world.old) (W.marks world.new)) (WritesOnly (AnyMayWrite (cons part.now (cons formula.now nil)))) (W.state world.old) (W.state world.new) }
     ensures scope { scope.new ≡ scope.old }
     ensures keeper { IsErrOf result Stop.Keeper → Rose (W.marks world.old).faults (W.marks world.new).faults }
     ensures done { IfOk result (λ v. Goes (IsLost (W.marks world.old) (W.marks world.new)) (λ s t. IsWithin (performings (ground W.gives (W.fixed world.old)) (cons part.now (cons formula.now nil))) scope.old s (view v) t) (W.state world.old) (W.state world.new)) }
@@ -446,6 +460,7 @@ fn in_scope<W: World, L: Ledger>(
     ensures passed { Passed
         (stage (W.fixed world.old) (W.state world.old) (W.marks world.old) (W.visited world.old))
         (stage (W.fixed world.new) (W.state world.new) (W.marks world.new) (W.visited world.new)) }
+    ensures only { Goes (IsLost (W.marks world.old) (W.marks world.new)) (WritesOnly (MayWrite formula.now)) (W.state world.old) (W.state world.new) }
     ensures scope { scope.new ≡ scope.old }
     ensures keeper { IsErrOf result Stop.Keeper → Rose (W.marks world.old).faults (W.marks world.new).faults }
     ensures done { IfOk result (λ v. Goes (IsLost (W.marks world.old) (W.marks world.new)) (λ s t. Performs (ground W.gives (W.fixed world.old)) formula.now (inner scope.old (view row)) (view v) s t) (W.state world.old) (W.state world.new)) }
@@ -472,6 +487,7 @@ fn for_all<W: World, L: Ledger>(
     ensures passed { Passed
         (stage (W.fixed world.old) (W.state world.old) (W.marks world.old) (W.visited world.old))
         (stage (W.fixed world.new) (W.state world.new) (W.marks world.new) (W.visited world.new)) }
+    ensures only { Goes (IsLost (W.marks world.old) (W.marks world.new)) (WritesOnly (AnyMayWrite (cons table.now (all parts.now)))) (W.state world.old) (W.state world.new) }
     ensures scope { scope.new ≡ scope.old }
     ensures keeper { IsErrOf result Stop.Keeper → Rose (W.marks world.old).faults (W.marks world.new).faults }
     ensures done { IfOk result (λ v. Goes (IsLost (W.marks world.old) (W.marks world.new)) (λ s t. IsForAll (performings (ground W.gives (W.fixed world.old)) (cons table.now (all parts.now))) scope.old s (view v) t) (W.state world.old) (W.state world.new)) }
@@ -504,6 +520,7 @@ fn each<W: World, L: Ledger>(
     ensures passed { Passed
         (stage (W.fixed world.old) (W.state world.old) (W.marks world.old) (W.visited world.old))
         (stage (W.fixed world.new) (W.state world.new) (W.marks world.new) (W.visited world.new)) }
+    ensures only { Goes (IsLost (W.marks world.old) (W.marks world.new)) (WritesOnly (MayWrite formula.now)) (W.state world.old) (W.state world.new) }
     ensures scope { scope.new ≡ scope.old }
     ensures keeper { IsErrOf result Stop.Keeper → Rose (W.marks world.old).faults (W.marks world.new).faults }
     ensures done { IfOk result (λ vs. Goes (IsLost (W.marks world.old) (W.marks world.new)) (λ s t. AreEach (performing (ground W.gives (W.fixed world.old)) formula.now) scope.old rows.now s (map view vs.items) t) (W.state world.old) (W.state world.new)) }
@@ -533,6 +550,7 @@ fn part_values<W: World, L: Ledger>(
     ensures passed { Passed
         (stage (W.fixed world.old) (W.state world.old) (W.marks world.old) (W.visited world.old))
         (stage (W.fixed world.new) (W.state world.new) (W.marks world.new) (W.visited world.new)) }
+    ensures only { Goes (IsLost (W.marks world.old) (W.marks world.new)) (WritesOnly (AnyMayWrite (all parts.now))) (W.state world.old) (W.state world.new) }
     ensures scope { scope.new ≡ scope.old }
     ensures keeper { IsErrOf result Stop.Keeper → Rose (W.marks world.old).faults (W.marks world.new).faults }
     ensures done { IfOk result (λ vs. Goes (IsLost (W.marks world.old) (W.marks world.new)) (λ s t. ArePerformed (performings (ground W.gives (W.fixed world.old)) (all parts.now)) scope.old s (map view vs.items) t) (W.state world.old) (W.state world.new)) }

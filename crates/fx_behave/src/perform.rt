@@ -2,6 +2,7 @@
 ghost use Rattle.std.specs.Prelude.{◌≡◌, IfOk, IsErrOf, false, length, true};
 ghost use Rattle.fx_base.specs.Faults.{Rose};
 ghost use Rattle.fx_base.specs.Silence.{Goes, IsLost};
+ghost use Rattle.fx_base.specs.Telling.{Stays};
 ghost use Rattle.fx_data.specs.Types.{Shape};
 ghost use Rattle.fx_data.specs.ValueView.{view};
 ghost use Rattle.fx_env.specs.Scopes.{CanEvaluate, IsReady};
@@ -34,6 +35,7 @@ pub(crate) fn evaluate<W: World, L: Ledger>(
     ensures passed { Passed
         (stage (W.fixed world.old) (W.state world.old) (W.marks world.old) (W.visited world.old))
         (stage (W.fixed world.new) (W.state world.new) (W.marks world.new) (W.visited world.new)) }
+    ensures stays { Goes (IsLost (W.marks world.old) (W.marks world.new)) Stays (W.state world.old) (W.state world.new) }
     ensures scope { scope.new ≡ scope.old }
     ensures keeper { IsErrOf result Stop.Keeper → Rose (W.marks world.old).faults (W.marks world.new).faults }
     ensures done { IfOk result (λ v. Goes (IsLost (W.marks world.old) (W.marks world.new)) (λ s t. Performs (ground W.gives (W.fixed world.old)) core.now scope.old (view v) s t) (W.state world.old) (W.state world.new)) }

@@ -6,6 +6,7 @@ pub mod Collections
 pub mod Done
 pub mod Doable
 pub mod Within
+pub mod Writable
 pub mod Stages
 pub mod Fitting
 pub mod Lefts

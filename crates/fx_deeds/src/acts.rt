@@ -9,6 +9,7 @@ ghost use Rattle.fx_deeds.specs.Doable.{AnswersAs, CanDo};
 ghost use Rattle.fx_deeds.specs.Done.{IsDeed};
 ghost use Rattle.fx_deeds.specs.Stages.{Passed, stage};
 ghost use Rattle.fx_deeds.specs.State.{frame_of};
+ghost use Rattle.fx_deeds.specs.Writable.{DeedMayWrite, WritesOnly};
 
 use crate::deeds::{patch, remove, remove_if};
 use crate::session::{clear, clear_collect, collect, navigate, notify, reset, set, set_all};
@@ -31,6 +32,7 @@ pub fn do_deed<W: World, L: Ledger>(
     ensures passed { Passed
         (stage (W.fixed world.old) (W.state world.old) (W.marks world.old) (W.visited world.old))
         (stage (W.fixed world.new) (W.state world.new) (W.marks world.new) (W.visited world.new)) }
+    ensures only { Goes (IsLost (W.marks world.old) (W.marks world.new)) (WritesOnly (DeedMayWrite deed.now)) (W.state world.old) (W.state world.new) }
     ensures keeper { IsErrOf result Stop.Keeper → Rose (W.marks world.old).faults (W.marks world.new).faults }
     ensures done { IfOk result (λ x. Goes (IsLost (W.marks world.old) (W.marks world.new)) (λ s t. IsDeed (frame_of (W.fixed world.old)) deed.now (map view values.items) s (view x) t) (W.state world.old) (W.state world.new)) }
     ensures fits { (u : Shape) → AnswersAs (W.fixed world.old).types deed.now u → IfOk result (λ x. fits_in (view x) u ≡ true) }

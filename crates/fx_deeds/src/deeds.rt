@@ -11,6 +11,7 @@ ghost use Rattle.fx_deeds.specs.Doable.{AnswersAs, CanDo, CanUpdate};
 ghost use Rattle.fx_deeds.specs.Done.{IsDeed, IsUpdate};
 ghost use Rattle.fx_deeds.specs.Stages.{Passed, stage};
 ghost use Rattle.fx_deeds.specs.State.{frame_of};
+ghost use Rattle.fx_deeds.specs.Writable.{DeedMayWrite, WritesOnly};
 
 use crate::answers::first_error;
 use crate::collections::{patch_equal, remove_equal};
@@ -38,6 +39,7 @@ pub fn remove<W: World, L: Ledger>(
     ensures passed { Passed
         (stage (W.fixed world.old) (W.state world.old) (W.marks world.old) (W.visited world.old))
         (stage (W.fixed world.new) (W.state world.new) (W.marks world.new) (W.visited world.new)) }
+    ensures only { Goes (IsLost (W.marks world.old) (W.marks world.new)) (WritesOnly (DeedMayWrite (deed.Remove target))) (W.state world.old) (W.state world.new) }
     ensures keeper { IsErrOf result Stop.Keeper → Rose (W.marks world.old).faults (W.marks world.new).faults }
     ensures done { IfOk result (λ x. Goes (IsLost (W.marks world.old) (W.marks world.new)) (λ s t. IsDeed (frame_of (W.fixed world.old)) (deed.Remove target) (map view values.now) s (view x) t) (W.state world.old) (W.state world.new)) }
     ensures fits { IfOk result (λ x. fits_in (view x) booleans ≡ true) }
@@ -63,6 +65,7 @@ pub fn remove_if<W: World, L: Ledger>(
     ensures passed { Passed
         (stage (W.fixed world.old) (W.state world.old) (W.marks world.old) (W.visited world.old))
         (stage (W.fixed world.new) (W.state world.new) (W.marks world.new) (W.visited world.new)) }
+    ensures only { Goes (IsLost (W.marks world.old) (W.marks world.new)) (WritesOnly (DeedMayWrite (deed.RemoveIf target))) (W.state world.old) (W.state world.new) }
     ensures keeper { IsErrOf result Stop.Keeper → Rose (W.marks world.old).faults (W.marks world.new).faults }
     ensures done { IfOk result (λ x. Goes (IsLost (W.marks world.old) (W.marks world.new)) (λ s t. IsDeed (frame_of (W.fixed world.old)) (deed.RemoveIf target) (view filtered ∷ []) s (view x) t) (W.state world.old) (W.state world.new)) }
     ensures fits { IfOk result (λ x. fits_in (view x) booleans ≡ true) }
@@ -87,6 +90,7 @@ pub fn patch<W: World, L: Ledger>(
     ensures passed { Passed
         (stage (W.fixed world.old) (W.state world.old) (W.marks world.old) (W.visited world.old))
         (stage (W.fixed world.new) (W.state world.new) (W.marks world.new) (W.visited world.new)) }
+    ensures only { Goes (IsLost (W.marks world.old) (W.marks world.new)) (WritesOnly (DeedMayWrite (deed.Patch target))) (W.state world.old) (W.state world.new) }
     ensures keeper { IsErrOf result Stop.Keeper → Rose (W.marks world.old).faults (W.marks world.new).faults }
     ensures done { IfOk result (λ x. Goes (IsLost (W.marks world.old) (W.marks world.new)) (λ s t. IsDeed (frame_of (W.fixed world.old)) (deed.Patch target) (map view values.now) s (view x) t) (W.state world.old) (W.state world.new)) }
     ensures fits { (u : Shape) → AnswersAs (W.fixed world.old).types (deed.Patch target) u → IfOk result (λ x. fits_in (view x) u ≡ true) }
@@ -120,6 +124,7 @@ pub fn update<W: World, L: Ledger>(
     ensures passed { Passed
         (stage (W.fixed world.old) (W.state world.old) (W.marks world.old) (W.visited world.old))
         (stage (W.fixed world.new) (W.state world.new) (W.marks world.new) (W.visited world.new)) }
+    ensures only { Goes (IsLost (W.marks world.old) (W.marks world.new)) (WritesOnly (DeedMayWrite (deed.UpdateIf target))) (W.state world.old) (W.state world.new) }
     ensures keeper { IsErrOf result Stop.Keeper → Rose (W.marks world.old).faults (W.marks world.new).faults }
     ensures done { IfOk result (λ x. Goes (IsLost (W.marks world.old) (W.marks world.new)) (λ s t. IsUpdate (frame_of (W.fixed world.old)) target rows.now (map view changes.now) s (view x) t) (W.state world.old) (W.state world.new)) }
     ensures fits { IfOk result (λ x. fits_in (view x) booleans ≡ true) }

@@ -1,15 +1,17 @@
 //! Rows of tables that are taken out.
-ghost use Rattle.std.specs.Prelude.{◌≡◌, IfOk, IfSome, IsErrOf, IsSome, map, pos, slice_get, true};
+ghost use Rattle.std.specs.Prelude.{◌≡◌, ◌∷◌, [], IfOk, IfSome, IsErrOf, IsSome, map, pos, slice_get, true};
 ghost use Rattle.fx_base.specs.Faults.{Rose};
 ghost use Rattle.fx_base.specs.Silence.{Goes, IsLost};
 ghost use Rattle.fx_data.specs.Types.{booleans};
 ghost use Rattle.fx_data.specs.ValueView.{view};
 ghost use Rattle.fx_trees.specs.Lawful.{id_name as name_of_id};
 ghost use Rattle.fx_value.specs.Fits.{fits_in};
+ghost use Rattle.fx_trees.specs.declared.sources.Source.TheVariants as source;
 ghost use Rattle.fx_deeds.specs.Deeds.{AreRemoved, id_of};
 ghost use Rattle.fx_deeds.specs.Found.{IsNamed, IsTakenOut};
 ghost use Rattle.fx_deeds.specs.RowValues.{id_in};
 ghost use Rattle.fx_deeds.specs.Stages.{Passed, stage};
+ghost use Rattle.fx_deeds.specs.Writable.{IsOneOf, WritesOnly};
 
 use crate::answers::error;
 use crate::changes::remove;
@@ -89,6 +91,7 @@ fn remove_row<W: World>(
     ensures passed { Passed
         (stage (W.fixed world.old) (W.state world.old) (W.marks world.old) (W.visited world.old))
         (stage (W.fixed world.new) (W.state world.new) (W.marks world.new) (W.visited world.new)) }
+    ensures only { Goes (IsLost (W.marks world.old) (W.marks world.new)) (WritesOnly (IsOneOf (source.Table table ∷ []))) (W.state world.old) (W.state world.new) }
     ensures keeper { IsErrOf result Stop.Keeper → Rose (W.marks world.old).faults (W.marks world.new).faults }
     ensures done { IfOk result (λ o. Goes (IsLost (W.marks world.old) (W.marks world.new)) (IsTakenOut table (view row.now) o) (W.state world.old) (W.state world.new)) }
     ensures fits { IfOk result (λ o. IfSome o (λ x. fits_in (view x) booleans ≡ true)) }
@@ -116,6 +119,7 @@ pub(crate) fn remove_rows<W: World>(
     ensures passed { Passed
         (stage (W.fixed world.old) (W.state world.old) (W.marks world.old) (W.visited world.old))
         (stage (W.fixed world.new) (W.state world.new) (W.marks world.new) (W.visited world.new)) }
+    ensures only { Goes (IsLost (W.marks world.old) (W.marks world.new)) (WritesOnly (IsOneOf (source.Table table ∷ []))) (W.state world.old) (W.state world.new) }
     ensures keeper { IsErrOf result Stop.Keeper → Rose (W.marks world.old).faults (W.marks world.new).faults }
     ensures done { IfOk result (λ x. Goes (IsLost (W.marks world.old) (W.marks world.new)) (λ s t. AreRemoved table (map view rows.now) s (view x) t) (W.state world.old) (W.state world.new)) }
     ensures fits { IfOk result (λ x. fits_in (view x) booleans ≡ true) }

@@ -1,7 +1,8 @@
 //! Deeds on a session.
-ghost use Rattle.std.specs.Prelude.{◌≡◌, ◌++◌, ◌∷◌, false, true, None, IfOk, IsErrOf, IsSome, MatchResult, map};
+ghost use Rattle.std.specs.Prelude.{◌≡◌, ◌++◌, ◌∷◌, [], false, true, None, IfOk, IsErrOf, IsSome, MatchResult, map};
 ghost use Rattle.fx_base.specs.Faults.{Rose};
 ghost use Rattle.fx_base.specs.Silence.{Goes, IsLost};
+ghost use Rattle.fx_base.specs.Telling.{Stays};
 ghost use Rattle.fx_data.specs.Types.{ColumnList, booleans, tables};
 ghost use Rattle.fx_data.specs.Values.{boolean, fault};
 ghost use Rattle.fx_data.specs.ValueView.{view};
@@ -15,6 +16,7 @@ ghost use Rattle.fx_deeds.specs.Deeds.{AreSet, Gives, Makes, OrError, OrErrorAmo
 ghost use Rattle.fx_deeds.specs.Fitting.{CanAdd, CanTake, CanTakeAll, IsOfColumns, IsOfScreen};
 ghost use Rattle.fx_deeds.specs.RowValues.{rows_among};
 ghost use Rattle.fx_deeds.specs.Stages.{Passed, stage};
+ghost use Rattle.fx_deeds.specs.Writable.{IsOneOf, WritesOnly};
 
 use crate::answers::{error, first_error};
 use crate::changes::{change, make};
@@ -39,6 +41,7 @@ pub fn set<W: World>(
     ensures passed { Passed
         (stage (W.fixed world.old) (W.state world.old) (W.marks world.old) (W.visited world.old))
         (stage (W.fixed world.new) (W.state world.new) (W.marks world.new) (W.visited world.new)) }
+    ensures only { Goes (IsLost (W.marks world.old) (W.marks world.new)) (WritesOnly (IsOneOf (source.Global variable ∷ []))) (W.state world.old) (W.state world.new) }
     ensures keeper { IsErrOf result Stop.Keeper → Rose (W.marks world.old).faults (W.marks world.new).faults }
     ensures done { IfOk result (λ x. Goes (IsLost (W.marks world.old) (W.marks world.new)) (λ s t. Gives (change.Global variable) (view value) (boolean true) s (view x) t) (W.state world.old) (W.state world.new)) }
     ensures fits { IfOk result (λ x. fits_in (view x) booleans ≡ true) }
@@ -62,6 +65,7 @@ pub fn set_all<W: World>(
     ensures passed { Passed
         (stage (W.fixed world.old) (W.state world.old) (W.marks world.old) (W.visited world.old))
         (stage (W.fixed world.new) (W.state world.new) (W.marks world.new) (W.visited world.new)) }
+    ensures only { Goes (IsLost (W.marks world.old) (W.marks world.new)) (WritesOnly (IsOneOf variables.now)) (W.state world.old) (W.state world.new) }
     ensures keeper { IsErrOf result Stop.Keeper → Rose (W.marks world.old).faults (W.marks world.new).faults }
     ensures done { IfOk result (λ x. Goes (IsLost (W.marks world.old) (W.marks world.new)) (λ s t. AreSet variables.now (map view values.now) s (view x) t) (W.state world.old) (W.state world.new)) }
     ensures fits { IfOk result (λ x. fits_in (view x) booleans ≡ true) }
@@ -90,6 +94,7 @@ pub(crate) fn rows_held<W: World, L: Ledger>(
     ensures passed { Passed
         (stage (W.fixed world.old) (W.state world.old) (W.marks world.old) (W.visited world.old))
         (stage (W.fixed world.new) (W.state world.new) (W.marks world.new) (W.visited world.new)) }
+    ensures stays { Goes (IsLost (W.marks world.old) (W.marks world.new)) Stays (W.state world.old) (W.state world.new) }
     ensures keeper { IsErrOf result Stop.Keeper → Rose (W.marks world.old).faults (W.marks world.new).faults }
     ensures held { IfOk result (λ rows. Goes (IsLost (W.marks world.old) (W.marks world.new)) (λ s t. (t ≡ s) × (rows ≡ rows_held_by collection s)) (W.state world.old) (W.state world.new)) }
     ensures fits { IfOk result (λ rows. (cs : ColumnList) → IsOfColumns (W.fixed world.old).types collection cs → fits_in (table_of rows) (tables cs) ≡ true) }
@@ -110,6 +115,7 @@ pub fn collect<W: World, L: Ledger>(
     ensures passed { Passed
         (stage (W.fixed world.old) (W.state world.old) (W.marks world.old) (W.visited world.old))
         (stage (W.fixed world.new) (W.state world.new) (W.marks world.new) (W.visited world.new)) }
+    ensures only { Goes (IsLost (W.marks world.old) (W.marks world.new)) (WritesOnly (IsOneOf (source.Gathered collection ∷ []))) (W.state world.old) (W.state world.new) }
     ensures keeper { IsErrOf result Stop.Keeper → Rose (W.marks world.old).faults (W.marks world.new).faults }
     ensures done { IfOk result (λ x. Goes (IsLost (W.marks world.old) (W.marks world.new)) (λ s t. OrErrorAmong (map view values.now) (Holds collection (rows_held_by collection s ++ rows_among (map view values.now)) (boolean true) s (view x) t) s (view x) t) (W.state world.old) (W.state world.new)) }
     ensures fits { IfOk result (λ x. fits_in (view x) booleans ≡ true) }
@@ -138,6 +144,7 @@ pub fn clear_collect<W: World>(
     ensures passed { Passed
         (stage (W.fixed world.old) (W.state world.old) (W.marks world.old) (W.visited world.old))
         (stage (W.fixed world.new) (W.state world.new) (W.marks world.new) (W.visited world.new)) }
+    ensures only { Goes (IsLost (W.marks world.old) (W.marks world.new)) (WritesOnly (IsOneOf (source.Gathered collection ∷ []))) (W.state world.old) (W.state world.new) }
     ensures keeper { IsErrOf result Stop.Keeper → Rose (W.marks world.old).faults (W.marks world.new).faults }
     ensures done { IfOk result (λ x. Goes (IsLost (W.marks world.old) (W.marks world.new)) (λ s t. OrErrorAmong (map view values.now) (Holds collection (rows_among (map view values.now)) (boolean true) s (view x) t) s (view x) t) (W.state world.old) (W.state world.new)) }
     ensures fits { IfOk result (λ x. fits_in (view x) booleans ≡ true) }
@@ -160,6 +167,7 @@ pub fn clear<W: World>(alloc: Global, world: &mut W, collection: u32) -> Result<
     ensures passed { Passed
         (stage (W.fixed world.old) (W.state world.old) (W.marks world.old) (W.visited world.old))
         (stage (W.fixed world.new) (W.state world.new) (W.marks world.new) (W.visited world.new)) }
+    ensures only { Goes (IsLost (W.marks world.old) (W.marks world.new)) (WritesOnly (IsOneOf (source.Gathered collection ∷ []))) (W.state world.old) (W.state world.new) }
     ensures keeper { IsErrOf result Stop.Keeper → Rose (W.marks world.old).faults (W.marks world.new).faults }
     ensures done { IfOk result (λ x. Goes (IsLost (W.marks world.old) (W.marks world.new)) (λ s t. Makes (change.Empty collection) (boolean true) s (view x) t) (W.state world.old) (W.state world.new)) }
     ensures fits { IfOk result (λ x. fits_in (view x) booleans ≡ true) }
@@ -177,6 +185,7 @@ pub fn navigate<W: World>(alloc: Global, world: &mut W, screen: u32) -> Result<V
     ensures passed { Passed
         (stage (W.fixed world.old) (W.state world.old) (W.marks world.old) (W.visited world.old))
         (stage (W.fixed world.new) (W.state world.new) (W.marks world.new) (W.visited world.new)) }
+    ensures only { Goes (IsLost (W.marks world.old) (W.marks world.new)) (WritesOnly (IsOneOf [])) (W.state world.old) (W.state world.new) }
     ensures keeper { IsErrOf result Stop.Keeper → Rose (W.marks world.old).faults (W.marks world.new).faults }
     ensures done { IfOk result (λ x. Goes (IsLost (W.marks world.old) (W.marks world.new)) (λ s t. Makes (change.Screen screen) (boolean true) s (view x) t) (W.state world.old) (W.state world.new)) }
     ensures fits { IfOk result (λ x. fits_in (view x) booleans ≡ true) }
@@ -192,6 +201,7 @@ pub fn notify<W: World>(alloc: Global, world: &mut W, text: Value) -> Result<Val
     ensures passed { Passed
         (stage (W.fixed world.old) (W.state world.old) (W.marks world.old) (W.visited world.old))
         (stage (W.fixed world.new) (W.state world.new) (W.marks world.new) (W.visited world.new)) }
+    ensures only { Goes (IsLost (W.marks world.old) (W.marks world.new)) (WritesOnly (IsOneOf [])) (W.state world.old) (W.state world.new) }
     ensures keeper { IsErrOf result Stop.Keeper → Rose (W.marks world.old).faults (W.marks world.new).faults }
     ensures done { IfOk result (λ x. Goes (IsLost (W.marks world.old) (W.marks world.new)) (λ s t. OrError (view text) (Makes (change.Notice (text_of (view text))) (boolean true) s (view x) t) s (view x) t) (W.state world.old) (W.state world.new)) }
     ensures fits { IfOk result (λ x. fits_in (view x) booleans ≡ true) }
@@ -220,6 +230,7 @@ fn tell<W: World>(alloc: Global, world: &mut W, words: Words) -> Result<Value, S
     ensures passed { Passed
         (stage (W.fixed world.old) (W.state world.old) (W.marks world.old) (W.visited world.old))
         (stage (W.fixed world.new) (W.state world.new) (W.marks world.new) (W.visited world.new)) }
+    ensures only { Goes (IsLost (W.marks world.old) (W.marks world.new)) (WritesOnly (IsOneOf [])) (W.state world.old) (W.state world.new) }
     ensures keeper { IsErrOf result Stop.Keeper → Rose (W.marks world.old).faults (W.marks world.new).faults }
     ensures done { IfOk result (λ x. Goes (IsLost (W.marks world.old) (W.marks world.new)) (λ s t. Makes (change.Notice words) (boolean true) s (view x) t) (W.state world.old) (W.state world.new)) }
     ensures fits { IfOk result (λ x. fits_in (view x) booleans ≡ true) }
@@ -233,6 +244,7 @@ pub fn reset<W: World>(alloc: Global, world: &mut W, control: u32) -> Result<Val
     ensures passed { Passed
         (stage (W.fixed world.old) (W.state world.old) (W.marks world.old) (W.visited world.old))
         (stage (W.fixed world.new) (W.state world.new) (W.marks world.new) (W.visited world.new)) }
+    ensures only { Goes (IsLost (W.marks world.old) (W.marks world.new)) (WritesOnly (IsOneOf (source.Input control ∷ []))) (W.state world.old) (W.state world.new) }
     ensures keeper { IsErrOf result Stop.Keeper → Rose (W.marks world.old).faults (W.marks world.new).faults }
     ensures done { IfOk result (λ x. Goes (IsLost (W.marks world.old) (W.marks world.new)) (λ s t. Makes (change.Input control None) (boolean true) s (view x) t) (W.state world.old) (W.state world.new)) }
     ensures fits { IfOk result (λ x. fits_in (view x) booleans ≡ true) }

@@ -1,5 +1,5 @@
 //! `UpdateIf` on a collection.
-ghost use Rattle.std.specs.Prelude.{◌≡◌, true, IfOk, IfSome, IsErrOf, map, option_map};
+ghost use Rattle.std.specs.Prelude.{◌≡◌, ◌∷◌, [], true, IfOk, IfSome, IsErrOf, map, option_map};
 ghost use Rattle.std.specs.List.{find};
 ghost use Rattle.fx_base.specs.Faults.{Rose};
 ghost use Rattle.fx_base.specs.Silence.{Goes, IsLost};
@@ -16,6 +16,7 @@ ghost use Rattle.fx_deeds.specs.Fitting.{CanChangeAll, IsOfColumns};
 ghost use Rattle.fx_deeds.specs.Lefts.{AreRecords, IsChangedFirst, rows_by};
 ghost use Rattle.fx_deeds.specs.RowValues.{columns_in};
 ghost use Rattle.fx_deeds.specs.Stages.{Passed, stage};
+ghost use Rattle.fx_deeds.specs.Writable.{IsOneOf, WritesOnly};
 
 use crate::changes::make;
 use crate::collections::collection_columns;
@@ -126,6 +127,7 @@ pub(crate) fn update_equal<W: World, L: Ledger>(
     ensures passed { Passed
         (stage (W.fixed world.old) (W.state world.old) (W.marks world.old) (W.visited world.old))
         (stage (W.fixed world.new) (W.state world.new) (W.marks world.new) (W.visited world.new)) }
+    ensures only { Goes (IsLost (W.marks world.old) (W.marks world.new)) (WritesOnly (IsOneOf (source.Gathered collection ∷ []))) (W.state world.old) (W.state world.new) }
     ensures keeper { IsErrOf result Stop.Keeper → Rose (W.marks world.old).faults (W.marks world.new).faults }
     ensures done { IfOk result (λ x. Goes (IsLost (W.marks world.old) (W.marks world.new)) (λ s t. AreUpdatedIn (columns_in ((W.fixed world.old).types (source.Gathered collection))) collection kept.now (map view changes.now) s (view x) t) (W.state world.old) (W.state world.new)) }
     ensures fits { IfOk result (λ x. fits_in (view x) booleans ≡ true) }
