@@ -93,7 +93,7 @@ passed_changing r a b P within f d s l v =
     (λ x h. record { fixed = f; state = goes_weaker (IsLost a.marks b.marks) (P x) Within (within x) a.state b.state h; later = l; visited = v })
     (λ h. passed_staying a b f h l v) d s
 
-same_state : {A : Type 0} (lost : Type 0) (x : Option (State A)) → Goes lost Stays x x
+pub same_state : {A : Type 0} (lost : Type 0) (x : Option (State A)) → Goes lost Stays x x
 same_state lost None = refl
 same_state lost (Some s) = refl
 

@@ -2,8 +2,10 @@ use Rattle.std.proofs.Common.{◌≡◌, ◌∷◌, [], ap, refl, subst, sym, �
 use Rattle.fx_base.specs.Silence.{IsLost}
 use Rattle.fx_trees.specs.declared.deeds.Deed.TheVariants as deed
 use Rattle.fx_deeds.proofs.Doing.{can_as, done_as, fits_as, none_cleared, none_reset, none_shown, one_filter, one_given, one_text}
+use Rattle.fx_deeds.proofs.Allowing.{only_wider}
 use Rattle.fx_deeds.specs.Doable.{AnswersAs}
 use Rattle.fx_deeds.specs.State.{frame_of}
+use Rattle.fx_deeds.specs.Writable.{DeedMayWrite}
 use Rattle.fx_deeds.proofs.acts.do_deed.Goals as goal
 
 pub only-requires : goal.only-requires
@@ -143,3 +145,47 @@ returns-in-Reset-clause-done g c =
 
 pub returns-in-Reset-clause-fits : goal.returns-in-Reset-clause-fits
 returns-in-Reset-clause-fits g c = λ u a. fits_as c.reset.result (g.W.Env.fixed c.args.world.now).types c.args.deed.now (deed.Reset c.in-Reset.control) u c.in-Reset.is (λ q. q) a c.reset.ensures.fits
+
+pub returns-in-Set-clause-only : goal.returns-in-Set-clause-only
+returns-in-Set-clause-only g c =
+    only_wider (DeedMayWrite (deed.Set c.in-Set.variable)) (DeedMayWrite c.args.deed.now) (λ x w. subst (λ d. DeedMayWrite d x) (sym c.in-Set.is) w) _ _ c.set.ensures.passed c.set.ensures.only
+
+pub returns-in-UpdateContext-clause-only : goal.returns-in-UpdateContext-clause-only
+returns-in-UpdateContext-clause-only g c =
+    only_wider (DeedMayWrite (deed.UpdateContext c.as_slice.result.now)) (DeedMayWrite c.args.deed.now) (λ x w. subst (λ d. DeedMayWrite d x) (sym (c.in-UpdateContext.is ∙ ap deed.UpdateContext (sym c.as_slice.ensures))) w) _ _ c.set_all.ensures.passed c.set_all.ensures.only
+
+pub returns-in-Collect-clause-only : goal.returns-in-Collect-clause-only
+returns-in-Collect-clause-only g c =
+    only_wider (DeedMayWrite (deed.Collect c.in-Collect.collection)) (DeedMayWrite c.args.deed.now) (λ x w. subst (λ d. DeedMayWrite d x) (sym c.in-Collect.is) w) _ _ c.collect.ensures.passed c.collect.ensures.only
+
+pub returns-in-Clear-clause-only : goal.returns-in-Clear-clause-only
+returns-in-Clear-clause-only g c =
+    only_wider (DeedMayWrite (deed.Clear c.in-Clear.collection)) (DeedMayWrite c.args.deed.now) (λ x w. subst (λ d. DeedMayWrite d x) (sym c.in-Clear.is) w) _ _ c.clear.ensures.passed c.clear.ensures.only
+
+pub returns-in-ClearCollect-clause-only : goal.returns-in-ClearCollect-clause-only
+returns-in-ClearCollect-clause-only g c =
+    only_wider (DeedMayWrite (deed.ClearCollect c.in-ClearCollect.collection)) (DeedMayWrite c.args.deed.now) (λ x w. subst (λ d. DeedMayWrite d x) (sym c.in-ClearCollect.is) w) _ _ c.clear_collect.ensures.passed c.clear_collect.ensures.only
+
+pub returns-in-Patch-clause-only : goal.returns-in-Patch-clause-only
+returns-in-Patch-clause-only g c =
+    only_wider (DeedMayWrite (deed.Patch c.in-Patch.target)) (DeedMayWrite c.args.deed.now) (λ x w. subst (λ d. DeedMayWrite d x) (sym c.in-Patch.is) w) _ _ c.patch.ensures.passed c.patch.ensures.only
+
+pub returns-in-Remove-clause-only : goal.returns-in-Remove-clause-only
+returns-in-Remove-clause-only g c =
+    only_wider (DeedMayWrite (deed.Remove c.in-Remove.target)) (DeedMayWrite c.args.deed.now) (λ x w. subst (λ d. DeedMayWrite d x) (sym c.in-Remove.is) w) _ _ c.remove.ensures.passed c.remove.ensures.only
+
+pub returns-in-RemoveIf-clause-only : goal.returns-in-RemoveIf-clause-only
+returns-in-RemoveIf-clause-only g c =
+    only_wider (DeedMayWrite (deed.RemoveIf c.in-RemoveIf.target)) (DeedMayWrite c.args.deed.now) (λ x w. subst (λ d. DeedMayWrite d x) (sym c.in-RemoveIf.is) w) _ _ c.remove_if.ensures.passed c.remove_if.ensures.only
+
+pub returns-in-Navigate-clause-only : goal.returns-in-Navigate-clause-only
+returns-in-Navigate-clause-only g c =
+    only_wider (DeedMayWrite (deed.Navigate c.in-Navigate.screen)) (DeedMayWrite c.args.deed.now) (λ x w. subst (λ d. DeedMayWrite d x) (sym c.in-Navigate.is) w) _ _ c.navigate.ensures.passed c.navigate.ensures.only
+
+pub returns-in-Notify-clause-only : goal.returns-in-Notify-clause-only
+returns-in-Notify-clause-only g c =
+    only_wider (DeedMayWrite deed.Notify) (DeedMayWrite c.args.deed.now) (λ x w. subst (λ d. DeedMayWrite d x) (sym c.in-Notify.is) w) _ _ c.notify.ensures.passed c.notify.ensures.only
+
+pub returns-in-Reset-clause-only : goal.returns-in-Reset-clause-only
+returns-in-Reset-clause-only g c =
+    only_wider (DeedMayWrite (deed.Reset c.in-Reset.control)) (DeedMayWrite c.args.deed.now) (λ x w. subst (λ d. DeedMayWrite d x) (sym c.in-Reset.is) w) _ _ c.reset.ensures.passed c.reset.ensures.only

@@ -1,7 +1,11 @@
+use Rattle.std.proofs.Common.{◌∷◌, []}
+use Rattle.fx_trees.specs.declared.sources.Source.TheVariants as source
 use Rattle.fx_deeds.proofs.Changing.{row_made_within}
 use Rattle.fx_deeds.proofs.Passing.{passed_changing}
+use Rattle.fx_deeds.proofs.Allowing.{only_changing, row_made_only}
 use Rattle.fx_deeds.specs.Changed.{IsRowMade}
 use Rattle.row_keeper.specs.Tables.{columns_at}
+use Rattle.fx_deeds.specs.Writable.{IsOneOf}
 use Rattle.fx_deeds.proofs.changes.insert.Goals as goal
 
 pub returns-clause-passed : goal.returns-clause-passed
@@ -9,3 +13,8 @@ returns-clause-passed g c =
     let columns = columns_at (g.W.Env.fixed c.args.world.now).schema.tables c.args.table in
     passed_changing c.insert.result _ _ (λ p. IsRowMade columns c.args.table c.args.cells.now p) (row_made_within columns c.args.table c.args.cells.now) c.insert.ensures.fixed c.insert.ensures.put
     c.insert.ensures.stops c.insert.ensures.marks c.insert.ensures.visited
+
+pub returns-clause-only : goal.returns-clause-only
+returns-clause-only g c =
+    let columns = columns_at (g.W.Env.fixed c.args.world.now).schema.tables c.args.table in
+    only_changing c.insert.result (IsOneOf (source.Table c.args.table ∷ [])) _ _ (returns-clause-passed g c) (λ p. IsRowMade columns c.args.table c.args.cells.now p) (row_made_only columns c.args.table c.args.cells.now) c.insert.ensures.put c.insert.ensures.stops

@@ -1,14 +1,17 @@
-use Rattle.std.proofs.Common.{◌≡◌, ◌∙◌, None, map, ap, subst, sym}
+use Rattle.std.proofs.Common.{◌≡◌, ◌∙◌, ◌∷◌, [], None, map, ap, subst, sym}
 use Rattle.std.specs.Prelude.{option_map}
 use Rattle.std.specs.List.{find}
 use Rattle.fx_base.specs.Silence.{IsLost}
 use Rattle.fx_data.specs.Types.{column_list, records}
 use Rattle.fx_data.specs.ValueView.{view}
 use Rattle.fx_tables.specs.Unions.{is_fault}
+use Rattle.fx_trees.specs.declared.sources.Source.TheVariants as source
 use Rattle.fx_deeds.proofs.Adding.{error_fits}
 use Rattle.fx_deeds.proofs.Deeding.{no_error}
 use Rattle.fx_deeds.proofs.Holding.{patched_in}
+use Rattle.fx_deeds.proofs.Allowing.{only_nowhere}
 use Rattle.fx_deeds.specs.RowValues.{changed_row, values_among}
+use Rattle.fx_deeds.specs.Writable.{IsOneOf}
 use Rattle.fx_deeds.proofs.collections.patch_equal.Goals as goal
 
 pub returns-in-Some-clause-fits : goal.returns-in-Some-clause-fits
@@ -21,3 +24,27 @@ returns-clause-done g c =
     c.in_ok-columns.ensures c.new.ensures c.in_ok-changes.ensures
     (subst (λ z. find is_fault (values_among z) ≡ None) c.as_slice.ensures (no_error c.in_ok-error.field-0 _ c.in_ok-error.ensures c.in_default.not-Some)) c.in_ok-row.ensures
     (c.in_ok-changed.ensures.row ∙ ap (λ z. changed_row cs z c.in_ok-row.row) c.as_slice-2.ensures) c.patch_row.ensures.done
+
+pub returns-in_err-changes-clause-only : goal.returns-in_err-changes-clause-only
+returns-in_err-changes-clause-only g c =
+    only_nowhere (IsOneOf (source.Gathered c.args.collection ∷ [])) (IsLost (g.W.Env.marks c.args.world.now) (g.W.Env.marks c.args.world.now)) (g.W.World.state c.args.world.now)
+
+pub returns-in_err-error-clause-only : goal.returns-in_err-error-clause-only
+returns-in_err-error-clause-only g c =
+    only_nowhere (IsOneOf (source.Gathered c.args.collection ∷ [])) (IsLost (g.W.Env.marks c.args.world.now) (g.W.Env.marks c.args.world.now)) (g.W.World.state c.args.world.now)
+
+pub returns-in-Some-clause-only : goal.returns-in-Some-clause-only
+returns-in-Some-clause-only g c =
+    only_nowhere (IsOneOf (source.Gathered c.args.collection ∷ [])) (IsLost (g.W.Env.marks c.args.world.now) (g.W.Env.marks c.args.world.now)) (g.W.World.state c.args.world.now)
+
+pub returns-in_err-columns-clause-only : goal.returns-in_err-columns-clause-only
+returns-in_err-columns-clause-only g c =
+    only_nowhere (IsOneOf (source.Gathered c.args.collection ∷ [])) (IsLost (g.W.Env.marks c.args.world.now) (g.W.Env.marks c.args.world.now)) (g.W.World.state c.args.world.now)
+
+pub returns-in_err-row-clause-only : goal.returns-in_err-row-clause-only
+returns-in_err-row-clause-only g c =
+    only_nowhere (IsOneOf (source.Gathered c.args.collection ∷ [])) (IsLost (g.W.Env.marks c.args.world.now) (g.W.Env.marks c.args.world.now)) (g.W.World.state c.args.world.now)
+
+pub returns-in_err-changed-clause-only : goal.returns-in_err-changed-clause-only
+returns-in_err-changed-clause-only g c =
+    only_nowhere (IsOneOf (source.Gathered c.args.collection ∷ [])) (IsLost (g.W.Env.marks c.args.world.now) (g.W.Env.marks c.args.world.now)) (g.W.World.state c.args.world.now)

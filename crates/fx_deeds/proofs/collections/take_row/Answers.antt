@@ -1,8 +1,11 @@
-use Rattle.std.proofs.Common.{◌++◌, ◌∙◌, refl, ap, subst}
+use Rattle.std.proofs.Common.{◌++◌, ◌∙◌, ◌∷◌, [], refl, ap, subst}
 use Rattle.std.specs.Prelude.{MatchOption}
+use Rattle.fx_trees.specs.declared.sources.Source.TheVariants as source
 use Rattle.fx_deeds.proofs.Adding.{gathers_rows, parted_fits}
 use Rattle.fx_deeds.proofs.Gathering.{take_fails, take_takes}
+use Rattle.fx_deeds.proofs.Allowing.{only_behind, only_staying}
 use Rattle.fx_deeds.specs.Collections.{IsFirst, Lacks}
+use Rattle.fx_deeds.specs.Writable.{IsOneOf}
 use Rattle.fx_deeds.proofs.collections.take_row.Goals as goal
 
 pub change-requires : goal.change-requires
@@ -27,3 +30,39 @@ returns-clause-done g c =
     let first = subst (λ o. MatchOption o (Lacks c.args.row all) (λ p. IsFirst c.args.row all p.before p.after)) c.in-Some.is (c.in_ok-parted.ensures c.args.row refl) in
     take_fails _ _ _ _ _ _ c.args.collection c.args.row c.in_ok-rows.rows all c.in-Some.parted.before c.in-Some.parted.after c.rows_held.ensures.passed.later c.change.ensures.passed.later c.as_slice.ensures first c.in_ok-left.left _
     c.in_ok-error-2.field-0 (c.in_ok-left.ensures ∙ ap (λ z. c.in-Some.parted.before ++ z) c.as_slice-2.ensures) c.if-branch.false c.in_ok-error-2.ensures c.in_ok-rows.ensures.held c.in_ok-change.ensures.done
+
+pub returns-in_err-rows-clause-only : goal.returns-in_err-rows-clause-only
+returns-in_err-rows-clause-only g c =
+    only_staying (IsOneOf (source.Gathered c.args.collection ∷ [])) _ _ c.rows_held.ensures.passed c.rows_held.ensures.stays
+
+pub returns-in_err-parted-clause-only : goal.returns-in_err-parted-clause-only
+returns-in_err-parted-clause-only g c =
+    only_staying (IsOneOf (source.Gathered c.args.collection ∷ [])) _ _ c.rows_held.ensures.passed c.rows_held.ensures.stays
+
+pub returns-in_default-clause-only : goal.returns-in_default-clause-only
+returns-in_default-clause-only g c =
+    only_staying (IsOneOf (source.Gathered c.args.collection ∷ [])) _ _ c.rows_held.ensures.passed c.rows_held.ensures.stays
+
+pub returns-in_err-left-clause-only : goal.returns-in_err-left-clause-only
+returns-in_err-left-clause-only g c =
+    only_staying (IsOneOf (source.Gathered c.args.collection ∷ [])) _ _ c.rows_held.ensures.passed c.rows_held.ensures.stays
+
+pub returns-in_err-error-clause-only : goal.returns-in_err-error-clause-only
+returns-in_err-error-clause-only g c =
+    only_staying (IsOneOf (source.Gathered c.args.collection ∷ [])) _ _ c.rows_held.ensures.passed c.rows_held.ensures.stays
+
+pub returns-in_err-change-clause-only : goal.returns-in_err-change-clause-only
+returns-in_err-change-clause-only g c =
+    only_behind (IsOneOf (source.Gathered c.args.collection ∷ [])) _ _ _ c.rows_held.ensures.passed c.change.ensures.passed c.rows_held.ensures.stays c.change.ensures.only
+
+pub returns-then-branch-clause-only : goal.returns-then-branch-clause-only
+returns-then-branch-clause-only g c =
+    only_behind (IsOneOf (source.Gathered c.args.collection ∷ [])) _ _ _ c.rows_held.ensures.passed c.change.ensures.passed c.rows_held.ensures.stays c.change.ensures.only
+
+pub returns-clause-only : goal.returns-clause-only
+returns-clause-only g c =
+    only_behind (IsOneOf (source.Gathered c.args.collection ∷ [])) _ _ _ c.rows_held.ensures.passed c.change.ensures.passed c.rows_held.ensures.stays c.change.ensures.only
+
+pub returns-in_err-error-2-clause-only : goal.returns-in_err-error-2-clause-only
+returns-in_err-error-2-clause-only g c =
+    only_behind (IsOneOf (source.Gathered c.args.collection ∷ [])) _ _ _ c.rows_held.ensures.passed c.change.ensures.passed c.rows_held.ensures.stays c.change.ensures.only

@@ -1,14 +1,18 @@
-use Rattle.std.proofs.Common.{◌≡◌, List, ◌∷◌, map, ap, subst, sym, true, ◌∙◌}
+use Rattle.std.proofs.Common.{◌≡◌, ◌∷◌, [], ◌∙◌, List, map, ap, subst, sym, true}
 use Rattle.std.specs.Prelude.{IfOk, option_map}
+use Rattle.fx_base.specs.Silence.{IsLost}
 use Rattle.fx_data.specs.declared.values.Value.{Value}
 use Rattle.fx_data.specs.ValueView.{view}
 use Rattle.fx_trees.specs.declared.deeds.Deed.TheVariants as deed
 use Rattle.fx_value.specs.Fits.{fits_in}
+use Rattle.fx_trees.specs.declared.sources.Source.TheVariants as source
 use Rattle.fx_deeds.proofs.Adding.{error_fits}
 use Rattle.fx_deeds.proofs.Holding.{base_can}
 use Rattle.fx_deeds.proofs.Targets.{can_patch, patched_fits}
+use Rattle.fx_deeds.proofs.Allowing.{only_nowhere, only_wider}
 use Rattle.fx_deeds.specs.Doable.{AnswersAs, CanDo}
 use Rattle.fx_deeds.specs.RowValues.{rows_among}
+use Rattle.fx_deeds.specs.Writable.{IsOneOf, DeedMayWrite}
 use Rattle.fx_deeds.proofs.deeds.patch.Goals as goal
 
 pub returns-in-Some-clause-fits : goal.returns-in-Some-clause-fits
@@ -39,3 +43,19 @@ pub returns-in-Gathered-clause-fits : goal.returns-in-Gathered-clause-fits
 returns-in-Gathered-clause-fits g c = λ u h.
     let k = subst (λ p. AnswersAs (g.W.Env.fixed c.args.world.now).types (deed.Patch p) u) c.in-Gathered.is h in
     subst (λ z. IfOk c.patch_equal.result (λ x. fits_in (view x) z ≡ true)) (sym k.2) (c.patch_equal.ensures.fits k.0 k.1)
+
+pub returns-in_err-error-clause-only : goal.returns-in_err-error-clause-only
+returns-in_err-error-clause-only g c =
+    only_nowhere (DeedMayWrite (deed.Patch c.args.target)) (IsLost (g.W.Env.marks c.args.world.now) (g.W.Env.marks c.args.world.now)) (g.W.World.state c.args.world.now)
+
+pub returns-in-Some-clause-only : goal.returns-in-Some-clause-only
+returns-in-Some-clause-only g c =
+    only_nowhere (DeedMayWrite (deed.Patch c.args.target)) (IsLost (g.W.Env.marks c.args.world.now) (g.W.Env.marks c.args.world.now)) (g.W.World.state c.args.world.now)
+
+pub returns-in-Table-clause-only : goal.returns-in-Table-clause-only
+returns-in-Table-clause-only g c =
+    only_wider (IsOneOf (source.Table c.in-Table.table ∷ [])) (DeedMayWrite (deed.Patch c.args.target)) (λ x w. subst (λ p. DeedMayWrite (deed.Patch p) x) (sym c.in-Table.is) w) _ _ c.patch_table.ensures.passed c.patch_table.ensures.only
+
+pub returns-in-Gathered-clause-only : goal.returns-in-Gathered-clause-only
+returns-in-Gathered-clause-only g c =
+    only_wider (IsOneOf (source.Gathered c.in-Gathered.collection ∷ [])) (DeedMayWrite (deed.Patch c.args.target)) (λ x w. subst (λ p. DeedMayWrite (deed.Patch p) x) (sym c.in-Gathered.is) w) _ _ c.patch_equal.ensures.passed c.patch_equal.ensures.only

@@ -1,13 +1,18 @@
-use Rattle.std.proofs.Common.{map, ap, subst, sym, ◌∙◌}
+use Rattle.std.proofs.Common.{◌∙◌, ◌∷◌, [], map, ap, subst, sym}
 use Rattle.std.specs.Prelude.{option_map}
+use Rattle.fx_base.specs.Silence.{IsLost}
 use Rattle.fx_data.specs.Types.{booleans}
 use Rattle.fx_data.specs.ValueView.{view}
+use Rattle.fx_trees.specs.declared.deeds.Deed.TheVariants as deed
+use Rattle.fx_trees.specs.declared.sources.Source.TheVariants as source
 use Rattle.fx_deeds.proofs.Adding.{error_fits}
 use Rattle.fx_deeds.proofs.Deeding.{no_error}
 use Rattle.fx_deeds.proofs.Holding.{all_can}
 use Rattle.fx_deeds.proofs.Targets.{can_update}
+use Rattle.fx_deeds.proofs.Allowing.{only_nowhere, only_wider}
 use Rattle.fx_deeds.specs.Doable.{CanUpdate}
 use Rattle.fx_deeds.specs.Done.{errors_in}
+use Rattle.fx_deeds.specs.Writable.{IsOneOf, DeedMayWrite}
 use Rattle.fx_deeds.proofs.deeds.update.Goals as goal
 
 pub returns-in-Some-clause-fits : goal.returns-in-Some-clause-fits
@@ -23,3 +28,19 @@ pub update_equal-requires : goal.update_equal-requires
 update_equal-requires g c =
     let can = subst (λ p. CanUpdate (g.W.Env.fixed c.args.world.now).types p c.args.rows.now (map view c.args.changes.now)) c.in-Gathered.is c.requires in
     (can.0, can.1, all_can can.0 c.args.rows.now (map view c.args.changes.now) can.2 can.3 can.4)
+
+pub returns-in_err-error-clause-only : goal.returns-in_err-error-clause-only
+returns-in_err-error-clause-only g c =
+    only_nowhere (DeedMayWrite (deed.UpdateIf c.args.target)) (IsLost (g.W.Env.marks c.args.world.now) (g.W.Env.marks c.args.world.now)) (g.W.World.state c.args.world.now)
+
+pub returns-in-Some-clause-only : goal.returns-in-Some-clause-only
+returns-in-Some-clause-only g c =
+    only_nowhere (DeedMayWrite (deed.UpdateIf c.args.target)) (IsLost (g.W.Env.marks c.args.world.now) (g.W.Env.marks c.args.world.now)) (g.W.World.state c.args.world.now)
+
+pub returns-in-Table-clause-only : goal.returns-in-Table-clause-only
+returns-in-Table-clause-only g c =
+    only_wider (IsOneOf (source.Table c.in-Table.table ∷ [])) (DeedMayWrite (deed.UpdateIf c.args.target)) (λ x w. subst (λ p. DeedMayWrite (deed.UpdateIf p) x) (sym c.in-Table.is) w) _ _ c.update_table.ensures.passed c.update_table.ensures.only
+
+pub returns-in-Gathered-clause-only : goal.returns-in-Gathered-clause-only
+returns-in-Gathered-clause-only g c =
+    only_wider (IsOneOf (source.Gathered c.in-Gathered.collection ∷ [])) (DeedMayWrite (deed.UpdateIf c.args.target)) (λ x w. subst (λ p. DeedMayWrite (deed.UpdateIf p) x) (sym c.in-Gathered.is) w) _ _ c.update_equal.ensures.passed c.update_equal.ensures.only

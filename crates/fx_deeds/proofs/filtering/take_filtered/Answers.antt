@@ -1,13 +1,17 @@
-use Rattle.std.proofs.Common.{◌≡◌, ◌∙◌, true, map, refl, ap, subst, sym}
+use Rattle.std.proofs.Common.{◌≡◌, ◌∙◌, ◌∷◌, [], true, map, refl, ap, subst, sym}
+use Rattle.fx_base.specs.Silence.{IsLost}
 use Rattle.fx_data.specs.Types.{booleans, tables}
 use Rattle.fx_data.specs.ValueView.{view}
 use Rattle.fx_semantics.specs.Rows.{table_of}
 use Rattle.fx_value.specs.Fits.{fits_in}
+use Rattle.fx_trees.specs.declared.sources.Source.TheVariants as source
 use Rattle.fx_deeds.proofs.Adding.{gathers_rows}
 use Rattle.fx_deeds.proofs.Holding.{taken_if}
 use Rattle.fx_deeds.proofs.Lefting.{left_fits, made_records, rows_back}
+use Rattle.fx_deeds.proofs.Allowing.{only_behind, only_nowhere, only_staying}
 use Rattle.fx_deeds.specs.Collections.{AreLeft}
 use Rattle.fx_deeds.specs.Lefts.{rows_by}
+use Rattle.fx_deeds.specs.Writable.{IsOneOf}
 use Rattle.fx_deeds.proofs.filtering.take_filtered.Goals as goal
 
 pub rows_left-requires : goal.rows_left-requires
@@ -29,3 +33,23 @@ returns-in_ok-left-in-Ok-clause-done g c =
 
 pub returns-in_ok-left-in-Ok-clause-fits : goal.returns-in_ok-left-in-Ok-clause-fits
 returns-in_ok-left-in-Ok-clause-fits g c = c.make.ensures.fits booleans refl
+
+pub returns-in_err-kept-in-Ok-clause-only : goal.returns-in_err-kept-in-Ok-clause-only
+returns-in_err-kept-in-Ok-clause-only g c =
+    only_nowhere (IsOneOf (source.Gathered c.args.collection ∷ [])) (IsLost (g.W.Env.marks c.args.world.now) (g.W.Env.marks c.args.world.now)) (g.W.World.state c.args.world.now)
+
+pub returns-in-Err-clause-only : goal.returns-in-Err-clause-only
+returns-in-Err-clause-only g c =
+    only_nowhere (IsOneOf (source.Gathered c.args.collection ∷ [])) (IsLost (g.W.Env.marks c.args.world.now) (g.W.Env.marks c.args.world.now)) (g.W.World.state c.args.world.now)
+
+pub returns-in_err-rows-in-Ok-clause-only : goal.returns-in_err-rows-in-Ok-clause-only
+returns-in_err-rows-in-Ok-clause-only g c =
+    only_staying (IsOneOf (source.Gathered c.args.collection ∷ [])) _ _ c.rows_held.ensures.passed c.rows_held.ensures.stays
+
+pub returns-in_err-left-in-Ok-clause-only : goal.returns-in_err-left-in-Ok-clause-only
+returns-in_err-left-in-Ok-clause-only g c =
+    only_staying (IsOneOf (source.Gathered c.args.collection ∷ [])) _ _ c.rows_held.ensures.passed c.rows_held.ensures.stays
+
+pub returns-in_ok-left-in-Ok-clause-only : goal.returns-in_ok-left-in-Ok-clause-only
+returns-in_ok-left-in-Ok-clause-only g c =
+    only_behind (IsOneOf (source.Gathered c.args.collection ∷ [])) _ _ _ c.rows_held.ensures.passed c.make.ensures.passed c.rows_held.ensures.stays c.make.ensures.only

@@ -1,5 +1,9 @@
+use Rattle.std.proofs.Common.{◌∷◌, []}
+use Rattle.fx_trees.specs.declared.sources.Source.TheVariants as source
 use Rattle.fx_deeds.proofs.Passing.{passed_on}
 use Rattle.fx_deeds.proofs.Steps.{remove_goes, remove_stops, removing}
+use Rattle.fx_deeds.proofs.Allowing.{only_on}
+use Rattle.fx_deeds.specs.Writable.{IsOneOf}
 use Rattle.fx_deeds.proofs.removing.remove_rows.Goals as goal
 
 pub returns-in_err-answer-clause-passed : goal.returns-in_err-answer-clause-passed
@@ -13,6 +17,15 @@ returns-in-Some-2-clause-done g c =
 pub loop-row-preserved : goal.loop-row-preserved
 loop-row-preserved g c = record {
   passed = passed_on _ _ _ c.loop-row.invariant.passed c.remove_row.ensures.passed;
+  only = only_on (IsOneOf (source.Table c.args.table ∷ [])) _ _ _ c.loop-row.invariant.passed c.remove_row.ensures.passed c.loop-row.invariant.only c.remove_row.ensures.only;
   done = remove_goes _ _ _ _ _ _ (removing c.args.table c.args.rows.now) c.args.table c.in-Some.row.now c.in_ok-answer.field-0 c.in-Some.others.now c.loop-row.rest.now c.loop-row.invariant.passed.later
       c.remove_row.ensures.passed.later c.in-Some.ensures.cases.0 c.in_default-2.not-Some c.loop-row.invariant.done c.in_ok-answer.ensures.done;
 }
+
+pub returns-in_err-answer-clause-only : goal.returns-in_err-answer-clause-only
+returns-in_err-answer-clause-only g c =
+    only_on (IsOneOf (source.Table c.args.table ∷ [])) _ _ _ c.loop-row.invariant.passed c.remove_row.ensures.passed c.loop-row.invariant.only c.remove_row.ensures.only
+
+pub returns-in-Some-2-clause-only : goal.returns-in-Some-2-clause-only
+returns-in-Some-2-clause-only g c =
+    only_on (IsOneOf (source.Table c.args.table ∷ [])) _ _ _ c.loop-row.invariant.passed c.remove_row.ensures.passed c.loop-row.invariant.only c.remove_row.ensures.only

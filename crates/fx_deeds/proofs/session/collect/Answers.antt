@@ -1,8 +1,12 @@
-use Rattle.std.proofs.Common.{ap, sym, ◌∙◌, refl}
+use Rattle.std.proofs.Common.{◌∙◌, ◌∷◌, [], ap, sym, refl}
 use Rattle.std.specs.Prelude.{map, option_map}
+use Rattle.fx_base.specs.Silence.{IsLost}
 use Rattle.fx_data.specs.Types.{booleans}
 use Rattle.fx_data.specs.ValueView.{view}
+use Rattle.fx_trees.specs.declared.sources.Source.TheVariants as source
 use Rattle.fx_deeds.proofs.Adding.{error_fits, gathers}
+use Rattle.fx_deeds.proofs.Allowing.{only_behind, only_nowhere, only_staying}
+use Rattle.fx_deeds.specs.Writable.{IsOneOf}
 use Rattle.fx_deeds.proofs.session.collect.Goals as goal
 
 pub returns-in-Some-clause-fits : goal.returns-in-Some-clause-fits
@@ -14,3 +18,23 @@ make-requires g c =
 
 pub returns-clause-fits : goal.returns-clause-fits
 returns-clause-fits g c = c.make.ensures.fits booleans refl
+
+pub returns-in_err-error-clause-only : goal.returns-in_err-error-clause-only
+returns-in_err-error-clause-only g c =
+    only_nowhere (IsOneOf (source.Gathered c.args.collection ∷ [])) (IsLost (g.W.Env.marks c.args.world.now) (g.W.Env.marks c.args.world.now)) (g.W.World.state c.args.world.now)
+
+pub returns-in-Some-clause-only : goal.returns-in-Some-clause-only
+returns-in-Some-clause-only g c =
+    only_nowhere (IsOneOf (source.Gathered c.args.collection ∷ [])) (IsLost (g.W.Env.marks c.args.world.now) (g.W.Env.marks c.args.world.now)) (g.W.World.state c.args.world.now)
+
+pub returns-in_err-rows-clause-only : goal.returns-in_err-rows-clause-only
+returns-in_err-rows-clause-only g c =
+    only_staying (IsOneOf (source.Gathered c.args.collection ∷ [])) _ _ c.rows_held.ensures.passed c.rows_held.ensures.stays
+
+pub returns-in_err-rows-2-clause-only : goal.returns-in_err-rows-2-clause-only
+returns-in_err-rows-2-clause-only g c =
+    only_staying (IsOneOf (source.Gathered c.args.collection ∷ [])) _ _ c.rows_held.ensures.passed c.rows_held.ensures.stays
+
+pub returns-clause-only : goal.returns-clause-only
+returns-clause-only g c =
+    only_behind (IsOneOf (source.Gathered c.args.collection ∷ [])) _ _ _ c.rows_held.ensures.passed c.make.ensures.passed c.rows_held.ensures.stays c.make.ensures.only

@@ -1,4 +1,5 @@
 use Rattle.std.proofs.Common.{◌≡◌, ◌++◌, ap, ◌∙◌}
+use Rattle.fx_base.specs.Silence.{IsLost}
 use Rattle.fx_data.specs.ValueView.{view}
 use Rattle.fx_semantics.specs.Rows.{rows_in}
 use Rattle.fx_trees.specs.declared.sources.Source.TheVariants as source
@@ -21,3 +22,15 @@ returns-clause-held g c =
 pub returns-clause-fits : goal.returns-clause-fits
 returns-clause-fits g c = λ cs h.
     rows_read_fit (g.W.Env.fixed c.args.world.now).types (source.Gathered c.args.collection) (view c.in_ok-value.value) cs _ _ c.in_ok-value.ensures.value.0 c.new.ensures c.in_ok-with_table.ensures h
+
+pub returns-in_err-value-clause-stays : goal.returns-in_err-value-clause-stays
+returns-in_err-value-clause-stays g c =
+    state_stays (IsLost (g.W.Env.marks c.args.world.now) (g.W.Env.marks c.read.new.self)) (g.W.Env.told c.args.world.now) (g.W.Env.told c.read.new.self) (g.W.World.state c.args.world.now) (g.W.World.state c.read.new.self) (g.met.W.World.keeps c.args.world.now c.read.new.self) (g.met.W.World.lost c.args.world.now) (g.met.W.World.lost c.read.new.self) c.read.ensures.told
+
+pub returns-in_err-with_table-clause-stays : goal.returns-in_err-with_table-clause-stays
+returns-in_err-with_table-clause-stays g c =
+    state_stays (IsLost (g.W.Env.marks c.args.world.now) (g.W.Env.marks c.read.new.self)) (g.W.Env.told c.args.world.now) (g.W.Env.told c.read.new.self) (g.W.World.state c.args.world.now) (g.W.World.state c.read.new.self) (g.met.W.World.keeps c.args.world.now c.read.new.self) (g.met.W.World.lost c.args.world.now) (g.met.W.World.lost c.read.new.self) c.read.ensures.told
+
+pub returns-clause-stays : goal.returns-clause-stays
+returns-clause-stays g c =
+    state_stays (IsLost (g.W.Env.marks c.args.world.now) (g.W.Env.marks c.read.new.self)) (g.W.Env.told c.args.world.now) (g.W.Env.told c.read.new.self) (g.W.World.state c.args.world.now) (g.W.World.state c.read.new.self) (g.met.W.World.keeps c.args.world.now c.read.new.self) (g.met.W.World.lost c.args.world.now) (g.met.W.World.lost c.read.new.self) c.read.ensures.told

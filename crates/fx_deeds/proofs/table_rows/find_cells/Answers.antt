@@ -1,5 +1,6 @@
 use Rattle.std.proofs.Common.{◌≡◌, ◌∙◌, ap, subst, sym}
 use Rattle.std.specs.Prelude.{option_map}
+use Rattle.fx_base.specs.Silence.{IsLost}
 use Rattle.fx_data.specs.ValueView.{view}
 use Rattle.fx_env.specs.Telling.{tables_told}
 use Rattle.fx_semantics.specs.Rows.{rows_in}
@@ -7,7 +8,7 @@ use Rattle.row_queries.specs.Answers.{IsScanValue}
 use Rattle.row_queries.specs.Queries.{IsQuery}
 use Rattle.row_queries.specs.declared.rows.Row.{Row}
 use Rattle.fx_deeds.proofs.Finding.{is_query}
-use Rattle.fx_deeds.proofs.Passing.{passed_staying}
+use Rattle.fx_deeds.proofs.Passing.{passed_staying, same_state}
 use Rattle.fx_deeds.proofs.Tabling.{cells_found, found_there}
 use Rattle.fx_deeds.proofs.Told.{state_holds, state_stays}
 use Rattle.fx_deeds.specs.Deeds.{row_at}
@@ -60,3 +61,19 @@ returns-clause-passed g c =
     passed_staying _ _ c.scan.ensures.fixed
     (state_stays _ (g.W.Env.told c.args.world.now) (g.W.Env.told c.scan.new.self) _ _ (g.met.W.World.keeps c.args.world.now c.scan.new.self) (g.met.W.World.lost c.args.world.now) (g.met.W.World.lost c.scan.new.self) c.scan.ensures.told)
     c.scan.ensures.marks c.scan.ensures.visited
+
+pub returns-in_err-found-clause-stays : goal.returns-in_err-found-clause-stays
+returns-in_err-found-clause-stays g c =
+    state_stays (IsLost (g.W.Env.marks c.args.world.now) (g.W.Env.marks c.scan.new.self)) (g.W.Env.told c.args.world.now) (g.W.Env.told c.scan.new.self) (g.W.World.state c.args.world.now) (g.W.World.state c.scan.new.self) (g.met.W.World.keeps c.args.world.now c.scan.new.self) (g.met.W.World.lost c.args.world.now) (g.met.W.World.lost c.scan.new.self) c.scan.ensures.told
+
+pub returns-in_err-first_cells-clause-stays : goal.returns-in_err-first_cells-clause-stays
+returns-in_err-first_cells-clause-stays g c =
+    state_stays (IsLost (g.W.Env.marks c.args.world.now) (g.W.Env.marks c.scan.new.self)) (g.W.Env.told c.args.world.now) (g.W.Env.told c.scan.new.self) (g.W.World.state c.args.world.now) (g.W.World.state c.scan.new.self) (g.met.W.World.keeps c.args.world.now c.scan.new.self) (g.met.W.World.lost c.args.world.now) (g.met.W.World.lost c.scan.new.self) c.scan.ensures.told
+
+pub returns-clause-stays : goal.returns-clause-stays
+returns-clause-stays g c =
+    state_stays (IsLost (g.W.Env.marks c.args.world.now) (g.W.Env.marks c.scan.new.self)) (g.W.Env.told c.args.world.now) (g.W.Env.told c.scan.new.self) (g.W.World.state c.args.world.now) (g.W.World.state c.scan.new.self) (g.met.W.World.keeps c.args.world.now c.scan.new.self) (g.met.W.World.lost c.args.world.now) (g.met.W.World.lost c.scan.new.self) c.scan.ensures.told
+
+pub returns-in_err-query-clause-stays : goal.returns-in_err-query-clause-stays
+returns-in_err-query-clause-stays g c =
+    same_state (IsLost (g.W.Env.marks c.args.world.now) (g.W.Env.marks c.args.world.now)) (g.W.World.state c.args.world.now)

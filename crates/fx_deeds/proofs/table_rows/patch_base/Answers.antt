@@ -1,8 +1,12 @@
+use Rattle.std.proofs.Common.{◌∷◌, []}
 use Rattle.fx_base.specs.Silence.{IsLost}
 use Rattle.fx_data.specs.ValueView.{view}
+use Rattle.fx_trees.specs.declared.sources.Source.TheVariants as source
 use Rattle.fx_deeds.proofs.Deeding.{goes_nowhere}
 use Rattle.fx_deeds.proofs.Tabling.{base_there, no_base}
+use Rattle.fx_deeds.proofs.Allowing.{only_nowhere}
 use Rattle.fx_deeds.specs.Deeds.{PatchesBase}
+use Rattle.fx_deeds.specs.Writable.{IsOneOf}
 use Rattle.fx_deeds.proofs.table_rows.patch_base.Goals as goal
 
 pub returns-in-Rec-clause-done : goal.returns-in-Rec-clause-done
@@ -14,3 +18,11 @@ returns-in_ok-error-in_default-clause-done g c =
     let x = view c.in_ok-error-in_default.field-0 in
     goes_nowhere (IsLost (g.W.Env.marks w) (g.W.Env.marks w)) (λ s t. PatchesBase c.args.shape.now c.args.table c.args.changes.now (view c.args.base.now) s x t) (g.W.World.state w)
     (λ s. no_base c.args.shape.now c.args.table c.args.changes.now c.args.base.now x s c.in_default.not-Rec c.in_ok-error-in_default.ensures)
+
+pub returns-in_ok-error-in_default-clause-only : goal.returns-in_ok-error-in_default-clause-only
+returns-in_ok-error-in_default-clause-only g c =
+    only_nowhere (IsOneOf (source.Table c.args.table ∷ [])) (IsLost (g.W.Env.marks c.args.world.now) (g.W.Env.marks c.args.world.now)) (g.W.World.state c.args.world.now)
+
+pub returns-in_err-error-in_default-clause-only : goal.returns-in_err-error-in_default-clause-only
+returns-in_err-error-in_default-clause-only g c =
+    only_nowhere (IsOneOf (source.Table c.args.table ∷ [])) (IsLost (g.W.Env.marks c.args.world.now) (g.W.Env.marks c.args.world.now)) (g.W.World.state c.args.world.now)

@@ -1,10 +1,13 @@
-use Rattle.std.proofs.Common.{subst}
+use Rattle.std.proofs.Common.{◌∷◌, [], subst}
 use Rattle.fx_base.specs.Silence.{IsLost}
 use Rattle.fx_data.specs.ValueView.{view}
+use Rattle.fx_trees.specs.declared.sources.Source.TheVariants as source
 use Rattle.fx_deeds.proofs.Deeding.{goes_nowhere}
 use Rattle.fx_deeds.proofs.Tabling.{numbers_none, numbers_one, numbers_wrong}
+use Rattle.fx_deeds.proofs.Allowing.{only_nowhere}
 use Rattle.fx_deeds.specs.Deeds.{PatchesById, id_of}
 use Rattle.fx_deeds.specs.Found.{IsNamed}
+use Rattle.fx_deeds.specs.Writable.{IsOneOf}
 use Rattle.fx_deeds.proofs.table_rows.patch_numbered.Goals as goal
 
 pub returns-then-branch-clause-done : goal.returns-then-branch-clause-done
@@ -23,3 +26,15 @@ returns-in-Err-clause-done g c =
     let d = id_of (view c.args.base.now) in
     goes_nowhere (IsLost (g.W.Env.marks w) (g.W.Env.marks w)) (λ s t. PatchesById c.args.shape.now c.args.table c.args.changes.now d s (view c.in-Err.error) t) (g.W.World.state w)
     (λ s. numbers_wrong c.args.shape.now c.args.table c.args.changes.now c.in-Err.error d s (c.in_ok-has_blank_number.ensures.other c.if-branch.false) (subst (IsNamed (view c.args.base.now)) c.in-Err.is c.in_ok-named.ensures))
+
+pub returns-in_err-has_blank_number-clause-only : goal.returns-in_err-has_blank_number-clause-only
+returns-in_err-has_blank_number-clause-only g c =
+    only_nowhere (IsOneOf (source.Table c.args.table ∷ [])) (IsLost (g.W.Env.marks c.args.world.now) (g.W.Env.marks c.args.world.now)) (g.W.World.state c.args.world.now)
+
+pub returns-in_err-named-clause-only : goal.returns-in_err-named-clause-only
+returns-in_err-named-clause-only g c =
+    only_nowhere (IsOneOf (source.Table c.args.table ∷ [])) (IsLost (g.W.Env.marks c.args.world.now) (g.W.Env.marks c.args.world.now)) (g.W.World.state c.args.world.now)
+
+pub returns-in-Err-clause-only : goal.returns-in-Err-clause-only
+returns-in-Err-clause-only g c =
+    only_nowhere (IsOneOf (source.Table c.args.table ∷ [])) (IsLost (g.W.Env.marks c.args.world.now) (g.W.Env.marks c.args.world.now)) (g.W.World.state c.args.world.now)

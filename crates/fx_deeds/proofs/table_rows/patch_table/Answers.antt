@@ -1,4 +1,4 @@
-use Rattle.std.proofs.Common.{◌≡◌, ◌++◌, ◌∙◌, ◌∷◌, map, Some, ap, subst, sym, true}
+use Rattle.std.proofs.Common.{◌≡◌, ◌++◌, ◌∙◌, ◌∷◌, [], map, Some, ap, subst, sym, true}
 use Rattle.std.specs.Prelude.{IfOk, option_map}
 use Rattle.std.specs.List.{find}
 use Rattle.fx_base.specs.Silence.{IsLost}
@@ -7,12 +7,15 @@ use Rattle.fx_data.specs.ValueView.{view}
 use Rattle.fx_tables.specs.Unions.{is_fault}
 use Rattle.fx_trees.specs.SourceTypes.{columns_of}
 use Rattle.fx_value.specs.Fits.{fits_in}
+use Rattle.fx_trees.specs.declared.sources.Source.TheVariants as source
 use Rattle.fx_deeds.proofs.Adding.{error_fits}
 use Rattle.fx_deeds.proofs.Deeding.{by_error, goes_nowhere, is_error, no_error}
 use Rattle.fx_deeds.proofs.Tabling.{of_shape, patched_table, rest_none, to_table}
+use Rattle.fx_deeds.proofs.Allowing.{only_nowhere}
 use Rattle.fx_deeds.specs.Deeds.{IsPatched, OfTable, PatchesBase, id_of}
 use Rattle.fx_deeds.specs.Finding.{CanPatchRows}
 use Rattle.fx_deeds.specs.RowValues.{rows_among, values_among}
+use Rattle.fx_deeds.specs.Writable.{IsOneOf}
 use Rattle.fx_deeds.proofs.table_rows.patch_table.Goals as goal
 
 pub returns-in-Some-clause-done : goal.returns-in-Some-clause-done
@@ -57,3 +60,19 @@ returns-clause-done g c =
 
 pub returns-clause-fits : goal.returns-clause-fits
 returns-clause-fits g c = to_table (g.W.Env.fixed c.args.world.now).schema c.args.table c.in_ok-shape.shape (λ q. IfOk c.patch_base.result (λ x. fits_in (view x) (records (columns_of q)) ≡ true)) c.in_ok-shape.ensures c.patch_base.ensures.fits
+
+pub returns-in_err-shape-clause-only : goal.returns-in_err-shape-clause-only
+returns-in_err-shape-clause-only g c =
+    only_nowhere (IsOneOf (source.Table c.args.table ∷ [])) (IsLost (g.W.Env.marks c.args.world.now) (g.W.Env.marks c.args.world.now)) (g.W.World.state c.args.world.now)
+
+pub returns-in_err-changes-clause-only : goal.returns-in_err-changes-clause-only
+returns-in_err-changes-clause-only g c =
+    only_nowhere (IsOneOf (source.Table c.args.table ∷ [])) (IsLost (g.W.Env.marks c.args.world.now) (g.W.Env.marks c.args.world.now)) (g.W.World.state c.args.world.now)
+
+pub returns-in_err-error-clause-only : goal.returns-in_err-error-clause-only
+returns-in_err-error-clause-only g c =
+    only_nowhere (IsOneOf (source.Table c.args.table ∷ [])) (IsLost (g.W.Env.marks c.args.world.now) (g.W.Env.marks c.args.world.now)) (g.W.World.state c.args.world.now)
+
+pub returns-in-Some-clause-only : goal.returns-in-Some-clause-only
+returns-in-Some-clause-only g c =
+    only_nowhere (IsOneOf (source.Table c.args.table ∷ [])) (IsLost (g.W.Env.marks c.args.world.now) (g.W.Env.marks c.args.world.now)) (g.W.World.state c.args.world.now)

@@ -1,12 +1,15 @@
-use Rattle.std.proofs.Common.{◌≡◌, ◌∙◌, refl, subst, sym}
+use Rattle.std.proofs.Common.{◌≡◌, ◌∙◌, ◌∷◌, [], refl, subst, sym}
 use Rattle.fx_base.specs.Silence.{IsLost}
 use Rattle.fx_env.specs.Scopes.{Fixed}
+use Rattle.fx_trees.specs.declared.sources.Source.TheVariants as source
 use Rattle.row_keeper.specs.declared.rows.Put.TheVariants.{NoRow}
 use Rattle.row_queries.specs.TableRows.{AreCellsOf}
 use Rattle.fx_deeds.proofs.Cells.{changed_cells_fit}
 use Rattle.fx_deeds.proofs.Tabling.{cells_there, changed_fits, changes_row, columns_there, found_fits_at, misses_row, none_of}
+use Rattle.fx_deeds.proofs.Allowing.{only_behind, only_staying}
 use Rattle.fx_deeds.specs.Finding.{IsShape}
 use Rattle.fx_deeds.specs.RowValues.{changed_cells}
+use Rattle.fx_deeds.specs.Writable.{IsOneOf}
 use Rattle.fx_deeds.proofs.table_rows.put_changed.Goals as goal
 
 pub returns-in_default-clause-done : goal.returns-in_default-clause-done
@@ -35,3 +38,23 @@ returns-clause-fit g c =
     let cells : c.in_ok-cells.cells ≡ changed_cells p.columns c.args.changes.now c.in-Some.found = c.in_ok-cells.ensures ∙ (λ i. changed_cells (c.as_slice.ensures i) c.args.changes.now (c.as_slice-2.ensures i)) in
     changed_fits p _ c.args.id c.in-Some.found c.in_ok-cells.cells c.in_ok-put.put c.in_ok-put.ensures.sound old
     (subst (AreCellsOf p.columns) (sym cells) (changed_cells_fit p c.requires.shape.1 c.requires.can.0.0 c.args.changes.now c.requires.can.0.1 c.requires.can.1 c.in-Some.found old.1))
+
+pub returns-in_err-found-clause-only : goal.returns-in_err-found-clause-only
+returns-in_err-found-clause-only g c =
+    only_staying (IsOneOf (source.Table c.args.table ∷ [])) _ _ c.find_cells.ensures.passed c.find_cells.ensures.stays
+
+pub returns-in_default-clause-only : goal.returns-in_default-clause-only
+returns-in_default-clause-only g c =
+    only_staying (IsOneOf (source.Table c.args.table ∷ [])) _ _ c.find_cells.ensures.passed c.find_cells.ensures.stays
+
+pub returns-in_err-cells-clause-only : goal.returns-in_err-cells-clause-only
+returns-in_err-cells-clause-only g c =
+    only_staying (IsOneOf (source.Table c.args.table ∷ [])) _ _ c.find_cells.ensures.passed c.find_cells.ensures.stays
+
+pub returns-in_err-put-clause-only : goal.returns-in_err-put-clause-only
+returns-in_err-put-clause-only g c =
+    only_behind (IsOneOf (source.Table c.args.table ∷ [])) _ _ _ c.find_cells.ensures.passed c.replace.ensures.passed c.find_cells.ensures.stays c.replace.ensures.only
+
+pub returns-clause-only : goal.returns-clause-only
+returns-clause-only g c =
+    only_behind (IsOneOf (source.Table c.args.table ∷ [])) _ _ _ c.find_cells.ensures.passed c.replace.ensures.passed c.find_cells.ensures.stays c.replace.ensures.only

@@ -1,13 +1,16 @@
-use Rattle.std.proofs.Common.{◌++◌, ◌∙◌, ap, subst, sym}
+use Rattle.std.proofs.Common.{◌++◌, ◌∙◌, ◌∷◌, [], ap, subst, sym}
 use Rattle.fx_base.specs.Silence.{IsLost}
 use Rattle.fx_data.specs.ValueView.{view}
 use Rattle.fx_semantics.specs.Around.{record_of}
 use Rattle.fx_semantics.specs.Rows.{rows_in}
 use Rattle.std.specs.Prelude.{Some}
+use Rattle.fx_trees.specs.declared.sources.Source.TheVariants as source
 use Rattle.fx_deeds.proofs.Deeding.{goes_nowhere}
 use Rattle.fx_deeds.proofs.Tabling.{updates_none, updates_row}
+use Rattle.fx_deeds.proofs.Allowing.{only_nowhere}
 use Rattle.fx_deeds.specs.Finding.{CanChangeRows, IsUpdatedRow}
 use Rattle.fx_deeds.specs.Found.{IsNamed}
+use Rattle.fx_deeds.specs.Writable.{IsOneOf}
 use Rattle.fx_deeds.proofs.table_rows.update_row.Goals as goal
 
 pub returns-in-Err-clause-done : goal.returns-in-Err-clause-done
@@ -26,3 +29,15 @@ returns-clause-done g c =
     let rows = c.as_slice.ensures ∙ c.in_ok-changes.ensures ∙ ap (λ z. z ++ rows_in (view c.args.change.now)) c.new.ensures in
     updates_row (IsLost (g.W.Env.marks c.args.world.now) (g.W.Env.marks c.put_changed.new.world)) (g.W.World.state c.args.world.now) (g.W.World.state c.put_changed.new.world) c.args.shape.now c.args.table c.in-Ok.id c.args.row.now (view c.args.change.now) c.as_slice.result.now c.in_ok-patched-in-Ok.patched.cells
     c.in_ok-patched-in-Ok.patched.put c.in_ok-end-in-Ok.end (subst (IsNamed (record_of c.args.row.now)) c.in-Ok.is c.in_ok-named.ensures) rows c.in_ok-end-in-Ok.ensures.end c.in_ok-patched-in-Ok.ensures.done
+
+pub returns-in_err-named-clause-only : goal.returns-in_err-named-clause-only
+returns-in_err-named-clause-only g c =
+    only_nowhere (IsOneOf (source.Table c.args.table ∷ [])) (IsLost (g.W.Env.marks c.args.world.now) (g.W.Env.marks c.args.world.now)) (g.W.World.state c.args.world.now)
+
+pub returns-in_err-changes-clause-only : goal.returns-in_err-changes-clause-only
+returns-in_err-changes-clause-only g c =
+    only_nowhere (IsOneOf (source.Table c.args.table ∷ [])) (IsLost (g.W.Env.marks c.args.world.now) (g.W.Env.marks c.args.world.now)) (g.W.World.state c.args.world.now)
+
+pub returns-in-Err-clause-only : goal.returns-in-Err-clause-only
+returns-in-Err-clause-only g c =
+    only_nowhere (IsOneOf (source.Table c.args.table ∷ [])) (IsLost (g.W.Env.marks c.args.world.now) (g.W.Env.marks c.args.world.now)) (g.W.World.state c.args.world.now)

@@ -1,11 +1,14 @@
-use Rattle.std.proofs.Common.{map, inl, inr, subst, sym}
+use Rattle.std.proofs.Common.{◌∷◌, [], map, inl, inr, subst, sym}
 use Rattle.fx_base.specs.Silence.{IsLost}
 use Rattle.fx_data.specs.ValueView.{view}
 use Rattle.fx_env.specs.Scopes.{Fixed}
+use Rattle.fx_trees.specs.declared.sources.Source.TheVariants as source
 use Rattle.fx_deeds.proofs.Passing.{passed_on}
 use Rattle.fx_deeds.proofs.Patching.{update_ends, update_goes, update_stops, updating}
 use Rattle.fx_deeds.proofs.Steps.{none_left}
+use Rattle.fx_deeds.proofs.Allowing.{only_on}
 use Rattle.fx_deeds.specs.Finding.{CanChangeEach, IsShape}
+use Rattle.fx_deeds.specs.Writable.{IsOneOf}
 use Rattle.fx_deeds.proofs.table_rows.update_rows.Goals as goal
 
 pub update_row-requires-clause-shape : goal.update_row-requires-clause-shape
@@ -27,6 +30,7 @@ returns-in-Some-2-clause-done g c =
 pub loop-row-preserved : goal.loop-row-preserved
 loop-row-preserved g c = record {
   passed = passed_on _ _ _ c.loop-row.invariant.passed c.update_row.ensures.passed;
+  only = only_on (IsOneOf (source.Table c.args.table ∷ [])) _ _ _ c.loop-row.invariant.passed c.update_row.ensures.passed c.loop-row.invariant.only c.update_row.ensures.only;
   can = (let can = subst (λ z. CanChangeEach c.args.shape.now (map view z)) c.in-Some-split_first.ensures.cases.0 c.loop-row.invariant.can in can.1);
   done = update_goes _ _ _ _ _ _ (updating c.args.shape.now c.args.table c.args.rows.now c.args.changes.now) c.args.shape.now c.args.table c.in-Some.row.now c.in-Some.others.now c.loop-row.rest.now c.in-Some-split_first.change.now
       c.in_ok-answer.field-0 c.in-Some-split_first.more.now c.loop-row.left.now c.loop-row.invariant.passed.later c.update_row.ensures.passed.later c.in-Some.ensures.cases.0 c.in-Some-split_first.ensures.cases.0 c.in_default-2.not-Some
@@ -45,3 +49,11 @@ returns-clause-done g c =
 
 pub returns-in-Some-2-clause-passed : goal.returns-in-Some-2-clause-passed
 returns-in-Some-2-clause-passed g c = passed_on _ _ _ c.loop-row.invariant.passed c.update_row.ensures.passed
+
+pub returns-in_err-answer-clause-only : goal.returns-in_err-answer-clause-only
+returns-in_err-answer-clause-only g c =
+    only_on (IsOneOf (source.Table c.args.table ∷ [])) _ _ _ c.loop-row.invariant.passed c.update_row.ensures.passed c.loop-row.invariant.only c.update_row.ensures.only
+
+pub returns-in-Some-2-clause-only : goal.returns-in-Some-2-clause-only
+returns-in-Some-2-clause-only g c =
+    only_on (IsOneOf (source.Table c.args.table ∷ [])) _ _ _ c.loop-row.invariant.passed c.update_row.ensures.passed c.loop-row.invariant.only c.update_row.ensures.only

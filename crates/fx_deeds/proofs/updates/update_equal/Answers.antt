@@ -1,12 +1,16 @@
-use Rattle.std.proofs.Common.{◌≡◌, ◌∙◌, refl, map, ap, subst, sym}
+use Rattle.std.proofs.Common.{◌≡◌, ◌∙◌, ◌∷◌, [], refl, map, ap, subst, sym}
+use Rattle.fx_base.specs.Silence.{IsLost}
 use Rattle.fx_data.specs.Types.{booleans, column_list}
 use Rattle.fx_data.specs.ValueView.{view}
 use Rattle.fx_semantics.specs.Around.{record_of}
+use Rattle.fx_trees.specs.declared.sources.Source.TheVariants as source
 use Rattle.fx_deeds.proofs.Holding.{same_columns, updated_in}
 use Rattle.fx_deeds.proofs.Lefting.{made_records, rows_back}
+use Rattle.fx_deeds.proofs.Allowing.{only_behind, only_nowhere, only_staying}
 use Rattle.fx_deeds.specs.Collections.{AreWith}
 use Rattle.fx_deeds.specs.Fitting.{CanChangeAll}
 use Rattle.fx_deeds.specs.Lefts.{rows_by}
+use Rattle.fx_deeds.specs.Writable.{IsOneOf}
 use Rattle.fx_deeds.proofs.updates.update_equal.Goals as goal
 
 pub rows_with-requires-clause-records : goal.rows_with-requires-clause-records
@@ -29,3 +33,23 @@ returns-clause-done g c =
 
 pub returns-clause-fits : goal.returns-clause-fits
 returns-clause-fits g c = c.make.ensures.fits booleans refl
+
+pub returns-in_err-columns-clause-only : goal.returns-in_err-columns-clause-only
+returns-in_err-columns-clause-only g c =
+    only_nowhere (IsOneOf (source.Gathered c.args.collection ∷ [])) (IsLost (g.W.Env.marks c.args.world.now) (g.W.Env.marks c.args.world.now)) (g.W.World.state c.args.world.now)
+
+pub returns-in_err-kept-clause-only : goal.returns-in_err-kept-clause-only
+returns-in_err-kept-clause-only g c =
+    only_nowhere (IsOneOf (source.Gathered c.args.collection ∷ [])) (IsLost (g.W.Env.marks c.args.world.now) (g.W.Env.marks c.args.world.now)) (g.W.World.state c.args.world.now)
+
+pub returns-in_err-rows-clause-only : goal.returns-in_err-rows-clause-only
+returns-in_err-rows-clause-only g c =
+    only_staying (IsOneOf (source.Gathered c.args.collection ∷ [])) _ _ c.rows_held.ensures.passed c.rows_held.ensures.stays
+
+pub returns-in_err-made-clause-only : goal.returns-in_err-made-clause-only
+returns-in_err-made-clause-only g c =
+    only_staying (IsOneOf (source.Gathered c.args.collection ∷ [])) _ _ c.rows_held.ensures.passed c.rows_held.ensures.stays
+
+pub returns-clause-only : goal.returns-clause-only
+returns-clause-only g c =
+    only_behind (IsOneOf (source.Gathered c.args.collection ∷ [])) _ _ _ c.rows_held.ensures.passed c.make.ensures.passed c.rows_held.ensures.stays c.make.ensures.only
