@@ -1,4 +1,5 @@
 pub mod Going
+pub mod Allowing
 pub mod Sequences
 pub mod Actables
 pub mod Heads

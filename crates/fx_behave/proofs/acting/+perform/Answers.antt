@@ -1,4 +1,4 @@
-use Rattle.std.proofs.Common.{◌≡◌, ◌∷◌, [], List, map, true, ap, sym, subst, ◌∙◌, refl, arith}
+use Rattle.std.proofs.Common.{◌≡◌, ◌∷◌, [], ◌∙◌, List, map, true, ap, sym, subst, refl, arith, inl, inr}
 use Rattle.std.proofs.lemmas.List.{map-append}
 use Rattle.std.proofs.lemmas.Result.{IfOk-weaker}
 use Rattle.std.specs.Prelude.{IfOk}
@@ -19,16 +19,19 @@ use Rattle.fx_trees.specs.declared.functions.Form.TheVariants as form
 use Rattle.fx_trees.specs.declared.functions.Fun.TheVariants as fun
 use Rattle.fx_trees.specs.declared.trees.CoreNode.{CoreNode}
 use Rattle.fx_trees.specs.declared.trees.CoreNode.TheVariants as kind
-use Rattle.fx_trees.specs.Term.{Term, all, of, terms_size}
+use Rattle.fx_trees.specs.Term.{Term, all, cons, nil, of, terms_size}
 use Rattle.fx_trees.specs.Term as top
 use Rattle.fx_trees.specs.TermView.{branch}
 use Rattle.fx_value.specs.Fits.{fits_in}
+use Rattle.fx_trees.specs.declared.deeds.Deed.TheVariants as deed
 use Rattle.fx_deeds.proofs.Passing.{passed_nowhere, passed_on}
 use Rattle.fx_deeds.proofs.Steps.{none_left}
+use Rattle.fx_deeds.proofs.Allowing.{only_nowhere, only_on, only_over, only_staying, only_wider}
 use Rattle.fx_deeds.specs.Doable.{AnswersAs, CanDo, CanUpdate}
 use Rattle.fx_deeds.specs.Done.{IsDeed, IsUpdate}
 use Rattle.fx_deeds.specs.Lefts.{Decides}
 use Rattle.fx_deeds.specs.State.{frame_of, ground}
+use Rattle.fx_deeds.specs.Writable.{DeedMayWrite}
 use Rattle.fx_behave.proofs.Acted as acted
 use Rattle.fx_behave.proofs.Actables.{chain_actable, if_actable, formula_actable, quiet_ready, record_actable, recover_actable, switch_actable}
 use Rattle.fx_behave.proofs.Eaches.{formula_is, formula_there, gone, table_can}
@@ -39,14 +42,18 @@ use Rattle.fx_behave.proofs.Nodes as nodes
 use Rattle.fx_behave.proofs.Sequences as steps
 use Rattle.fx_behave.proofs.Sequences.{is_no_error, refl_le}
 use Rattle.fx_behave.proofs.Updated as updated
+use Rattle.fx_behave.proofs.Allowing.{first_may, only_next, only_one, only_parts, only_same, others_may}
 use Rattle.fx_behave.specs.Actable.{AreBranches, AreRecoveries, CanAct, EndsIn, IsActable, IsActableInside, IsMatchedBy, IsSwitch}
 use Rattle.fx_behave.specs.Perform.{AreEach, IsBranched, IsForAll, IsSwitched, IsUpdateIf, Performs, matching, performing, performings}
+use Rattle.fx_behave.specs.Writable.{AnyMayWrite, MayWrite}
 use Rattle.fx_behave.proofs.acting.+perform.Goals as goal
 
 pub chain-loop-part-init : goal.chain-loop-part-init
 chain-loop-part-init g t c =
     record {
       passed = passed_nowhere _;
+      allowed = λ x m. m;
+      only = only_nowhere (AnyMayWrite (all c.args.parts.now)) (IsLost (g.W.Env.marks c.args.world.now) (g.W.Env.marks c.args.world.now)) (g.W.World.state c.args.world.now);
       scope = refl;
       fits = λ u r. r;
       done = begins _ _ (steps.chain_of (ground g.W.World.gives (g.W.Env.fixed c.args.world.now)) c.args.scope.now c.args.parts.now);
@@ -85,6 +92,8 @@ pub chain-loop-part-preserved : goal.chain-loop-part-preserved
 chain-loop-part-preserved g t c =
     record {
       passed = passed_on _ _ _ c.loop-part.invariant.passed c.perform-in-Some.ensures.passed;
+      allowed = others_may c.loop-part.rest.now c.in-Some.part.now c.in-Some.others.now (AnyMayWrite (all c.args.parts.now)) c.in-Some.ensures.cases.0 c.loop-part.invariant.allowed;
+      only = only_next _ _ c.loop-part.invariant.passed _ (AnyMayWrite (all c.args.parts.now)) c.in-Some.part.now c.perform-in-Some.ensures.passed (first_may c.loop-part.rest.now c.in-Some.part.now c.in-Some.others.now (AnyMayWrite (all c.args.parts.now)) c.in-Some.ensures.cases.0 c.loop-part.invariant.allowed) c.loop-part.invariant.only c.perform-in-Some.ensures.only;
       scope = c.perform-in-Some.ensures.scope ∙ c.loop-part.invariant.scope;
       fits = λ u r. left.chain_rest (g.W.Env.fixed c.args.world.now).types c.args.scope.now u c.in-Some.part.now c.in-Some.others.now c.loop-part.rest.now c.in-Some.ensures.cases.0 (steps.some_left _ (sym c.is_empty.ensures ∙ c.if-is_empty.false)) (c.loop-part.invariant.fits u r);
       done = steps.chain_goes g.W.World.gives _ _ _ _ _ _ _ _ _ _ (steps.chain_of (ground g.W.World.gives (g.W.Env.fixed c.args.world.now)) c.args.scope.now c.args.parts.now) c.in-Some.part.now c.in-Some.others.now c.loop-part.rest.now _ c.loop-part.invariant.passed.fixed c.loop-part.invariant.scope c.loop-part.invariant.passed.later c.perform-in-Some.ensures.passed.later c.in-Some.ensures.cases.0 (steps.some_left _ (sym c.is_empty.ensures ∙ c.if-is_empty.false)) c.loop-part.invariant.done c.in_ok-perform.ensures.done;
@@ -493,6 +502,8 @@ pub branches-loop-part-preserved : goal.branches-loop-part-preserved
 branches-loop-part-preserved g t c =
     record {
       passed = passed_on _ _ _ c.loop-part.invariant.passed c.perform-in-Some.ensures.passed;
+      allowed = others_may c.in-Some.others.now c.in-Some-split_first.branch.now c.in-Some-split_first.beyond.now (AnyMayWrite (all c.args.parts.now)) c.in-Some-split_first.ensures.cases.0 (others_may c.loop-part.rest.now c.in-Some.part.now c.in-Some.others.now (AnyMayWrite (all c.args.parts.now)) c.in-Some.ensures.cases.0 c.loop-part.invariant.allowed);
+      only = only_next _ _ c.loop-part.invariant.passed _ (AnyMayWrite (all c.args.parts.now)) c.in-Some.part.now c.perform-in-Some.ensures.passed (first_may c.loop-part.rest.now c.in-Some.part.now c.in-Some.others.now (AnyMayWrite (all c.args.parts.now)) c.in-Some.ensures.cases.0 c.loop-part.invariant.allowed) c.loop-part.invariant.only c.perform-in-Some.ensures.only;
       scope = c.perform-in-Some.ensures.scope ∙ c.loop-part.invariant.scope;
       fits = λ u r. left.branch_beyond (g.W.Env.fixed c.args.world.now).types c.args.scope.now u c.in-Some.part.now c.in-Some-split_first.branch.now c.in-Some.others.now c.in-Some-split_first.beyond.now c.loop-part.rest.now c.in-Some.ensures.cases.0 c.in-Some-split_first.ensures.cases.0 (c.loop-part.invariant.fits u r);
       done = steps.branch_unmet g.W.World.gives _ _ _ _ _ _ _ _ _ _ (steps.branches_of decision_of (ground g.W.World.gives (g.W.Env.fixed c.args.world.now)) c.args.scope.now c.args.parts.now) c.in-Some.part.now c.in-Some.others.now c.loop-part.rest.now (view c.in_ok-value.value) c.loop-part.invariant.passed.fixed c.loop-part.invariant.scope c.loop-part.invariant.passed.later c.perform-in-Some.ensures.passed.later c.in-Some.ensures.cases.0 decision_of c.in-Some-split_first.branch.now c.in-Some-split_first.beyond.now c.in-Some-split_first.ensures.cases.0 (sym c.decide.ensures ∙ c.in-Unmet.is) c.loop-part.invariant.done c.in_ok-value.ensures.done;
@@ -572,6 +583,8 @@ pub matches-loop-part-preserved : goal.matches-loop-part-preserved
 matches-loop-part-preserved g t c =
     record {
       passed = passed_on _ _ _ c.loop-part.invariant.passed c.perform-in-Some.ensures.passed;
+      allowed = others_may c.in-Some.others.now c.in-Some-split_first.branch.now c.in-Some-split_first.beyond.now (AnyMayWrite (all c.args.parts.now)) c.in-Some-split_first.ensures.cases.0 (others_may c.loop-part.rest.now c.in-Some.part.now c.in-Some.others.now (AnyMayWrite (all c.args.parts.now)) c.in-Some.ensures.cases.0 c.loop-part.invariant.allowed);
+      only = only_next _ _ c.loop-part.invariant.passed _ (AnyMayWrite (all c.args.parts.now)) c.in-Some.part.now c.perform-in-Some.ensures.passed (first_may c.loop-part.rest.now c.in-Some.part.now c.in-Some.others.now (AnyMayWrite (all c.args.parts.now)) c.in-Some.ensures.cases.0 c.loop-part.invariant.allowed) c.loop-part.invariant.only c.perform-in-Some.ensures.only;
       scope = c.perform-in-Some.ensures.scope ∙ c.loop-part.invariant.scope;
       wanted = c.loop-part.invariant.wanted;
       fits = λ u r. left.match_beyond (g.W.Env.fixed c.args.world.now).types c.args.scope.now (view c.args.wanted) u c.in-Some.part.now c.in-Some-split_first.branch.now c.in-Some.others.now c.in-Some-split_first.beyond.now c.loop-part.rest.now c.in-Some.ensures.cases.0 c.in-Some-split_first.ensures.cases.0 (c.loop-part.invariant.fits u r);
@@ -658,6 +671,8 @@ pub recover-loop-part-preserved : goal.recover-loop-part-preserved
 recover-loop-part-preserved g t c =
     record {
       passed = passed_on _ _ _ c.loop-part.invariant.passed c.perform-in-Some.ensures.passed;
+      allowed = others_may c.in-Some.others.now c.in-Some-split_first.fallback.now c.in-Some-split_first.beyond.now (AnyMayWrite (all c.args.parts.now)) c.in-Some-split_first.ensures.cases.0 (others_may c.loop-part.rest.now c.in-Some.part.now c.in-Some.others.now (AnyMayWrite (all c.args.parts.now)) c.in-Some.ensures.cases.0 c.loop-part.invariant.allowed);
+      only = only_next _ _ c.loop-part.invariant.passed _ (AnyMayWrite (all c.args.parts.now)) c.in-Some.part.now c.perform-in-Some.ensures.passed (first_may c.loop-part.rest.now c.in-Some.part.now c.in-Some.others.now (AnyMayWrite (all c.args.parts.now)) c.in-Some.ensures.cases.0 c.loop-part.invariant.allowed) c.loop-part.invariant.only c.perform-in-Some.ensures.only;
       scope = c.perform-in-Some.ensures.scope ∙ c.loop-part.invariant.scope;
       fits = λ u r. (left.recovery_beyond (g.W.Env.fixed c.args.world.now).types c.args.scope.now u c.in-Some.part.now c.in-Some-split_first.fallback.now c.in-Some.others.now c.in-Some-split_first.beyond.now c.loop-part.rest.now c.in-Some.ensures.cases.0 c.in-Some-split_first.ensures.cases.0 (c.loop-part.invariant.fits u r).0, subst (λ z. fits_in z u ≡ true) (sym (ap view c.keep.ensures ∙ c.in-Ok.ensures.0)) (c.in_ok-value.ensures.fits u (steps.moved (λ f h. IsActable f.types h c.in-Some.part.now u) _ _ _ _ c.loop-part.invariant.passed.fixed c.loop-part.invariant.scope (left.recovery_first (g.W.Env.fixed c.args.world.now).types c.args.scope.now u c.in-Some.part.now c.in-Some.others.now c.loop-part.rest.now c.in-Some.ensures.cases.0 (c.loop-part.invariant.fits u r).0))));
       done = subst (λ z. Goes (IsLost (g.W.Env.marks c.args.world.now) (g.W.Env.marks c.perform-in-Some.new.world)) (Decides (steps.recovery_of (ground g.W.World.gives (g.W.Env.fixed c.args.world.now)) c.args.scope.now z c.in-Some-split_first.beyond.now) (steps.recovery_of (ground g.W.World.gives (g.W.Env.fixed c.args.world.now)) c.args.scope.now (none_left_of form.IfError) c.args.parts.now)) (g.W.World.state c.args.world.now) (g.W.World.state c.perform-in-Some.new.world)) (sym (ap view c.keep.ensures ∙ c.in-Ok.ensures.0))
@@ -689,6 +704,7 @@ pub each-loop-row-preserved : goal.each-loop-row-preserved
 each-loop-row-preserved g t c =
     record {
       passed = passed_on _ _ _ c.loop-row.invariant.passed c.in_scope.ensures.passed;
+      only = only_on (MayWrite c.args.formula.now) _ _ _ c.loop-row.invariant.passed c.in_scope.ensures.passed c.loop-row.invariant.only c.in_scope.ensures.only;
       scope = c.in_scope.ensures.scope ∙ c.loop-row.invariant.scope;
       fits = λ u r. (left.inside_rest (g.W.Env.fixed c.args.world.now).types c.args.scope.now u c.args.formula.now c.in-Some.row.now c.in-Some.others.now c.loop-row.rest.now c.in-Some.ensures.cases.0 (c.loop-row.invariant.fits u r).0, left.of_more u (map view c.loop-row.values.items) _ (view c.in_ok-value.value) (ap (map view) c.in_ok-push.ensures.items ∙ map-append _ _ _) (c.loop-row.invariant.fits u r).1 (c.in_ok-value.ensures.fits u (steps.moved (λ f h. IsActable f.types (inner h (record_of c.in_ok-copy.field-0)) c.args.formula.now u) _ _ _ _ c.loop-row.invariant.passed.fixed c.loop-row.invariant.scope (subst (λ q. IsActable (g.W.Env.fixed c.args.world.now).types (inner c.args.scope.now (record_of q)) c.args.formula.now u) (sym c.in_ok-copy.ensures) (left.inside_first (g.W.Env.fixed c.args.world.now).types c.args.scope.now u c.args.formula.now c.in-Some.row.now c.in-Some.others.now c.loop-row.rest.now c.in-Some.ensures.cases.0 (c.loop-row.invariant.fits u r).0)))));
       done = steps.each_goes g.W.World.gives _ _ _ _ _ _ _ _ _ _ (steps.each_of (ground g.W.World.gives (g.W.Env.fixed c.args.world.now)) c.args.scope.now c.args.formula.now c.args.rows.now) (map view c.loop-row.values.items) _ (view c.in_ok-value.value) c.loop-row.invariant.passed.fixed c.loop-row.invariant.scope c.loop-row.invariant.passed.later c.in_scope.ensures.passed.later (ap (map view) c.in_ok-push.ensures.items ∙ map-append _ _ _) c.args.formula.now c.in-Some.row.now (record_of c.in_ok-copy.field-0) c.in-Some.others.now c.loop-row.rest.now c.in-Some.ensures.cases.0 (ap record_of c.in_ok-copy.ensures) c.loop-row.invariant.done c.in_ok-value.ensures.done;
@@ -721,6 +737,8 @@ pub part_values-loop-part-preserved : goal.part_values-loop-part-preserved
 part_values-loop-part-preserved g t c =
     record {
       passed = passed_on _ _ _ c.loop-part.invariant.passed c.perform.ensures.passed;
+      allowed = others_may c.loop-part.rest.now c.in-Some.part.now c.in-Some.others.now (AnyMayWrite (all c.args.parts.now)) c.in-Some.ensures.cases.0 c.loop-part.invariant.allowed;
+      only = only_next _ _ c.loop-part.invariant.passed _ (AnyMayWrite (all c.args.parts.now)) c.in-Some.part.now c.perform.ensures.passed (first_may c.loop-part.rest.now c.in-Some.part.now c.in-Some.others.now (AnyMayWrite (all c.args.parts.now)) c.in-Some.ensures.cases.0 c.loop-part.invariant.allowed) c.loop-part.invariant.only c.perform.ensures.only;
       scope = c.perform.ensures.scope ∙ c.loop-part.invariant.scope;
       fits = λ us r. left.left_rest (g.W.Env.fixed c.args.world.now).types c.args.scope.now us (map view c.loop-part.values.items) _ c.in-Some.part.now c.in-Some.others.now c.loop-part.rest.now (view c.in_ok-value.value) c.in-Some.ensures.cases.0 (ap (map view) c.in_ok-push.ensures.items ∙ map-append _ _ _) (λ q i. c.in_ok-value.ensures.fits q (steps.moved (λ f h. IsActable f.types h c.in-Some.part.now q) _ _ _ _ c.loop-part.invariant.passed.fixed c.loop-part.invariant.scope (i))) (c.loop-part.invariant.fits us r);
       done = steps.performed_goes g.W.World.gives _ _ _ _ _ _ _ _ _ _ (steps.parts_of (ground g.W.World.gives (g.W.Env.fixed c.args.world.now)) c.args.scope.now c.args.parts.now) (map view c.loop-part.values.items) _ (view c.in_ok-value.value) c.loop-part.invariant.passed.fixed c.loop-part.invariant.scope c.loop-part.invariant.passed.later c.perform.ensures.passed.later (ap (map view) c.in_ok-push.ensures.items ∙ map-append _ _ _) c.in-Some.part.now c.in-Some.others.now c.loop-part.rest.now c.in-Some.ensures.cases.0 c.loop-part.invariant.done c.in_ok-value.ensures.done;
@@ -739,6 +757,8 @@ pub part_values-loop-part-init : goal.part_values-loop-part-init
 part_values-loop-part-init g t c =
     record {
       passed = passed_nowhere _;
+      allowed = λ x m. m;
+      only = only_nowhere (AnyMayWrite (all c.args.parts.now)) (IsLost (g.W.Env.marks c.args.world.now) (g.W.Env.marks c.args.world.now)) (g.W.World.state c.args.world.now);
       scope = refl;
       fits = λ us r. ([], us, refl, subst (λ z. AreFit (map view z) []) (sym c.new-values.ensures.items) tt, r);
       done = steps.performed_begins _ _ (ground g.W.World.gives (g.W.Env.fixed c.args.world.now)) c.args.scope.now c.args.parts.now _ (ap (map view) c.new-values.ensures.items);
@@ -797,6 +817,7 @@ pub act_deed-returns-in_ok-values-in_default : goal.act_deed-returns-in_ok-value
 act_deed-returns-in_ok-values-in_default g t c =
     record {
       passed = passed_on _ _ _ c.part_values.ensures.passed c.do_deed.ensures.passed;
+      only = only_over (AnyMayWrite (all c.args.parts.now)) (DeedMayWrite c.args.deed.now) (MayWrite (of (top.act c.args.deed.now) (all c.args.parts.now))) (λ x m. inr m) (λ x m. inl m) _ _ _ c.part_values.ensures.passed c.do_deed.ensures.passed c.part_values.ensures.only c.do_deed.ensures.only;
       scope = c.part_values.ensures.scope;
       keeper = λ e. rose_before _ _ _ c.part_values.ensures.passed.later.faults (c.do_deed.ensures.keeper e);
       done = IfOk-weaker c.do_deed.result _ _
@@ -805,3 +826,258 @@ act_deed-returns-in_ok-values-in_default g t c =
           c.do_deed.ensures.done;
       fits = λ u r. c.do_deed.ensures.fits u (subst (λ (f : Fixed). AnswersAs f.types c.args.deed.now u) (sym c.part_values.ensures.passed.fixed) (acted.deed_answers (g.W.Env.fixed c.args.world.now).types c.args.scope.now c.args.deed.now c.args.parts.now u (acted.not_updating c.args.deed.now c.in_default.not-UpdateIf) r));
     }
+
+pub chain-returns-then-is_empty-clause-only : goal.chain-returns-then-is_empty-clause-only
+chain-returns-then-is_empty-clause-only g t c =
+    only_next _ _ c.loop-part.invariant.passed _ (AnyMayWrite (all c.args.parts.now)) c.in-Some.part.now c.perform.ensures.passed (first_may c.loop-part.rest.now c.in-Some.part.now c.in-Some.others.now (AnyMayWrite (all c.args.parts.now)) c.in-Some.ensures.cases.0 c.loop-part.invariant.allowed) c.loop-part.invariant.only c.perform.ensures.only
+
+pub chain-returns-in_err-perform-clause-only : goal.chain-returns-in_err-perform-clause-only
+chain-returns-in_err-perform-clause-only g t c =
+    only_next _ _ c.loop-part.invariant.passed _ (AnyMayWrite (all c.args.parts.now)) c.in-Some.part.now c.perform-in-Some.ensures.passed (first_may c.loop-part.rest.now c.in-Some.part.now c.in-Some.others.now (AnyMayWrite (all c.args.parts.now)) c.in-Some.ensures.cases.0 c.loop-part.invariant.allowed) c.loop-part.invariant.only c.perform-in-Some.ensures.only
+
+pub branches-returns-in_default-split_first-clause-only : goal.branches-returns-in_default-split_first-clause-only
+branches-returns-in_default-split_first-clause-only g t c =
+    only_next _ _ c.loop-part.invariant.passed _ (AnyMayWrite (all c.args.parts.now)) c.in-Some.part.now c.perform.ensures.passed (first_may c.loop-part.rest.now c.in-Some.part.now c.in-Some.others.now (AnyMayWrite (all c.args.parts.now)) c.in-Some.ensures.cases.0 c.loop-part.invariant.allowed) c.loop-part.invariant.only c.perform.ensures.only
+
+pub branches-returns-in_err-value-clause-only : goal.branches-returns-in_err-value-clause-only
+branches-returns-in_err-value-clause-only g t c =
+    only_next _ _ c.loop-part.invariant.passed _ (AnyMayWrite (all c.args.parts.now)) c.in-Some.part.now c.perform-in-Some.ensures.passed (first_may c.loop-part.rest.now c.in-Some.part.now c.in-Some.others.now (AnyMayWrite (all c.args.parts.now)) c.in-Some.ensures.cases.0 c.loop-part.invariant.allowed) c.loop-part.invariant.only c.perform-in-Some.ensures.only
+
+pub matches-returns-in_default-split_first-clause-only : goal.matches-returns-in_default-split_first-clause-only
+matches-returns-in_default-split_first-clause-only g t c =
+    only_next _ _ c.loop-part.invariant.passed _ (AnyMayWrite (all c.args.parts.now)) c.in-Some.part.now c.perform.ensures.passed (first_may c.loop-part.rest.now c.in-Some.part.now c.in-Some.others.now (AnyMayWrite (all c.args.parts.now)) c.in-Some.ensures.cases.0 c.loop-part.invariant.allowed) c.loop-part.invariant.only c.perform.ensures.only
+
+pub matches-returns-in_err-value-clause-only : goal.matches-returns-in_err-value-clause-only
+matches-returns-in_err-value-clause-only g t c =
+    only_next _ _ c.loop-part.invariant.passed _ (AnyMayWrite (all c.args.parts.now)) c.in-Some.part.now c.perform-in-Some.ensures.passed (first_may c.loop-part.rest.now c.in-Some.part.now c.in-Some.others.now (AnyMayWrite (all c.args.parts.now)) c.in-Some.ensures.cases.0 c.loop-part.invariant.allowed) c.loop-part.invariant.only c.perform-in-Some.ensures.only
+
+pub recover-returns-in_default-split_first-clause-only : goal.recover-returns-in_default-split_first-clause-only
+recover-returns-in_default-split_first-clause-only g t c =
+    only_next _ _ c.loop-part.invariant.passed _ (AnyMayWrite (all c.args.parts.now)) c.in-Some.part.now c.perform.ensures.passed (first_may c.loop-part.rest.now c.in-Some.part.now c.in-Some.others.now (AnyMayWrite (all c.args.parts.now)) c.in-Some.ensures.cases.0 c.loop-part.invariant.allowed) c.loop-part.invariant.only c.perform.ensures.only
+
+pub recover-returns-in_err-value-clause-only : goal.recover-returns-in_err-value-clause-only
+recover-returns-in_err-value-clause-only g t c =
+    only_next _ _ c.loop-part.invariant.passed _ (AnyMayWrite (all c.args.parts.now)) c.in-Some.part.now c.perform-in-Some.ensures.passed (first_may c.loop-part.rest.now c.in-Some.part.now c.in-Some.others.now (AnyMayWrite (all c.args.parts.now)) c.in-Some.ensures.cases.0 c.loop-part.invariant.allowed) c.loop-part.invariant.only c.perform-in-Some.ensures.only
+
+pub branches-returns-in-Met-clause-only : goal.branches-returns-in-Met-clause-only
+branches-returns-in-Met-clause-only g t c =
+    only_next _ _ (passed_on _ _ _ c.loop-part.invariant.passed c.perform-in-Some.ensures.passed) _ (AnyMayWrite (all c.args.parts.now)) c.in-Some-split_first.branch.now c.perform-in-Met.ensures.passed
+    (first_may c.in-Some.others.now c.in-Some-split_first.branch.now c.in-Some-split_first.beyond.now (AnyMayWrite (all c.args.parts.now)) c.in-Some-split_first.ensures.cases.0 (others_may c.loop-part.rest.now c.in-Some.part.now c.in-Some.others.now (AnyMayWrite (all c.args.parts.now)) c.in-Some.ensures.cases.0 c.loop-part.invariant.allowed))
+    (only_next _ _ c.loop-part.invariant.passed _ (AnyMayWrite (all c.args.parts.now)) c.in-Some.part.now c.perform-in-Some.ensures.passed (first_may c.loop-part.rest.now c.in-Some.part.now c.in-Some.others.now (AnyMayWrite (all c.args.parts.now)) c.in-Some.ensures.cases.0 c.loop-part.invariant.allowed) c.loop-part.invariant.only c.perform-in-Some.ensures.only) c.perform-in-Met.ensures.only
+
+pub branches-returns-in-Error-clause-only : goal.branches-returns-in-Error-clause-only
+branches-returns-in-Error-clause-only g t c =
+    only_next _ _ c.loop-part.invariant.passed _ (AnyMayWrite (all c.args.parts.now)) c.in-Some.part.now c.perform-in-Some.ensures.passed (first_may c.loop-part.rest.now c.in-Some.part.now c.in-Some.others.now (AnyMayWrite (all c.args.parts.now)) c.in-Some.ensures.cases.0 c.loop-part.invariant.allowed) c.loop-part.invariant.only c.perform-in-Some.ensures.only
+
+pub matches-returns-in-Met-clause-only : goal.matches-returns-in-Met-clause-only
+matches-returns-in-Met-clause-only g t c =
+    only_next _ _ (passed_on _ _ _ c.loop-part.invariant.passed c.perform-in-Some.ensures.passed) _ (AnyMayWrite (all c.args.parts.now)) c.in-Some-split_first.branch.now c.perform-in-Met.ensures.passed
+    (first_may c.in-Some.others.now c.in-Some-split_first.branch.now c.in-Some-split_first.beyond.now (AnyMayWrite (all c.args.parts.now)) c.in-Some-split_first.ensures.cases.0 (others_may c.loop-part.rest.now c.in-Some.part.now c.in-Some.others.now (AnyMayWrite (all c.args.parts.now)) c.in-Some.ensures.cases.0 c.loop-part.invariant.allowed))
+    (only_next _ _ c.loop-part.invariant.passed _ (AnyMayWrite (all c.args.parts.now)) c.in-Some.part.now c.perform-in-Some.ensures.passed (first_may c.loop-part.rest.now c.in-Some.part.now c.in-Some.others.now (AnyMayWrite (all c.args.parts.now)) c.in-Some.ensures.cases.0 c.loop-part.invariant.allowed) c.loop-part.invariant.only c.perform-in-Some.ensures.only) c.perform-in-Met.ensures.only
+
+pub matches-returns-in-Error-clause-only : goal.matches-returns-in-Error-clause-only
+matches-returns-in-Error-clause-only g t c =
+    only_next _ _ c.loop-part.invariant.passed _ (AnyMayWrite (all c.args.parts.now)) c.in-Some.part.now c.perform-in-Some.ensures.passed (first_may c.loop-part.rest.now c.in-Some.part.now c.in-Some.others.now (AnyMayWrite (all c.args.parts.now)) c.in-Some.ensures.cases.0 c.loop-part.invariant.allowed) c.loop-part.invariant.only c.perform-in-Some.ensures.only
+
+pub recover-returns-in-Err-clause-only : goal.recover-returns-in-Err-clause-only
+recover-returns-in-Err-clause-only g t c =
+    only_next _ _ (passed_on _ _ _ c.loop-part.invariant.passed c.perform-in-Some.ensures.passed) _ (AnyMayWrite (all c.args.parts.now)) c.in-Some-split_first.fallback.now c.catch_error.ensures.passed
+    (first_may c.in-Some.others.now c.in-Some-split_first.fallback.now c.in-Some-split_first.beyond.now (AnyMayWrite (all c.args.parts.now)) c.in-Some-split_first.ensures.cases.0 (others_may c.loop-part.rest.now c.in-Some.part.now c.in-Some.others.now (AnyMayWrite (all c.args.parts.now)) c.in-Some.ensures.cases.0 c.loop-part.invariant.allowed))
+    (only_next _ _ c.loop-part.invariant.passed _ (AnyMayWrite (all c.args.parts.now)) c.in-Some.part.now c.perform-in-Some.ensures.passed (first_may c.loop-part.rest.now c.in-Some.part.now c.in-Some.others.now (AnyMayWrite (all c.args.parts.now)) c.in-Some.ensures.cases.0 c.loop-part.invariant.allowed) c.loop-part.invariant.only c.perform-in-Some.ensures.only) c.catch_error.ensures.only
+
+pub part_values-returns-in_err-value-clause-only : goal.part_values-returns-in_err-value-clause-only
+part_values-returns-in_err-value-clause-only g t c =
+    only_next _ _ c.loop-part.invariant.passed _ (AnyMayWrite (all c.args.parts.now)) c.in-Some.part.now c.perform.ensures.passed (first_may c.loop-part.rest.now c.in-Some.part.now c.in-Some.others.now (AnyMayWrite (all c.args.parts.now)) c.in-Some.ensures.cases.0 c.loop-part.invariant.allowed) c.loop-part.invariant.only c.perform.ensures.only
+
+pub part_values-returns-in_err-push-clause-only : goal.part_values-returns-in_err-push-clause-only
+part_values-returns-in_err-push-clause-only g t c =
+    only_next _ _ c.loop-part.invariant.passed _ (AnyMayWrite (all c.args.parts.now)) c.in-Some.part.now c.perform.ensures.passed (first_may c.loop-part.rest.now c.in-Some.part.now c.in-Some.others.now (AnyMayWrite (all c.args.parts.now)) c.in-Some.ensures.cases.0 c.loop-part.invariant.allowed) c.loop-part.invariant.only c.perform.ensures.only
+
+pub each-returns-in_err-value-clause-only : goal.each-returns-in_err-value-clause-only
+each-returns-in_err-value-clause-only g t c =
+    only_on (MayWrite c.args.formula.now) _ _ _ c.loop-row.invariant.passed c.in_scope.ensures.passed c.loop-row.invariant.only c.in_scope.ensures.only
+
+pub each-returns-in_err-push-clause-only : goal.each-returns-in_err-push-clause-only
+each-returns-in_err-push-clause-only g t c =
+    only_on (MayWrite c.args.formula.now) _ _ _ c.loop-row.invariant.passed c.in_scope.ensures.passed c.loop-row.invariant.only c.in_scope.ensures.only
+
+pub branches-loop-part-init : goal.branches-loop-part-init
+branches-loop-part-init g t c =
+    record {
+      passed = passed_nowhere _;
+      allowed = λ x m. m;
+      only = only_nowhere (AnyMayWrite (all c.args.parts.now)) (IsLost (g.W.Env.marks c.args.world.now) (g.W.Env.marks c.args.world.now)) (g.W.World.state c.args.world.now);
+      scope = refl;
+      fits = λ u r. r;
+      done = begins _ _ (steps.branches_of decision_of (ground g.W.World.gives (g.W.Env.fixed c.args.world.now)) c.args.scope.now c.args.parts.now);
+      small = refl_le (terms_size (all c.args.parts.now));
+    }
+
+pub matches-loop-part-init : goal.matches-loop-part-init
+matches-loop-part-init g t c =
+    record {
+      passed = passed_nowhere _;
+      allowed = λ x m. m;
+      only = only_nowhere (AnyMayWrite (all c.args.parts.now)) (IsLost (g.W.Env.marks c.args.world.now) (g.W.Env.marks c.args.world.now)) (g.W.World.state c.args.world.now);
+      scope = refl;
+      wanted = refl;
+      fits = λ u r. r;
+      done = begins _ _ (steps.branches_of (matching (view c.args.wanted)) (ground g.W.World.gives (g.W.Env.fixed c.args.world.now)) c.args.scope.now c.args.parts.now);
+      small = refl_le (terms_size (all c.args.parts.now));
+    }
+
+pub recover-loop-part-init : goal.recover-loop-part-init
+recover-loop-part-init g t c =
+    record {
+      passed = passed_nowhere _;
+      allowed = λ x m. m;
+      only = only_nowhere (AnyMayWrite (all c.args.parts.now)) (IsLost (g.W.Env.marks c.args.world.now) (g.W.Env.marks c.args.world.now)) (g.W.World.state c.args.world.now);
+      scope = refl;
+      fits = λ u r. (r, refl);
+      done = begins _ _ (steps.recovery_of (ground g.W.World.gives (g.W.Env.fixed c.args.world.now)) c.args.scope.now (none_left_of form.IfError) c.args.parts.now);
+      small = refl_le (terms_size (all c.args.parts.now));
+    }
+
+pub node-returns-in-Chain-clause-only : goal.node-returns-in-Chain-clause-only
+node-returns-in-Chain-clause-only g t c =
+    only_parts _ _ c.chain.ensures.passed top.chain (all c.as_slice.result.now) c.args.core.now (heads.parts_are top.chain _ c.as_slice.result.now c.args.core.now (sym (ap branch c.in-Chain.is) ∙ c.core.view_is) c.as_slice.ensures) c.chain.ensures.only
+
+pub node-returns-in-If-clause-only : goal.node-returns-in-If-clause-only
+node-returns-in-If-clause-only g t c =
+    only_parts _ _ c.branches.ensures.passed (top.form form.If) (all c.as_slice-in-If.result.now) c.args.core.now (heads.parts_are (top.form form.If) _ c.as_slice-in-If.result.now c.args.core.now (sym (ap branch c.in-If.is) ∙ c.core.view_is) c.as_slice-in-If.ensures) c.branches.ensures.only
+
+pub node-returns-in-Switch-clause-only : goal.node-returns-in-Switch-clause-only
+node-returns-in-Switch-clause-only g t c =
+    only_parts _ _ c.switch.ensures.passed (top.form form.Switch) (all c.as_slice-in-Switch.result.now) c.args.core.now (heads.parts_are (top.form form.Switch) _ c.as_slice-in-Switch.result.now c.args.core.now (sym (ap branch c.in-Switch.is) ∙ c.core.view_is) c.as_slice-in-Switch.ensures) c.switch.ensures.only
+
+pub node-returns-in-IfError-clause-only : goal.node-returns-in-IfError-clause-only
+node-returns-in-IfError-clause-only g t c =
+    only_parts _ _ c.recover.ensures.passed (top.form form.IfError) (all c.as_slice-in-IfError.result.now) c.args.core.now (heads.parts_are (top.form form.IfError) _ c.as_slice-in-IfError.result.now c.args.core.now (sym (ap branch c.in-IfError.is) ∙ c.core.view_is) c.as_slice-in-IfError.ensures) c.recover.ensures.only
+
+pub node-returns-in-Act-clause-only : goal.node-returns-in-Act-clause-only
+node-returns-in-Act-clause-only g t c =
+    only_same _ _ c.act_deed.ensures.passed (of (top.act c.in-Act.deed) (all c.as_slice-in-Act.result.now)) c.args.core.now (heads.parts_are (top.act c.in-Act.deed) _ c.as_slice-in-Act.result.now c.args.core.now (sym (ap branch c.in-Act.is) ∙ c.core.view_is) c.as_slice-in-Act.ensures) c.act_deed.ensures.only
+
+pub node-returns-in-With-clause-only : goal.node-returns-in-With-clause-only
+node-returns-in-With-clause-only g t c =
+    only_parts _ _ c.within.ensures.passed top.within (cons c.deref.result.now (cons c.deref-in-With.result.now nil)) c.args.core.now (nodes.two_are top.within _ _ _ _ _ (sym (ap branch c.in-With.is) ∙ c.core.view_is) c.deref.ensures c.deref-in-With.ensures) c.within.ensures.only
+
+pub node-returns-in-Over-clause-only : goal.node-returns-in-Over-clause-only
+node-returns-in-Over-clause-only g t c =
+    only_parts _ _ c.for_all.ensures.passed (top.over fun.ForAll) (cons c.deref-in-Over.result.now (all c.as_slice-in-Over.result.now)) c.args.core.now (nodes.over_is (g.W.Env.fixed c.args.world.now).types c.args.scope.now _ _ c.deref-in-Over.result.now _ c.as_slice-in-Over.result.now _ (sym (ap branch c.in-Over.is) ∙ c.core.view_is) c.deref-in-Over.ensures c.as_slice-in-Over.ensures c.requires.can c.requires.acts) c.for_all.ensures.only
+
+pub node-returns-in_err-value-in-Dot-clause-only : goal.node-returns-in_err-value-in-Dot-clause-only
+node-returns-in_err-value-in-Dot-clause-only g t c =
+    only_one _ _ c.perform.ensures.passed _ _ c.deref-in-Dot.result.now c.args.core.now (sym (ap branch c.in-Dot.is) ∙ c.core.view_is) c.deref-in-Dot.ensures c.perform.ensures.only
+
+pub node-returns-in_ok-field_of-in-Dot-clause-only : goal.node-returns-in_ok-field_of-in-Dot-clause-only
+node-returns-in_ok-field_of-in-Dot-clause-only g t c =
+    only_one _ _ c.perform.ensures.passed _ _ c.deref-in-Dot.result.now c.args.core.now (sym (ap branch c.in-Dot.is) ∙ c.core.view_is) c.deref-in-Dot.ensures c.perform.ensures.only
+
+pub node-returns-in_err-field_of-in-Dot-clause-only : goal.node-returns-in_err-field_of-in-Dot-clause-only
+node-returns-in_err-field_of-in-Dot-clause-only g t c =
+    only_one _ _ c.perform.ensures.passed _ _ c.deref-in-Dot.result.now c.args.core.now (sym (ap branch c.in-Dot.is) ∙ c.core.view_is) c.deref-in-Dot.ensures c.perform.ensures.only
+
+pub node-returns-in_err-value-in-Coerce-clause-only : goal.node-returns-in_err-value-in-Coerce-clause-only
+node-returns-in_err-value-in-Coerce-clause-only g t c =
+    only_one _ _ c.perform-in-Coerce.ensures.passed _ _ c.deref-in-Coerce.result.now c.args.core.now (sym (ap branch c.in-Coerce.is) ∙ c.core.view_is) c.deref-in-Coerce.ensures c.perform-in-Coerce.ensures.only
+
+pub node-returns-in_ok-coerce-in-Coerce-clause-only : goal.node-returns-in_ok-coerce-in-Coerce-clause-only
+node-returns-in_ok-coerce-in-Coerce-clause-only g t c =
+    only_one _ _ c.perform-in-Coerce.ensures.passed _ _ c.deref-in-Coerce.result.now c.args.core.now (sym (ap branch c.in-Coerce.is) ∙ c.core.view_is) c.deref-in-Coerce.ensures c.perform-in-Coerce.ensures.only
+
+pub node-returns-in_err-coerce-in-Coerce-clause-only : goal.node-returns-in_err-coerce-in-Coerce-clause-only
+node-returns-in_err-coerce-in-Coerce-clause-only g t c =
+    only_one _ _ c.perform-in-Coerce.ensures.passed _ _ c.deref-in-Coerce.result.now c.args.core.now (sym (ap branch c.in-Coerce.is) ∙ c.core.view_is) c.deref-in-Coerce.ensures c.perform-in-Coerce.ensures.only
+
+pub node-returns-in_err-values-in-List-clause-only : goal.node-returns-in_err-values-in-List-clause-only
+node-returns-in_err-values-in-List-clause-only g t c =
+    only_parts _ _ c.part_values.ensures.passed _ (all c.as_slice-in-List.result.now) c.args.core.now (heads.parts_are _ _ c.as_slice-in-List.result.now c.args.core.now (sym (ap branch c.in-List.is) ∙ c.core.view_is) c.as_slice-in-List.ensures) c.part_values.ensures.only
+
+pub node-returns-in_ok-list-in-List-clause-only : goal.node-returns-in_ok-list-in-List-clause-only
+node-returns-in_ok-list-in-List-clause-only g t c =
+    only_parts _ _ c.part_values.ensures.passed _ (all c.as_slice-in-List.result.now) c.args.core.now (heads.parts_are _ _ c.as_slice-in-List.result.now c.args.core.now (sym (ap branch c.in-List.is) ∙ c.core.view_is) c.as_slice-in-List.ensures) c.part_values.ensures.only
+
+pub node-returns-in_err-list-in-List-clause-only : goal.node-returns-in_err-list-in-List-clause-only
+node-returns-in_err-list-in-List-clause-only g t c =
+    only_parts _ _ c.part_values.ensures.passed _ (all c.as_slice-in-List.result.now) c.args.core.now (heads.parts_are _ _ c.as_slice-in-List.result.now c.args.core.now (sym (ap branch c.in-List.is) ∙ c.core.view_is) c.as_slice-in-List.ensures) c.part_values.ensures.only
+
+pub perform-returns-else-acts-clause-only : goal.perform-returns-else-acts-clause-only
+perform-returns-else-acts-clause-only g t c =
+    only_staying (MayWrite c.args.core.now) _ _ c.evaluate.ensures.passed c.evaluate.ensures.stays
+
+pub within-returns-in_err-value-clause-only : goal.within-returns-in_err-value-clause-only
+within-returns-in_err-value-clause-only g t c =
+    only_wider (MayWrite c.args.part.now) (AnyMayWrite (cons c.args.part.now (cons c.args.formula.now nil))) (λ x m. inl m) _ _ c.perform.ensures.passed c.perform.ensures.only
+
+pub within-returns-in-Err-clause-only : goal.within-returns-in-Err-clause-only
+within-returns-in-Err-clause-only g t c =
+    only_wider (MayWrite c.args.part.now) (AnyMayWrite (cons c.args.part.now (cons c.args.formula.now nil))) (λ x m. inl m) _ _ c.perform.ensures.passed c.perform.ensures.only
+
+pub within-returns-in-Ok-clause-only : goal.within-returns-in-Ok-clause-only
+within-returns-in-Ok-clause-only g t c =
+    only_over (MayWrite c.args.part.now) (MayWrite c.args.formula.now) (AnyMayWrite (cons c.args.part.now (cons c.args.formula.now nil))) (λ x m. inl m) (λ x m. inr (inl m)) _ _ _ c.perform.ensures.passed c.in_scope.ensures.passed c.perform.ensures.only c.in_scope.ensures.only
+
+pub switch-returns-in_err-value-clause-only : goal.switch-returns-in_err-value-clause-only
+switch-returns-in_err-value-clause-only g t c =
+    only_wider (MayWrite c.in-Some.part.now) (AnyMayWrite (all c.args.parts.now)) (first_may c.args.parts.now c.in-Some.part.now c.in-Some.others.now (AnyMayWrite (all c.args.parts.now)) c.in-Some.ensures.cases.0 (λ x m. m)) _ _ c.perform.ensures.passed c.perform.ensures.only
+
+pub switch-returns-in-Err-clause-only : goal.switch-returns-in-Err-clause-only
+switch-returns-in-Err-clause-only g t c =
+    only_wider (MayWrite c.in-Some.part.now) (AnyMayWrite (all c.args.parts.now)) (first_may c.args.parts.now c.in-Some.part.now c.in-Some.others.now (AnyMayWrite (all c.args.parts.now)) c.in-Some.ensures.cases.0 (λ x m. m)) _ _ c.perform.ensures.passed c.perform.ensures.only
+
+pub switch-returns-in-Ok-clause-only : goal.switch-returns-in-Ok-clause-only
+switch-returns-in-Ok-clause-only g t c =
+    only_over (MayWrite c.in-Some.part.now) (AnyMayWrite (all c.in-Some.others.now)) (AnyMayWrite (all c.args.parts.now)) (first_may c.args.parts.now c.in-Some.part.now c.in-Some.others.now (AnyMayWrite (all c.args.parts.now)) c.in-Some.ensures.cases.0 (λ x m. m))
+    (others_may c.args.parts.now c.in-Some.part.now c.in-Some.others.now (AnyMayWrite (all c.args.parts.now)) c.in-Some.ensures.cases.0 (λ x m. m)) _ _ _ c.perform.ensures.passed c.matches.ensures.passed c.perform.ensures.only c.matches.ensures.only
+
+pub for_all-returns-in_err-value-clause-only : goal.for_all-returns-in_err-value-clause-only
+for_all-returns-in_err-value-clause-only g t c =
+    only_wider (MayWrite c.args.table.now) (AnyMayWrite (cons c.args.table.now (all c.args.parts.now))) (λ x m. inl m) _ _ c.perform.ensures.passed c.perform.ensures.only
+
+pub for_all-returns-in-Err-clause-only : goal.for_all-returns-in-Err-clause-only
+for_all-returns-in-Err-clause-only g t c =
+    only_wider (MayWrite c.args.table.now) (AnyMayWrite (cons c.args.table.now (all c.args.parts.now))) (λ x m. inl m) _ _ c.perform.ensures.passed c.perform.ensures.only
+
+pub for_all-returns-in_err-values-in-Ok-clause-only : goal.for_all-returns-in_err-values-in-Ok-clause-only
+for_all-returns-in_err-values-in-Ok-clause-only g t c =
+    only_over (MayWrite c.args.table.now) (MayWrite c.in-Some.formula.now) (AnyMayWrite (cons c.args.table.now (all c.args.parts.now))) (λ x m. inl m)
+    (first_may c.args.parts.now c.in-Some.formula.now _ (AnyMayWrite (cons c.args.table.now (all c.args.parts.now))) c.in-Some.ensures.cases.0 (λ x m. inr m)) _ _ _ c.perform.ensures.passed c.each.ensures.passed c.perform.ensures.only c.each.ensures.only
+
+pub for_all-returns-in_ok-for_all-in-Ok-clause-only : goal.for_all-returns-in_ok-for_all-in-Ok-clause-only
+for_all-returns-in_ok-for_all-in-Ok-clause-only g t c =
+    only_over (MayWrite c.args.table.now) (MayWrite c.in-Some.formula.now) (AnyMayWrite (cons c.args.table.now (all c.args.parts.now))) (λ x m. inl m)
+    (first_may c.args.parts.now c.in-Some.formula.now _ (AnyMayWrite (cons c.args.table.now (all c.args.parts.now))) c.in-Some.ensures.cases.0 (λ x m. inr m)) _ _ _ c.perform.ensures.passed c.each.ensures.passed c.perform.ensures.only c.each.ensures.only
+
+pub for_all-returns-in_err-for_all-in-Ok-clause-only : goal.for_all-returns-in_err-for_all-in-Ok-clause-only
+for_all-returns-in_err-for_all-in-Ok-clause-only g t c =
+    only_over (MayWrite c.args.table.now) (MayWrite c.in-Some.formula.now) (AnyMayWrite (cons c.args.table.now (all c.args.parts.now))) (λ x m. inl m)
+    (first_may c.args.parts.now c.in-Some.formula.now _ (AnyMayWrite (cons c.args.table.now (all c.args.parts.now))) c.in-Some.ensures.cases.0 (λ x m. inr m)) _ _ _ c.perform.ensures.passed c.each.ensures.passed c.perform.ensures.only c.each.ensures.only
+
+pub update_if-returns-in_err-value-clause-only : goal.update_if-returns-in_err-value-clause-only
+update_if-returns-in_err-value-clause-only g t c =
+    only_wider (MayWrite c.filter_and_change.result.0.now) (MayWrite (of (top.act (deed.UpdateIf c.args.target)) (all c.args.parts.now))) (first_may c.args.parts.now c.filter_and_change.result.0.now (c.filter_and_change.result.1.now ∷ []) (MayWrite (of (top.act (deed.UpdateIf c.args.target)) (all c.args.parts.now))) c.filter_and_change.ensures (λ x m. inr m)) _ _ c.perform.ensures.passed c.perform.ensures.only
+
+pub update_if-returns-in-Err-clause-only : goal.update_if-returns-in-Err-clause-only
+update_if-returns-in-Err-clause-only g t c =
+    only_wider (MayWrite c.filter_and_change.result.0.now) (MayWrite (of (top.act (deed.UpdateIf c.args.target)) (all c.args.parts.now))) (first_may c.args.parts.now c.filter_and_change.result.0.now (c.filter_and_change.result.1.now ∷ []) (MayWrite (of (top.act (deed.UpdateIf c.args.target)) (all c.args.parts.now))) c.filter_and_change.ensures (λ x m. inr m)) _ _ c.perform.ensures.passed c.perform.ensures.only
+
+pub update_if-returns-in_err-changes-in-Ok-clause-only : goal.update_if-returns-in_err-changes-in-Ok-clause-only
+update_if-returns-in_err-changes-in-Ok-clause-only g t c =
+    only_over (MayWrite c.filter_and_change.result.0.now) (MayWrite c.filter_and_change.result.1.now) (MayWrite (of (top.act (deed.UpdateIf c.args.target)) (all c.args.parts.now))) (first_may c.args.parts.now c.filter_and_change.result.0.now (c.filter_and_change.result.1.now ∷ []) (MayWrite (of (top.act (deed.UpdateIf c.args.target)) (all c.args.parts.now))) c.filter_and_change.ensures (λ x m. inr m))
+    (first_may (c.filter_and_change.result.1.now ∷ []) c.filter_and_change.result.1.now [] (MayWrite (of (top.act (deed.UpdateIf c.args.target)) (all c.args.parts.now))) refl (others_may c.args.parts.now c.filter_and_change.result.0.now (c.filter_and_change.result.1.now ∷ []) (MayWrite (of (top.act (deed.UpdateIf c.args.target)) (all c.args.parts.now))) c.filter_and_change.ensures (λ x m. inr m))) _ _ _ c.perform.ensures.passed c.each.ensures.passed c.perform.ensures.only c.each.ensures.only
+
+pub update_if-returns-in_ok-changes-in-Ok-clause-only : goal.update_if-returns-in_ok-changes-in-Ok-clause-only
+update_if-returns-in_ok-changes-in-Ok-clause-only g t c =
+    only_over (MayWrite (of (top.act (deed.UpdateIf c.args.target)) (all c.args.parts.now))) (DeedMayWrite (deed.UpdateIf c.args.target)) (MayWrite (of (top.act (deed.UpdateIf c.args.target)) (all c.args.parts.now))) (λ x m. m) (λ x m. inl m) _ _ _ (passed_on _ _ _ c.perform.ensures.passed c.each.ensures.passed) c.update.ensures.passed
+    (only_over (MayWrite c.filter_and_change.result.0.now) (MayWrite c.filter_and_change.result.1.now) (MayWrite (of (top.act (deed.UpdateIf c.args.target)) (all c.args.parts.now))) (first_may c.args.parts.now c.filter_and_change.result.0.now (c.filter_and_change.result.1.now ∷ []) (MayWrite (of (top.act (deed.UpdateIf c.args.target)) (all c.args.parts.now))) c.filter_and_change.ensures (λ x m. inr m))
+    (first_may (c.filter_and_change.result.1.now ∷ []) c.filter_and_change.result.1.now [] (MayWrite (of (top.act (deed.UpdateIf c.args.target)) (all c.args.parts.now))) refl (others_may c.args.parts.now c.filter_and_change.result.0.now (c.filter_and_change.result.1.now ∷ []) (MayWrite (of (top.act (deed.UpdateIf c.args.target)) (all c.args.parts.now))) c.filter_and_change.ensures (λ x m. inr m))) _ _ _ c.perform.ensures.passed c.each.ensures.passed c.perform.ensures.only c.each.ensures.only)
+    c.update.ensures.only
+
+pub act_deed-returns-in-UpdateIf-clause-only : goal.act_deed-returns-in-UpdateIf-clause-only
+act_deed-returns-in-UpdateIf-clause-only g t c =
+    only_same _ _ c.update_if.ensures.passed _ (of (top.act c.args.deed.now) (all c.args.parts.now)) (ap (λ d. of (top.act d) (all c.args.parts.now)) (sym c.in-UpdateIf.is)) c.update_if.ensures.only
+
+pub act_deed-returns-in_err-values-in_default-clause-only : goal.act_deed-returns-in_err-values-in_default-clause-only
+act_deed-returns-in_err-values-in_default-clause-only g t c =
+    only_wider (AnyMayWrite (all c.args.parts.now)) (MayWrite (of (top.act c.args.deed.now) (all c.args.parts.now))) (λ x m. inr m) _ _ c.part_values.ensures.passed c.part_values.ensures.only

@@ -7,13 +7,16 @@ use Rattle.fx_scalar.specs.LazyForms.{decision_of, none_left}
 use Rattle.fx_trees.specs.declared.functions.Form.TheVariants as form
 use Rattle.fx_trees.specs.Term.{all, term_size, terms_size}
 use Rattle.fx_value.specs.Fits.{fits_in}
+use Rattle.fx_trees.specs.declared.sources.Source.{Source}
 use Rattle.fx_deeds.specs.Fitting.{AreOf}
 use Rattle.fx_deeds.specs.Lefts.{Decides}
 use Rattle.fx_deeds.specs.Stages.{Passed, stage}
 use Rattle.fx_deeds.specs.State.{ground}
+use Rattle.fx_deeds.specs.Writable.{WritesOnly}
 use Rattle.fx_behave.proofs.Sequences.{DecideAll, branches_of, chain_of, each_of, parts_of, recovery_of}
 use Rattle.fx_behave.specs.Actable.{AreActable, AreBranches, AreRecoveries, EndsIn, IsActableInside, IsMatchedBy}
 use Rattle.fx_behave.specs.Perform.{matching}
+use Rattle.fx_behave.specs.Writable.{AnyMayWrite, MayWrite}
 use Rattle.fx_behave.proofs.acting.+perform.Given as goal
 
 abbrev pub decreases-perform : goal.decreases-perform
@@ -69,6 +72,8 @@ abbrev pub invariant-chain-loop-part : goal.invariant-chain-loop-part
 invariant-chain-loop-part g l = record {
   passed : Passed (stage (g.W.Env.fixed l.fn.world) (g.W.World.state l.fn.world) (g.W.Env.marks l.fn.world) (g.W.Env.visited l.fn.world))
       (stage (g.W.Env.fixed l.world) (g.W.World.state l.world) (g.W.Env.marks l.world) (g.W.Env.visited l.world));
+  allowed : (x : Source) → AnyMayWrite (all l.rest) x → AnyMayWrite (all l.parts) x;
+  only : Goes (IsLost (g.W.Env.marks l.fn.world) (g.W.Env.marks l.world)) (WritesOnly (AnyMayWrite (all l.parts))) (g.W.World.state l.fn.world) (g.W.World.state l.world);
   scope : l.scope ≡ l.fn.scope;
   fits : (u : Shape) → EndsIn (g.W.Env.fixed l.fn.world).types l.fn.scope u l.parts → EndsIn (g.W.Env.fixed l.fn.world).types l.fn.scope u l.rest;
   done : Goes (IsLost (g.W.Env.marks l.fn.world) (g.W.Env.marks l.world)) (Decides (chain_of (ground g.W.World.gives (g.W.Env.fixed l.fn.world)) l.fn.scope l.rest) (chain_of (ground g.W.World.gives (g.W.Env.fixed l.fn.world)) l.fn.scope l.parts)) (g.W.World.state l.fn.world) (g.W.World.state l.world);
@@ -83,6 +88,8 @@ abbrev pub invariant-branches-loop-part : goal.invariant-branches-loop-part
 invariant-branches-loop-part g l = record {
   passed : Passed (stage (g.W.Env.fixed l.fn.world) (g.W.World.state l.fn.world) (g.W.Env.marks l.fn.world) (g.W.Env.visited l.fn.world))
       (stage (g.W.Env.fixed l.world) (g.W.World.state l.world) (g.W.Env.marks l.world) (g.W.Env.visited l.world));
+  allowed : (x : Source) → AnyMayWrite (all l.rest) x → AnyMayWrite (all l.parts) x;
+  only : Goes (IsLost (g.W.Env.marks l.fn.world) (g.W.Env.marks l.world)) (WritesOnly (AnyMayWrite (all l.parts))) (g.W.World.state l.fn.world) (g.W.World.state l.world);
   scope : l.scope ≡ l.fn.scope;
   fits : (u : Shape) → AreBranches (g.W.Env.fixed l.fn.world).types l.fn.scope u l.parts → AreBranches (g.W.Env.fixed l.fn.world).types l.fn.scope u l.rest;
   done : Goes (IsLost (g.W.Env.marks l.fn.world) (g.W.Env.marks l.world)) (Decides (branches_of decision_of (ground g.W.World.gives (g.W.Env.fixed l.fn.world)) l.fn.scope l.rest) (branches_of decision_of (ground g.W.World.gives (g.W.Env.fixed l.fn.world)) l.fn.scope l.parts)) (g.W.World.state l.fn.world) (g.W.World.state l.world);
@@ -97,6 +104,8 @@ abbrev pub invariant-matches-loop-part : goal.invariant-matches-loop-part
 invariant-matches-loop-part g l = record {
   passed : Passed (stage (g.W.Env.fixed l.fn.world) (g.W.World.state l.fn.world) (g.W.Env.marks l.fn.world) (g.W.Env.visited l.fn.world))
       (stage (g.W.Env.fixed l.world) (g.W.World.state l.world) (g.W.Env.marks l.world) (g.W.Env.visited l.world));
+  allowed : (x : Source) → AnyMayWrite (all l.rest) x → AnyMayWrite (all l.parts) x;
+  only : Goes (IsLost (g.W.Env.marks l.fn.world) (g.W.Env.marks l.world)) (WritesOnly (AnyMayWrite (all l.parts))) (g.W.World.state l.fn.world) (g.W.World.state l.world);
   scope : l.scope ≡ l.fn.scope;
   wanted : l.wanted ≡ l.fn.wanted;
   fits : (u : Shape) → IsMatchedBy (g.W.Env.fixed l.fn.world).types l.fn.scope (view l.fn.wanted) u l.parts → IsMatchedBy (g.W.Env.fixed l.fn.world).types l.fn.scope (view l.fn.wanted) u l.rest;
@@ -112,6 +121,8 @@ abbrev pub invariant-recover-loop-part : goal.invariant-recover-loop-part
 invariant-recover-loop-part g l = record {
   passed : Passed (stage (g.W.Env.fixed l.fn.world) (g.W.World.state l.fn.world) (g.W.Env.marks l.fn.world) (g.W.Env.visited l.fn.world))
       (stage (g.W.Env.fixed l.world) (g.W.World.state l.world) (g.W.Env.marks l.world) (g.W.Env.visited l.world));
+  allowed : (x : Source) → AnyMayWrite (all l.rest) x → AnyMayWrite (all l.parts) x;
+  only : Goes (IsLost (g.W.Env.marks l.fn.world) (g.W.Env.marks l.world)) (WritesOnly (AnyMayWrite (all l.parts))) (g.W.World.state l.fn.world) (g.W.World.state l.world);
   scope : l.scope ≡ l.fn.scope;
   fits : (u : Shape) → AreRecoveries (g.W.Env.fixed l.fn.world).types l.fn.scope u l.parts → AreRecoveries (g.W.Env.fixed l.fn.world).types l.fn.scope u l.rest × (fits_in (view l.last) u ≡ true);
   done : Goes (IsLost (g.W.Env.marks l.fn.world) (g.W.Env.marks l.world)) (Decides (recovery_of (ground g.W.World.gives (g.W.Env.fixed l.fn.world)) l.fn.scope (view l.last) l.rest) (recovery_of (ground g.W.World.gives (g.W.Env.fixed l.fn.world)) l.fn.scope (none_left form.IfError) l.parts)) (g.W.World.state l.fn.world) (g.W.World.state l.world);
@@ -126,6 +137,7 @@ abbrev pub invariant-each-loop-row : goal.invariant-each-loop-row
 invariant-each-loop-row g l = record {
   passed : Passed (stage (g.W.Env.fixed l.fn.world) (g.W.World.state l.fn.world) (g.W.Env.marks l.fn.world) (g.W.Env.visited l.fn.world))
       (stage (g.W.Env.fixed l.world) (g.W.World.state l.world) (g.W.Env.marks l.world) (g.W.Env.visited l.world));
+  only : Goes (IsLost (g.W.Env.marks l.fn.world) (g.W.Env.marks l.world)) (WritesOnly (MayWrite l.formula)) (g.W.World.state l.fn.world) (g.W.World.state l.world);
   scope : l.scope ≡ l.fn.scope;
   fits : (u : Shape) → IsActableInside (g.W.Env.fixed l.fn.world).types l.fn.scope u l.formula l.rows → IsActableInside (g.W.Env.fixed l.fn.world).types l.fn.scope u l.formula l.rest × AreOf u (map view l.values.items);
   done : Goes (IsLost (g.W.Env.marks l.fn.world) (g.W.Env.marks l.world)) (DecideAll (map view l.values.items) (each_of (ground g.W.World.gives (g.W.Env.fixed l.fn.world)) l.fn.scope l.formula l.rest) (each_of (ground g.W.World.gives (g.W.Env.fixed l.fn.world)) l.fn.scope l.formula l.rows)) (g.W.World.state l.fn.world) (g.W.World.state l.world);
@@ -139,6 +151,8 @@ abbrev pub invariant-part_values-loop-part : goal.invariant-part_values-loop-par
 invariant-part_values-loop-part g l = record {
   passed : Passed (stage (g.W.Env.fixed l.fn.world) (g.W.World.state l.fn.world) (g.W.Env.marks l.fn.world) (g.W.Env.visited l.fn.world))
       (stage (g.W.Env.fixed l.world) (g.W.World.state l.world) (g.W.Env.marks l.world) (g.W.Env.visited l.world));
+  allowed : (x : Source) → AnyMayWrite (all l.rest) x → AnyMayWrite (all l.parts) x;
+  only : Goes (IsLost (g.W.Env.marks l.fn.world) (g.W.Env.marks l.world)) (WritesOnly (AnyMayWrite (all l.parts))) (g.W.World.state l.fn.world) (g.W.World.state l.world);
   scope : l.scope ≡ l.fn.scope;
   fits : (us : List Shape) → AreActable (g.W.Env.fixed l.fn.world).types l.fn.scope us l.parts → (done : List Shape) × (left : List Shape) × (us ≡ done ++ left) × AreFit (map view l.values.items) done × AreActable (g.W.Env.fixed l.fn.world).types l.fn.scope left l.rest;
   done : Goes (IsLost (g.W.Env.marks l.fn.world) (g.W.Env.marks l.world)) (DecideAll (map view l.values.items) (parts_of (ground g.W.World.gives (g.W.Env.fixed l.fn.world)) l.fn.scope l.rest) (parts_of (ground g.W.World.gives (g.W.Env.fixed l.fn.world)) l.fn.scope l.parts)) (g.W.World.state l.fn.world) (g.W.World.state l.world);

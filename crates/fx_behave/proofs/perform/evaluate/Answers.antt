@@ -1,6 +1,10 @@
 use Rattle.std.proofs.lemmas.Result.{IfOk-weaker}
+use Rattle.std.proofs.Common.{◌∙◌}
+use Rattle.fx_base.proofs.Silences.{goes_two}
+use Rattle.fx_base.specs.Silence.{IsLost}
+use Rattle.fx_base.specs.Telling.{Stays}
 use Rattle.fx_data.specs.ValueView.{view}
-use Rattle.fx_deeds.proofs.Passing.{passed_on, passed_staying}
+use Rattle.fx_deeds.proofs.Passing.{passed_on, passed_staying, same_state}
 use Rattle.fx_deeds.proofs.Told.{state_stays}
 use Rattle.fx_behave.proofs.Purely.{can_take, reads_tables, take_ready, taken_done}
 use Rattle.fx_behave.proofs.perform.evaluate.Goals as goal
@@ -41,3 +45,15 @@ returns-clause-fits g c =
 pub returns-in_err-ready-clause-passed : goal.returns-in_err-ready-clause-passed
 returns-in_err-ready-clause-passed g c =
     passed_staying _ _ c.ready.ensures.fixed c.ready.ensures.stays c.ready.ensures.marks c.ready.ensures.visited
+
+pub returns-in_err-taking-clause-stays : goal.returns-in_err-taking-clause-stays
+returns-in_err-taking-clause-stays g c =
+    same_state (IsLost (g.W.Env.marks c.args.world.now) (g.W.Env.marks c.args.world.now)) (g.W.World.state c.args.world.now)
+
+pub returns-clause-stays : goal.returns-clause-stays
+returns-clause-stays g c =
+    let old = c.args.world.now in
+    let mid = c.ready.new.self in
+    let new = c.eval.new.env in
+    goes_two Stays Stays Stays (λ r s t p q. q ∙ p) (g.W.Env.marks old) (g.W.Env.marks mid) (g.W.Env.marks new) c.ready.ensures.marks c.eval.ensures.marks (g.W.World.state old) (g.W.World.state mid) (g.W.World.state new)
+    c.ready.ensures.stays (state_stays _ (g.W.Env.told mid) (g.W.Env.told new) _ _ (g.met.W.World.keeps mid new) (g.met.W.World.lost mid) (g.met.W.World.lost new) c.eval.ensures.told)
