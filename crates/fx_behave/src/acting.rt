@@ -37,8 +37,9 @@ use std::alloc::Global;
 use std::sync::ledger::Ledger;
 
 /// Performs a behaviour formula, which is well typed under the world's names and acts in its places alone, in a
-/// scope that fits it: what acts in it changes the world, from left to right. What has changed was written, at each
-/// exit. After a `Stop` the world may hold a part of the changes. `Keeper` only where a fault was counted.
+/// scope that fits it: what acts in it changes the world, from left to right. At each exit what has changed was written,
+/// and no source was but those that its deeds name. After a `Stop` the world may hold a part of the changes. `Keeper`
+/// only where a fault was counted.
 pub fn act<W: World, L: Ledger>(
     alloc: Global,
     world: &mut W,

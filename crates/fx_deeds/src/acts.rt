@@ -20,7 +20,8 @@ use fx_trees::Deed;
 use std::alloc::Global;
 use std::sync::ledger::Ledger;
 
-/// Does a deed with the values of its parts. `UpdateIf`, whose parts have a value for each row, has a call of its own.
+/// Does a deed with the values of its parts. `UpdateIf`, whose parts have a value for each row, has a call of its own. At
+/// each exit no source was written but those that the deed names.
 pub fn do_deed<W: World, L: Ledger>(
     alloc: Global,
     world: &mut W,
