@@ -1,8 +1,12 @@
 -- An emptied cache is right, and so is a new one.
-use Rattle.std.proofs.Common.{◌≡◌, ℕ, zero, suc, ◌<◌, ◌≤◌, List, length, true, get_or, replicate, Option, Some, None, refl, sym, subst, ap, ◌∙◌, arith}
-use Rattle.std.proofs.lemmas.List.{length-replicate}
+use Rattle.std.proofs.Common.{◌≡◌, ℕ, zero, suc, ◌+◌, ◌<◌, ◌≤◌, List, [], ◌∷◌, length, true, get_or, map, replicate, set, Option, Some, None, refl, sym, subst, ap, ◌∙◌, arith, inl, inr}
+use Rattle.std.proofs.lemmas.Bool.{cases_eq}
+use Rattle.std.proofs.lemmas.List.{get_or-set_other, length-replicate, map-set}
 use Rattle.fx_data.specs.TypeView.{shape}
+use Rattle.fx_data.specs.ValueView.{view}
 use Rattle.fx_data.specs.Values.{Data, blank}
+use Rattle.fx_data.specs.declared.values.Value.{Value}
+use Rattle.fx_data.specs.declared.values.Value.TheVariants.{Blank}
 use Rattle.fx_trees.specs.declared.sources.Source.{Source}
 use Rattle.fx_value.specs.Fits.{fits_in}
 use Rattle.recalc.specs.Asking.{ToldRows}
@@ -54,6 +58,21 @@ new_numbers a old new short h = record {
   places = h.places;
   day = ap (λ (v : Values). v.day) h.values;
 }
+
+-- ---- values that are made blank
+set_blank : (ds : List Data) (k : ℕ) → get_or (set ds k blank) k blank ≡ blank
+set_blank [] k = refl
+set_blank (d ∷ ds) zero = refl
+set_blank (d ∷ ds) (suc k) = set_blank ds k
+
+-- one more
+pub blank_more : (vs : List Value) (i : ℕ) → ((k : ℕ) → k < i → cell_value (map view vs) k ≡ blank) → (k : ℕ) → k < i + 1 → cell_value (map view (set vs i Blank)) k ≡ blank
+blank_more vs i before k low =
+    ap (λ (ds : List Data). cell_value ds k) (map-set view vs i Blank)
+    ∙ elim (cases_eq k i) [
+      | inl e ↦ subst (λ n. get_or (set (map view vs) n blank) k blank ≡ blank) e (set_blank (map view vs) k)
+      | inr other ↦ get_or-set_other (map view vs) i k blank blank other ∙ before k (omega (arith, low, other))
+    ]
 
 -- ---- a new cache
 replicate_at : {X : Type 0} (n k : ℕ) (x : X) → get_or (replicate n x) k x ≡ x

@@ -1,5 +1,5 @@
 -- A cache is filled with what an edit left, one cell after another by the order of the edited app.
-use Rattle.std.proofs.Common.{◌≡◌, ◌≢◌, ◌⊎◌, ℕ, zero, suc, ◌+◌, ◌/◌, ◌<◌, ◌≤◌, List, [], ◌∷◌, length, get_or, set, pos, true, Option, Some, None, IsSome, refl, sym, subst, ap, ◌∙◌, arith, inl, inr}
+use Rattle.std.proofs.Common.{◌≡◌, ◌≢◌, ◌⊎◌, ℕ, zero, suc, ◌+◌, ◌<◌, ◌≤◌, List, [], ◌∷◌, length, get_or, set, true, Option, Some, None, IsSome, refl, sym, subst, ap, ◌∙◌, arith, inl, inr}
 use Rattle.std.proofs.lemmas.Bool.{cases_eq}
 use Rattle.std.proofs.lemmas.List.{get_or-set_other, get_or-set_same, length-set}
 use Rattle.std.specs.Prelude.{option_map, slice_get, slice_index}
@@ -7,9 +7,6 @@ use Rattle.std.proofs.lemmas.Option.{slice_get_within}
 use Rattle.fx_data.specs.TypeView.{shape}
 use Rattle.fx_data.specs.Types.{Shape}
 use Rattle.fx_data.specs.Values.{Data, blank}
-use Rattle.fx_scalar.proofs.Single.{day_one}
-use Rattle.fx_scalar.specs.Answers.{date_answer}
-use Rattle.fx_scalar.specs.ScalarFunctions.{IsToday}
 use Rattle.fx_trees.specs.declared.names.Collection.{Collection}
 use Rattle.fx_trees.specs.declared.sources.Source.TheVariants as source
 use Rattle.fx_value.specs.Fits.{fits_in}
@@ -23,14 +20,10 @@ use Rattle.recalc.proofs.Marking.{at, leans_earlier, once}
 use Rattle.session_state.proofs.Moving.{apart, was as was_of}
 use Rattle.session_state.specs.Carrying.{collection_was, place_of_collection}
 use Rattle.session_state.specs.Sessions.{SessionState}
-use Rattle.recalc.specs.Outcomes.{IsEmpty}
+use Rattle.recalc.specs.Outcomes.{IsRestarted, let_out}
 use Rattle.recalc.specs.Carrying.{AreHad, IsCarried, IsCarriedAt, IsEditOf, IsOldCell, cell_was, place_of_cell, received, taken_from}
-use Rattle.recalc.specs.Kept.{IsClean, IsInOrder, Kept, Leans, place_of, stamp_of, value_of}
+use Rattle.recalc.specs.Kept.{IsClean, IsInOrder, IsRoomFor, Kept, Leans, place_of, stamp_of, value_of}
 use Rattle.recalc.specs.declared.stamps.Stamp.{Stamp}
-
--- a moment has one day
-pub one_day : (m : ℕ) (d e : Data) → IsToday m d → IsToday m e → d ≡ e
-one_day m d e h k = h.2 ∙ ap date_answer (day_one (pos (m / 86400)) h.0 k.0 h.1 k.1) ∙ sym k.2
 
 -- no two cells of the edited app were one
 abbrev pub AreApart : App → App → Type 0
@@ -225,26 +218,39 @@ module _ (old new : App) (before from after : Kept) (i j : ℕ) (e : Stamp) (sou
     order = taken_order old from j f.order;
   }
 
--- a new cache is filled with nothing yet
-pub filling_start : (old new : App) (before room : Kept) → IsInOrder old before → IsInOrder new room → IsEmpty room → room.values.day ≡ before.values.day → IsFilling old new before before 0 (record room { emptied = before.emptied; last = before.last })
-filling_start old new before room o r empty day = record {
-  kept = λ k e h. (let no : None ≡ Some e = sym (empty.stamps k) ∙ h in absurd cc);
-  had = λ k e h. (let no : None ≡ Some e = sym (empty.stamps k) ∙ h in absurd cc);
-  unkept = λ k h. record { bare = r.bare k; fits = r.fits k };
+-- in the room nothing is kept yet
+pub filling_start : (old new : App) (before after : Kept) → IsInOrder old before → IsRoomFor new before.room → IsRestarted (length new.cells) before after → IsFilling old new before (let_out before) 0 after
+filling_start old new before after o room h = record {
+  kept = λ k e is. (let no : None ≡ Some e = sym (h.stamps k) ∙ is in absurd cc);
+  had = λ k e is. (let no : None ≡ Some e = sym (h.stamps k) ∙ is in absurd cc);
+  unkept = λ k is. record { bare = λ aside. h.values k; fits = λ i there. subst (λ d. fits_in d (shape i.ty) ≡ true) (sym (h.values k)) refl };
   whole = λ p j low. absurd (omega (arith, low));
-  rest = λ p low inside. empty.stamps (at new p);
-  emptied = refl;
-  last = refl;
-  day = day;
-  zero = empty.versions;
-  few = r.few;
-  stamps = r.stamps;
-  values = r.values;
-  places = r.places;
+  rest = λ p low inside. h.stamps (at new p);
+  emptied = h.emptied;
+  last = h.last;
+  day = h.day;
+  zero = h.versions;
+  few = room.few;
+  stamps = h.cells;
+  values = h.valued;
+  places = λ s there. subst (λ n. place_of s < n) (sym h.places) (room.places s there);
   same = (refl, refl);
   left = λ p j low inside was. refl;
-  order = o;
+  order = out_order old before o;
 }
+  where
+    out_order : (a : App) (c : Kept) → IsInOrder a c → IsInOrder a (let_out c)
+    out_order a c o = record {
+      few = o.few;
+      stamps = o.stamps;
+      values = o.values;
+      places = o.places;
+      fits = o.fits;
+      bare = o.bare;
+      alone = o.alone;
+      leans = o.leans;
+      low = record { versions = o.low.versions; checked = o.low.checked; moved = o.low.moved };
+    }
 
 pub cells_apart : (old new : App) → AreApart old new
 cells_apart old new = apart (λ (c : CellInfo). c.ty) (place_of_cell old) (place_of_cell new) old.cells new.cells

@@ -4,11 +4,12 @@ use Rattle.fx_data.specs.Values.{Data}
 use Rattle.fx_trees.specs.declared.sources.Source.{Source}
 use Rattle.recalc.specs.app_cells.Reach.{is_cell}
 use Rattle.recalc.specs.app_cells.declared.app.App.{App}
-use Rattle.recalc.specs.app_semantics.Present.{Present}
+use Rattle.recalc.specs.app_semantics.Present.{Present, present}
 use Rattle.recalc.proofs.Leaving.{left_all, left_then, made_left}
 use Rattle.recalc.proofs.Raising.{raised_clears, raised_leaves, raised_none, raised_order, raised_right}
+use Rattle.recalc.specs.Carrying.{IsCarried}
 use Rattle.recalc.specs.Changes.{IsLeftBut, IsTouched, on_day, raised}
-use Rattle.recalc.specs.Kept.{IsClean, IsInOrder, IsRight, Kept, place_of, stamp_of}
+use Rattle.recalc.specs.Kept.{IsClean, IsInOrder, IsRight, Kept, Room, place_of, stamp_of}
 use Rattle.recalc.specs.Outcomes.{HasNumbers}
 
 -- the source gets the next number
@@ -47,6 +48,37 @@ pub day_right : (p : Present) (pending : List Source) (c : Kept) (d : Data) → 
 day_right p pending c d r = record {
   order = day_order p.app c d r.order;
   valid = λ k e i at there none unmoved. r.valid k e i at there none (record { sources = unmoved.sources; cells = unmoved.cells });
+}
+
+-- the room is nothing to what is kept
+pub room_order : (a : App) (c : Kept) (room : Room) → IsInOrder a c → IsInOrder a (record c { room = room })
+room_order a c room o = record {
+  few = o.few;
+  stamps = o.stamps;
+  values = o.values;
+  places = o.places;
+  fits = o.fits;
+  bare = o.bare;
+  alone = o.alone;
+  leans = o.leans;
+  low = record { versions = o.low.versions; checked = o.low.checked; moved = o.low.moved };
+}
+
+pub room_right : (p : Present) (pending : List Source) (c : Kept) (room : Room) → IsRight p pending c → IsRight p pending (record c { room = room })
+room_right p pending c room r = record {
+  order = room_order p.app c room r.order;
+  valid = λ k e i at there none unmoved. r.valid k e i at there none (record { sources = unmoved.sources; cells = unmoved.cells });
+}
+
+pub room_carried : (old new : App) (c d : Kept) (room : Room) → IsCarried old new (record c { room = room }) d → IsCarried old new c d
+room_carried old new c d room h = record {
+  emptied = h.emptied;
+  last = h.last;
+  day = h.day;
+  order = h.order;
+  clean = h.clean;
+  moved = h.moved;
+  right = λ s tables m fit r. h.right s tables m fit (room_right (present old s tables m) [] c room r);
 }
 
 -- a cache in which nothing is kept is right over all

@@ -16,14 +16,25 @@ use Rattle.recalc.specs.app_semantics.Needed.{is_alone}
 use Rattle.recalc.specs.app_semantics.Present.{Present}
 use Rattle.recalc.specs.declared.stamps.Stamp.{Stamp}
 
+-- ROOM for what will be kept of an edited app: for so many numbers of changes, stamps and values
+pub record Room : Type 0 where
+  pub versions : ℕ
+  pub stamps : ℕ
+  pub values : ℕ
+
 -- A CACHE: how often all numbers were given anew; the last number that was given; by the place of each source, the number of its
--- last change; of each cell that is kept the stamp; and the values of all cells, with the day.
+-- last change; of each cell that is kept the stamp; the values of all cells, with the day; and the room beside them.
 pub record Kept : Type 0 where
   pub emptied : ℕ
   pub last : ℕ
   pub versions : List ℕ
   pub stamps : List (Option Stamp)
   pub values : Values
+  pub room : Room
+
+-- there is none
+abbrev pub no_room : Room
+no_room = record { versions = 0; stamps = 0; values = 0 }
 
 abbrev pub value_of : Kept → ℕ → Data
 value_of c = values.value_of c.values
@@ -52,6 +63,13 @@ IsSourceOf n (source.Input k) = k < length n.controls
 IsSourceOf n (source.Chosen k) = k < length n.controls
 IsSourceOf n (source.Table k) = k < length n.schema.tables
 IsSourceOf n source.Today = Unit {0}
+
+-- room for an app: for each of its cells and sources
+pub record IsRoomFor (a : App) (r : Room) : Type 0 where
+  pub few : length a.cells ≤ 2000
+  pub places : (s : Source) → IsSourceOf a.names s → place_of s < r.versions
+  pub stamps : length a.cells ≤ r.stamps
+  pub values : length a.cells ≤ r.values
 
 -- ---- what stands
 

@@ -1,12 +1,13 @@
 -- What calls on a cache leave of it.
 use Rattle.std.specs.Prelude.{◌≡◌, ◌+◌, ◌<◌, ◌≤◌, ◌^◌, ℕ, List, [], length, Option, None, slice_index}
+use Rattle.fx_data.specs.Values.{blank}
 use Rattle.fx_trees.specs.declared.sources.Source.{Source}
 use Rattle.recalc.specs.Asking.{IsHeardOf, ToldRows}
 use Rattle.recalc.specs.app_cells.declared.app.App.{App}
 use Rattle.recalc.specs.app_semantics.Present.{present}
 use Rattle.row_keeper.specs.Tables.{Tables}
 use Rattle.session_state.specs.Sessions.{SessionState}
-use Rattle.recalc.specs.Kept.{HasRoom, IsInOrder, IsRight, Kept, stamp_of}
+use Rattle.recalc.specs.Kept.{HasRoom, IsInOrder, IsRight, Kept, no_room, stamp_of, value_of}
 
 -- right over all that is heard of the rows of tables
 abbrev pub IsRightOver : App → SessionState → Option Tables → ℕ → Kept → Type 0
@@ -27,6 +28,22 @@ pub record IsForgotten (old new : Kept) : Type 0 where
   pub stamps : (k : ℕ) → stamp_of new k ≡ None
   pub values : new.values ≡ old.values
   pub cells : length new.stamps ≡ length old.stamps
+
+-- THE ROOM WAS USED UP: in it nothing is kept yet of so many cells, on the same day, and numbers go on from the last one
+pub record IsRestarted (count : ℕ) (old new : Kept) : Type 0 where
+  pub emptied : new.emptied ≡ old.emptied
+  pub last : new.last ≡ old.last
+  pub day : new.values.day ≡ old.values.day
+  pub versions : (p : ℕ) → slice_index new.versions p ≡ 0
+  pub stamps : (k : ℕ) → stamp_of new k ≡ None
+  pub values : (k : ℕ) → value_of new k ≡ blank
+  pub places : length new.versions ≡ old.room.versions
+  pub cells : length new.stamps ≡ count
+  pub valued : length new.values.cells ≡ count
+
+-- what was kept came out, without the day and with no room
+abbrev pub let_out : Kept → Kept
+let_out c = record c { values = record { cells = c.values.cells; day = blank }; room = no_room }
 
 -- it is counted once more, up to the count's end
 pub record IsCounted (old new : ℕ) : Type 0 where

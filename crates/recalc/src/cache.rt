@@ -1,16 +1,17 @@
 //! A session's cache.
-ghost use Rattle.std.specs.Prelude.{◌≡◌, ◌+◌, ◌<◌, ◌^◌, ℕ, IfOk, IfSome, None, length, slice_index, slice_index_or};
+ghost use Rattle.std.specs.Prelude.{◌≡◌, ◌+◌, ◌<◌, ◌≤◌, ◌^◌, ℕ, IfOk, IfSome, None, OnErr, length, slice_index, slice_index_or};
 ghost use Rattle.fx_trees.specs.declared.sources.Source.{Source as Src};
 ghost use Rattle.recalc.specs.Kept.{IsSourceOf, place_of};
 
 use crate::app_cells::App;
 use crate::stamps::Stamp;
-use crate::valued::Valued;
+use crate::valued::{Valued, blanked, blanks};
 use fx_base::Memory;
 use fx_data::values::Value;
 use fx_trees::{Names, Source};
 use std::alloc::Global;
 use std::marker::Model;
+use std::mem;
 
 /// The most cells of an app.
 const MOST_CELLS: usize = 2_000;
@@ -22,15 +23,22 @@ const KINDS: usize = 8;
 /// them stand. Every change of a source that is no cell is told it by `touched`.
 #[derive(Drop)]
 pub struct Cache {
+    // Kept, so that `make_room` takes none.
+    alloc: Global,
     // How often all numbers were given anew. It stands still at its end.
     emptied: u64,
     last: u64,
     versions: Vec<u64>,
     stamps: Vec<Option<Stamp>>,
     valued: Valued,
+    // What stands in them says nothing. They have room for what will be kept of an edited app.
+    spare_versions: Vec<u64>,
+    spare_stamps: Vec<Option<Stamp>>,
+    spare_values: Vec<Value>,
 }
 
 impl Model for Cache {
+    ghost use Rattle.std.specs.Prelude.{length};
     ghost use Rattle.std.specs.Coded.{codes};
     ghost use Rattle.fx_data.specs.ValueCode.{data_code};
     ghost use Rattle.recalc.specs.Kept.{Kept};
@@ -39,7 +47,14 @@ impl Model for Cache {
 
     ghost coded = { Prim.hlevel (codes, data_code) };
 
-    ghost view = { λ c. record { emptied = c.emptied; last = c.last; versions = c.versions.items; stamps = c.stamps.items; values = c.valued } };
+    ghost view = { λ c. record {
+      emptied = c.emptied;
+      last = c.last;
+      versions = c.versions.items;
+      stamps = c.stamps.items;
+      values = c.valued;
+      room = record { versions = length c.spare_versions.items; stamps = length c.spare_stamps.items; values = length c.spare_values.items };
+    } };
 }
 
 // How many places the sources under these names have.
@@ -71,6 +86,26 @@ fn drop_versions(versions: &mut [u64])
     }
 }
 
+// Stamps of so many cells, of which none is kept, where those were.
+fn unstamped(mut stamps: Vec<Option<Stamp>>, count: usize) -> Vec<Option<Stamp>>
+    requires { count ≤ length stamps.items }
+    ensures long { length result.items ≡ count }
+    ensures none { (k : ℕ) → slice_index_or result.items k None ≡ None }
+{
+    stamps.truncate(count);
+    drop_stamps(&mut stamps);
+    stamps
+}
+
+// The first versions, where those were.
+fn unversioned(mut versions: Vec<u64>) -> Vec<u64>
+    ensures long { length result.items ≡ length versions.items }
+    ensures zero { (p : ℕ) → slice_index result.items p ≡ 0 }
+{
+    drop_versions(&mut versions);
+    versions
+}
+
 // The place of a source among versions.
 fn place(source: Source) -> usize
     ensures { result ≡ place_of source }
@@ -90,8 +125,8 @@ fn place(source: Source) -> usize
 impl Cache {
     ghost use Rattle.fx_data.specs.ValueView.{view};
     ghost use Rattle.recalc.specs.Changes.{on_day, raised};
-    ghost use Rattle.recalc.specs.Kept.{IsInOrder, place_of, stamp_of, value_of, version_of};
-    ghost use Rattle.recalc.specs.Outcomes.{IsEmpty, IsEmptied, IsForgotten};
+    ghost use Rattle.recalc.specs.Kept.{IsInOrder, IsRoomFor, Room, place_of, stamp_of, value_of, version_of};
+    ghost use Rattle.recalc.specs.Outcomes.{IsEmpty, IsEmptied, IsForgotten, IsRestarted, let_out};
     ghost use Rattle.recalc.specs.Carrying.{received, taken_from};
     ghost use Rattle.recalc.specs.Steps.{confirmed, kept_with};
 
@@ -111,12 +146,36 @@ impl Cache {
         let stamps = vec![in alloc; None; count]?;
         let valued = Valued::blank(alloc, count, day)?;
         Ok(Cache {
+            alloc,
             emptied: 0,
             last: 0,
             versions,
             stamps,
             valued,
+            spare_versions: Vec::new(alloc),
+            spare_stamps: Vec::new(alloc),
+            spare_values: Vec::new(alloc),
         })
+    }
+
+    /// Makes room beside what is kept for what will be kept of an edited app.
+    pub fn make_room(&mut self, app: &App) -> Result<(), Memory>
+        ensures made { IfOk result (λ _. (r : Room) × IsRoomFor app.now r × (self.new ≡ record self.old { room = r })) }
+        ensures stopped { OnErr result (self.new ≡ self.old) }
+    {
+        let count = app.cells.len();
+        // No app has more.
+        if count > MOST_CELLS {
+            return Err(Memory);
+        }
+        let places = places_of(&app.names).ok_or(Memory)?;
+        let versions = vec![in self.alloc; 0; places]?;
+        let stamps = vec![in self.alloc; None; count]?;
+        let values = blanks(self.alloc, count)?;
+        self.spare_versions = versions;
+        self.spare_stamps = stamps;
+        self.spare_values = values;
+        Ok(())
     }
 
     /// The last number that was given.
@@ -212,12 +271,28 @@ impl Cache {
         self.confirm(cell, moved);
     }
 
-    /// Gives the numbers after those that another cache gave, and counts on.
-    pub(crate) fn begin_after(&mut self, other: &Cache)
-        ensures { self.new ≡ record self.old { emptied = other.now.emptied; last = other.now.last } }
+    /// Nothing is kept any more, in the room for so many cells, which is used up. What was kept comes out. It takes no memory.
+    pub(crate) fn restart(&mut self, count: usize) -> Cache
+        requires stamps { count ≤ self.old.room.stamps }
+        requires values { count ≤ self.old.room.values }
+        ensures out { result ≡ let_out self.old }
+        ensures new { IsRestarted count self.old self.new }
     {
-        self.emptied = other.emptied;
-        self.last = other.last;
+        let alloc = self.alloc;
+        let versions = mem::replace(&mut self.spare_versions, Vec::new(alloc));
+        let stamps = mem::replace(&mut self.spare_stamps, Vec::new(alloc));
+        let values = mem::replace(&mut self.spare_values, Vec::new(alloc));
+        Cache {
+            alloc,
+            emptied: self.emptied,
+            last: self.last,
+            versions: mem::replace(&mut self.versions, unversioned(versions)),
+            stamps: mem::replace(&mut self.stamps, unstamped(stamps, count)),
+            valued: self.valued.exchange(blanked(values, count)),
+            spare_versions: Vec::new(alloc),
+            spare_stamps: Vec::new(alloc),
+            spare_values: Vec::new(alloc),
+        }
     }
 
     /// Takes the value of a cell out.

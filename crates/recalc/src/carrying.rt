@@ -1,6 +1,5 @@
 // What is kept goes over to an edited app.
 ghost use Rattle.std.specs.Prelude.{◌≡◌, ◌↔◌, ◌+◌, ◌<◌, ℕ, IfNone, IfOk, IfSome, IsFalse, IsSome, IsTrue, None, Some, length, slice_index, true};
-ghost use Rattle.fx_scalar.specs.ScalarFunctions.{IsToday};
 ghost use Rattle.fx_trees.specs.Reads.{IsAmong};
 ghost use Rattle.fx_trees.specs.declared.sources.Source.{Source as Src};
 ghost use Rattle.recalc.specs.app_cells.Leaning.{cell_behind as behind};
@@ -9,8 +8,7 @@ ghost use Rattle.recalc.specs.app_semantics.Needed.{is_alone as is_alone_in, sta
 ghost use Rattle.recalc.specs.app_semantics.Sound.{IsSound};
 ghost use Rattle.recalc.specs.Filling.{IsFilling};
 ghost use Rattle.recalc.specs.Carrying.{AreOldCells, AreOldPlaces, IsCarried, IsCarriedAt, IsEditOf, IsLeft, IsOldCell};
-ghost use Rattle.recalc.specs.Kept.{IsInOrder, Kept, stamp_of};
-ghost use Rattle.recalc.specs.Outcomes.{IsEmpty};
+ghost use Rattle.recalc.specs.Kept.{IsInOrder, IsRoomFor, Kept, stamp_of};
 
 use crate::app_cells::{App, CellInfo};
 use crate::cache::Cache;
@@ -162,25 +160,21 @@ impl Cache {
         }
     }
 
-    /// What is kept goes over to an edited app, as far as the edit leaves it, and into `room`, a new cache of that app. `cells`
-    /// are the old cells that the edit left. It takes no memory.
-    pub fn carry(&mut self, room: Cache, old: &App, new: &App, cells: &[Option<usize>])
+    /// What is kept goes over to an edited app, as far as the edit leaves it, and the room is used up. `cells` are the old cells
+    /// that the edit left. It takes no memory.
+    pub fn carry(&mut self, old: &App, new: &App, cells: &[Option<usize>])
         requires was_sound { IsSound old.now }
         requires sound { IsSound new.now }
         requires edit { IsEditOf old.now new.now }
         requires was_in_order { IsInOrder old.now self.old }
-        requires room { IsInOrder new.now room }
-        requires empty { IsEmpty room }
-        requires day { (m : ℕ) × IsToday m self.old.values.day × IsToday m room.values.day }
+        requires room { IsRoomFor new.now self.old.room }
         requires cells { AreOldCells old.now new.now cells.now }
         ensures { IsCarried old.now new.now self.old self.new }
     {
-        let mut next = room;
-        next.begin_after(self);
+        let mut from = self.restart(new.cells.len());
         let order = new.order.as_slice();
         for number in order {
-            next.carry_next(self, old, new, cells, *number);
+            self.carry_next(&mut from, old, new, cells, *number);
         }
-        *self = next;
     }
 }

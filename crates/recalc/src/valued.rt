@@ -1,5 +1,5 @@
 //! The values of an app's formulas.
-ghost use Rattle.std.specs.Prelude.{◌≡◌, ◌≢◌, ◌+◌, ◌<◌, ℕ, false, true, IfOk, IsErrOf, OnOk, Option, Some, if◌then◌else◌, length, map, replicate, slice_get};
+ghost use Rattle.std.specs.Prelude.{◌≡◌, ◌≢◌, ◌+◌, ◌<◌, ◌≤◌, ℕ, false, true, IfOk, IsErrOf, OnOk, Option, Some, if◌then◌else◌, length, map, replicate, slice_get};
 ghost use Rattle.std.specs.List.{count_by};
 ghost use Rattle.app_semantics.specs.app_cells.declared.app.CellInfo.{CellInfo as Info};
 ghost use Rattle.app_semantics.specs.Fresh.{IsCellValue, IsFresh, IsValueOf};
@@ -99,6 +99,17 @@ impl Valued {
         ensures left { self.new ≡ record self.old { cells = slice_set self.old.cells cell blank } }
     {
         mem::replace(&mut self.values[cell as usize], Value::Blank)
+    }
+
+    /// The values come out, without the day, and these stand in their place.
+    pub(crate) fn exchange(&mut self, values: Vec<Value>) -> Valued
+        ensures out { result ≡ record { cells = self.old.cells; day = blank } }
+        ensures new { self.new ≡ record self.old { cells = map view values.items } }
+    {
+        Valued {
+            values: mem::replace(&mut self.values, values),
+            day: Value::Blank,
+        }
     }
 
     /// Another day begins.
@@ -296,8 +307,8 @@ fn keep_values<K: Keeper, L: Ledger>(
     Ok(values)
 }
 
-// So many blanks.
-fn blanks(alloc: Global, count: usize) -> Result<Vec<Value>, Memory>
+/// So many blanks.
+pub(crate) fn blanks(alloc: Global, count: usize) -> Result<Vec<Value>, Memory>
     ensures { IfOk result (λ v. map view v.items ≡ replicate count blank) }
 {
     let mut all = Vec::with_capacity(alloc, count)?;
@@ -305,6 +316,27 @@ fn blanks(alloc: Global, count: usize) -> Result<Vec<Value>, Memory>
         all.push(Value::Blank)?;
     }
     Ok(all)
+}
+
+/// The first of these values, so many, all made blank.
+pub(crate) fn blanked(mut values: Vec<Value>, count: usize) -> Vec<Value>
+    requires { count ≤ length values.items }
+    ensures long { length result.items ≡ count }
+    ensures blank { (k : ℕ) → cell_value (map view result.items) k ≡ blank }
+{
+    values.truncate(count);
+    make_blank(&mut values);
+    values
+}
+
+// Makes all values blank.
+fn make_blank(values: &mut [Value])
+    ensures long { length values.new ≡ length values.old }
+    ensures blank { (k : ℕ) → cell_value (map view values.new) k ≡ blank }
+{
+    for value in values.iter_mut() {
+        *value = Value::Blank;
+    }
 }
 
 /// Whether a formula has a value by itself.

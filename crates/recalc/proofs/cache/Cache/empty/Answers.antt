@@ -14,7 +14,7 @@ returns c =
     let versions : (with_items c.self.inside.versions c.drop_versions.new.versions).items ≡ c.drop_versions.new.versions = with_items_is c.self.inside.versions c.drop_versions.new.versions long in
     let sum = c.saturating_add-self-inside.ensures in
     let counted : IsCounted c.self.inside.emptied c.saturating_add-self-inside.result = record { more = λ end. omega (arith, sum, end); never_less = omega (arith, sum) } in
-    let new : Kept = record { emptied = c.saturating_add-self-inside.result; last = 0; versions = (with_items c.self.inside.versions c.drop_versions.new.versions).items; stamps = (with_items c.self.inside.stamps c.drop_stamps.new.stamps).items; values = c.self.inside.valued } in
+    let new : Kept = record { emptied = c.saturating_add-self-inside.result; last = 0; versions = (with_items c.self.inside.versions c.drop_versions.new.versions).items; stamps = (with_items c.self.inside.stamps c.drop_stamps.new.stamps).items; values = c.self.inside.valued; room = record { versions = length c.self.inside.spare_versions.items; stamps = length c.self.inside.spare_stamps.items; values = length c.self.inside.spare_values.items } } in
     subst (λ (w : Kept). IsEmptied w new) c.self.view_is (record {
       emptied = counted;
       last = refl;

@@ -1,4 +1,4 @@
-use Rattle.std.proofs.Common.{◌∙◌, ◌+◌, ap}
+use Rattle.std.proofs.Common.{◌∙◌, ◌+◌, ap, length}
 use Rattle.fx_data.specs.ValueView.{view}
 use Rattle.recalc.specs.Values.{Values}
 use Rattle.recalc.specs.Kept.{Kept}
@@ -7,5 +7,5 @@ use Rattle.recalc.proofs.cache.Cache.keep.Goals as goal
 
 pub returns : goal.returns
 returns c =
-    let made : Values → Kept = λ v. confirmed (record { emptied = c.self.inside.emptied; last = c.self.inside.last + 1; versions = c.self.inside.versions.items; stamps = c.self.inside.stamps.items; values = v }) c.args.cell c.args.moved in
+    let made : Values → Kept = λ v. confirmed (record { emptied = c.self.inside.emptied; last = c.self.inside.last + 1; versions = c.self.inside.versions.items; stamps = c.self.inside.stamps.items; values = v; room = record { versions = length c.self.inside.spare_versions.items; stamps = length c.self.inside.spare_stamps.items; values = length c.self.inside.spare_values.items } }) c.args.cell c.args.moved in
     c.confirm.ensures ∙ ap made c.put.ensures ∙ ap (λ (w : Kept). kept_with w c.args.cell (view c.args.value) c.args.moved) c.self.view_is
