@@ -27,6 +27,10 @@ pub record IsSoFar (R : ℕ → Kept → Kept → Type 0) (n : ℕ) (old new : L
   pub long : length new ≡ length old
   pub each : (k : ℕ) (c : Named Kept) → slice_get old k ≡ Some c → (d : Named Kept) × (slice_get new k ≡ Some d) × (d.name ≡ c.name) × (k < n → R k c.it d.it) × (n ≤ k → d ≡ c)
 
+-- none yet
+pub so_far_none : (R : ℕ → Kept → Kept → Type 0) (cs : List (Named Kept)) → IsSoFar R 0 cs cs
+so_far_none R cs = record { long = refl; each = λ k c at. (c, at, refl, λ below. absurd (omega (arith, below)), λ from. refl) }
+
 -- the next one
 pub so_far_more : (R : ℕ → Kept → Kept → Type 0) (n : ℕ) (old new next : List (Named Kept)) (c d : Named Kept) → IsSoFar R n old new → slice_get new n ≡ Some c → d.name ≡ c.name → R n c.it d.it → next ≡ slice_set new n d
     → IsSoFar R (n + 1) old next

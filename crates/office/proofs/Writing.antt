@@ -21,6 +21,12 @@ roomy n m items given made read len is made_is read_is =
     let same : n ≡ length made = omega (arith, len, ap length all, length-map items (with_room m)) in
     read_is ∙ written n made items same ∙ all
 
+-- or there was no memory for it
+pub unroomy : (n : ℕ) (items given left : List (Named SessionState)) → n ≡ length items → given ≡ items → left ≡ given → take n (left ++ drop (length left) items) ≡ items
+unroomy n items given left len is same =
+    let all : left ≡ items = same ∙ is in
+    written n left items (omega (arith, len, ap length all)) ∙ all
+
 -- and they went over to the edited app
 pub carried_all : (n : ℕ) (old new : Names) (items read made over : List (Named SessionState)) → n ≡ length items → read ≡ map (with_room new) items → over ≡ all_carried old new read
     → take n (over ++ drop (length over) made) ≡ all_carried old new items

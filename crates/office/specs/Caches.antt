@@ -1,6 +1,6 @@
 -- The caches of sessions.
 use Rattle.std.specs.Prelude.{◌≡◌, ◌⊎◌, ◌+◌, ℕ, Bool, true, false, List, [], ◌∷◌, length, Option, Some, None, nat_eq, not, slice_get}
-use Rattle.std.specs.List.{AllByRecursion, filter}
+use Rattle.std.specs.List.{filter}
 use Rattle.app_cells.specs.declared.app.App.{App}
 use Rattle.fx_data.specs.Values.{Data}
 use Rattle.fx_scalar.specs.ScalarFunctions.{IsToday}
@@ -9,7 +9,7 @@ use Rattle.fx_trees.specs.declared.sources.Source.{Source}
 use Rattle.fx_trees.specs.declared.sources.Source.TheVariants as source
 use Rattle.recalc.specs.Carrying.{IsCarried}
 use Rattle.recalc.specs.Changes.{IsLeftBut, IsTouched, on_day}
-use Rattle.recalc.specs.Kept.{HasRoom, IsClean, IsInOrder, IsRight, Kept}
+use Rattle.recalc.specs.Kept.{HasRoom, IsClean, IsInOrder, IsRight, IsRoomFor, Kept}
 use Rattle.recalc.specs.Outcomes.{IsEmpty}
 use Rattle.recalc.specs.Asking.{ToldRows}
 use Rattle.recalc.specs.app_cells.Reach.{Reaches}
@@ -38,17 +38,22 @@ pub record IsNew (a : App) (m : ℕ) (c : Kept) : Type 0 where
   pub empty : IsEmpty c
   pub day : IsToday m c.values.day
 
--- caches can go over to an edited app: they are in order and of the day of this moment, and there is a new one for each
-pub record CanGoOver (old new : App) (m : ℕ) (caches : List (Named Kept)) (rooms : List Kept) : Type 0 where
-  pub order : (k : ℕ) (c : Named Kept) → slice_get caches k ≡ Some c → IsInOrder old c.it
-  pub days : (k : ℕ) (c : Named Kept) → slice_get caches k ≡ Some c → IsToday m c.it.values.day
-  pub are_new : AllByRecursion (IsNew new m) rooms
-  pub enough : length rooms ≡ length caches
+-- what is kept stays, beside which there may be other room
+abbrev pub IsButRoom : Kept → Kept → Type 0
+IsButRoom c d = d ≡ record c { room = d.room }
 
--- BESIDE AN EDIT: the app stays, and so does a cache; or the cache went over to the edited app, in which what the edit left stays
--- clean
+-- in each cache there is room for an app
+abbrev pub HaveRoomFor : App → List (Named Kept) → Type 0
+HaveRoomFor a cs = (k : ℕ) (c : Named Kept) → slice_get cs k ≡ Some c → IsRoomFor a c.it.room
+
+-- each is in order
+abbrev pub AreInOrder : App → List (Named Kept) → Type 0
+AreInOrder a cs = (k : ℕ) (c : Named Kept) → slice_get cs k ≡ Some c → IsInOrder a c.it
+
+-- BESIDE AN EDIT: the app stays, and so does what is kept; or the cache went over to the edited app, in which what the edit left
+-- stays clean
 abbrev pub WentOver : App → App → Kept → Kept → Type 0
-WentOver old new c d = ((new ≡ old) × (d ≡ c)) ⊎ IsCarried old new c d
+WentOver old new c d = ((new ≡ old) × IsButRoom c d) ⊎ IsCarried old new c d
 
 -- ---- what caches are told
 

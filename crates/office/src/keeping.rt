@@ -9,7 +9,7 @@ ghost use Rattle.recalc.specs.Carrying.{AreOldCells, IsCarried, IsEditOf};
 ghost use Rattle.recalc.specs.Kept.{IsInOrder, Kept, place_of};
 ghost use Rattle.request_checks.specs.declared.directory.Named.{Named as Under};
 ghost use Rattle.session_requests.specs.Caching.{AreSources};
-ghost use Rattle.office.specs.Caches.{AreEach, AreTouched, CanGoOver, IsNew, IsToldAside, IsTurned, is_other as is_other_of, is_table as is_table_of, tables_in};
+ghost use Rattle.office.specs.Caches.{AreEach, AreInOrder, AreTouched, HaveRoomFor, IsButRoom, IsNew, IsToldAside, IsTurned, is_other as is_other_of, is_table as is_table_of, tables_in};
 
 use app_cells::App;
 use fx_base::Memory;
@@ -31,28 +31,20 @@ pub(crate) fn new_cache(alloc: Global, app: &App, moment: u64) -> Result<Cache, 
     Cache::new(alloc, app, day)
 }
 
-/// So many of them.
-pub(crate) fn new_caches(
-    alloc: Global,
-    app: &App,
-    moment: u64,
-    count: usize,
-) -> Result<Vec<Cache>, Memory>
-    ensures count { IfOk result (λ v. length v.items ≡ count) }
-    ensures new { IfOk result (λ v. AllByRecursion (IsNew app.now moment) v.items) }
+/// Makes room in each cache for what will be kept of an edited app, as far as there is memory. What is kept stays.
+pub(crate) fn make_rooms(caches: &mut Vec<Named<Cache>>, app: &App) -> Result<(), Memory>
+    ensures rooms { AreEach (λ k. IsButRoom) caches.old.items caches.new.items }
+    ensures made { IfOk result (λ _. HaveRoomFor app.now caches.new.items) }
 {
-    let mut caches = Vec::new(alloc);
-    for _ in 0..count {
-        caches.push(new_cache(alloc, app, moment)?)?;
+    for at in 0..caches.len() {
+        caches[at].it.make_room(app)?;
     }
-    Ok(caches)
+    Ok(())
 }
 
-/// Each cache goes over to an edited app, and into one of the new caches. `cells` are the cells that the edit left. It takes no
-/// memory.
+/// Each cache goes over to an edited app, in the room that was made. `cells` are the cells that the edit left. It takes no memory.
 pub(crate) fn carry_all(
     caches: &mut Vec<Named<Cache>>,
-    mut rooms: Vec<Cache>,
     old: &App,
     new: &App,
     cells: &[Option<usize>],
@@ -61,14 +53,12 @@ pub(crate) fn carry_all(
     requires sound { IsSound new.now }
     requires edit { IsEditOf old.now new.now }
     requires cells { AreOldCells old.now new.now cells.now }
-    requires can { (moment : ℕ) × CanGoOver old.now new.now moment caches.old.items rooms.items }
+    requires order { AreInOrder old.now caches.old.items }
+    requires rooms { HaveRoomFor new.now caches.old.items }
     ensures { AreEach (λ k. IsCarried old.now new.now) caches.old.items caches.new.items }
 {
     for at in 0..caches.len() {
-        match rooms.pop() {
-            Some(room) => caches[at].it.carry(room, old, new, cells),
-            None => unreachable!(),
-        }
+        caches[at].it.carry(old, new, cells);
     }
 }
 

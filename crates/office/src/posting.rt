@@ -13,7 +13,7 @@ ghost use Rattle.session_state.specs.Changes.{HoldsTables};
 
 use crate::accepting::{accept, keep, refuse};
 use crate::carrying::{carry, make_room};
-use crate::keeping::{carry_all, new_caches};
+use crate::keeping::{carry_all, make_rooms};
 use app_cells::App;
 use app_loader::edit;
 use fx_base::Memory;
@@ -109,11 +109,11 @@ fn make_edit(
     desks.reserve(1)?;
     match edit(alloc, app, asked.cell.as_str(), asked.text.as_str()) {
         Ok(edited) => {
-            let rooms = new_caches(alloc, &edited, moment, caches.len())?;
             let cells = old_cells(alloc, app, &edited)?;
+            make_rooms(caches, &edited)?;
             make_room(sessions, &edited.names)?;
             carry(sessions, &app.names, &edited.names);
-            carry_all(caches, rooms, app, &edited, &cells);
+            carry_all(caches, app, &edited, &cells);
             *app = edited;
             Ok(keep(alloc, desks, asked.seq, accepted))
         }

@@ -15,9 +15,9 @@ use Rattle.office.specs.Rooms.{HaveNoRoom, HaveRoom}
 use Rattle.office.proofs.Desks.{kept_so}
 use Rattle.office.proofs.Directories.{put_all}
 use Rattle.office.proofs.Edits.{alike, carried_fit, carried_keep}
-use Rattle.office.proofs.GoingOver.{can_go_over, each_over, edit_of, kept_over}
+use Rattle.office.proofs.GoingOver.{carried_from, each_over, each_roomed, edit_of, kept_order, kept_over, kept_room}
 use Rattle.office.proofs.Rooms.{have_none, have_room}
-use Rattle.office.proofs.Writing.{carried_all, roomy}
+use Rattle.office.proofs.Writing.{carried_all, roomy, unroomy}
 use Rattle.office.proofs.posting.make_edit.Goals as goal
 
 pub make_room-requires : goal.make_room-requires
@@ -74,11 +74,30 @@ carry_all-requires-clause-edit c = edit_of c.args.app.now c.in-Ok.edited c.in-Ok
 pub carry_all-requires-clause-cells : goal.carry_all-requires-clause-cells
 carry_all-requires-clause-cells c = subst (λ (l : List (Option ℕ)). AreOldCells c.args.app.now c.in-Ok.edited l) (sym c.deref.ensures.value) c.in_ok-cells-in-Ok.ensures
 
-pub carry_all-requires-clause-can : goal.carry_all-requires-clause-can
-carry_all-requires-clause-can c = (
-  c.args.moment,
-  can_go_over c.args.app.now c.in-Ok.edited c.requires.cached.0 c.args.moment c.args.sessions.now.items c.args.caches.now.items c.in_ok-rooms-in-Ok.rooms.items c.requires.cached.1 c.in_ok-rooms-in-Ok.ensures.new (c.in_ok-rooms-in-Ok.ensures.count ∙ c.len.ensures ∙ c.args.caches.now.ok.0),
-)
+pub carry_all-requires-clause-order : goal.carry_all-requires-clause-order
+carry_all-requires-clause-order c =
+    kept_order c.args.app.now c.requires.cached.0 c.args.moment c.args.sessions.now.items c.make_rooms.new.caches.items
+    (kept_room c.args.app.now c.requires.cached.0 c.args.moment c.args.sessions.now.items c.args.caches.now.items c.make_rooms.new.caches.items c.make_rooms.ensures.rooms c.requires.cached.1)
+
+pub carry_all-requires-clause-rooms : goal.carry_all-requires-clause-rooms
+carry_all-requires-clause-rooms c = c.in_ok-make_rooms-in-Ok.ensures.made
+
+-- there is no memory for room
+pub returns-in_err-make_rooms-in-Ok-clause-caches : goal.returns-in_err-make_rooms-in-Ok-clause-caches
+returns-in_err-make_rooms-in-Ok-clause-caches c = λ told kept.
+    kept_room c.args.app.now told c.args.moment c.args.sessions.now.items c.args.caches.now.items c.make_rooms.new.caches.items c.make_rooms.ensures.rooms kept
+
+pub returns-in_err-make_rooms-in-Ok-clause-over : goal.returns-in_err-make_rooms-in-Ok-clause-over
+returns-in_err-make_rooms-in-Ok-clause-over c = each_roomed c.args.app.now c.args.caches.now.items c.make_rooms.new.caches.items c.make_rooms.ensures.rooms
+
+pub returns-in_err-make_room-in-Ok-clause-caches : goal.returns-in_err-make_room-in-Ok-clause-caches
+returns-in_err-make_room-in-Ok-clause-caches c = λ told kept.
+    let sessions = unroomy c.args.sessions.now.len c.args.sessions.now.items c.deref_mut.result.now c.make_room.new.sessions c.args.sessions.now.ok.0 c.deref_mut.ensures.value c.in_err-make_room-in-Ok.ensures.stopped in
+    subst (λ (l : List (Named SessionState)). AreKept c.args.app.now told c.args.moment l c.make_rooms.new.caches.items) (sym sessions)
+    (kept_room c.args.app.now told c.args.moment c.args.sessions.now.items c.args.caches.now.items c.make_rooms.new.caches.items c.make_rooms.ensures.rooms kept)
+
+pub returns-in_err-make_room-in-Ok-clause-over : goal.returns-in_err-make_room-in-Ok-clause-over
+returns-in_err-make_room-in-Ok-clause-over c = each_roomed c.args.app.now c.args.caches.now.items c.make_rooms.new.caches.items c.make_rooms.ensures.rooms
 
 pub returns-in-Ok-clause-caches : goal.returns-in-Ok-clause-caches
 returns-in-Ok-clause-caches c = λ told kept.
@@ -87,7 +106,10 @@ returns-in-Ok-clause-caches c = λ told kept.
     let sessions = carried_all c.args.sessions.now.len c.args.app.now.names c.in-Ok.edited.names c.args.sessions.now.items c.deref_mut-in-Ok.result.now _ c.carry.new.sessions
     c.args.sessions.now.ok.0 read c.carry.ensures in
     subst (λ (l : List (Named SessionState)). AreKept c.in-Ok.edited told c.args.moment l c.carry_all.new.caches.items) (sym sessions)
-    (kept_over c.args.app.now c.in-Ok.edited told c.args.moment c.args.sessions.now.items c.args.caches.now.items c.carry_all.new.caches.items c.requires.fit kept c.carry_all.ensures)
+    (kept_over c.args.app.now c.in-Ok.edited told c.args.moment c.args.sessions.now.items c.make_rooms.new.caches.items c.carry_all.new.caches.items c.requires.fit
+    (kept_room c.args.app.now told c.args.moment c.args.sessions.now.items c.args.caches.now.items c.make_rooms.new.caches.items c.make_rooms.ensures.rooms kept) c.carry_all.ensures)
 
 pub returns-in-Ok-clause-over : goal.returns-in-Ok-clause-over
-returns-in-Ok-clause-over c = each_over c.args.app.now c.in-Ok.edited c.args.caches.now.items c.carry_all.new.caches.items c.carry_all.ensures
+returns-in-Ok-clause-over c =
+    each_over c.args.app.now c.in-Ok.edited c.args.caches.now.items c.carry_all.new.caches.items
+    (carried_from c.args.app.now c.in-Ok.edited c.args.caches.now.items c.make_rooms.new.caches.items c.carry_all.new.caches.items c.make_rooms.ensures.rooms c.carry_all.ensures)
