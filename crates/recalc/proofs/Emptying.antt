@@ -46,7 +46,7 @@ emptied_right a old new h s tables m pending r = record {
 }
 
 pub has_numbers : (a : App) (c : Kept) → HasRoom c.last → HasNumbers a c c
-has_numbers a c room = record { room = room; same = λ h. refl; counted = λ short. absurd (short room); order = λ o. o; right = λ s tables m pending r. r; places = refl; day = refl }
+has_numbers a c room = record { room = room; same = λ h. refl; counted = λ short. absurd (short room); order = λ o. o; right = λ s tables m pending r. r; places = refl; values = refl; day = refl }
 
 pub new_numbers : (a : App) (old new : Kept) → (HasRoom old.last → ⊥) → IsEmptied old new → HasNumbers a old new
 new_numbers a old new short h = record {
@@ -56,6 +56,7 @@ new_numbers a old new short h = record {
   order = emptied_order a old new h;
   right = emptied_right a old new h;
   places = h.places;
+  values = h.values;
   day = ap (λ (v : Values). v.day) h.values;
 }
 

@@ -11,6 +11,7 @@ pub mod Touching
 pub mod Freshening
 pub mod Marking
 pub mod Turns
+pub mod Cleared
 pub mod Functions
 pub mod Parts
 pub mod Finding

@@ -1,17 +1,20 @@
 -- What changes of sources do to what is kept.
-use Rattle.std.specs.Prelude.{◌≡◌, ◌+◌, ◌<◌, ◌≤◌, ◌^◌, ℕ, List, [], ◌∷◌, length, false, Some, slice_set}
+use Rattle.std.specs.Prelude.{◌≡◌, ◌+◌, ◌<◌, ◌≤◌, ◌^◌, ℕ, List, [], ◌∷◌, length, false, Some, None, slice_get, slice_set}
 use Rattle.fx_data.specs.Types.{Shape}
 use Rattle.fx_data.specs.Values.{Data}
 use Rattle.fx_trees.specs.Reads.{IsAmong}
 use Rattle.fx_trees.specs.SourceTypes.{sources}
 use Rattle.fx_trees.specs.declared.sources.Source.{Source}
 use Rattle.recalc.specs.Asking.{ToldRows}
+use Rattle.recalc.specs.app_cells.Leaning.{LeansOn}
 use Rattle.recalc.specs.app_cells.Reach.{Reaches, is_cell}
 use Rattle.recalc.specs.app_cells.declared.app.App.{App}
+use Rattle.recalc.specs.app_cells.declared.app.CellInfo.{CellInfo}
 use Rattle.recalc.specs.app_semantics.Present.{Gives, Present, present}
 use Rattle.row_queries.specs.declared.rows.Row.{Row}
 use Rattle.session_state.specs.Sessions.{SessionState}
-use Rattle.recalc.specs.Kept.{HasRoom, IsClean, IsInOrder, IsRight, Kept, place_of}
+use Rattle.recalc.specs.Kept.{HasRoom, IsClean, IsInOrder, IsRight, Kept, place_of, stamp_of}
+use Rattle.recalc.specs.Outcomes.{IsCounted}
 
 -- rows that are told now were told before
 abbrev pub WereTold : ToldRows → ToldRows → Type 0
@@ -35,6 +38,11 @@ raised c s = record c { last = c.last + 1; versions = slice_set c.versions (plac
 abbrev pub ReachesNone : App → List Source → ℕ → Type 0
 ReachesNone a xs k = (s : Source) → IsAmong s xs → Reaches a k s → ⊥
 
+-- A CELL REACHES ANOTHER: it is that one, or leans on a cell that reaches it
+pub data ReachesCell (a : App) : ℕ → ℕ → Type 0 where
+  itself : (k : ℕ) → ReachesCell a k k
+  through : (k d x : ℕ) (c : CellInfo) → slice_get a.cells k ≡ Some c → LeansOn a.names c d → ReachesCell a d x → ReachesCell a k x
+
 -- CLEAN CELLS ARE LEFT SO, but those that reach one of these sources. Where it was counted that the numbers ran out on the way, nothing
 -- is said of them; the count stands still at its end.
 pub record IsLeftBut (a : App) (xs : List Source) (old new : Kept) : Type 0 where
@@ -53,3 +61,15 @@ pub record IsTouched (a : App) (source : Source) (old new : Kept) : Type 0 where
   pub but : IsLeftBut a (source ∷ []) old new
   pub places : length new.versions ≡ length old.versions
   pub day : new.values.day ≡ old.values.day
+
+-- A CELL WAS TOUCHED: no cell that reaches it is kept any more; and, unless the numbers ran out, all others are as they were. What is
+-- kept is right where it was.
+pub record IsCellTouched (a : App) (cell : ℕ) (old new : Kept) : Type 0 where
+  pub order : IsInOrder a new
+  pub right : (s : SessionState) (tables : ToldRows) (m : ℕ) (pending : List Source) → IsRight (present a s tables m) pending old → IsRight (present a s tables m) pending new
+  pub gone : (k : ℕ) → ReachesCell a k cell → stamp_of new k ≡ None
+  pub left : HasRoom old.last → (k : ℕ) → (ReachesCell a k cell → ⊥) → stamp_of new k ≡ stamp_of old k
+  pub kept : HasRoom old.last → (new.versions ≡ old.versions) × (new.last ≡ old.last) × (new.emptied ≡ old.emptied)
+  pub counted : (HasRoom old.last → ⊥) → IsCounted old.emptied new.emptied
+  pub values : new.values ≡ old.values
+  pub places : length new.versions ≡ length old.versions

@@ -1,5 +1,6 @@
 pub mod Kept
 pub mod Changes
+pub mod Clearing
 pub mod Needing
 pub mod Steps
 pub mod Visits

@@ -68,4 +68,5 @@ pub record HasNumbers (a : App) (old new : Kept) : Type 0 where
   pub order : IsInOrder a old → IsInOrder a new
   pub right : (s : SessionState) (tables : ToldRows) (m : ℕ) (pending : List Source) → IsRight (present a s tables m) pending old → IsRight (present a s tables m) pending new
   pub places : length new.versions ≡ length old.versions
+  pub values : new.values ≡ old.values
   pub day : new.values.day ≡ old.values.day

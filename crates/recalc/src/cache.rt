@@ -1,6 +1,7 @@
 //! A session's cache.
 ghost use Rattle.std.specs.Prelude.{◌≡◌, ◌+◌, ◌<◌, ◌≤◌, ◌^◌, ℕ, IfOk, IfSome, None, OnErr, length, slice_index, slice_index_or};
 ghost use Rattle.fx_trees.specs.declared.sources.Source.{Source as Src};
+ghost use Rattle.recalc.specs.Clearing.{is_mark as is_mark_of, unmarked as unmarked_of};
 ghost use Rattle.recalc.specs.Kept.{IsSourceOf, place_of};
 
 use crate::app_cells::App;
@@ -20,7 +21,7 @@ const MOST_CELLS: usize = 2_000;
 const KINDS: usize = 8;
 
 /// The values of the cells of an app for one session, as far as they are kept, with the numbers by which it is known which of
-/// them stand. Every change of a source that is no cell is told it by `touched`.
+/// them stand. Every change of a source is told it by `touched`.
 #[derive(Drop)]
 pub struct Cache {
     // Kept, so that `make_room` takes none.
@@ -97,6 +98,33 @@ fn unstamped(mut stamps: Vec<Option<Stamp>>, count: usize) -> Vec<Option<Stamp>>
     stamps
 }
 
+// Whether a stamp is a mark.
+fn is_mark(stamp: Option<Stamp>) -> bool
+    ensures { result ≡ is_mark_of stamp }
+{
+    match stamp {
+        Some(stamp) => stamp.checked == u64::MAX,
+        None => false,
+    }
+}
+
+// A stamp, and none for a mark.
+fn unmarked(stamp: Option<Stamp>) -> Option<Stamp>
+    ensures { result ≡ unmarked_of stamp }
+{
+    if is_mark(stamp) { None } else { stamp }
+}
+
+// Takes all marks away.
+fn unmark(stamps: &mut [Option<Stamp>])
+    ensures long { length stamps.new ≡ length stamps.old }
+    ensures each { (k : ℕ) → slice_index_or stamps.new k None ≡ unmarked_of (slice_index_or stamps.old k None) }
+{
+    for stamp in stamps.iter_mut() {
+        *stamp = unmarked(*stamp);
+    }
+}
+
 // The first versions, where those were.
 fn unversioned(mut versions: Vec<u64>) -> Vec<u64>
     ensures long { length result.items ≡ length versions.items }
@@ -128,6 +156,7 @@ impl Cache {
     ghost use Rattle.recalc.specs.Kept.{IsInOrder, IsRoomFor, Room, place_of, stamp_of, value_of, version_of};
     ghost use Rattle.recalc.specs.Outcomes.{IsEmpty, IsEmptied, IsForgotten, IsRestarted, let_out};
     ghost use Rattle.recalc.specs.Carrying.{received, taken_from};
+    ghost use Rattle.recalc.specs.Clearing.{AreUnmarked, is_marked as is_marked_in, marked};
     ghost use Rattle.recalc.specs.Steps.{confirmed, kept_with};
 
     /// A cache for a session of this app, on this day, in which nothing is kept.
@@ -257,6 +286,33 @@ impl Cache {
             checked: self.last,
             moved,
         });
+    }
+
+    /// Whether a cell is marked.
+    pub(crate) fn is_marked(&self, cell: u32) -> bool
+        ensures { result ≡ is_marked_in self.now cell }
+    {
+        is_mark(self.stamp(cell))
+    }
+
+    /// Marks a cell, where there is one of this number, by a stamp that none is given: numbers run out before.
+    pub(crate) fn mark(&mut self, cell: u32)
+        ensures { self.new ≡ marked self.old cell }
+    {
+        let place = cell as usize;
+        if place < self.stamps.len() {
+            self.stamps[place] = Some(Stamp {
+                checked: u64::MAX,
+                moved: u64::MAX,
+            });
+        }
+    }
+
+    /// Takes all marks away.
+    pub(crate) fn drop_marks(&mut self)
+        ensures { AreUnmarked self.old self.new }
+    {
+        unmark(&mut self.stamps);
     }
 
     /// Keeps a value that was made now, under the next number.

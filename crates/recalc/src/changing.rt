@@ -2,11 +2,11 @@
 ghost use Rattle.std.specs.Prelude.{◌≡◌, ◌↔◌, ◌<◌, ℕ, IfOk, false, length};
 ghost use Rattle.std.specs.List.{AllPairs, Contains};
 ghost use Rattle.fx_data.specs.ValueView.{view};
-ghost use Rattle.fx_trees.specs.declared.sources.Source.TheVariants.{Today};
+ghost use Rattle.fx_trees.specs.declared.sources.Source.TheVariants.{Cell, Today};
 ghost use Rattle.recalc.specs.app_cells.declared.app.App.{App as AnApp};
 ghost use Rattle.recalc.specs.app_cells.Reach.{is_cell};
 ghost use Rattle.recalc.specs.app_semantics.Sound.{IsSound};
-ghost use Rattle.recalc.specs.Changes.{IsTouched, on_day};
+ghost use Rattle.recalc.specs.Changes.{IsCellTouched, IsTouched, on_day};
 ghost use Rattle.recalc.specs.Kept.{HasRoom, IsClean, IsInOrder, Kept, place_of};
 ghost use Rattle.recalc.specs.Outcomes.{HasNumbers};
 
@@ -32,9 +32,8 @@ impl Cache {
         }
     }
 
-    /// Says that a source, which is no cell, has changed. The values of the cells that reach it don't stand any more, and all
-    /// others do as before, unless the numbers ran out. It takes no memory.
-    pub fn touched(&mut self, source: Source)
+    // Says that a source has changed, which is no cell.
+    fn tell(&mut self, source: Source)
         requires { place_of source < length self.old.versions }
         ensures { (a : AnApp) → is_cell source ≡ false → IsTouched a source self.old self.new }
     {
@@ -42,12 +41,25 @@ impl Cache {
         self.raise(source);
     }
 
+    /// Says that a source of the app has changed. The values of the cells that reach it don't stand any more, and all others do as
+    /// before, unless the numbers ran out. What is kept of the cells that reach a cell goes. It takes no memory.
+    pub fn touched(&mut self, app: &App, source: Source)
+        requires { is_cell source ≡ false → place_of source < length self.old.versions }
+        ensures told { (a : AnApp) → is_cell source ≡ false → IsTouched a source self.old self.new }
+        ensures cell { (k : ℕ) → source ≡ Cell k → IsSound app.now → IsInOrder app.now self.old → IsCellTouched app.now k self.old self.new }
+    {
+        match source {
+            Source::Cell(cell) => self.touch_cell(app, cell),
+            _ => self.tell(source),
+        }
+    }
+
     /// Says that another day has begun: `Today()` has changed.
     pub fn turn(&mut self, day: Value)
         requires { place_of Today < length self.old.versions }
         ensures { (told : Kept) × ((a : AnApp) → IsTouched a Today self.old told) × (self.new ≡ on_day told (view day)) }
     {
-        self.touched(Source::Today);
+        self.tell(Source::Today);
         self.set_day(day);
     }
 

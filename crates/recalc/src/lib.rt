@@ -7,6 +7,7 @@ mod cache;
 mod carrying;
 mod changing;
 mod choosing;
+mod clearing;
 pub mod evaluating;
 pub mod given;
 pub mod ids;

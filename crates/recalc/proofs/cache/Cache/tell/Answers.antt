@@ -2,7 +2,7 @@ use Rattle.std.proofs.Common.{◌<◌, arith, subst, sym}
 use Rattle.recalc.specs.Changes.{IsTouched}
 use Rattle.recalc.specs.Kept.{Kept, place_of}
 use Rattle.recalc.proofs.Touching.{touched_is}
-use Rattle.recalc.proofs.cache.Cache.touched.Goals as goal
+use Rattle.recalc.proofs.cache.Cache.tell.Goals as goal
 
 pub raise-requires-clause-room : goal.raise-requires-clause-room
 raise-requires-clause-room c = let room = c.make_numbers.ensures.room in omega (arith, room)
