@@ -109,7 +109,7 @@ fn touch(app: &App, cache: &mut Cache, wrote: &[Source])
 {
     for source in wrote {
         if is_table(*source) {
-            cache.touched(*source);
+            cache.touched(app, *source);
         }
     }
 }

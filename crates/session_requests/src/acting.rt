@@ -81,14 +81,19 @@ fn chosen_by(target: Target) -> Option<Source>
 }
 
 /// Notes what was given or chosen as written, and tells the cache of it.
-fn tell(cache: &mut Cache, wrote: &mut Vec<Source>, given: Option<Source>) -> Result<(), Memory>
+fn tell(
+    app: &App,
+    cache: &mut Cache,
+    wrote: &mut Vec<Source>,
+    given: Option<Source>,
+) -> Result<(), Memory>
     requires { IfSome given (λ x. place_of_source x < length cache.old.versions) }
     ensures wrote { OnOk result (wrote.new.items ≡ wrote.old.items ++ option_to_list given) }
     ensures told { OnOk result ((a : AnApp) → IsTouchedIf a given cache.old cache.new) }
     ensures stopped { OnErr result ((wrote.new.items ≡ wrote.old.items) × (cache.new ≡ cache.old)) }
 {
     wrote.reserve(1)?;
-    note(wrote, cache, given);
+    note(app, wrote, cache, given);
     Ok(())
 }
 
@@ -338,7 +343,7 @@ fn take_effect<K: Keeper, L: Ledger>(
     let body = Vec::from_slice(alloc, body)?;
     let kept = name.copy(alloc)?;
     sessions.reserve(1)?;
-    tell(cache, wrote, given)?;
+    tell(app, cache, wrote, given)?;
     let before = session_of(sessions.as_slice(), name);
     match accept_request(
         alloc, app, before, session, cache, keeper, moment, trigger, item, seq, wrote, steps,

@@ -178,12 +178,12 @@ fn transact<K: Keeper, L: Ledger>(
 }
 
 /// Tells a cache that these sources have changed.
-fn touch_all(cache: &mut Cache, sources: &[Source])
+fn touch_all(app: &App, cache: &mut Cache, sources: &[Source])
     requires { (a : AnApp) × IsInOrder a cache.old × AreSources a.names sources.now }
     ensures { (a : AnApp) → AreSources a.names sources.now → AreTouched a sources.now cache.old cache.new }
 {
     for source in sources {
-        cache.touched(*source);
+        cache.touched(app, *source);
     }
 }
 
@@ -235,7 +235,7 @@ pub fn accept_request<K: Keeper, L: Ledger>(
     ) {
         Ok(accepted) => Ok(accepted),
         Err(end) => {
-            touch_all(cache, wrote.as_slice());
+            touch_all(app, cache, wrote.as_slice());
             Err(end)
         }
     }

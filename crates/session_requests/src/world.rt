@@ -179,7 +179,7 @@ impl<A: SoundApp, K: Keeper, S: Start> World for SessionWorld<'_, A, K, S> {
         self.wrote.reserve(1)?;
         match self.session.change(change) {
             Ok(done) => {
-                note(self.wrote, self.cache, when(done, source));
+                note(self.app.get(), self.wrote, self.cache, when(done, source));
                 Ok(done)
             }
             Err(Memory) => Err(Stop::Memory),
@@ -192,7 +192,12 @@ impl<A: SoundApp, K: Keeper, S: Start> World for SessionWorld<'_, A, K, S> {
         self.wrote.reserve(1)?;
         match self.keeper.insert(table, cells) {
             Ok(put) => {
-                note(self.wrote, self.cache, written_by(put, table));
+                note(
+                    self.app.get(),
+                    self.wrote,
+                    self.cache,
+                    written_by(put, table),
+                );
                 Ok(put)
             }
             Err(end) => Err(stop_of(end)),
@@ -205,7 +210,12 @@ impl<A: SoundApp, K: Keeper, S: Start> World for SessionWorld<'_, A, K, S> {
         self.wrote.reserve(1)?;
         match self.keeper.replace(table, id, cells) {
             Ok(put) => {
-                note(self.wrote, self.cache, written_by(put, table));
+                note(
+                    self.app.get(),
+                    self.wrote,
+                    self.cache,
+                    written_by(put, table),
+                );
                 Ok(put)
             }
             Err(end) => Err(stop_of(end)),
@@ -219,6 +229,7 @@ impl<A: SoundApp, K: Keeper, S: Start> World for SessionWorld<'_, A, K, S> {
         match self.keeper.remove(table, id) {
             Ok(was) => {
                 note(
+                    self.app.get(),
                     self.wrote,
                     self.cache,
                     when(was, Some(Source::Table(table))),

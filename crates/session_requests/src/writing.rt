@@ -8,6 +8,7 @@ ghost use Rattle.recalc.specs.app_cells.declared.app.App.{App as AnApp};
 ghost use Rattle.recalc.specs.Kept.{place_of};
 ghost use Rattle.session_requests.specs.Caching.{IsTouchedIf};
 
+use crate::app_cells::App;
 use fx_trees::Source;
 use recalc::Cache;
 use row_keeper::Put;
@@ -45,7 +46,7 @@ pub(crate) fn when(done: bool, source: Option<Source>) -> Option<Source>
 }
 
 /// Notes a source that was written, if one was, for which there is room, and tells the cache of it.
-pub(crate) fn note(wrote: &mut Vec<Source>, cache: &mut Cache, source: Option<Source>)
+pub(crate) fn note(app: &App, wrote: &mut Vec<Source>, cache: &mut Cache, source: Option<Source>)
     requires room { vec_len wrote.old < vec_capacity wrote.old }
     requires place { IfSome source (λ s. place_of s < length cache.old.versions) }
     ensures wrote { wrote.new.items ≡ wrote.old.items ++ option_to_list source }
@@ -56,6 +57,6 @@ pub(crate) fn note(wrote: &mut Vec<Source>, cache: &mut Cache, source: Option<So
             Ok(()) => {}
             Err(_) => unreachable!(),
         }
-        cache.touched(source);
+        cache.touched(app, source);
     }
 }

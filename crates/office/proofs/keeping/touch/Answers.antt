@@ -6,7 +6,7 @@ use Rattle.office.proofs.keeping.touch.Goals.{then-is_table, else-is_table}
 use Rattle.office.proofs.keeping.touch.Goals as goal
 
 pub touched-requires : goal.touched-requires
-touched-requires c =
+touched-requires c = λ plain.
     let s = get_or c.args.wrote.now c.loop-source.source-index (Cell 0) in
     (c.loop-source.invariant.order c.requires.order).places s (c.requires.sources s (at_among c.args.wrote.now c.loop-source.source-index (Cell 0) c.loop-source-test.true))
 
@@ -23,7 +23,7 @@ loop-source-preserved c =
       | then-is_table w ↦
           let table = sym c.is_table.ensures ∙ w.if-is_table.true in
           subst (λ (k : Kept). IsAt app wrote (i + 1) c.args.cache.now k) (sym w.cache-is)
-          (at_table app wrote i (Cell 0) c.args.cache.now c.loop-source.cache w.touched.new.self c.loop-source-test.true table c.loop-source.invariant (w.touched.ensures app (plain_table s table)))
+          (at_table app wrote i (Cell 0) c.args.cache.now c.loop-source.cache w.touched.new.self c.loop-source-test.true table c.loop-source.invariant (w.touched.ensures.told app (plain_table s table)))
       | else-is_table w ↦
           subst (λ (k : Kept). IsAt app wrote (i + 1) c.args.cache.now k) (sym w.cache-is)
           (at_other app wrote i (Cell 0) c.args.cache.now c.loop-source.cache c.loop-source-test.true (sym c.is_table.ensures ∙ w.if-is_table.false) c.loop-source.invariant)

@@ -7,7 +7,7 @@ use Rattle.session_requests.proofs.Undone.{touched_all, touched_first, touched_s
 use Rattle.session_requests.proofs.transaction.touch_all.Goals as goal
 
 pub touched-requires : goal.touched-requires
-touched-requires c =
+touched-requires c = λ plain.
     let xs = c.args.sources.now in
     let i = c.loop-source.source-index in
     let order = (c.loop-source.invariant c.requires.0 c.requires.2).order c.requires.1 in
@@ -21,7 +21,7 @@ loop-source-preserved c = λ a own.
     let xs = c.args.sources.now in
     let i = c.loop-source.source-index in
     touched_step a xs i _ c.args.cache.now c.loop-source.cache c.touched.new.self c.loop-source-test.true
-    (c.touched.ensures a (plain_of a.names (get_or xs i _) (own (get_or xs i _) (at_among (get_or xs i _) xs i (slice_get-get_or xs i _ c.loop-source-test.true)))))
+    (c.touched.ensures.told a (plain_of a.names (get_or xs i _) (own (get_or xs i _) (at_among (get_or xs i _) xs i (slice_get-get_or xs i _ c.loop-source-test.true)))))
     (c.loop-source.invariant a own)
 
 pub returns : goal.returns
