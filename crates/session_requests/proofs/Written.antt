@@ -19,11 +19,11 @@ use Rattle.session_requests.proofs.Chains.{goes_as}
 use Rattle.session_requests.proofs.Resting.{arrived_same}
 use Rattle.session_requests.specs.Acting.{EffectWrites, EventWrites, InputWrites, chosen_by, input_trigger, item_seen, with_input, with_target}
 use Rattle.session_requests.specs.Performing.{Acts}
-use Rattle.session_requests.specs.Running.{ActsWriting, IsFollowed, IsShown, RunsWriting, ShowsWriting, wrote_acted, wrote_followed, wrote_shown}
+use Rattle.session_requests.specs.Running.{ActsWriting, IsFollowed, IsShown, OpensWriting, RunsWriting, ShowsWriting, wrote_acted, wrote_followed, wrote_shown}
 use Rattle.session_requests.specs.Scenes.{Scene, arrived, begun, scene}
 use Rattle.session_requests.specs.Triggers.{cell_at}
 use Rattle.session_requests.specs.declared.trigger.Trigger.{Trigger}
-use Rattle.session_requests.specs.declared.trigger.Trigger.TheVariants.{OnSelect, OnVisible}
+use Rattle.session_requests.specs.declared.trigger.Trigger.TheVariants.{OnSelect, OnStart, OnVisible}
 use Rattle.request_checks.specs.declared.reply.Reply.{Reply}
 use Rattle.session_requests.specs.Targets.{Given}
 use Rattle.session_requests.specs.declared.target.Target.{Target}
@@ -105,6 +105,20 @@ both_written k l n a m trigger item s r p q value us vs ws x y z before later e 
     (record { end = scene u r; acts = acted.0; follows = next.0 }, later_two us vs ws first second ∙ ap (λ (l : List Source). l ++ drop (length vs) ws) acted.1 ∙ ap (λ (l : List Source). by ++ l) (shown.1 ∙ sym next.1)))
     k l n before later x y z acts
     (subst (λ (w : SessionState). Goes (IsLost l n) (λ (t u : Tables). ShowsWriting a m (scene t w) (scene u q) (drop (length vs) ws)) y z) d shows)
+
+-- a session that is opened
+pub opened_written : (k l n : Marks) (a : App) (m : ℕ) (s r q : SessionState) (value : Data) (us vs ws : List Source) (x y z : Option Tables) → IsLater k l → IsLater l n
+    → take (length us) vs ≡ us → take (length vs) ws ≡ vs
+    → Goes (IsLost k l) (λ (t u : Tables). ActsWriting a m (cell_at OnStart a) None (scene t s) value (scene u r) (drop (length us) vs)) x y
+    → Goes (IsLost l n) (λ (t u : Tables). ShowsWriting a m (scene t r) (scene u q) (drop (length vs) ws)) y z
+    → Goes (IsLost k n) (λ (t u : Tables). OpensWriting a m (scene t s) (scene u q) (drop (length us) ws)) x z
+opened_written k l n a m s r q value us vs ws x y z before later first second acts shows =
+    goes_two (λ (t u : Tables). ActsWriting a m (cell_at OnStart a) None (scene t s) value (scene u r) (drop (length us) vs)) (λ (t u : Tables). ShowsWriting a m (scene t r) (scene u q) (drop (length vs) ws))
+    (λ (t u : Tables). OpensWriting a m (scene t s) (scene u q) (drop (length us) ws))
+    (λ t u v acted shown.
+    let by : List Source = wrote_acted a m (cell_at OnStart a) None (scene t s) value (scene u r) acted.0 in
+    (record { value = value; end = scene u r; acts = acted.0; shown = shown.0 }, later_two us vs ws first second ∙ ap (λ (l : List Source). l ++ drop (length vs) ws) acted.1 ∙ ap (λ (l : List Source). by ++ l) shown.1))
+    k l n before later x y z acts shows
 
 -- a session that navigated nowhere has arrived
 pub arrived_same_as : (s q : SessionState) → s.navigated ≡ false → q ≡ arrived s → q ≡ s

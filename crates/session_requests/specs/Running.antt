@@ -72,6 +72,10 @@ ActsWriting a m o item s value t ws = (h : IsActed a m o item s value t) × (ws 
 abbrev pub ShowsWriting : App → ℕ → Scene → Scene → List Source → Type 0
 ShowsWriting a m s t ws = (h : IsShown a m s t) × (ws ≡ wrote_shown a m s t h)
 
+-- WHAT OPENING A SESSION WRITES: the sources that `App.OnStart` writes, and then those of the screen that is shown.
+abbrev pub OpensWriting : App → ℕ → Scene → Scene → List Source → Type 0
+OpensWriting a m s t ws = (h : Opens a m s t) × (ws ≡ wrote_acted a m (cell_at OnStart a) None s h.value h.end h.acts ++ wrote_shown a m h.end t h.shown)
+
 -- WHAT A REQUEST WRITES at a trigger: the sources that the formula writes, and then those of the screen that is shown.
 abbrev pub RunsWriting : App → ℕ → Trigger → Option Data → Scene → Data → Scene → List Source → Type 0
 RunsWriting a m trigger item s value t ws =

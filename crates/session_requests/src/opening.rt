@@ -8,7 +8,7 @@ ghost use Rattle.row_requests.specs.Sound.{AreSound};
 ghost use Rattle.row_requests.specs.Written.{AreTablesBut};
 ghost use Rattle.session_state.specs.Sessions.{opened};
 ghost use Rattle.session_requests.specs.Caching.{AreLater, AreSources, IsCached};
-ghost use Rattle.session_requests.specs.Opening.{CanOpen, OpensNew};
+ghost use Rattle.session_requests.specs.Opening.{CanOpen, OpensNew, OpensNewWriting};
 
 use crate::app_cells::App;
 use crate::running::open;
@@ -39,6 +39,7 @@ fn prepare_session<K: Keeper, L: Ledger>(
     requires began { K.began keeper.old ≡ K.told keeper.old }
     requires wrote { wrote.old.items ≡ [] }
     ensures opens { IfOk result (λ s. OpensNew (IsLost (K.marks keeper.old) (K.marks keeper.new)) app.now moment (K.told keeper.old) (K.told keeper.new) s) }
+    ensures wrote { IfOk result (λ s. OpensNewWriting (IsLost (K.marks keeper.old) (K.marks keeper.new)) app.now moment (K.told keeper.old) (K.told keeper.new) s wrote.new.items) }
     ensures rows { AreSound app.now.names.schema (K.told keeper.new) }
     ensures began { Goes (IsLost (K.marks keeper.old) (K.marks keeper.new)) Stays (K.began keeper.old) (K.began keeper.new) }
     ensures shaped { K.shaped keeper.new ≡ Some app.now.names.schema }
@@ -88,6 +89,7 @@ pub fn open_session<K: Keeper, L: Ledger>(
     requires cached { IsCached app.now (opened app.now.names) (K.told keeper.old) moment cache.old }
     requires wrote { wrote.old.items ≡ [] }
     ensures opens { IfOk result (λ s. OpensNew (IsLost (K.marks keeper.old) (K.marks keeper.new)) app.now moment (K.told keeper.old) (K.told keeper.new) s) }
+    ensures wrote { IfOk result (λ s. OpensNewWriting (IsLost (K.marks keeper.old) (K.marks keeper.new)) app.now moment (K.told keeper.old) (K.told keeper.new) s wrote.new.items) }
     ensures stopped { OnErr result (Goes (IsLost (K.marks keeper.old) (K.marks keeper.new)) Stays (K.told keeper.old) (K.told keeper.new)) }
     ensures rows { AreSound app.now.names.schema (K.told keeper.new) }
     ensures shaped { K.shaped keeper.new ≡ Some app.now.names.schema }

@@ -7,7 +7,7 @@ ghost use Rattle.fx_data.specs.ValueView.{view};
 ghost use Rattle.row_keeper.specs.Causes.{HasCause};
 ghost use Rattle.row_requests.specs.Sound.{AreSound};
 ghost use Rattle.session_requests.specs.Caching.{AreLater, AreSessionsBut, AreSources, IsCached, LeavesBut};
-ghost use Rattle.session_requests.specs.Running.{ActsWriting, IsShown, IsTriggered, Opens, Runs, RunsWriting, ShowsWriting};
+ghost use Rattle.session_requests.specs.Running.{ActsWriting, IsShown, IsTriggered, Opens, OpensWriting, Runs, RunsWriting, ShowsWriting};
 ghost use Rattle.session_requests.specs.Scenes.{scene};
 ghost use Rattle.session_requests.specs.Triggers.{ItemFits, cell_at as cell_of};
 ghost use Rattle.session_state.specs.Changes.{FitsNames};
@@ -216,6 +216,9 @@ pub(crate) fn open<K: Keeper, L: Ledger>(
     ensures but { AreSessionsBut app.now.names wrote.new.items before.now session.new }
     ensures later { AreLater wrote.new.items (K.began keeper.new) (K.told keeper.new) }
     ensures sources { AreSources app.now.names wrote.new.items }
+    ensures wrote { OnOk result (Goes (IsLost (K.marks keeper.old) (K.marks keeper.new))
+        (λ t u. OpensWriting app.now moment (scene t session.old) (scene u session.new) (drop (length wrote.old.items) wrote.new.items)) (K.told keeper.old) (K.told keeper.new)) }
+    ensures prefix { take (length wrote.old.items) wrote.new.items ≡ wrote.old.items }
     ensures loan { K.loan keeper.new ≡ K.loan keeper.old }
 {
     act(

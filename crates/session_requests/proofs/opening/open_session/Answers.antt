@@ -3,8 +3,9 @@ use Rattle.fx_base.specs.Silence.{Goes, IsLost}
 use Rattle.fx_base.specs.Telling.{Stays}
 use Rattle.row_keeper.specs.Tables.{Tables}
 use Rattle.session_state.specs.Sessions.{opened}
-use Rattle.session_requests.specs.Running.{Opens}
+use Rattle.session_requests.specs.Running.{Opens, OpensWriting}
 use Rattle.session_requests.specs.Scenes.{scene}
+use Rattle.session_requests.proofs.Written.{told_through}
 use Rattle.session_requests.proofs.Undone.{cached_stays, tables_through}
 use Rattle.session_requests.proofs.opening.open_session.Goals as goal
 
@@ -36,3 +37,43 @@ returns-in-Ok-settle-clause-tables g c =
     c.begin.ensures.tables c.in-Ok-prepare_session.ensures.opens.opens (c.in-Ok-settle.ensures.kept refl)
     (subst (λ (z : Option Tables). Goes (IsLost (marks first) (marks second)) Stays z (began second)) c.in-Ok.ensures.ok.1 c.prepare_session.ensures.began)
     (g.met.K.Keeper.heard second) c.prepare_session.ensures.later
+
+pub returns-in-Ok-settle-clause-opens : goal.returns-in-Ok-settle-clause-opens
+returns-in-Ok-settle-clause-opens g c =
+    let told = g.K.Keeper.told in
+    let marks = g.K.Keeper.marks in
+    let h = c.in-Ok-prepare_session.ensures.opens in
+    let old = c.args.keeper.now in
+    let first = c.begin.new.self in
+    let second = c.prepare_session.new.keeper in
+    let third = c.settle.new.keeper in
+    record {
+      end = h.end;
+      opens = told_through (marks old) (marks first) (marks second) (marks third) (λ (t u : Tables). Opens c.args.app.now c.args.moment (scene t (opened c.args.app.now.names)) (scene u h.end))
+          (told old) (told first) (told second) (told third) c.begin.ensures.cause.later c.prepare_session.ensures.cause.later c.settle.ensures.cause.later
+          c.begin.ensures.tables h.opens (c.in-Ok-settle.ensures.kept refl);
+      left = h.left;
+      fits = h.fits;
+    }
+
+pub returns-in-Ok-settle-clause-wrote : goal.returns-in-Ok-settle-clause-wrote
+returns-in-Ok-settle-clause-wrote g c =
+    let told = g.K.Keeper.told in
+    let marks = g.K.Keeper.marks in
+    let h = c.in-Ok-prepare_session.ensures.wrote in
+    let old = c.args.keeper.now in
+    let first = c.begin.new.self in
+    let second = c.prepare_session.new.keeper in
+    let third = c.settle.new.keeper in (
+      record {
+        end = h.0.end;
+        opens = told_through (marks old) (marks first) (marks second) (marks third) (λ (t u : Tables). Opens c.args.app.now c.args.moment (scene t (opened c.args.app.now.names)) (scene u h.0.end))
+            (told old) (told first) (told second) (told third) c.begin.ensures.cause.later c.prepare_session.ensures.cause.later c.settle.ensures.cause.later
+            c.begin.ensures.tables h.0.opens (c.in-Ok-settle.ensures.kept refl);
+        left = h.0.left;
+        fits = h.0.fits;
+      },
+      told_through (marks old) (marks first) (marks second) (marks third) (λ (t u : Tables). OpensWriting c.args.app.now c.args.moment (scene t (opened c.args.app.now.names)) (scene u h.0.end) c.prepare_session.new.wrote.items)
+          (told old) (told first) (told second) (told third) c.begin.ensures.cause.later c.prepare_session.ensures.cause.later c.settle.ensures.cause.later
+          c.begin.ensures.tables h.1 (c.in-Ok-settle.ensures.kept refl),
+    )
