@@ -1,10 +1,12 @@
 -- Clean cells that requests leave so.
-use Rattle.std.proofs.Common.{◌≡◌, ◌≢◌, ◌⊎◌, ℕ, ◌/◌, zero, suc, ◌<◌, Bool, true, false, List, [], ◌∷◌, ◌++◌, get_or, length, Option, None, Some, Result, Ok, Err, refl, ap, sym, ◌∙◌, subst, inl, inr, arith}
-use Rattle.std.specs.Prelude.{IfOk, bytes_eq, option_map, slice_get, slice_set}
+use Rattle.std.proofs.Common.{◌≡◌, ◌≢◌, ◌⊎◌, ℕ, ◌/◌, zero, suc, ◌<◌, ◌≤◌, Bool, true, false, List, [], ◌∷◌, ◌++◌, get_or, length, Option, None, Some, Result, Ok, Err, refl, ap, sym, ◌∙◌, subst, inl, inr, arith}
+use Rattle.std.specs.Prelude.{IfOk, bytes_eq, if◌then◌else◌, nat_le, option_map, slice_get, slice_set}
+use Rattle.std.proofs.lemmas.Bool.{le-leb, lt-leb}
 use Rattle.std.specs.List.{position}
 use Rattle.std.proofs.lemmas.List.{length-set}
 use Rattle.app_cells.specs.declared.app.App.{App}
 use Rattle.app_wire.specs.Framing.{Asked}
+use Rattle.app_wire.specs.ReplyBytes.{refusal, reply}
 use Rattle.app_wire.specs.Routing.{Routing}
 use Rattle.app_wire.specs.declared.route.Route.{Route}
 use Rattle.app_wire.specs.declared.route.Route.TheVariants.{Begin, End, View, Named as Formulas, Items, Event, Input, Rows, Edit, Page, Plan, Graph}
@@ -21,7 +23,7 @@ use Rattle.session_requests.specs.declared.event.Event.{Event as Asks}
 use Rattle.session_requests.specs.declared.input.Input.{Input as Gives}
 use Rattle.session_state.specs.Sessions.{SessionState}
 use Rattle.request_checks.proofs.Directories.{find_here, find_other, find_past, itself, position_here, position_past, same_bytes}
-use Rattle.request_checks.specs.Directory.{find, is_named, it_at, put}
+use Rattle.request_checks.specs.Directory.{find, is_among, is_named, it_at, put}
 use Rattle.request_checks.specs.Checks.{checks, session_of}
 use Rattle.request_checks.specs.declared.directory.Named.{Named}
 use Rattle.office.proofs.Directories.{find_without, without_here, without_past}
@@ -29,8 +31,9 @@ use Rattle.office.proofs.Rounds.{no_table, one_table}
 use Rattle.office.proofs.Sent.{other_apart, other_itself}
 use Rattle.office.proofs.Places.{cases_of, item_at, one_at, position_passes, position_within, set_here, set_there, some_at}
 use Rattle.office.specs.Caches.{AreEach, AreTouched, IsToldAside, IsTurned, WentOver, is_other, is_table, tables_in}
-use Rattle.office.specs.Leaving.{ActsClean, AreActed, AreEachLeft, AreLeft, AreLeftAt, AreLeftBeside, EventLeaves, InputLeaves, LeavesActed, LeavesBy, LeavesClean, Writing, any_table, either, nothing, tables_of, those, turned}
-use Rattle.office.specs.Sessions.{without}
+use Rattle.office.specs.Leaving.{ActsClean, AreActed, AreEachLeft, AreLeft, AreLeftAt, AreLeftBeside, BeginLeaves, EventLeaves, InputLeaves, LeavesActed, LeavesBy, LeavesClean, Writing, any_table, either, nothing, tables_of, those, turned}
+use Rattle.office.specs.Sessions.{OpensSessionWriting, begin_checks, most_sessions, without}
+use Rattle.view_text.specs.ReplyText.{ok_text}
 use Rattle.office.specs.State.{Seen, State, schema_of}
 use Rattle.row_requests.specs.Written.{IsNamedBy}
 
@@ -266,12 +269,16 @@ beside_told a one ws cs ds p old now within is place each =
 pub beside_any : (a : App) (one : List ℕ) (ws : List Source) (cs ds : List (Named Kept)) → AreLeftBeside a one (tables_of ws) cs ds → AreLeftBeside a one any_table cs ds
 beside_any a one ws cs ds h = λ name c d far was is. let it = h name c d far was is in (it.0, (λ x among. (it.1 x among).1), it.2)
 
--- a session got one, and the others were told so
-pub beside_begun : (a : App) (one copy : List ℕ) (ws : List Source) (cs bs ds es : List (Named Kept)) (made : Kept) → bs ≡ cs → copy ≡ one → AreEach (IsToldAside a None (tables_in ws)) bs ds → es ≡ put copy made ds → AreLeftBeside a one any_table cs es
-beside_begun a one copy ws cs bs ds es made same named each is_put = λ name c d far was is.
+-- a session got one, and the others were told which tables its opening wrote
+pub beside_opened : (a : App) (one copy : List ℕ) (ws : List Source) (cs bs ds es : List (Named Kept)) (made : Kept) → bs ≡ cs → copy ≡ one → AreEach (IsToldAside a None (tables_in ws)) bs ds → es ≡ put copy made ds → AreLeftBeside a one (tables_of ws) cs es
+beside_opened a one copy ws cs bs ds es made same named each is_put = λ name c d far was is.
     let told = each_told a (tables_in ws) cs ds (subst (λ (l : List (Named Kept)). AreEach (IsToldAside a None (tables_in ws)) l ds) same each) in
-    left_each a any_table cs ds (tables_in ws, (λ x h. table_among x ws h), told) name c d was
+    left_each a (tables_of ws) cs ds (tables_in ws, (λ x h. (among_tables x ws h, table_among x ws h)), told) name c d was
     (sym (find_other Kept copy name made ds (λ e. far (sym named ∙ e))) ∙ ap (λ (l : List (Named Kept)). find name l) (sym is_put) ∙ is)
+
+-- which are tables
+pub beside_begun : (a : App) (one copy : List ℕ) (ws : List Source) (cs bs ds es : List (Named Kept)) (made : Kept) → bs ≡ cs → copy ≡ one → AreEach (IsToldAside a None (tables_in ws)) bs ds → es ≡ put copy made ds → AreLeftBeside a one any_table cs es
+beside_begun a one copy ws cs bs ds es made same named each is_put = beside_any a one ws cs es (beside_opened a one copy ws cs bs ds es made same named each is_put)
 
 -- another day, and then a request that acts
 left_after_beside : (a : App) (one : List ℕ) (V W : Writing) (cs ds es : List (Named Kept)) → AreEachLeft a V cs ds → AreLeftBeside a one (either nothing W) ds es → AreLeftBeside a one (either V W) cs es
@@ -483,11 +490,16 @@ input_after : (lost : Type 0) (a : App) (m : ℕ) (name : List ℕ) (V : Writing
 input_after lost a m name V body (Err words) told ss said told' rs cs ds es day h = acted_after a name V [] cs ds es day h
 input_after lost a m name V body (Ok i) told ss said told' rs cs ds es day (ws, sends, acted) = (ws, sends, acted_after a name V ws cs ds es day acted)
 
+begin_after : (lost : Type 0) (a : App) (m : ℕ) (name : List ℕ) (V : Writing) (o : Option (List ℕ)) (told : Option Tables) (ss : List (Named SessionState)) (said : List ℕ) (told' : Option Tables) (rs : List (Named SessionState)) (cs ds es : List (Named Kept))
+    → AreEachLeft a V cs ds → BeginLeaves lost a m name nothing o told ss said told' rs ds es → BeginLeaves lost a m name V o told ss said told' rs cs es
+begin_after lost a m name V (Some words) told ss said told' rs cs ds es day h = left_after_none a V cs ds es day h
+begin_after lost a m name V None told ss said told' rs cs ds es day (ws, opens, others) = (ws, opens, left_after_beside a name V (tables_of ws) cs ds es day others)
+
 acts_after : (lost : Type 0) (m : ℕ) (route : Route) (V : Writing) (body : List ℕ) (s : State) (said : List ℕ) (t : State) (cs ds es : List (Named Kept)) → AreEachLeft s.app V cs ds → ActsClean lost m route nothing body s said t ds es → ActsClean lost m route V body s said t cs es
 unfolding ActsClean
 acts_after lost m (Event name) V body s said t cs ds es day h = event_after lost s.app m name V body _ s.tables s.sessions said t.tables t.sessions cs ds es day h
 acts_after lost m (Input name) V body s said t cs ds es day h = input_after lost s.app m name V body _ s.tables s.sessions said t.tables t.sessions cs ds es day h
-acts_after lost m (Begin name) V body s said t cs ds es day h = tt
+acts_after lost m (Begin name) V body s said t cs ds es day h = begin_after lost s.app m name V _ s.tables s.sessions said t.tables t.sessions cs ds es day h
 acts_after lost m (End name) V body s said t cs ds es day h = tt
 acts_after lost m (View name) V body s said t cs ds es day h = tt
 acts_after lost m (Formulas name) V body s said t cs ds es day h = tt
@@ -530,17 +542,56 @@ acts_input route name body given old made now t said ds is same equal h =
     (subst (λ (s : Seen). ActsClean (IsLost s.marks now) s.moment (Input name) nothing body s.state said t s.caches ds) same
     (subst (λ (b : List ℕ). ActsClean (IsLost made.marks now) made.moment (Input name) nothing b made.state said t made.caches ds) equal h))
 
+pub acts_begin : (route : Route) (name body : List ℕ) (old made : Seen) (now : Marks) (t : State) (said : List ℕ) (ds : List (Named Kept)) → route ≡ Begin name → made ≡ old
+    → BeginLeaves (IsLost made.marks now) made.state.app made.moment name nothing (begin_checks name made.state.sessions) made.state.tables made.state.sessions said t.tables t.sessions made.caches ds
+    → ActsClean (IsLost old.marks now) old.moment route nothing body old.state said t old.caches ds
+unfolding ActsClean
+acts_begin route name body old made now t said ds is same h =
+    subst (λ (r : Route). ActsClean (IsLost old.marks now) old.moment r nothing body old.state said t old.caches ds) (sym is)
+    (subst (λ (s : Seen). ActsClean (IsLost s.marks now) s.moment (Begin name) nothing body s.state said t s.caches ds) same h)
+
+-- the session was opened
+pub opened_leaves : (lost : Type 0) (a : App) (m : ℕ) (name : List ℕ) (o : Option (List ℕ)) (told : Option Tables) (ss : List (Named SessionState)) (said : List ℕ) (told' : Option Tables) (rs : List (Named SessionState)) (cs ds : List (Named Kept)) (ws : List Source) → o ≡ None
+    → OpensSessionWriting lost a m name told ss said told' rs ws → AreLeftBeside a name (tables_of ws) cs ds → BeginLeaves lost a m name nothing o told ss said told' rs cs ds
+opened_leaves lost a m name o told ss said told' rs cs ds ws none opens others =
+    subst (λ (x : Option (List ℕ)). BeginLeaves lost a m name nothing x told ss said told' rs cs ds) (sym none) (ws, opens, beside_more a name (tables_of ws) cs ds others)
+
+-- no check of a session that begins breaks
+pub begin_none : (name : List ℕ) (ss : List (Named SessionState)) → is_among name ss ≡ false → length ss < 256 → begin_checks name ss ≡ None
+begin_none name ss new low = by (is_among name ss) (nat_le most_sessions (length ss)) new (lt-leb most_sessions (length ss) low)
+  where
+    by : (a b : Bool) → a ≡ false → b ≡ false → (if a then Some (reply 200 ok_text) else (if b then Some (refusal 12) else None)) ≡ None
+    by false false e h = refl
+    by true b e h = absurd cc
+    by false true e h = absurd cc
+
+-- as many live as may
+pub begin_full : (name : List ℕ) (ss : List (Named SessionState)) → is_among name ss ≡ false → most_sessions ≤ length ss → begin_checks name ss ≡ Some (refusal 12)
+begin_full name ss new full = by (is_among name ss) (nat_le most_sessions (length ss)) new (le-leb most_sessions (length ss) full)
+  where
+    by : (a b : Bool) → a ≡ false → b ≡ true → (if a then Some (reply 200 ok_text) else (if b then Some (refusal 12) else None)) ≡ Some (refusal 12)
+    by false true e h = refl
+    by true b e h = absurd cc
+    by false false e h = absurd cc
+
+-- none was opened
+pub checked_leaves : (lost : Type 0) (a : App) (m : ℕ) (name : List ℕ) (o : Option (List ℕ)) (words : List ℕ) (told : Option Tables) (ss : List (Named SessionState)) (said : List ℕ) (told' : Option Tables) (rs : List (Named SessionState)) (cs : List (Named Kept)) → o ≡ Some words
+    → BeginLeaves lost a m name nothing o told ss said told' rs cs cs
+checked_leaves lost a m name o words told ss said told' rs cs is =
+    subst (λ (x : Option (List ℕ)). BeginLeaves lost a m name nothing x told ss said told' rs cs cs) (sym is) (left_unchanged a cs)
+
 -- a route by which nothing acts
 abbrev pub IsQuiet : Route → Type 0
 IsQuiet (Event name) = ⊥
 IsQuiet (Input name) = ⊥
+IsQuiet (Begin name) = ⊥
 IsQuiet r = Unit {0}
 
 acts_none : (kind : Route) (lost : Type 0) (m : ℕ) (body : List ℕ) (s : State) (said : List ℕ) (t : State) (cs ds : List (Named Kept)) → IsQuiet kind → ActsClean lost m kind nothing body s said t cs ds
 unfolding ActsClean
 acts_none (Event name) lost m body s said t cs ds h = absurd h
 acts_none (Input name) lost m body s said t cs ds h = absurd h
-acts_none (Begin name) lost m body s said t cs ds h = tt
+acts_none (Begin name) lost m body s said t cs ds h = absurd h
 acts_none (End name) lost m body s said t cs ds h = tt
 acts_none (View name) lost m body s said t cs ds h = tt
 acts_none (Formulas name) lost m body s said t cs ds h = tt

@@ -1,5 +1,5 @@
 -- Which cells of sessions a request leaves clean.
-use Rattle.std.specs.Prelude.{◌≡◌, ◌≢◌, ◌⊎◌, ℕ, ◌/◌, true, List, [], Option, Some, Result, Ok, Err}
+use Rattle.std.specs.Prelude.{◌≡◌, ◌≢◌, ◌⊎◌, ℕ, ◌/◌, true, List, [], Option, None, Some, Result, Ok, Err}
 use Rattle.app_cells.specs.declared.app.App.{App}
 use Rattle.app_wire.specs.Framing.{Asked}
 use Rattle.app_wire.specs.ReplyBytes.{refusal}
@@ -22,6 +22,7 @@ use Rattle.session_requests.specs.declared.event.Event.{Event}
 use Rattle.session_requests.specs.declared.input.Input.{Input}
 use Rattle.session_state.specs.Sessions.{SessionState}
 use Rattle.office.specs.Caches.{AreEach, WentOver, is_table}
+use Rattle.office.specs.Sessions.{OpensSessionWriting, begin_checks}
 use Rattle.office.specs.State.{State, schema_of}
 
 -- what sources are written
@@ -108,12 +109,20 @@ abbrev pub InputLeaves : Type 0 → App → ℕ → List ℕ → Writing → Lis
 InputLeaves lost a m name V body (Err words) told sessions said told' sessions' old new = AreActed a name V [] old new
 InputLeaves lost a m name V body (Ok i) told sessions said told' sessions' old new = (ws : List Source) × SendsInputWriting lost a m name body i told sessions said told' sessions' ws × AreActed a name V ws old new
 
--- THE cells that an answered event or input leaves clean in all sessions: those that reach nothing that it wrote.
+-- A session that was opened wrote what its opening writes by definition, and all others keep what reaches no table of it. Where none
+-- was opened all is kept.
+abbrev pub BeginLeaves : Type 0 → App → ℕ → List ℕ → Writing → Option (List ℕ) → Option Tables → List (Named SessionState) → List ℕ → Option Tables → List (Named SessionState) → List (Named Kept) → List (Named Kept) → Type 0
+BeginLeaves lost a m name V (Some words) told sessions said told' sessions' old new = AreLeft a V old new
+BeginLeaves lost a m name V None told sessions said told' sessions' old new = (ws : List Source) × OpensSessionWriting lost a m name told sessions said told' sessions' ws × AreLeftBeside a name (either V (tables_of ws)) old new
+
+-- THE cells that a request by which something acts leaves clean in all sessions: those that reach nothing that it wrote.
 unfoldable pub ActsClean : Type 0 → ℕ → Route → Writing → List ℕ → State → List ℕ → State → List (Named Kept) → List (Named Kept) → Type 0
 ActsClean lost m (OfEvent name) V body s said t old new =
     EventLeaves lost s.app m name V body (checks event_in (λ (e : Event). e.seq) (session_of name s.sessions) body) s.tables s.sessions said t.tables t.sessions old new
 ActsClean lost m (OfInput name) V body s said t old new =
     InputLeaves lost s.app m name V body (checks input_in (λ (i : Input). i.seq) (session_of name s.sessions) body) s.tables s.sessions said t.tables t.sessions old new
+ActsClean lost m (Begin name) V body s said t old new =
+    BeginLeaves lost s.app m name V (begin_checks name s.sessions) s.tables s.sessions said t.tables t.sessions old new
 ActsClean lost m _ V body s said t old new = Unit {0}
 
 -- so it is with a request that has a route

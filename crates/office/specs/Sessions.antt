@@ -6,9 +6,12 @@ use Rattle.app_loader.specs.app_semantics.Present.{present}
 use Rattle.app_wire.specs.ReplyBytes.{refusal, reply}
 use Rattle.fx_base.specs.Silence.{Goes}
 use Rattle.fx_base.specs.Telling.{Stays}
+use Rattle.fx_trees.specs.declared.sources.Source.{Source}
 use Rattle.row_keeper.specs.Tables.{Tables, rows_told}
 use Rattle.session_requests.specs.Opening.{OpensNew}
-use Rattle.session_state.specs.Sessions.{SessionState}
+use Rattle.session_requests.specs.Running.{OpensWriting}
+use Rattle.session_requests.specs.Scenes.{scene}
+use Rattle.session_state.specs.Sessions.{SessionState, opened}
 use Rattle.view_text.specs.ReplyText.{ok_text}
 use Rattle.request_checks.specs.Directory.{find, is_among, is_named, put}
 use Rattle.request_checks.specs.declared.directory.Named.{Named}
@@ -32,6 +35,11 @@ pub record OpensSession (lost : Type 0) (app : App) (moment : ℕ) (name : List 
   pub opens : OpensNew lost app moment tables tables' session
   pub replied : said ≡ reply 200 ok_text
   pub keeps : sessions' ≡ put name session sessions
+
+-- which sources it writes
+abbrev pub OpensSessionWriting : Type 0 → App → ℕ → List ℕ → Option Tables → List (Named SessionState) → List ℕ → Option Tables → List (Named SessionState) → List Source → Type 0
+OpensSessionWriting lost app moment name tables sessions said tables' sessions' ws =
+    (h : OpensSession lost app moment name tables sessions said tables' sessions') × Goes lost (λ (t u : Tables). OpensWriting app moment (scene t (opened app.names)) (scene u h.opens.end) ws) tables tables'
 
 -- after the checks: the first that breaks is the reply, and leaves all
 abbrev pub BeginsChecked : Type 0 → App → ℕ → List ℕ → Option (List ℕ) → Option Tables → List (Named SessionState) → List ℕ → Option Tables → List (Named SessionState) → Type 0

@@ -14,7 +14,7 @@ ghost use Rattle.app_views.specs.Shows.{ReachesItems, ReachesView, ShowsItems, S
 ghost use Rattle.recalc.specs.Changes.{IsLeftBut};
 ghost use Rattle.office.specs.Caches.{AreEach, AreKept};
 ghost use Rattle.office.specs.Costs.{CostOfItems, CostOfNamed, CostOfView, CostsTo, counts};
-ghost use Rattle.office.specs.Leaving.{AreLeft, AreLeftBeside, any_table, nothing};
+ghost use Rattle.office.specs.Leaving.{AreLeft, AreLeftBeside, BeginLeaves, any_table, nothing};
 ghost use Rattle.office.specs.Ready.{AreFit};
 ghost use Rattle.fx_base.specs.Silence.{Goes, IsLost};
 ghost use Rattle.fx_base.specs.Telling.{Stays};
@@ -23,7 +23,7 @@ ghost use Rattle.session_requests.specs.Opening.{CanOpen};
 ghost use Rattle.session_requests.specs.recalc.Asking.{HasRead, keeping};
 ghost use Rattle.row_keeper.specs.Causes.{HasCause};
 ghost use Rattle.row_keeper.specs.declared.keeper.KeeperEnd.TheVariants.{Failed};
-ghost use Rattle.office.specs.Sessions.{BeginsSession, ReachesBegin, ReachesNamed, ShowsNamed, without};
+ghost use Rattle.office.specs.Sessions.{BeginsSession, ReachesBegin, ReachesNamed, ShowsNamed, begin_checks, without};
 
 use crate::app_semantics::fitting_holds;
 use crate::keeping::{new_cache, touch_others};
@@ -47,7 +47,7 @@ pub const MOST_SESSIONS: usize = 256;
 /// Opens a session, if it isn't live: the formulas act that an app has for this, in one transaction of the keeper. It gets a
 /// cache, and those of the others are told which tables were written. What stops leaves the sessions and the tables. `Failed`
 /// only where the keeper counted a fault.
-#[tactic(auto, using(crate::proofs::Leaving::beside_same))]
+#[tactic(auto, using(crate::proofs::Leaving::beside_same, crate::proofs::Leaving::left_unchanged))]
 pub(crate) fn begin<K: Keeper, L: Ledger>(
     alloc: Global,
     app: &App,
@@ -75,6 +75,7 @@ pub(crate) fn begin<K: Keeper, L: Ledger>(
     ensures replies { SessionsKeepReplies sessions.new.items }
     ensures kept { AreKept app.now (K.told keeper.new) moment sessions.new.items caches.new.items }
     ensures clean { AreLeftBeside app.now name any_table caches.old.items caches.new.items }
+    ensures others { IfOk result (λ r. BeginLeaves (IsLost (K.marks keeper.old) (K.marks keeper.new)) app.now moment name nothing (begin_checks name sessions.old.items) (K.told keeper.old) sessions.old.items (said r) (K.told keeper.new) sessions.new.items caches.old.items caches.new.items) }
     ensures rows { AreSound app.now.names.schema (K.told keeper.new) }
     ensures shaped { K.shaped keeper.new ≡ Some app.now.names.schema }
     ensures idle { K.in_transaction keeper.new ≡ false }

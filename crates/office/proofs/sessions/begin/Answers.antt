@@ -1,4 +1,4 @@
-use Rattle.std.proofs.Common.{◌≡◌, List, None, Some, subst, sym}
+use Rattle.std.proofs.Common.{◌≡◌, ◌∙◌, List, None, Some, ap, arith, subst, sym}
 use Rattle.std.specs.Prelude.{slice_get}
 use Rattle.fx_base.specs.Silence.{IsLost}
 use Rattle.fx_trees.specs.declared.sources.Source.{Source}
@@ -9,7 +9,11 @@ use Rattle.session_state.specs.Sessions.{SessionState, opened}
 use Rattle.office.specs.Caches.{AreEach, AreKept, IsToldAside, tables_in}
 use Rattle.office.specs.Ready.{AreFit}
 use Rattle.office.specs.Leaving.{AreLeftBeside, any_table}
-use Rattle.office.proofs.Leaving.{beside_begun, beside_same}
+use Rattle.office.specs.Sessions.{begin_checks}
+use Rattle.app_wire.specs.ReplyBytes.{refusal, reply}
+use Rattle.request_checks.specs.Directory.{is_among, put}
+use Rattle.request_checks.specs.Replies.{said}
+use Rattle.office.proofs.Leaving.{begin_full, begin_none, beside_begun, beside_opened, beside_same, checked_leaves, opened_leaves}
 use Rattle.office.proofs.Directories.{begun_keep, put_all}
 use Rattle.office.proofs.Sent.{kept_begun, kept_order, kept_still}
 use Rattle.office.proofs.Touching.{new_cached}
@@ -77,3 +81,33 @@ returns-clause-clean g c =
     beside_begun c.args.app.now c.args.name c.in_ok-copy.copy c.open_session.new.wrote.items c.args.caches.now.items c.reserve-2.new.self.items c.touch_others.new.caches.items c.put-2.new.list.items c.open_session.new.cache
     c.in_ok-reserve-2.ensures.items c.in_ok-copy.ensures
     (subst (λ (ws : List Source). AreEach (IsToldAside c.args.app.now None (tables_in ws)) c.reserve-2.new.self.items c.touch_others.new.caches.items) c.deref-2.ensures.value c.touch_others.ensures.told) c.put-2.ensures
+
+pub returns-clause-others : goal.returns-clause-others
+returns-clause-others g c =
+    let told = g.K.Keeper.told in
+    let lost = IsLost (g.K.Keeper.marks c.args.keeper.now) (g.K.Keeper.marks c.open_session.new.keeper) in
+    let app = c.args.app.now in
+    let h = c.in_ok-session.ensures.wrote in
+    let ws = c.open_session.new.wrote.items in
+    opened_leaves lost app c.args.moment c.args.name (begin_checks c.args.name c.args.sessions.now.items) (told c.args.keeper.now) c.args.sessions.now.items (said c.in_ok-reply.reply) (told c.open_session.new.keeper) c.put.new.list.items
+    c.args.caches.now.items c.put-2.new.list.items ws
+    (begin_none c.args.name c.args.sessions.now.items (ap (is_among c.args.name) (sym c.deref.ensures.value) ∙ sym c.is_among.ensures ∙ c.if-is_among.false) (omega (arith, c.if-len-ge-MOST_SESSIONS.false, c.len.ensures, c.args.sessions.now.ok.0))) (
+      record {
+        session = c.in_ok-session.session;
+        opens = h.0;
+        replied = c.in_ok-reply.ensures.said ∙ ap (reply 200) c.ok_json-2.ensures;
+        keeps = c.put.ensures ∙ ap (put c.args.name c.in_ok-session.session) c.in_ok-reserve.ensures.items;
+      },
+      h.1,
+    )
+    (beside_opened app c.args.name c.in_ok-copy.copy ws c.args.caches.now.items c.reserve-2.new.self.items c.touch_others.new.caches.items c.put-2.new.list.items c.open_session.new.cache
+    c.in_ok-reserve-2.ensures.items c.in_ok-copy.ensures
+    (subst (λ (l : List Source). AreEach (IsToldAside app None (tables_in l)) c.reserve-2.new.self.items c.touch_others.new.caches.items) c.deref-2.ensures.value c.touch_others.ensures.told) c.put-2.ensures)
+
+pub returns-then-len-ge-MOST_SESSIONS-clause-others : goal.returns-then-len-ge-MOST_SESSIONS-clause-others
+returns-then-len-ge-MOST_SESSIONS-clause-others g c =
+    let told = g.K.Keeper.told c.args.keeper.now in
+    let lost = IsLost (g.K.Keeper.marks c.args.keeper.now) (g.K.Keeper.marks c.args.keeper.now) in
+    let ss = c.args.sessions.now.items in
+    checked_leaves lost c.args.app.now c.args.moment c.args.name (begin_checks c.args.name ss) (refusal 12) told ss (said c.in_ok-refuse_plain.field-0) told ss c.args.caches.now.items
+    (begin_full c.args.name ss (ap (is_among c.args.name) (sym c.deref.ensures.value) ∙ sym c.is_among.ensures ∙ c.if-is_among.false) (omega (arith, c.if-len-ge-MOST_SESSIONS.true, c.len.ensures, c.args.sessions.now.ok.0)))

@@ -13,7 +13,7 @@ use Rattle.request_checks.specs.Directory.{find}
 use Rattle.row_requests.specs.Page.{VisitsPage}
 use Rattle.row_requests.specs.Written.{IsNamedBy}
 use Rattle.office.specs.Leaving.{AreEachLeft}
-use Rattle.office.proofs.Leaving.{acts_event, acts_input, acts_quiet, each_same, leaves_begin, leaves_by, leaves_edit, leaves_end, leaves_event, leaves_graph, leaves_input, leaves_items, leaves_named, leaves_page, leaves_plan, leaves_rows, leaves_view, left_still, left_unchanged, ok_always}
+use Rattle.office.proofs.Leaving.{acts_begin, acts_event, acts_input, acts_quiet, each_same, leaves_begin, leaves_by, leaves_edit, leaves_end, leaves_event, leaves_graph, leaves_input, leaves_items, leaves_named, leaves_page, leaves_plan, leaves_rows, leaves_view, left_still, left_unchanged, ok_always}
 use Rattle.office.proofs.Costs.{costs_acting, costs_by, costs_items, costs_named, costs_page, costs_rows, costs_still, costs_view}
 use Rattle.office.proofs.Edits.{ready_edited}
 use Rattle.office.proofs.Sent.{kept_order, kept_still}
@@ -227,7 +227,9 @@ pub returns-in-Page-clause-acted : goal.returns-in-Page-clause-acted
 returns-in-Page-clause-acted g c = ok_always c.show_page.result _ (λ r. acts_quiet c.args.route (Page c.in-Page.table c.in-Page.after) _ _ c.args.request.now.body.items _ (said r) _ _ _ c.in-Page.is tt)
 
 pub returns-in-Begin-clause-acted : goal.returns-in-Begin-clause-acted
-returns-in-Begin-clause-acted g c = ok_always c.begin.result _ (λ r. acts_quiet c.args.route (Begin c.in-Begin.name) _ _ c.args.request.now.body.items _ (said r) _ _ _ c.in-Begin.is tt)
+returns-in-Begin-clause-acted g c =
+    IfOk-weaker c.begin.result _ _ (λ r others.
+    acts_begin c.args.route c.in-Begin.name c.args.request.now.body.items c.args.self.now _ (g.K.Keeper.marks c.begin.new.keeper) _ (said r) c.begin.new.caches.items c.in-Begin.is c.self.view_is others) c.begin.ensures.others
 
 pub returns-in-Rows-clause-acted : goal.returns-in-Rows-clause-acted
 returns-in-Rows-clause-acted g c = ok_always c.change_rows.result _ (λ r. acts_quiet c.args.route (Rows c.in-Rows.name) _ _ c.args.request.now.body.items _ (said r) _ _ _ c.in-Rows.is tt)
