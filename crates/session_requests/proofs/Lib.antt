@@ -28,3 +28,4 @@ pub mod Looked
 pub mod Resting
 pub mod Giving
 pub mod Written
+pub mod Writable

@@ -12,6 +12,7 @@ use Rattle.fx_data.specs.Values.{Data}
 use Rattle.fx_deeds.specs.State.{State}
 use Rattle.fx_deeds.specs.Within as deeds
 use Rattle.fx_deeds.specs.Within.{Within}
+use Rattle.fx_deeds.specs.Writable.{WritesOnly}
 use Rattle.fx_env.specs.Scopes.{Held}
 use Rattle.fx_env.specs.declared.environment.Stop.{Stop}
 use Rattle.fx_env.specs.declared.environment.Stop.TheVariants as stop
@@ -40,6 +41,7 @@ use Rattle.session_requests.specs.Performing.{Acts, IsActing, Leaves, outermost}
 use Rattle.session_requests.specs.Grounds.{Grounds, ground_of, grounds, state_on}
 use Rattle.session_requests.specs.WorldLaws.{state_told}
 use Rattle.session_requests.specs.Worlds.{told_in}
+use Rattle.session_requests.specs.Writable.{AreAll}
 
 -- ---- before
 -- a formula that can be performed can be so over the types of the app's names
@@ -146,6 +148,24 @@ pub later_from : (lost : Type 0) (day other : Data) (g h : Grounds) (s r : Sessi
 later_from lost day other g h s r values others ws us zs n x y count front none e before =
     subst (λ (xs : List Source). AreLater xs h.began y) (ap (λ (xs : List Source). xs ++ drop n us) (sym front) ∙ take-append-drop n us)
     (later_goes lost day other g h s r values others ws (drop n us) x y (subst (λ (xs : List Source). Goes lost Within (told_state day g s values xs x) (told_state other h r others (drop n us) y)) none e) before)
+
+sources_back : (x : Source) (ws : List Source) → IsAmong x ws → deeds.IsAmong x ws
+sources_back x [] h = h
+sources_back x (w ∷ ws) (inl e) = inl e
+sources_back x (w ∷ ws) (inr h) = inr (sources_back x ws h)
+
+-- only these sources were written
+only_goes : (lost : Type 0) (P : Source → Type 0) (day other : Data) (g h : Grounds) (s r : SessionState) (values others : List Data) (us : List Source) (x y : Option Tables) →
+    Goes lost (WritesOnly P) (told_state day g s values [] x) (told_state other h r others us y) → Goes lost (λ (t u : Tables). AreAll P us) x y
+only_goes lost P day other g h s r values others us None y e = silent other h r others us y e
+only_goes lost P day other g h s r values others us (Some t) None e = e
+only_goes lost P day other g h s r values others us (Some t) (Some u) e = λ x among. e.allowed x (sources_back x e.more (subst (IsAmong x) e.wrote among))
+
+-- the same of a performing whose list of writes is as it is made
+pub only_from : (lost : Type 0) (P : Source → Type 0) (day other : Data) (g h : Grounds) (s r : SessionState) (values others : List Data) (ws us : List Source) (x y : Option Tables) → ws ≡ [] →
+    Goes lost (WritesOnly P) (told_state day g s values ws x) (told_state other h r others us y) → Goes lost (λ (t u : Tables). AreAll P us) x y
+only_from lost P day other g h s r values others ws us x y none e =
+    only_goes lost P day other g h s r values others us x y (subst (λ (zs : List Source). Goes lost (WritesOnly P) (told_state day g s values zs x) (told_state other h r others us y)) none e)
 
 -- the cache that is left
 pub cached_from : (a b : App) (s : SessionState) (told : Option Tables) (m n : ℕ) (c : Kept) → b ≡ a → n ≡ m → IsInOrder b c → ∥ IsRightOver b s told n c ∥₁ → ∥ IsToday n c.values.day ∥₁ → IsCached a s told m c

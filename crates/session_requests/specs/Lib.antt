@@ -15,6 +15,7 @@ pub mod OneActing
 pub mod Triggers
 pub mod Scenes
 pub mod Running
+pub mod Writable
 pub mod Requests
 pub mod Opening
 pub mod EventLaws

@@ -15,6 +15,8 @@ ghost use Rattle.row_requests.specs.Sound.{AreSound};
 ghost use Rattle.session_state.specs.Changes.{FitsNames};
 ghost use Rattle.session_requests.specs.Caching.{AreLater, AreSessionsBut, AreSources, IsCached, LeavesBut};
 ghost use Rattle.session_requests.specs.Performing.{Acts, IsActing, Leaves};
+ghost use Rattle.fx_behave.specs.Writable.{MayWrite};
+ghost use Rattle.session_requests.specs.Writable.{AreAll};
 
 use crate::accepted::{Accepted, SoundApp};
 use crate::app_cells::{App, CellInfo};
@@ -77,6 +79,7 @@ pub fn perform<K: Keeper, L: Ledger>(
     ensures open { K.in_transaction keeper.new ≡ true }
     ensures cause { HasCause (K.marks keeper.old) (K.marks keeper.new) result }
     ensures visited { K.visited keeper.old ≤ K.visited keeper.new }
+    ensures only { Goes (IsLost (K.marks keeper.old) (K.marks keeper.new)) (λ t u. AreAll (MayWrite info.now.core) (drop (length wrote.old.items) wrote.new.items)) (K.told keeper.old) (K.told keeper.new) }
     ensures loan { K.loan keeper.new ≡ K.loan keeper.old }
 {
     let day = today(alloc, moment)?;
@@ -135,6 +138,7 @@ fn perform_over<'a, A: SoundApp, K: Keeper, L: Ledger, S: Start>(
     ensures open { K.in_transaction keeper.new ≡ true }
     ensures cause { HasCause (K.marks keeper.old) (K.marks keeper.new) result }
     ensures visited { K.visited keeper.old ≤ K.visited keeper.new }
+    ensures only { Goes (IsLost (K.marks keeper.old) (K.marks keeper.new)) (λ t u. AreAll (MayWrite info.now.core) (drop (length wrote.old.items) wrote.new.items)) (K.told keeper.old) (K.told keeper.new) }
     ensures loan { K.loan keeper.new ≡ K.loan keeper.old }
 {
     // Called for what it says: the app is sound.

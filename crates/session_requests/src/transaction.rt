@@ -14,6 +14,7 @@ ghost use Rattle.session_requests.specs.Caching.{AreLater, AreSessionsBut, AreSo
 ghost use Rattle.session_requests.specs.Requests.{Accepts, AcceptsWriting, accepted_reply};
 ghost use Rattle.session_requests.specs.Scenes.{quiet};
 ghost use Rattle.session_requests.specs.Triggers.{ItemFits};
+ghost use Rattle.session_requests.specs.Writable.{AreAll, RequestMayWrite};
 ghost use Rattle.session_state.specs.Changes.{FitsNames};
 
 use crate::app_cells::App;
@@ -79,6 +80,7 @@ fn prepare<K: Keeper, L: Ledger>(
     ensures clean { LeavesBut app.now wrote.old.items cache.old wrote.new.items cache.new }
     ensures wrote { IfOk result (λ r. AcceptsWriting (IsLost (K.marks keeper.old) (K.marks keeper.new)) app.now moment trigger (option_map view item) session (K.told keeper.old) (K.told keeper.new) (drop (length wrote.old.items) wrote.new.items)) }
     ensures prefix { take (length wrote.old.items) wrote.new.items ≡ wrote.old.items }
+    ensures only { Goes (IsLost (K.marks keeper.old) (K.marks keeper.new)) (λ t u. AreAll (RequestMayWrite app.now trigger) (drop (length wrote.old.items) wrote.new.items)) (K.told keeper.old) (K.told keeper.new) }
     ensures loan { K.loan keeper.new ≡ K.loan keeper.old }
 {
     session.take_notices();
@@ -157,6 +159,7 @@ fn transact<K: Keeper, L: Ledger>(
     ensures clean { LeavesBut app.now wrote.old.items cache.old wrote.new.items cache.new }
     ensures wrote { IfOk result (λ r. AcceptsWriting (IsLost (K.marks keeper.old) (K.marks keeper.new)) app.now moment trigger (option_map view item) session (K.told keeper.old) (K.told keeper.new) (drop (length wrote.old.items) wrote.new.items)) }
     ensures prefix { take (length wrote.old.items) wrote.new.items ≡ wrote.old.items }
+    ensures only { Goes (IsLost (K.marks keeper.old) (K.marks keeper.new)) (λ t u. AreAll (RequestMayWrite app.now trigger) (drop (length wrote.old.items) wrote.new.items)) (K.told keeper.old) (K.told keeper.new) }
     ensures loan { K.loan keeper.new ≡ K.loan keeper.old }
 {
     match keeper.begin() {
@@ -228,6 +231,7 @@ pub fn accept_request<K: Keeper, L: Ledger>(
     ensures clean { LeavesBut app.now wrote.old.items cache.old wrote.new.items cache.new }
     ensures wrote { IfOk result (λ r. AcceptsWriting (IsLost (K.marks keeper.old) (K.marks keeper.new)) app.now moment trigger (option_map view item) session (K.told keeper.old) (K.told keeper.new) (drop (length wrote.old.items) wrote.new.items)) }
     ensures prefix { take (length wrote.old.items) wrote.new.items ≡ wrote.old.items }
+    ensures only { Goes (IsLost (K.marks keeper.old) (K.marks keeper.new)) (λ t u. AreAll (RequestMayWrite app.now trigger) (drop (length wrote.old.items) wrote.new.items)) (K.told keeper.old) (K.told keeper.new) }
     ensures loan { K.loan keeper.new ≡ K.loan keeper.old }
 {
     match transact(

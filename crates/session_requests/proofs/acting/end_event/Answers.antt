@@ -14,6 +14,8 @@ use Rattle.session_requests.proofs.Fitting.{target_fits}
 use Rattle.session_requests.proofs.Giving.{target_but, target_source}
 use Rattle.session_requests.proofs.Items.{item_within}
 use Rattle.session_requests.proofs.Posted.{event_ends, has_gallery, of_ok}
+use Rattle.session_requests.proofs.Writable.{only_none, only_target}
+use Rattle.session_requests.specs.Writable.{TargetMayWrite}
 use Rattle.session_requests.proofs.acting.end_event.Goals as goal
 
 pub choose-requires : goal.choose-requires
@@ -66,3 +68,12 @@ returns-in_ok-item-in-Ok-clause-wrote g c =
     event_written (IsLost (g.K.Keeper.marks c.args.keeper.now) (g.K.Keeper.marks c.take_effect.new.keeper)) c.args.app.now c.args.moment c.args.session c.choose.new.session (value_of c.args.cache.now) c.args.verdict c.in-Ok.target
     (option_map view c.in_ok-item-in-Ok.item) (option_to_list c.chosen_by-chosen.result) (g.K.Keeper.told c.args.keeper.now) (g.K.Keeper.told c.take_effect.new.keeper) c.take_effect.new.wrote.items c.take_effect.result
     c.in-Ok.is c.in_ok-item-in-Ok.ensures c.choose.ensures c.chosen_by-chosen.ensures c.take_effect.ensures.wrote
+
+pub returns-in_ok-item-in-Ok-clause-only : goal.returns-in_ok-item-in-Ok-clause-only
+returns-in_ok-item-in-Ok-clause-only g c =
+    only_target (IsLost (g.K.Keeper.marks c.args.keeper.now) (g.K.Keeper.marks c.take_effect.new.keeper)) c.args.app.now c.args.verdict c.in-Ok.target (option_to_list c.chosen_by-chosen.result) c.take_effect.new.wrote.items
+    (g.K.Keeper.told c.args.keeper.now) (g.K.Keeper.told c.take_effect.new.keeper) c.in-Ok.is c.chosen_by-chosen.ensures c.take_effect.ensures.only
+
+pub returns-in_err-item-in-Ok-clause-only : goal.returns-in_err-item-in-Ok-clause-only
+returns-in_err-item-in-Ok-clause-only g c =
+    only_none (IsLost (g.K.Keeper.marks c.args.keeper.now) (g.K.Keeper.marks c.args.keeper.now)) (TargetMayWrite c.args.app.now c.args.verdict) c.args.wrote.now.items (g.K.Keeper.told c.args.keeper.now) c.requires.wrote

@@ -17,6 +17,9 @@ use Rattle.view_text.specs.ViewText.{event_text}
 use Rattle.session_requests.specs.Acting.{answered}
 use Rattle.session_requests.specs.Posting.{SessionsFit}
 use Rattle.session_requests.proofs.Fitting.{fits_answered, put_fits, put_keeps}
+use Rattle.fx_base.specs.Silence.{IsLost}
+use Rattle.session_requests.proofs.Writable.{only_effect, only_none}
+use Rattle.session_requests.specs.Writable.{EffectMayWrite}
 use Rattle.session_requests.proofs.acting.take_effect.Goals as goal
 
 pub returns-in-Ok-clause-fit : goal.returns-in-Ok-clause-fit
@@ -83,3 +86,29 @@ returns-in-Ok-clause-wrote g c =
           ∙ ap (λ (l : List Source). l ++ drop (length us) ws) (c.in_ok-tell.ensures.wrote ∙ ap (λ (l : List Source). l ++ option_to_list c.args.given) c.requires.wrote),
       c.in-Ok.ensures.wrote,
     )
+
+pub returns-in-Ok-clause-only : goal.returns-in-Ok-clause-only
+returns-in-Ok-clause-only g c =
+    only_effect (IsLost (g.K.Keeper.marks c.args.keeper.now) (g.K.Keeper.marks c.accept_request.new.keeper)) c.args.app.now c.args.given c.args.trigger c.args.wrote.now.items c.tell.new.wrote.items c.accept_request.new.wrote.items
+    (g.K.Keeper.told c.args.keeper.now) (g.K.Keeper.told c.accept_request.new.keeper) c.requires.wrote c.in_ok-tell.ensures.wrote c.accept_request.ensures.prefix c.accept_request.ensures.only
+
+pub returns-in-Err-clause-only : goal.returns-in-Err-clause-only
+returns-in-Err-clause-only g c =
+    only_effect (IsLost (g.K.Keeper.marks c.args.keeper.now) (g.K.Keeper.marks c.accept_request.new.keeper)) c.args.app.now c.args.given c.args.trigger c.args.wrote.now.items c.tell.new.wrote.items c.accept_request.new.wrote.items
+    (g.K.Keeper.told c.args.keeper.now) (g.K.Keeper.told c.accept_request.new.keeper) c.requires.wrote c.in_ok-tell.ensures.wrote c.accept_request.ensures.prefix c.accept_request.ensures.only
+
+pub returns-in_err-body-clause-only : goal.returns-in_err-body-clause-only
+returns-in_err-body-clause-only g c =
+    only_none (IsLost (g.K.Keeper.marks c.args.keeper.now) (g.K.Keeper.marks c.args.keeper.now)) (EffectMayWrite c.args.app.now (option_to_list c.args.given) c.args.trigger) c.args.wrote.now.items (g.K.Keeper.told c.args.keeper.now) c.requires.wrote
+
+pub returns-in_err-kept-clause-only : goal.returns-in_err-kept-clause-only
+returns-in_err-kept-clause-only g c =
+    only_none (IsLost (g.K.Keeper.marks c.args.keeper.now) (g.K.Keeper.marks c.args.keeper.now)) (EffectMayWrite c.args.app.now (option_to_list c.args.given) c.args.trigger) c.args.wrote.now.items (g.K.Keeper.told c.args.keeper.now) c.requires.wrote
+
+pub returns-in_err-reserve-clause-only : goal.returns-in_err-reserve-clause-only
+returns-in_err-reserve-clause-only g c =
+    only_none (IsLost (g.K.Keeper.marks c.args.keeper.now) (g.K.Keeper.marks c.args.keeper.now)) (EffectMayWrite c.args.app.now (option_to_list c.args.given) c.args.trigger) c.args.wrote.now.items (g.K.Keeper.told c.args.keeper.now) c.requires.wrote
+
+pub returns-in_err-tell-clause-only : goal.returns-in_err-tell-clause-only
+returns-in_err-tell-clause-only g c =
+    only_none (IsLost (g.K.Keeper.marks c.args.keeper.now) (g.K.Keeper.marks c.args.keeper.now)) (EffectMayWrite c.args.app.now (option_to_list c.args.given) c.args.trigger) c.tell.new.wrote.items (g.K.Keeper.told c.args.keeper.now) (c.in_err-tell.ensures.stopped.0 ∙ c.requires.wrote)

@@ -5,6 +5,7 @@ use Rattle.fx_base.specs.Faults.{Rose}
 use Rattle.fx_base.specs.Silence.{Goes, IsLater, IsLost}
 use Rattle.fx_base.specs.Telling.{Stays}
 use Rattle.fx_behave.specs.Actable.{CanAct, IsActable}
+use Rattle.fx_behave.specs.Writable.{MayWrite}
 use Rattle.fx_data.specs.TypeView.{shape}
 use Rattle.fx_data.specs.ValueView.{view}
 use Rattle.fx_data.specs.declared.values.Value.{Value}
@@ -14,15 +15,17 @@ use Rattle.fx_trees.specs.declared.sources.Source.{Source}
 use Rattle.recalc.specs.app_cells.declared.app.App.{App}
 use Rattle.recalc.specs.Changes.{IsLeftBut}
 use Rattle.recalc.specs.Kept.{Kept}
+use Rattle.row_keeper.specs.Tables.{Tables}
 use Rattle.row_requests.specs.Sound.{AreSound}
 use Rattle.session_state.specs.Changes.{FitsNames}
 use Rattle.session_state.specs.Sessions.{SessionState}
 use Rattle.session_requests.specs.Anchors.{anchor}
 use Rattle.session_requests.specs.Caching.{AreLater, AreSessionsBut, AreSources, IsCached}
 use Rattle.session_requests.specs.Performing.{Acts, Leaves, outermost}
+use Rattle.session_requests.specs.Writable.{AreAll}
 use Rattle.session_requests.specs.Grounds.{grounds}
 use Rattle.session_requests.proofs.Anchoring.{cache_same, count_same, keeper_same, loan_same, session_same, stands_same, wrote_same}
-use Rattle.session_requests.proofs.WorldEnding.{acts_from, began_goes, cached_from, can_act, carried, carried_all, carried_both, failed_by, later_from, leaves_from, no_error}
+use Rattle.session_requests.proofs.WorldEnding.{acts_from, began_goes, cached_from, can_act, carried, carried_all, carried_both, failed_by, later_from, leaves_from, no_error, only_from}
 use Rattle.session_requests.proofs.performing.perform_over.Goals as goal
 
 pub act-requires : goal.act-requires
@@ -377,3 +380,41 @@ returns-clause-clean g c =
     let stands = stands_same (anchor (g.A.SoundApp.app w.app.now) w.moment w.before.now (take w.earlier w.wrote.now.items)) (anchor (g.A.SoundApp.app c.args.app.now) c.args.moment c.args.before.now (take c.args.earlier c.args.wrote.now.items)) _ _ _ _ _ _ _ _ _ _ _ _ c.act.ensures.passed.fixed in
     carried_both (λ (z : Kept) (zs : List Source). IsLeftBut (g.A.SoundApp.app c.args.app.now) zs g.S.Start.start z) w.cache.now _ w.wrote.now.items _ (search (rules, cached)) (search (rules, listed))
     (subst (λ (a : App). IsLeftBut a w.wrote.now.items g.S.Start.start w.cache.now) stands.app w.left)
+
+pub returns-in-Ok-clause-only : goal.returns-in-Ok-clause-only
+returns-in-Ok-clause-only g c =
+    let w = c.act.new.world in
+    let told = g.K.Keeper.told in
+    let marks = g.K.Keeper.marks in
+    let old = c.args.keeper.now in
+    let now = w.keeper.now in
+    let may = MayWrite c.args.info.now.core in
+    let kept = keeper_same (anchor (g.A.SoundApp.app w.app.now) w.moment w.before.now (take w.earlier w.wrote.now.items)) (anchor (g.A.SoundApp.app c.args.app.now) c.args.moment c.args.before.now (take c.args.earlier c.args.wrote.now.items)) _ _ _ _ _ _ _ _ _ _ _ _ c.act.ensures.passed.fixed in
+    let listed = wrote_same (anchor (g.A.SoundApp.app w.app.now) w.moment w.before.now (take w.earlier w.wrote.now.items)) (anchor (g.A.SoundApp.app c.args.app.now) c.args.moment c.args.before.now (take c.args.earlier c.args.wrote.now.items)) _ _ _ _ _ _ _ _ _ _ _ _ c.act.ensures.passed.fixed in
+    let stands = stands_same (anchor (g.A.SoundApp.app w.app.now) w.moment w.before.now (take w.earlier w.wrote.now.items)) (anchor (g.A.SoundApp.app c.args.app.now) c.args.moment c.args.before.now (take c.args.earlier c.args.wrote.now.items)) _ _ _ _ _ _ _ _ _ _ _ _ c.act.ensures.passed.fixed in
+    let front : take c.args.earlier c.args.wrote.now.items ≡ c.args.wrote.now.items = ap (λ n. take n c.args.wrote.now.items) c.requires.earlier ∙ take-length c.args.wrote.now.items in
+    let count : w.earlier ≡ length c.args.wrote.now.items = count_same w.earlier w.wrote.now.items c.args.wrote.now.items w.counted (stands.earlier ∙ front) in
+    let none : drop c.args.earlier c.args.wrote.now.items ≡ [] = ap (λ n. drop n c.args.wrote.now.items) c.requires.earlier ∙ drop-length c.args.wrote.now.items in
+    carried_both (λ (k : g.row.K.Denot) (zs : List Source). Goes (IsLost (marks old) (marks k)) (λ (t u : Tables). AreAll may (drop (length c.args.wrote.now.items) zs)) (told old) (told k)) now _ w.wrote.now.items _ (search (rules, kept)) (search (rules, listed))
+    (subst (λ n. Goes (IsLost (marks old) (marks now)) (λ (t u : Tables). AreAll may (drop n w.wrote.now.items)) (told old) (told now)) count
+    (only_from (IsLost (marks old) (marks now)) may (view c.args.day.now) (view w.day.now) (grounds (g.A.SoundApp.app c.args.app.now) c.args.moment (g.K.Keeper.began old)) (grounds (g.A.SoundApp.app w.app.now) w.moment (g.K.Keeper.began now)) c.args.session.now w.session.now
+    c.args.cache.now.values.cells w.cache.now.values.cells (drop c.args.earlier c.args.wrote.now.items) (drop w.earlier w.wrote.now.items) (told old) (told now) none c.act.ensures.only))
+
+pub returns-clause-only : goal.returns-clause-only
+returns-clause-only g c =
+    let w = c.act.new.world in
+    let told = g.K.Keeper.told in
+    let marks = g.K.Keeper.marks in
+    let old = c.args.keeper.now in
+    let now = w.keeper.now in
+    let may = MayWrite c.args.info.now.core in
+    let kept = keeper_same (anchor (g.A.SoundApp.app w.app.now) w.moment w.before.now (take w.earlier w.wrote.now.items)) (anchor (g.A.SoundApp.app c.args.app.now) c.args.moment c.args.before.now (take c.args.earlier c.args.wrote.now.items)) _ _ _ _ _ _ _ _ _ _ _ _ c.act.ensures.passed.fixed in
+    let listed = wrote_same (anchor (g.A.SoundApp.app w.app.now) w.moment w.before.now (take w.earlier w.wrote.now.items)) (anchor (g.A.SoundApp.app c.args.app.now) c.args.moment c.args.before.now (take c.args.earlier c.args.wrote.now.items)) _ _ _ _ _ _ _ _ _ _ _ _ c.act.ensures.passed.fixed in
+    let stands = stands_same (anchor (g.A.SoundApp.app w.app.now) w.moment w.before.now (take w.earlier w.wrote.now.items)) (anchor (g.A.SoundApp.app c.args.app.now) c.args.moment c.args.before.now (take c.args.earlier c.args.wrote.now.items)) _ _ _ _ _ _ _ _ _ _ _ _ c.act.ensures.passed.fixed in
+    let front : take c.args.earlier c.args.wrote.now.items ≡ c.args.wrote.now.items = ap (λ n. take n c.args.wrote.now.items) c.requires.earlier ∙ take-length c.args.wrote.now.items in
+    let count : w.earlier ≡ length c.args.wrote.now.items = count_same w.earlier w.wrote.now.items c.args.wrote.now.items w.counted (stands.earlier ∙ front) in
+    let none : drop c.args.earlier c.args.wrote.now.items ≡ [] = ap (λ n. drop n c.args.wrote.now.items) c.requires.earlier ∙ drop-length c.args.wrote.now.items in
+    carried_both (λ (k : g.row.K.Denot) (zs : List Source). Goes (IsLost (marks old) (marks k)) (λ (t u : Tables). AreAll may (drop (length c.args.wrote.now.items) zs)) (told old) (told k)) now _ w.wrote.now.items _ (search (rules, kept)) (search (rules, listed))
+    (subst (λ n. Goes (IsLost (marks old) (marks now)) (λ (t u : Tables). AreAll may (drop n w.wrote.now.items)) (told old) (told now)) count
+    (only_from (IsLost (marks old) (marks now)) may (view c.args.day.now) (view w.day.now) (grounds (g.A.SoundApp.app c.args.app.now) c.args.moment (g.K.Keeper.began old)) (grounds (g.A.SoundApp.app w.app.now) w.moment (g.K.Keeper.began now)) c.args.session.now w.session.now
+    c.args.cache.now.values.cells w.cache.now.values.cells (drop c.args.earlier c.args.wrote.now.items) (drop w.earlier w.wrote.now.items) (told old) (told now) none c.act.ensures.only))

@@ -18,6 +18,9 @@ use Rattle.request_checks.specs.Replies.{said}
 use Rattle.row_keeper.specs.Tables.{rows_told}
 use Rattle.session_requests.proofs.Written.{event_writes_lost, ok_both}
 use Rattle.session_requests.proofs.Posted.{event_lost, stays_lost}
+use Rattle.fx_base.proofs.Silences.{later_then}
+use Rattle.session_requests.proofs.Writable.{event_may, only_after, only_left}
+use Rattle.session_requests.specs.Writable.{EventMayWrite, TargetMayWrite}
 use Rattle.session_requests.proofs.posting.act_event.Goals as goal
 
 pub returns-clause-done : goal.returns-clause-done
@@ -97,3 +100,36 @@ returns-clause-wrote g c =
       },
       event_writes_lost before judged now app c.args.moment c.args.session values c.in_ok-verdict.verdict seen (told c.end_event.new.keeper) c.end_event.new.wrote.items read.later both.1,
     )) (ok_both _ _ c.end_event.result c.end_event.ensures.done c.end_event.ensures.wrote)
+
+pub returns-in_err-look_for_event-clause-only : goal.returns-in_err-look_for_event-clause-only
+returns-in_err-look_for_event-clause-only g c =
+    only_left (IsLost (g.K.Keeper.marks c.args.keeper.now) (g.K.Keeper.marks c.look_for_event.new.keeper)) (EventMayWrite c.args.app.now c.args.event.now) c.args.wrote.now.items (g.K.Keeper.told c.args.keeper.now) (g.K.Keeper.told c.look_for_event.new.keeper) c.requires.wrote c.look_for_event.ensures.read.told
+
+pub returns-in_err-verdict-clause-only : goal.returns-in_err-verdict-clause-only
+returns-in_err-verdict-clause-only g c =
+    let told = g.K.Keeper.told in
+    let marks = g.K.Keeper.marks in
+    let first = c.args.keeper.now in
+    let second = c.look_for_event.new.keeper in
+    let third = c.judge_event.new.keeper in
+    only_after (marks first) (marks second) (marks third) (EventMayWrite c.args.app.now c.args.event.now) (EventMayWrite c.args.app.now c.args.event.now) c.args.wrote.now.items (told first) (told second) (told third) (λ x h. h) c.look_for_event.ensures.read.later c.judge_event.ensures.read.later c.look_for_event.ensures.read.told
+    (only_left (IsLost (marks second) (marks third)) (EventMayWrite c.args.app.now c.args.event.now) c.args.wrote.now.items (told second) (told third) c.requires.wrote c.judge_event.ensures.read.told)
+
+pub returns-clause-only : goal.returns-clause-only
+returns-clause-only g c =
+    let told = g.K.Keeper.told in
+    let marks = g.K.Keeper.marks in
+    let app = c.args.app.now in
+    let first = c.args.keeper.now in
+    let second = c.look_for_event.new.keeper in
+    let third = c.judge_event.new.keeper in
+    let last = c.end_event.new.keeper in
+    let values = value_of c.look_for_event.new.cache in
+    let verdict = c.in_ok-verdict.verdict in
+    let p = present app c.args.session (rows_told (told third)) c.args.moment in
+    let judged = subst (λ (w : Values). IsVerdict p (cells.value_of w) (event_target app.names c.args.session (cells.value_of w) c.args.event.now) verdict) c.valued.ensures
+    (c.in_ok-verdict.ensures.judged c.args.moment (subst (λ (w : Values). IsToday c.args.moment w.day) (sym c.valued.ensures) c.look_for_event.ensures.cached.day)) in
+    only_after (marks first) (marks second) (marks last) (EventMayWrite c.args.app.now c.args.event.now) (EventMayWrite c.args.app.now c.args.event.now) c.end_event.new.wrote.items (told first) (told second) (told last) (λ x h. h)
+    c.look_for_event.ensures.read.later (later_then (marks second) (marks third) (marks last) c.judge_event.ensures.read.later c.end_event.ensures.cause.later) c.look_for_event.ensures.read.told
+    (only_after (marks second) (marks third) (marks last) (TargetMayWrite app verdict) (EventMayWrite c.args.app.now c.args.event.now) c.end_event.new.wrote.items (told second) (told third) (told last)
+    (λ x may. event_may p app c.args.session values c.args.event.now verdict x judged may) c.judge_event.ensures.read.later c.end_event.ensures.cause.later c.judge_event.ensures.read.told c.end_event.ensures.only)

@@ -13,6 +13,8 @@ use Rattle.session_requests.specs.Acting.{EndsInput, InputWrites}
 use Rattle.session_requests.specs.Targets.{Given}
 use Rattle.session_requests.proofs.Written.{input_writes_lost, ok_both}
 use Rattle.session_requests.proofs.Posted.{input_lost, input_over, stays_lost}
+use Rattle.session_requests.proofs.Writable.{input_may, only_after, only_left}
+use Rattle.session_requests.specs.Writable.{GivenMayWrite, InputMayWrite}
 use Rattle.session_requests.proofs.posting.act_input.Goals as goal
 
 pub end_input-requires-clause-verdict : goal.end_input-requires-clause-verdict
@@ -77,3 +79,19 @@ returns-clause-wrote g c =
       subst (λ (v : Result Given Refusal). InputWrites (IsLost before now) app c.args.moment c.args.session values v seen (told c.end_input.new.keeper) c.end_input.new.wrote.items) is
           (input_writes_lost before valued now app c.args.moment c.args.session values c.input_target-verdict.result seen (told c.end_input.new.keeper) c.end_input.new.wrote.items read.later both.1),
     )) (ok_both _ _ c.end_input.result c.end_input.ensures.done c.end_input.ensures.wrote)
+
+pub returns-in_err-look_for_input-clause-only : goal.returns-in_err-look_for_input-clause-only
+returns-in_err-look_for_input-clause-only g c =
+    only_left (IsLost (g.K.Keeper.marks c.args.keeper.now) (g.K.Keeper.marks c.look_for_input.new.keeper)) (InputMayWrite c.args.app.now c.args.input) c.args.wrote.now.items (g.K.Keeper.told c.args.keeper.now) (g.K.Keeper.told c.look_for_input.new.keeper) c.requires.wrote c.look_for_input.ensures.read.told
+
+pub returns-clause-only : goal.returns-clause-only
+returns-clause-only g c =
+    let told = g.K.Keeper.told in
+    let marks = g.K.Keeper.marks in
+    let app = c.args.app.now in
+    let first = c.args.keeper.now in
+    let second = c.look_for_input.new.keeper in
+    let last = c.end_input.new.keeper in
+    let is = input_over app.names c.args.session c.args.input c.as_slice-values.result.now c.look_for_input.new.cache.values c.input_target-verdict.result (c.as_slice-values.ensures ∙ ap (λ (w : Values). w.cells) c.valued.ensures) (c.input_target-verdict.ensures.is c.args.session (sym c.screen.ensures)) in
+    only_after (marks first) (marks second) (marks last) (GivenMayWrite app c.input_target-verdict.result) (InputMayWrite c.args.app.now c.args.input) c.end_input.new.wrote.items (told first) (told second) (told last)
+    (λ x may. input_may app c.args.session (value_of c.look_for_input.new.cache) c.args.input c.input_target-verdict.result x is may) c.look_for_input.ensures.read.later c.end_input.ensures.cause.later c.look_for_input.ensures.read.told c.end_input.ensures.only

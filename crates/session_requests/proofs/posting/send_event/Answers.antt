@@ -5,7 +5,20 @@ use Rattle.request_checks.specs.declared.directory.Named.{Named}
 use Rattle.session_state.specs.Sessions.{SessionState}
 use Rattle.session_requests.specs.Acting.{IsAt}
 use Rattle.session_requests.proofs.Endings.{find_at}
+use Rattle.fx_base.specs.Silence.{IsLost}
+use Rattle.session_requests.proofs.Writable.{only_none}
+use Rattle.session_requests.specs.Writable.{EventMayWrite}
 use Rattle.session_requests.proofs.posting.send_event.Goals as goal
+
+pub act_event-requires-clause-found : goal.act_event-requires-clause-found
+act_event-requires-clause-found g c =
+    let name = c.args.name.now in
+    let place = c.in-Some.place in
+    let there : IsAt place name c.args.sessions.now.items = record {
+      first = subst (λ (l : List (Named SessionState)). position (is_named name) l ≡ Some place) c.deref.ensures.value (sym c.in-Some.ensures.place);
+      within = subst (λ (l : List (Named SessionState)). place < length l) c.deref.ensures.value c.in-Some.ensures.within;
+    } in
+    find_at place name c.args.sessions.now.items c.index.result.now there c.index.ensures ∙ ap (λ (s : SessionState). Some s) (sym c.in_ok-session-in-Some.ensures)
 
 pub act_event-requires-clause-cached : goal.act_event-requires-clause-cached
 act_event-requires-clause-cached g c =
@@ -17,3 +30,7 @@ act_event-requires-clause-cached g c =
     } in
     c.requires.cached c.in_ok-session-in-Some.session
     (find_at place name c.args.sessions.now.items c.index.result.now there c.index.ensures ∙ ap (λ (s : SessionState). Some s) (sym c.in_ok-session-in-Some.ensures))
+
+pub returns-in_err-session-in-Some-clause-only : goal.returns-in_err-session-in-Some-clause-only
+returns-in_err-session-in-Some-clause-only g c =
+    only_none (IsLost (g.K.Keeper.marks c.args.keeper.now) (g.K.Keeper.marks c.args.keeper.now)) (EventMayWrite c.args.app.now c.args.event.now) c.args.wrote.now.items (g.K.Keeper.told c.args.keeper.now) c.requires.wrote

@@ -7,6 +7,9 @@ use Rattle.session_requests.proofs.Written.{none_written, some_written}
 use Rattle.session_requests.specs.Triggers.{cell_at}
 use Rattle.session_requests.proofs.Chains.{acted_some}
 use Rattle.session_requests.proofs.RequestFitting.{is_acting, item_fits, there_at}
+use Rattle.fx_behave.specs.Writable.{MayWrite}
+use Rattle.session_requests.proofs.Writable.{only_more, only_same, trigger_may}
+use Rattle.session_requests.specs.Writable.{TriggerMayWrite}
 use Rattle.session_requests.proofs.running.act.Goals as goal
 
 pub perform-requires-clause-acting : goal.perform-requires-clause-acting
@@ -52,3 +55,16 @@ returns-in-None-clause-wrote g c =
 
 pub returns-in-None-clause-prefix : goal.returns-in-None-clause-prefix
 returns-in-None-clause-prefix g c = take-length c.args.wrote.now.items
+
+pub returns-in-Some-clause-only : goal.returns-in-Some-clause-only
+returns-in-Some-clause-only g c =
+    let told = g.K.Keeper.told in
+    let marks = g.K.Keeper.marks in
+    let info = c.index-as_slice-place.result in
+    only_more (IsLost (marks c.args.keeper.now) (marks c.perform.new.keeper)) (MayWrite info.core) (TriggerMayWrite c.args.app.now c.args.trigger) (drop (length c.args.wrote.now.items) c.perform.new.wrote.items) (told c.args.keeper.now) (told c.perform.new.keeper)
+    (trigger_may c.args.app.now (cell_at c.args.trigger c.args.app.now) c.in-Some.place info (sym c.in-Some.ensures.place)
+    (there_at c.args.app.now.cells c.as_slice.result.now c.in-Some.place info c.as_slice.ensures c.in-Some.ensures.within c.index-as_slice-place.is)) c.perform.ensures.only
+
+pub returns-in-None-clause-only : goal.returns-in-None-clause-only
+returns-in-None-clause-only g c =
+    only_same (IsLost (g.K.Keeper.marks c.args.keeper.now) (g.K.Keeper.marks c.args.keeper.now)) (TriggerMayWrite c.args.app.now c.args.trigger) c.args.wrote.now.items (g.K.Keeper.told c.args.keeper.now)

@@ -1,10 +1,12 @@
-use Rattle.std.proofs.Common.{[], ◌∙◌, drop, length, option_map, sym}
+use Rattle.std.proofs.Common.{[], ◌∙◌, drop, inl, inr, length, option_map, sym}
 use Rattle.fx_base.specs.Silence.{IsLost}
 use Rattle.fx_data.specs.ValueView.{view}
 use Rattle.session_requests.proofs.Written.{alone_written, arrived_same_as, both_written, front_two}
 use Rattle.session_requests.proofs.RequestFitting.{fits_arrived}
 use Rattle.session_requests.proofs.Resting.{arrived_but, run_alone}
 use Rattle.session_requests.proofs.Undone.{but_then, cached_as}
+use Rattle.session_requests.proofs.Writable.{only_more, only_two}
+use Rattle.session_requests.specs.Writable.{RequestMayWrite, ScreenMayWrite, TriggerMayWrite}
 use Rattle.session_requests.proofs.running.run.Goals as goal
 
 pub show-requires-clause-fits : goal.show-requires-clause-fits
@@ -63,3 +65,29 @@ returns-clause-wrote g c =
     both_written (marks c.args.keeper.now) (marks c.act.new.keeper) (marks c.show.new.keeper) c.args.app.now c.args.moment c.args.trigger (option_map view c.args.item) c.args.session.now c.act.new.session c.take_navigated.new.self c.show.new.session (view c.in_ok-value.value)
     c.args.wrote.now.items c.act.new.wrote.items c.show.new.wrote.items (told c.args.keeper.now) (told c.act.new.keeper) (told c.show.new.keeper) c.act.ensures.cause.later c.show.ensures.cause.later
     (sym c.take_navigated.ensures.navigated ∙ c.if-not-take_navigated.false) c.take_navigated.ensures.taken c.act.ensures.prefix c.show.ensures.prefix c.in_ok-value.ensures.wrote c.in_ok-show.ensures.wrote
+
+pub returns-in_err-value-clause-only : goal.returns-in_err-value-clause-only
+returns-in_err-value-clause-only g c =
+    only_more (IsLost (g.K.Keeper.marks c.args.keeper.now) (g.K.Keeper.marks c.act.new.keeper)) (TriggerMayWrite c.args.app.now c.args.trigger) (RequestMayWrite c.args.app.now c.args.trigger) (drop (length c.args.wrote.now.items) c.act.new.wrote.items)
+    (g.K.Keeper.told c.args.keeper.now) (g.K.Keeper.told c.act.new.keeper) (λ x h. inl h) c.act.ensures.only
+
+pub returns-then-not-take_navigated-clause-only : goal.returns-then-not-take_navigated-clause-only
+returns-then-not-take_navigated-clause-only g c =
+    only_more (IsLost (g.K.Keeper.marks c.args.keeper.now) (g.K.Keeper.marks c.act.new.keeper)) (TriggerMayWrite c.args.app.now c.args.trigger) (RequestMayWrite c.args.app.now c.args.trigger) (drop (length c.args.wrote.now.items) c.act.new.wrote.items)
+    (g.K.Keeper.told c.args.keeper.now) (g.K.Keeper.told c.act.new.keeper) (λ x h. inl h) c.act.ensures.only
+
+pub returns-in_err-show-clause-only : goal.returns-in_err-show-clause-only
+returns-in_err-show-clause-only g c =
+    let told = g.K.Keeper.told in
+    let marks = g.K.Keeper.marks in
+    only_two (marks c.args.keeper.now) (marks c.act.new.keeper) (marks c.show.new.keeper) (TriggerMayWrite c.args.app.now c.args.trigger) (ScreenMayWrite c.args.app.now) (RequestMayWrite c.args.app.now c.args.trigger)
+    c.args.wrote.now.items c.act.new.wrote.items c.show.new.wrote.items (told c.args.keeper.now) (told c.act.new.keeper) (told c.show.new.keeper) (λ x h. inl h) (λ x h. inr h) c.act.ensures.cause.later c.show.ensures.cause.later
+    c.act.ensures.prefix c.show.ensures.prefix c.act.ensures.only c.show.ensures.only
+
+pub returns-clause-only : goal.returns-clause-only
+returns-clause-only g c =
+    let told = g.K.Keeper.told in
+    let marks = g.K.Keeper.marks in
+    only_two (marks c.args.keeper.now) (marks c.act.new.keeper) (marks c.show.new.keeper) (TriggerMayWrite c.args.app.now c.args.trigger) (ScreenMayWrite c.args.app.now) (RequestMayWrite c.args.app.now c.args.trigger)
+    c.args.wrote.now.items c.act.new.wrote.items c.show.new.wrote.items (told c.args.keeper.now) (told c.act.new.keeper) (told c.show.new.keeper) (λ x h. inl h) (λ x h. inr h) c.act.ensures.cause.later c.show.ensures.cause.later
+    c.act.ensures.prefix c.show.ensures.prefix c.act.ensures.only c.show.ensures.only

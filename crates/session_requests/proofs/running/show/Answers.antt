@@ -5,6 +5,9 @@ use Rattle.session_requests.proofs.Written.{shown_written}
 use Rattle.session_requests.proofs.RequestFitting.{fits_arrived}
 use Rattle.session_requests.proofs.Resting.{arrived_but}
 use Rattle.session_requests.proofs.Undone.{but_then, cached_as}
+use Rattle.session_requests.proofs.Writable.{only_more}
+use Rattle.session_requests.specs.Writable.{ScreenMayWrite, TriggerMayWrite}
+use Rattle.session_requests.specs.declared.trigger.Trigger.TheVariants.{OnVisible}
 use Rattle.session_requests.proofs.running.show.Goals as goal
 
 pub act-requires-clause-fits : goal.act-requires-clause-fits
@@ -38,3 +41,13 @@ returns-clause-wrote g c =
     shown_written c.args.app.now c.args.moment c.screen.result c.args.session.now c.take_navigated.new.self c.act.new.session c.take_navigated-2.new.self _ (drop (length c.args.wrote.now.items) c.act.new.wrote.items)
     (IsLost (g.K.Keeper.marks c.args.keeper.now) (g.K.Keeper.marks c.act.new.keeper)) (g.K.Keeper.told c.args.keeper.now) (g.K.Keeper.told c.act.new.keeper) c.take_navigated.ensures.taken c.take_navigated-2.ensures.taken
     (c.screen.ensures ∙ ap (λ (s : SessionState). s.screen) c.take_navigated.ensures.taken) c.in_ok-act.ensures.wrote
+
+pub returns-in_err-act-clause-only : goal.returns-in_err-act-clause-only
+returns-in_err-act-clause-only g c =
+    only_more (IsLost (g.K.Keeper.marks c.args.keeper.now) (g.K.Keeper.marks c.act.new.keeper)) (TriggerMayWrite c.args.app.now (OnVisible c.screen.result)) (ScreenMayWrite c.args.app.now) (drop (length c.args.wrote.now.items) c.act.new.wrote.items)
+    (g.K.Keeper.told c.args.keeper.now) (g.K.Keeper.told c.act.new.keeper) (λ x h. (c.screen.result, h)) c.act.ensures.only
+
+pub returns-clause-only : goal.returns-clause-only
+returns-clause-only g c =
+    only_more (IsLost (g.K.Keeper.marks c.args.keeper.now) (g.K.Keeper.marks c.act.new.keeper)) (TriggerMayWrite c.args.app.now (OnVisible c.screen.result)) (ScreenMayWrite c.args.app.now) (drop (length c.args.wrote.now.items) c.act.new.wrote.items)
+    (g.K.Keeper.told c.args.keeper.now) (g.K.Keeper.told c.act.new.keeper) (λ x h. (c.screen.result, h)) c.act.ensures.only

@@ -9,6 +9,8 @@ use Rattle.session_requests.specs.Running.{Runs, RunsWriting}
 use Rattle.session_requests.specs.Scenes.{begun, scene}
 use Rattle.session_requests.proofs.Resting.{later_first}
 use Rattle.session_requests.proofs.Undone.{but_back, cached_pending, cached_stays, pending_stays, tables_through}
+use Rattle.session_requests.proofs.Writable.{only_ended, only_stayed, only_undone}
+use Rattle.session_requests.specs.Writable.{AreAll, RequestMayWrite}
 use Rattle.session_requests.proofs.transaction.transact.Goals as goal
 
 pub prepare-requires-clause-cached : goal.prepare-requires-clause-cached
@@ -98,3 +100,37 @@ returns-in-Ok-settle-clause-accepts g c =
       left = h.left;
       fits = h.fits;
     }
+
+pub returns-in-Err-clause-only : goal.returns-in-Err-clause-only
+returns-in-Err-clause-only g c =
+    only_stayed (IsLost (g.K.Keeper.marks c.args.keeper.now) (g.K.Keeper.marks c.begin.new.self)) (RequestMayWrite c.args.app.now c.args.trigger) c.args.wrote.now.items (g.K.Keeper.told c.args.keeper.now) (g.K.Keeper.told c.begin.new.self) c.begin.ensures.tables
+
+pub returns-in-Ok-settle-clause-only : goal.returns-in-Ok-settle-clause-only
+returns-in-Ok-settle-clause-only g c =
+    let told = g.K.Keeper.told in
+    let marks = g.K.Keeper.marks in
+    only_ended (marks c.args.keeper.now) (marks c.begin.new.self) (marks c.prepare.new.keeper) (marks c.settle.new.keeper) (AreAll (RequestMayWrite c.args.app.now c.args.trigger) (drop (length c.args.wrote.now.items) c.prepare.new.wrote.items))
+    (told c.args.keeper.now) (told c.begin.new.self) (told c.prepare.new.keeper) (told c.settle.new.keeper) c.begin.ensures.cause.later c.prepare.ensures.cause.later c.settle.ensures.cause.later
+    c.begin.ensures.tables c.prepare.ensures.only (c.in-Ok-settle.ensures.kept refl)
+
+pub returns-in-Err-settle-clause-only : goal.returns-in-Err-settle-clause-only
+returns-in-Err-settle-clause-only g c =
+    let told = g.K.Keeper.told in
+    let began = g.K.Keeper.began in
+    let marks = g.K.Keeper.marks in
+    let first = c.begin.new.self in
+    let second = c.prepare.new.keeper in
+    only_undone (marks c.args.keeper.now) (marks first) (marks second) (marks c.settle.new.keeper) (AreAll (RequestMayWrite c.args.app.now c.args.trigger) (drop (length c.args.wrote.now.items) c.prepare.new.wrote.items))
+    (told c.args.keeper.now) (told first) (told second) (began second) (told c.settle.new.keeper) c.begin.ensures.cause.later c.prepare.ensures.cause.later c.settle.ensures.cause.later c.begin.ensures.tables c.prepare.ensures.only
+    (subst (λ (z : Option Tables). Goes (IsLost (marks first) (marks second)) Stays z (began second)) c.in-Ok.ensures.ok.1 c.prepare.ensures.began) (g.met.K.Keeper.quiet second) c.in-Err-settle.ensures.stopped
+
+pub returns-in-Err-prepare-clause-only : goal.returns-in-Err-prepare-clause-only
+returns-in-Err-prepare-clause-only g c =
+    let told = g.K.Keeper.told in
+    let began = g.K.Keeper.began in
+    let marks = g.K.Keeper.marks in
+    let first = c.begin.new.self in
+    let second = c.prepare.new.keeper in
+    only_undone (marks c.args.keeper.now) (marks first) (marks second) (marks c.back.new.self) (AreAll (RequestMayWrite c.args.app.now c.args.trigger) (drop (length c.args.wrote.now.items) c.prepare.new.wrote.items))
+    (told c.args.keeper.now) (told first) (told second) (began second) (told c.back.new.self) c.begin.ensures.cause.later c.prepare.ensures.cause.later c.back.ensures.later c.begin.ensures.tables c.prepare.ensures.only
+    (subst (λ (z : Option Tables). Goes (IsLost (marks first) (marks second)) Stays z (began second)) c.in-Ok.ensures.ok.1 c.prepare.ensures.began) (g.met.K.Keeper.quiet second) c.back.ensures.tables
