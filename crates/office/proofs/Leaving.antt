@@ -1,6 +1,6 @@
 -- Clean cells that requests leave so.
 use Rattle.std.proofs.Common.{◌≡◌, ◌≢◌, ◌⊎◌, ℕ, ◌/◌, zero, suc, ◌<◌, ◌≤◌, Bool, true, false, List, [], ◌∷◌, ◌++◌, get_or, length, Option, None, Some, Result, Ok, Err, refl, ap, sym, ◌∙◌, subst, inl, inr, arith}
-use Rattle.std.specs.Prelude.{IfOk, bytes_eq, if◌then◌else◌, nat_le, option_map, slice_get, slice_set}
+use Rattle.std.specs.Prelude.{IfOk, IsSome, OnErr, bytes_eq, if◌then◌else◌, nat_le, option_map, slice_get, slice_set}
 use Rattle.std.proofs.lemmas.Bool.{le-leb, lt-leb}
 use Rattle.std.specs.List.{position}
 use Rattle.std.proofs.lemmas.List.{length-set}
@@ -15,7 +15,7 @@ use Rattle.fx_trees.specs.declared.sources.Source.{Source}
 use Rattle.fx_trees.specs.declared.sources.Source.TheVariants as source
 use Rattle.recalc.proofs.Leaving.{day_left, left_same, left_then, left_wider}
 use Rattle.recalc.specs.Changes.{IsLeftBut}
-use Rattle.fx_base.specs.Silence.{IsLost, Marks}
+use Rattle.fx_base.specs.Silence.{Goes, IsLost, Marks}
 use Rattle.recalc.specs.Kept.{Kept}
 use Rattle.row_keeper.specs.Tables.{Tables}
 use Rattle.session_requests.specs.Bodies.{event_in, input_in}
@@ -31,7 +31,7 @@ use Rattle.office.proofs.Rounds.{no_table, one_table}
 use Rattle.office.proofs.Sent.{other_apart, other_itself}
 use Rattle.office.proofs.Places.{cases_of, item_at, one_at, position_passes, position_within, set_here, set_there, some_at}
 use Rattle.office.specs.Caches.{AreEach, AreTouched, IsToldAside, IsTurned, WentOver, is_other, is_table, tables_in}
-use Rattle.office.specs.Leaving.{ActsClean, AreActed, AreEachLeft, AreLeft, AreLeftAt, AreLeftBeside, BeginLeaves, EventLeaves, InputLeaves, LeavesActed, LeavesBy, LeavesClean, Writing, any_table, either, nothing, tables_of, those, turned}
+use Rattle.office.specs.Leaving.{ActsClean, AreActed, AreEachLeft, AreLeft, AreLeftAt, AreLeftBeside, AreStopped, BeginLeaves, EventLeaves, InputLeaves, LeavesActed, LeavesBy, LeavesClean, LeavesStopped, StopsClean, Writing, any_table, either, event_may, input_may, nothing, tables_of, those, turned}
 use Rattle.office.specs.Sessions.{OpensSessionWriting, begin_checks, most_sessions, without}
 use Rattle.view_text.specs.ReplyText.{ok_text}
 use Rattle.office.specs.State.{Seen, State, schema_of}
@@ -609,3 +609,133 @@ acts_quiet route kind lost m body s said t cs ds is quiet = subst (λ (r : Route
 pub ok_always : {X E : Type 0} (r : Result X E) (P : X → Type 0) → ((x : X) → P x) → IfOk r P
 ok_always (Ok x) P h = h x
 ok_always (Err e) P h = tt
+
+-- ---- what stops
+
+-- it holds where the tables are still told
+pub still_told : (lost : Type 0) (Q : Type 0) (x y : Option Tables) → IsSome y → Goes lost (λ (t u : Tables). Q) x y → Q
+still_told lost Q None None still h = absurd cc
+still_told lost Q None (Some u) still h = absurd cc
+still_told lost Q (Some t) None still h = absurd cc
+still_told lost Q (Some t) (Some u) still h = h
+
+-- the cache of the session at a place became another, and so it is left
+pub at_stopped : (a : App) (one : List ℕ) (W : Writing) (ws : List Source) (cs : List (Named Kept)) (p : ℕ) (old : Named Kept) (now : Kept) → p < length cs → old ≡ get_or cs p old → position (is_named one) cs ≡ Some p
+    → ((x : Source) → IsAmong x ws → W x) → IsLeftBut a ws old.it now → AreLeftAt a one (either nothing W) cs (slice_set cs p (record { name = old.name; it = now }))
+at_stopped a one W ws cs p old now within is place all left = λ c d was found.
+    let first : c ≡ old.it = let both : Some c ≡ Some old.it = sym was ∙ find_placed one cs p old place there in cc in
+    let so = find_at_each (λ k x y. (k ≡ p → y ≡ now)) one cs (slice_set cs p new) c (record { long = length-set cs p new; each = λ k x at. by k x at (cases_of k p) }) was in
+    let at_p : so.1 ≡ p = let both : Some so.1 ≡ Some p = sym so.3 ∙ place in cc in
+    let last : d ≡ now = let both : Some d ≡ Some so.0 = sym found ∙ so.2 in let one_more : d ≡ so.0 = cc in one_more ∙ so.4 at_p in
+    (ws, (λ x h. inr (all x h)), subst (λ (z : Kept). IsLeftBut a ws z d) (sym first) (subst (λ (z : Kept). IsLeftBut a ws old.it z) (sym last) left))
+  where
+    new : Named Kept
+    new = record { name = old.name; it = now }
+
+    there : slice_get cs p ≡ Some old
+    there = item_at cs p old within is
+
+    by : (k : ℕ) (x : Named Kept) → slice_get cs k ≡ Some x → (k ≡ p) ⊎ (k ≡ p → ⊥) → (y : Named Kept) × (slice_get (slice_set cs p new) k ≡ Some y) × (y.name ≡ x.name) × (k ≡ p → y.it ≡ now)
+    by k x at (inl e) =
+        let same : old ≡ x = one_at cs p old x there (subst (λ j. slice_get cs j ≡ Some x) e at) in
+        (new, subst (λ j. slice_get (slice_set cs p new) j ≡ Some new) (sym e) (set_here cs p old new there), ap (λ (z : Named Kept). z.name) same, λ again. refl)
+    by k x at (inr far) = (x, set_there cs k p x new far at, refl, λ e. absurd (far e))
+
+-- nothing was done
+pub stopped_same : (a : App) (one : List ℕ) (W : Writing) (told : Option Tables) (cs : List (Named Kept)) → AreStopped a one nothing W told cs cs
+stopped_same a one W told cs = (
+  (λ still c d was is.
+      let same : c ≡ d = let both : Some c ≡ Some d = sym was ∙ is in cc in
+      ([], (λ x none. absurd none), subst (λ (z : Kept). IsLeftBut a [] c z) same (left_same a [] c))),
+  beside_same a one nothing cs,
+)
+
+-- another day, and then it
+stopped_after : (a : App) (one : List ℕ) (V W : Writing) (told : Option Tables) (cs ds es : List (Named Kept)) → AreEachLeft a V cs ds → AreStopped a one nothing W told ds es → AreStopped a one V W told cs es
+stopped_after a one V W told cs ds es day (own, others) = (
+  (λ still c e was is.
+      let found = find_each (IsLeftBut a day.0) one cs ds c day.2 was in
+      let next = own still found.0 e found.1 is in
+      let all = day.0 ++ next.0 in (
+        all,
+        (λ x among. elim (among_either x day.0 next.0 among) [ inl h ↦ inl (day.1 x h) | inr h ↦ inr (elim (next.1 x h) [ inl none ↦ absurd none | inr w ↦ w ]) ]),
+        left_then a all c found.0 e (left_wider a day.0 all c found.0 (λ x h. among_first x day.0 next.0 h) found.2) (left_wider a next.0 all found.0 e (λ x h. among_second x day.0 next.0 h) next.2),
+      )),
+  (λ name c e far was is.
+      let all = left_after_beside a one V nothing cs ds es day (beside_more a one nothing ds es others) name c e far was is in
+      (all.0, (λ x among. elim (all.1 x among) [ inl h ↦ h | inr none ↦ absurd none ]), all.2)),
+)
+
+stops_after : (route : Route) (V : Writing) (body : List ℕ) (s t : State) (cs ds es : List (Named Kept)) → AreEachLeft s.app V cs ds → StopsClean route nothing body s t ds es → StopsClean route V body s t cs es
+unfolding StopsClean
+stops_after (Event name) V body s t cs ds es day h = stopped_after s.app name V _ t.tables cs ds es day h
+stops_after (Input name) V body s t cs ds es day h = stopped_after s.app name V _ t.tables cs ds es day h
+stops_after (Begin name) V body s t cs ds es day h = left_after_none s.app V cs ds es day h
+stops_after (End name) V body s t cs ds es day h = tt
+stops_after (View name) V body s t cs ds es day h = tt
+stops_after (Formulas name) V body s t cs ds es day h = tt
+stops_after (Items name gallery from) V body s t cs ds es day h = tt
+stops_after (Rows desk) V body s t cs ds es day h = tt
+stops_after (Edit desk) V body s t cs ds es day h = tt
+stops_after (Page table after) V body s t cs ds es day h = tt
+stops_after Plan V body s t cs ds es day h = tt
+stops_after Graph V body s t cs ds es day h = tt
+
+-- over an office that went over to the moment
+pub stops_then : (s t u : State) (before moment : ℕ) (request : Asked) (route : Route) (cs ds es : List (Named Kept)) → Routing request.method request.path (Ok route) → t ≡ s → AreEachLeft s.app (turned before moment) cs ds
+    → StopsClean route nothing request.body t u ds es → LeavesStopped s before cs moment request u es
+stops_then s t u before moment request route cs ds es is same day h =
+    inr (route, is, stops_after route (turned before moment) request.body s u cs ds es day (subst (λ (x : State). StopsClean route nothing request.body x u ds es) same h))
+
+-- one that was cut off before its route was taken
+pub stops_unrouted : (s t : State) (before moment : ℕ) (request : Asked) (cs ds : List (Named Kept)) → AreEachLeft s.app (turned before moment) cs ds → LeavesStopped s before cs moment request t ds
+stops_unrouted s t before moment request cs ds day = inl (left_each s.app (turned before moment) cs ds day)
+
+pub stops_same : (s t : State) (before moment : ℕ) (request : Asked) (cs : List (Named Kept)) → LeavesStopped s before cs moment request t cs
+stops_same s t before moment request cs = stops_unrouted s t before moment request cs cs (left_none s.app (turned before moment) cs cs (each_same s.app [] cs))
+
+-- of the route that was taken
+pub stops_event : (route : Route) (name body given : List ℕ) (old made : Seen) (t : State) (ds : List (Named Kept)) → route ≡ Event name → made ≡ old → given ≡ body
+    → AreStopped made.state.app name nothing (event_may made.state.app (checks event_in (λ (e : Asks). e.seq) (session_of name made.state.sessions) given)) t.tables made.caches ds
+    → StopsClean route nothing body old.state t old.caches ds
+unfolding StopsClean
+stops_event route name body given old made t ds is same equal h =
+    subst (λ (r : Route). StopsClean r nothing body old.state t old.caches ds) (sym is)
+    (subst (λ (s : Seen). StopsClean (Event name) nothing body s.state t s.caches ds) same
+    (subst (λ (b : List ℕ). StopsClean (Event name) nothing b made.state t made.caches ds) equal h))
+
+pub stops_input : (route : Route) (name body given : List ℕ) (old made : Seen) (t : State) (ds : List (Named Kept)) → route ≡ Input name → made ≡ old → given ≡ body
+    → AreStopped made.state.app name nothing (input_may made.state.app (checks input_in (λ (i : Gives). i.seq) (session_of name made.state.sessions) given)) t.tables made.caches ds
+    → StopsClean route nothing body old.state t old.caches ds
+unfolding StopsClean
+stops_input route name body given old made t ds is same equal h =
+    subst (λ (r : Route). StopsClean r nothing body old.state t old.caches ds) (sym is)
+    (subst (λ (s : Seen). StopsClean (Input name) nothing body s.state t s.caches ds) same
+    (subst (λ (b : List ℕ). StopsClean (Input name) nothing b made.state t made.caches ds) equal h))
+
+pub stops_begin : (route : Route) (name body : List ℕ) (old made : Seen) (t : State) (ds : List (Named Kept)) → route ≡ Begin name → made ≡ old → AreLeft made.state.app nothing made.caches ds → StopsClean route nothing body old.state t old.caches ds
+unfolding StopsClean
+stops_begin route name body old made t ds is same h =
+    subst (λ (r : Route). StopsClean r nothing body old.state t old.caches ds) (sym is) (subst (λ (s : Seen). StopsClean (Begin name) nothing body s.state t s.caches ds) same h)
+
+stops_none : (kind : Route) (body : List ℕ) (s t : State) (cs ds : List (Named Kept)) → IsQuiet kind → StopsClean kind nothing body s t cs ds
+unfolding StopsClean
+stops_none (Event name) body s t cs ds h = absurd h
+stops_none (Input name) body s t cs ds h = absurd h
+stops_none (Begin name) body s t cs ds h = absurd h
+stops_none (End name) body s t cs ds h = tt
+stops_none (View name) body s t cs ds h = tt
+stops_none (Formulas name) body s t cs ds h = tt
+stops_none (Items name gallery from) body s t cs ds h = tt
+stops_none (Rows desk) body s t cs ds h = tt
+stops_none (Edit desk) body s t cs ds h = tt
+stops_none (Page table after) body s t cs ds h = tt
+stops_none Plan body s t cs ds h = tt
+stops_none Graph body s t cs ds h = tt
+
+pub stops_quiet : (route kind : Route) (body : List ℕ) (s t : State) (cs ds : List (Named Kept)) → route ≡ kind → IsQuiet kind → StopsClean route nothing body s t cs ds
+stops_quiet route kind body s t cs ds is quiet = subst (λ (r : Route). StopsClean r nothing body s t cs ds) (sym is) (stops_none kind body s t cs ds quiet)
+
+pub err_always : {X E : Type 0} (r : Result X E) (P : Type 0) → P → OnErr r P
+err_always (Ok x) P h = tt
+err_always (Err e) P h = h

@@ -23,7 +23,7 @@ use Rattle.row_requests.proofs.Soundness.{sound_stays}
 use Rattle.recalc.specs.Kept.{Kept as Values}
 use Rattle.session_state.specs.Once.{Kept}
 use Rattle.session_state.specs.Sessions.{SessionState}
-use Rattle.session_requests.specs.Posting.{ReachesEvent, ReachesInput}
+use Rattle.session_requests.specs.Posting.{PostsEvent, PostsInput, ReachesEvent, ReachesInput}
 use Rattle.office.specs.Caches.{AreKept}
 use Rattle.office.specs.Ready.{IsReady}
 use Rattle.office.specs.Sessions.{ReachesNamed}
@@ -100,6 +100,27 @@ pub reaches_input : (s : State) (xs : List (Caller SessionState)) (body given : 
 unfolding Reaches
 reaches_input s xs body given route name is of same reaches =
     subst (λ r. Reaches r body s) (sym is) (subst (λ b. ReachesInput name b s.sessions) same (subst (λ (l : List (Caller SessionState)). ReachesInput name given l) (sym of) reaches))
+
+-- of the route that was taken
+pub does_event : (route : Route) (name body given : List ℕ) (old made : Seen) (now : Marks) (tables : Option Tables) (sessions : List (Caller SessionState)) (said : List ℕ) → route ≡ Event name → made ≡ old → given ≡ body
+    → PostsEvent (IsLost made.marks now) made.state.app made.moment name given made.state.tables made.state.sessions said tables sessions
+    → Does (IsLost old.marks now) old.moment route body old.state said (record made.state { tables = tables; sessions = sessions })
+unfolding Does
+does_event route name body given old made now tables sessions said is same equal posts =
+    let new : State = record made.state { tables = tables; sessions = sessions } in
+    subst (λ (r : Route). Does (IsLost old.marks now) old.moment r body old.state said new) (sym is)
+    (subst (λ (s : Seen). Does (IsLost s.marks now) s.moment (Event name) body s.state said new) same
+    (subst (λ (b : List ℕ). Does (IsLost made.marks now) made.moment (Event name) b made.state said new) equal (posts, refl)))
+
+pub does_input : (route : Route) (name body given : List ℕ) (old made : Seen) (now : Marks) (tables : Option Tables) (sessions : List (Caller SessionState)) (said : List ℕ) → route ≡ Input name → made ≡ old → given ≡ body
+    → PostsInput (IsLost made.marks now) made.state.app made.moment name given made.state.tables made.state.sessions said tables sessions
+    → Does (IsLost old.marks now) old.moment route body old.state said (record made.state { tables = tables; sessions = sessions })
+unfolding Does
+does_input route name body given old made now tables sessions said is same equal posts =
+    let new : State = record made.state { tables = tables; sessions = sessions } in
+    subst (λ (r : Route). Does (IsLost old.marks now) old.moment r body old.state said new) (sym is)
+    (subst (λ (s : Seen). Does (IsLost s.marks now) s.moment (Input name) body s.state said new) same
+    (subst (λ (b : List ℕ). Does (IsLost made.marks now) made.moment (Input name) b made.state said new) equal (posts, refl)))
 
 -- where no rows are read, a keeper stays as it is
 pub read_nothing : (a : Keeping) → HasRead a a

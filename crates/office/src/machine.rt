@@ -12,7 +12,7 @@ ghost use Rattle.row_requests.specs.Sound.{AreSound};
 ghost use Rattle.session_requests.specs.Opening.{CanOpen};
 ghost use Rattle.app_wire.specs.ReplyBytes.{refusal};
 ghost use Rattle.office.specs.Costs.{CostsAnswered, CostsBy, counts};
-ghost use Rattle.office.specs.Leaving.{ActsClean, AreEachLeft, LeavesActed, LeavesBy, LeavesClean, nothing, turned};
+ghost use Rattle.office.specs.Leaving.{ActsClean, AreEachLeft, LeavesActed, LeavesBy, LeavesClean, LeavesStopped, StopsClean, nothing, turned};
 ghost use Rattle.office.specs.State.{schema_of, started};
 ghost use Rattle.office.specs.Step.{Answered, Does, Left, Reaches, ReachesKeeper, Step};
 
@@ -138,7 +138,7 @@ impl<K: Keeper + Drop> Office<K> {
         ensures later { IsLater self.old.marks self.new.marks }
         ensures whole { IsReply result }
         ensures clean { LeavesClean self.old.state self.old.moment self.old.caches moment (asked request.now) self.new.state self.new.caches }
-        ensures acted { LeavesActed (IsLost self.old.marks self.new.marks) self.old.state self.old.moment self.old.caches moment (asked request.now) (said result) self.new.state self.new.caches ⊎ ((said result ≡ refusal 26) ⊎ (said result ≡ refusal 25)) }
+        ensures acted { LeavesActed (IsLost self.old.marks self.new.marks) self.old.state self.old.moment self.old.caches moment (asked request.now) (said result) self.new.state self.new.caches ⊎ (((said result ≡ refusal 26) ⊎ (said result ≡ refusal 25)) × LeavesStopped self.old.state self.old.moment self.old.caches moment (asked request.now) self.new.state self.new.caches) }
         ensures costs { CostsAnswered self.old.state self.old.moment self.old.caches moment (asked request.now) (said result) self.new.state self.new.caches (counts steps.old self.old.visited) (counts steps.new self.new.visited) ⊎ ((said result ≡ refusal 26) ⊎ (said result ≡ refusal 25)) }
         ensures loan { self.new.loan ≡ self.old.loan }
     {
@@ -164,6 +164,7 @@ impl<K: Keeper + Drop> Office<K> {
         ensures clean { LeavesClean self.old.state self.old.moment self.old.caches moment (asked request.now) self.new.state self.new.caches }
         ensures acted { IfOk result (λ r. LeavesActed (IsLost self.old.marks self.new.marks) self.old.state self.old.moment self.old.caches moment (asked request.now) (said r) self.new.state self.new.caches) }
         ensures costs { IfOk result (λ r. CostsAnswered self.old.state self.old.moment self.old.caches moment (asked request.now) (said r) self.new.state self.new.caches (counts steps.old self.old.visited) (counts steps.new self.new.visited)) }
+        ensures cut { OnErr result (LeavesStopped self.old.state self.old.moment self.old.caches moment (asked request.now) self.new.state self.new.caches) }
         ensures loan { self.new.loan ≡ self.old.loan }
     {
         match self.routes.route(self.alloc, request) {
@@ -209,6 +210,7 @@ impl<K: Keeper + Drop> Office<K> {
         ensures clean { LeavesBy route nothing request.now.body.items self.old.state self.new.state self.old.caches self.new.caches }
         ensures acted { IfOk result (λ r. ActsClean (IsLost self.old.marks self.new.marks) self.old.moment route nothing request.now.body.items self.old.state (said r) self.new.state self.old.caches self.new.caches) }
         ensures costs { IfOk result (λ r. CostsBy route self.old.moment self.old.state (said r) self.new.state self.old.caches self.new.caches (counts steps.old self.old.visited) (counts steps.new self.new.visited)) }
+        ensures cut { OnErr result (StopsClean route nothing request.now.body.items self.old.state self.new.state self.old.caches self.new.caches) }
         ensures loan { self.new.loan ≡ self.old.loan }
     {
         let moment = self.moment;

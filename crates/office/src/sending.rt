@@ -18,10 +18,11 @@ ghost use Rattle.row_keeper.specs.declared.keeper.KeeperEnd.TheVariants.{Failed}
 ghost use Rattle.row_requests.specs.DeskRows.{PostsRows, ReachesRows};
 ghost use Rattle.row_requests.specs.Sound.{AreSound};
 ghost use Rattle.session_requests.specs.Posting.{PostsEvent, PostsInput, ReachesEvent, ReachesInput, SendsEvent, SendsInput};
+ghost use Rattle.session_requests.specs.Writable.{EventMayWrite, InputMayWrite};
 ghost use Rattle.session_state.specs.Sessions.{SessionState};
 ghost use Rattle.row_requests.specs.Written.{IsNamedBy};
 ghost use Rattle.office.specs.Caches.{AreKept};
-ghost use Rattle.office.specs.Leaving.{AreEachLeft, AreLeftBeside, EventLeaves, InputLeaves, any_table, nothing};
+ghost use Rattle.office.specs.Leaving.{AreEachLeft, AreLeftBeside, AreStopped, EventLeaves, InputLeaves, any_table, event_may, input_may, nothing};
 ghost use Rattle.office.specs.Ready.{AreFit};
 
 use crate::keeping::touch_others;
@@ -66,6 +67,7 @@ pub(crate) fn post_input<K: Keeper, L: Ledger>(
     ensures kept { AreKept app.now (K.told keeper.new) moment sessions.new.items caches.new.items }
     ensures clean { AreLeftBeside app.now name.now any_table caches.old.items caches.new.items }
     ensures own { IfOk result (λ r. InputLeaves (IsLost (K.marks keeper.old) (K.marks keeper.new)) app.now moment name.now nothing body.now (checks input_in (λ (i : AnInput). i.seq) (session_of name.now sessions.old.items) body.now) (K.told keeper.old) sessions.old.items (said r) (K.told keeper.new) sessions.new.items caches.old.items caches.new.items) }
+    ensures cut { OnErr result (AreStopped app.now name.now nothing (input_may app.now (checks input_in (λ (i : AnInput). i.seq) (session_of name.now sessions.old.items) body.now)) (K.told keeper.new) caches.old.items caches.new.items) }
     ensures rows { AreSound app.now.names.schema (K.told keeper.new) }
     ensures shaped { K.shaped keeper.new ≡ Some app.now.names.schema }
     ensures idle { K.in_transaction keeper.new ≡ false }
@@ -111,6 +113,7 @@ fn act_input<K: Keeper, L: Ledger>(
     ensures kept { AreKept app.now (K.told keeper.new) moment sessions.new.items caches.new.items }
     ensures clean { AreLeftBeside app.now name.now any_table caches.old.items caches.new.items }
     ensures own { IfOk result (λ r. InputLeaves (IsLost (K.marks keeper.old) (K.marks keeper.new)) app.now moment name.now nothing body.now (Ok input) (K.told keeper.old) sessions.old.items (said r) (K.told keeper.new) sessions.new.items caches.old.items caches.new.items) }
+    ensures cut { OnErr result (AreStopped app.now name.now nothing (InputMayWrite app.now input) (K.told keeper.new) caches.old.items caches.new.items) }
     ensures rows { AreSound app.now.names.schema (K.told keeper.new) }
     ensures shaped { K.shaped keeper.new ≡ Some app.now.names.schema }
     ensures idle { K.in_transaction keeper.new ≡ false }
@@ -161,6 +164,7 @@ pub(crate) fn post_event<K: Keeper, L: Ledger>(
     ensures kept { AreKept app.now (K.told keeper.new) moment sessions.new.items caches.new.items }
     ensures clean { AreLeftBeside app.now name.now any_table caches.old.items caches.new.items }
     ensures own { IfOk result (λ r. EventLeaves (IsLost (K.marks keeper.old) (K.marks keeper.new)) app.now moment name.now nothing body.now (checks event_in (λ (e : AnEvent). e.seq) (session_of name.now sessions.old.items) body.now) (K.told keeper.old) sessions.old.items (said r) (K.told keeper.new) sessions.new.items caches.old.items caches.new.items) }
+    ensures cut { OnErr result (AreStopped app.now name.now nothing (event_may app.now (checks event_in (λ (e : AnEvent). e.seq) (session_of name.now sessions.old.items) body.now)) (K.told keeper.new) caches.old.items caches.new.items) }
     ensures rows { AreSound app.now.names.schema (K.told keeper.new) }
     ensures shaped { K.shaped keeper.new ≡ Some app.now.names.schema }
     ensures idle { K.in_transaction keeper.new ≡ false }
@@ -206,6 +210,7 @@ fn act_event<K: Keeper, L: Ledger>(
     ensures kept { AreKept app.now (K.told keeper.new) moment sessions.new.items caches.new.items }
     ensures clean { AreLeftBeside app.now name.now any_table caches.old.items caches.new.items }
     ensures own { IfOk result (λ r. EventLeaves (IsLost (K.marks keeper.old) (K.marks keeper.new)) app.now moment name.now nothing body.now (Ok event.now) (K.told keeper.old) sessions.old.items (said r) (K.told keeper.new) sessions.new.items caches.old.items caches.new.items) }
+    ensures cut { OnErr result (AreStopped app.now name.now nothing (EventMayWrite app.now event.now) (K.told keeper.new) caches.old.items caches.new.items) }
     ensures rows { AreSound app.now.names.schema (K.told keeper.new) }
     ensures shaped { K.shaped keeper.new ≡ Some app.now.names.schema }
     ensures idle { K.in_transaction keeper.new ≡ false }

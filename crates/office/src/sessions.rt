@@ -76,6 +76,7 @@ pub(crate) fn begin<K: Keeper, L: Ledger>(
     ensures kept { AreKept app.now (K.told keeper.new) moment sessions.new.items caches.new.items }
     ensures clean { AreLeftBeside app.now name any_table caches.old.items caches.new.items }
     ensures others { IfOk result (λ r. BeginLeaves (IsLost (K.marks keeper.old) (K.marks keeper.new)) app.now moment name nothing (begin_checks name sessions.old.items) (K.told keeper.old) sessions.old.items (said r) (K.told keeper.new) sessions.new.items caches.old.items caches.new.items) }
+    ensures cut { OnErr result (AreLeft app.now nothing caches.old.items caches.new.items) }
     ensures rows { AreSound app.now.names.schema (K.told keeper.new) }
     ensures shaped { K.shaped keeper.new ≡ Some app.now.names.schema }
     ensures idle { K.in_transaction keeper.new ≡ false }

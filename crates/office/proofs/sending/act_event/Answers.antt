@@ -7,10 +7,12 @@ use Rattle.request_checks.specs.Replies.{said}
 use Rattle.request_checks.specs.declared.directory.Named.{Named}
 use Rattle.row_requests.specs.Written.{AreTablesBut}
 use Rattle.session_state.specs.Sessions.{SessionState}
-use Rattle.office.specs.Leaving.{any_table}
+use Rattle.std.specs.Prelude.{slice_set}
+use Rattle.office.specs.Leaving.{AreStopped, any_table, nothing}
+use Rattle.session_requests.specs.Writable.{AreAll, EventMayWrite}
 use Rattle.recalc.specs.Changes.{IsLeftBut}
 use Rattle.session_requests.specs.Posting.{SendsEventWriting}
-use Rattle.office.proofs.Leaving.{acted_told, at_told, beside_any, beside_stopped, beside_told}
+use Rattle.office.proofs.Leaving.{acted_told, at_stopped, at_told, beside_any, beside_stopped, beside_told, err_always, still_told}
 use Rattle.office.proofs.Caching.{one_place}
 use Rattle.office.proofs.Sent.{cached_there, kept_sent, kept_stopped, order_after, place_within, sends_event}
 use Rattle.office.proofs.sending.act_event.Goals as goal
@@ -107,4 +109,24 @@ returns-clause-own g c =
           (at_told c.args.app.now name ws cs ds c.in-Some.place c.index_mut.result.now c.send_event.new.cache here c.index_mut.ensures.value beside c.touch_others.ensures.told
           (subst (λ (l : List Source). IsLeftBut c.args.app.now l c.index_mut.result.now.it c.send_event.new.cache) (sym c.deref-in-Some.ensures.value) c.send_event.ensures.clean))
           (beside_told c.args.app.now name ws cs ds c.in-Some.place c.index_mut.result.now c.send_event.new.cache here c.index_mut.ensures.value beside c.touch_others.ensures.told),
+    )
+
+pub returns-in_err-reply-in-Some-clause-cut : goal.returns-in_err-reply-in-Some-clause-cut
+returns-in_err-reply-in-Some-clause-cut g c =
+    let name = c.args.name.now in
+    let app = c.args.app.now in
+    let told = g.K.Keeper.told in
+    let ss = c.args.sessions.now.items in
+    let cs = c.args.caches.now.items in
+    let place = subst (λ (l : List (Named SessionState)). Some c.in-Some.place ≡ position (is_named name) l) c.deref.ensures.value c.in-Some.ensures.place in
+    let within : c.in-Some.place < length ss = subst (λ (l : List (Named SessionState)). c.in-Some.place < length l) c.deref.ensures.value c.in-Some.ensures.within in
+    let here = place_within app (told c.args.keeper.now) c.args.moment ss cs c.in-Some.place c.requires.kept within in
+    let beside = one_place app (told c.args.keeper.now) c.args.moment name ss cs c.requires.kept ∙ sym place in
+    let ws = c.send_event.new.wrote.items in
+    let lost = IsLost (g.K.Keeper.marks c.args.keeper.now) (g.K.Keeper.marks c.send_event.new.keeper) in
+    err_always _ (AreStopped app name nothing (EventMayWrite c.args.app.now c.args.event.now) (told c.send_event.new.keeper) cs (slice_set cs c.in-Some.place (record { name = c.index_mut.result.now.name; it = c.send_event.new.cache }))) (
+      (λ still.
+          at_stopped app name (EventMayWrite c.args.app.now c.args.event.now) ws cs c.in-Some.place c.index_mut.result.now c.send_event.new.cache here c.index_mut.ensures.value beside
+          (still_told lost (AreAll (EventMayWrite c.args.app.now c.args.event.now) ws) (told c.args.keeper.now) (told c.send_event.new.keeper) still c.send_event.ensures.only) c.send_event.ensures.clean),
+      beside_stopped app name nothing cs c.in-Some.place c.index_mut.result.now c.send_event.new.cache here c.index_mut.ensures.value beside,
     )

@@ -1,6 +1,6 @@
 use Rattle.std.proofs.Common.{◌≡◌, ℕ, List, Result, Ok, Err, subst, sym}
 use Rattle.std.specs.Prelude.{IsSome}
-use Rattle.std.proofs.lemmas.Result.{IfOk-weaker}
+use Rattle.std.proofs.lemmas.Result.{IfOk-weaker, on_err_weaker}
 use Rattle.fx_base.specs.Silence.{IsLost}
 use Rattle.request_checks.specs.Checks.{checks, session_of}
 use Rattle.request_checks.specs.Directory.{find}
@@ -11,8 +11,8 @@ use Rattle.session_requests.specs.Bodies.{event_in}
 use Rattle.session_requests.specs.Posting.{PostsEventChecked}
 use Rattle.session_requests.specs.declared.event.Event.{Event}
 use Rattle.session_state.specs.Sessions.{SessionState}
-use Rattle.office.specs.Leaving.{EventLeaves, nothing}
-use Rattle.office.proofs.Leaving.{acted_same}
+use Rattle.office.specs.Leaving.{AreStopped, EventLeaves, event_may, nothing}
+use Rattle.office.proofs.Leaving.{acted_same, err_always, stopped_same}
 use Rattle.office.proofs.sending.post_event.Goals as goal
 
 pub act_event-requires-clause-live : goal.act_event-requires-clause-live
@@ -55,3 +55,14 @@ returns-in-Says-clause-own g c =
     let is = subst (λ (l : List (Named SessionState)). checks event_in (λ (e : Event). e.seq) (session_of name l) c.args.body.now ≡ Err (said c.in-Says.reply)) c.deref.ensures.value passed in
     subst (λ (x : Result Event (List ℕ)). EventLeaves lost c.args.app.now c.args.moment name nothing c.args.body.now x told c.args.sessions.now.items (said c.in-Says.reply) told c.args.sessions.now.items c.args.caches.now.items c.args.caches.now.items) (sym is)
     (acted_same c.args.app.now name c.args.caches.now.items)
+
+pub returns-in_err-reply-clause-cut : goal.returns-in_err-reply-clause-cut
+returns-in_err-reply-clause-cut g c = err_always _ _ (stopped_same c.args.app.now c.args.name.now _ (g.K.Keeper.told c.args.keeper.now) c.args.caches.now.items)
+
+pub returns-in-Acts-clause-cut : goal.returns-in-Acts-clause-cut
+returns-in-Acts-clause-cut g c =
+    let name = c.args.name.now in
+    let passed = rw c.in-Acts.is at c.in_ok-reply.ensures.is in
+    let is = subst (λ (l : List (Named SessionState)). checks event_in (λ (e : Event). e.seq) (session_of name l) c.args.body.now ≡ Ok c.in-Acts.event) c.deref.ensures.value passed in
+    on_err_weaker c.act_event.result (λ stopped.
+    subst (λ (x : Result Event (List ℕ)). AreStopped c.args.app.now name nothing (event_may c.args.app.now x) (g.K.Keeper.told c.act_event.new.keeper) c.args.caches.now.items c.act_event.new.caches.items) (sym is) stopped) c.act_event.ensures.cut

@@ -8,12 +8,12 @@ use Rattle.session_state.specs.Changes.{FitsNames}
 use Rattle.session_state.specs.Sessions.{SessionState, opened}
 use Rattle.office.specs.Caches.{AreEach, AreKept, IsToldAside, tables_in}
 use Rattle.office.specs.Ready.{AreFit}
-use Rattle.office.specs.Leaving.{AreLeftBeside, any_table}
+use Rattle.office.specs.Leaving.{AreLeft, AreLeftBeside, any_table, nothing}
 use Rattle.office.specs.Sessions.{begin_checks}
 use Rattle.app_wire.specs.ReplyBytes.{refusal, reply}
 use Rattle.request_checks.specs.Directory.{is_among, put}
 use Rattle.request_checks.specs.Replies.{said}
-use Rattle.office.proofs.Leaving.{begin_full, begin_none, beside_begun, beside_opened, beside_same, checked_leaves, opened_leaves}
+use Rattle.office.proofs.Leaving.{begin_full, begin_none, beside_begun, beside_opened, beside_same, checked_leaves, err_always, left_unchanged, opened_leaves}
 use Rattle.office.proofs.Directories.{begun_keep, put_all}
 use Rattle.office.proofs.Sent.{kept_begun, kept_order, kept_still}
 use Rattle.office.proofs.Touching.{new_cached}
@@ -81,6 +81,18 @@ returns-clause-clean g c =
     beside_begun c.args.app.now c.args.name c.in_ok-copy.copy c.open_session.new.wrote.items c.args.caches.now.items c.reserve-2.new.self.items c.touch_others.new.caches.items c.put-2.new.list.items c.open_session.new.cache
     c.in_ok-reserve-2.ensures.items c.in_ok-copy.ensures
     (subst (λ (ws : List Source). AreEach (IsToldAside c.args.app.now None (tables_in ws)) c.reserve-2.new.self.items c.touch_others.new.caches.items) c.deref-2.ensures.value c.touch_others.ensures.told) c.put-2.ensures
+
+pub returns-in_err-reserve-2-clause-cut : goal.returns-in_err-reserve-2-clause-cut
+returns-in_err-reserve-2-clause-cut g c = err_always _ _ (subst (λ (l : List (Named Kept)). AreLeft c.args.app.now nothing c.args.caches.now.items l) (sym c.in_err-reserve-2.ensures.items) (left_unchanged c.args.app.now c.args.caches.now.items))
+
+pub returns-in_err-copy-clause-cut : goal.returns-in_err-copy-clause-cut
+returns-in_err-copy-clause-cut g c = err_always _ _ (subst (λ (l : List (Named Kept)). AreLeft c.args.app.now nothing c.args.caches.now.items l) (sym c.in_ok-reserve-2.ensures.items) (left_unchanged c.args.app.now c.args.caches.now.items))
+
+pub returns-in_err-cache-clause-cut : goal.returns-in_err-cache-clause-cut
+returns-in_err-cache-clause-cut g c = err_always _ _ (subst (λ (l : List (Named Kept)). AreLeft c.args.app.now nothing c.args.caches.now.items l) (sym c.in_ok-reserve-2.ensures.items) (left_unchanged c.args.app.now c.args.caches.now.items))
+
+pub returns-in_err-session-clause-cut : goal.returns-in_err-session-clause-cut
+returns-in_err-session-clause-cut g c = err_always _ _ (subst (λ (l : List (Named Kept)). AreLeft c.args.app.now nothing c.args.caches.now.items l) (sym c.in_ok-reserve-2.ensures.items) (left_unchanged c.args.app.now c.args.caches.now.items))
 
 pub returns-clause-others : goal.returns-clause-others
 returns-clause-others g c =

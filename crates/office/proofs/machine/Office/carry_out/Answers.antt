@@ -1,9 +1,9 @@
 use Rattle.std.proofs.Common.{inl, inr, refl}
-use Rattle.std.proofs.lemmas.Result.{IfOk-weaker}
+use Rattle.std.proofs.lemmas.Result.{IfOk-weaker, on_err_weaker}
 use Rattle.app_wire.specs.Framing.{asked}
 use Rattle.request_checks.specs.Replies.{said}
 use Rattle.office.proofs.Costs.{costs_then}
-use Rattle.office.proofs.Leaving.{acts_then, leaves_same, leaves_then, leaves_unrouted}
+use Rattle.office.proofs.Leaving.{acts_then, leaves_same, leaves_then, leaves_unrouted, stops_same, stops_then, stops_unrouted}
 use Rattle.office.proofs.StepLemmas.{left_all, routed_then, unrouted, wrong_method}
 use Rattle.office.proofs.machine.Office.carry_out.Goals as goal
 
@@ -64,3 +64,14 @@ returns-in-Err-NoRoute-clause-costs g c = inr (inl c.fixed_refusal.ensures.said,
 
 pub returns-in-Err-WrongMethod-clause-costs : goal.returns-in-Err-WrongMethod-clause-costs
 returns-in-Err-WrongMethod-clause-costs g c = inr (inr c.fixed_refusal-in-Err-WrongMethod.ensures.said, (refl, refl))
+pub returns-in-Ok-turn-clause-cut : goal.returns-in-Ok-turn-clause-cut
+returns-in-Ok-turn-clause-cut g c =
+    on_err_weaker c.take.result (λ stopped.
+    stops_then c.args.self.now.state c.turn.new.self.state c.take.new.self.state c.args.self.now.moment c.args.moment (asked c.args.request.now) c.in-Ok.route c.args.self.now.caches c.turn.new.self.caches c.take.new.self.caches c.in-Ok.ensures c.turn.ensures.state
+    c.turn.ensures.clean stopped) c.take.ensures.cut
+
+pub returns-in-Err-clause-cut : goal.returns-in-Err-clause-cut
+returns-in-Err-clause-cut g c = stops_unrouted c.args.self.now.state c.turn.new.self.state c.args.self.now.moment c.args.moment (asked c.args.request.now) c.args.self.now.caches c.turn.new.self.caches c.turn.ensures.clean
+
+pub returns-in-Err-Memory-clause-cut : goal.returns-in-Err-Memory-clause-cut
+returns-in-Err-Memory-clause-cut g c = stops_same c.args.self.now.state c.args.self.now.state c.args.self.now.moment c.args.moment (asked c.args.request.now) c.args.self.now.caches

@@ -1,5 +1,5 @@
 use Rattle.std.proofs.Common.{[], ℕ, List, ap, refl, subst, sym, ◌∙◌}
-use Rattle.std.proofs.lemmas.Result.{IfOk-weaker}
+use Rattle.std.proofs.lemmas.Result.{IfOk-weaker, on_err_weaker}
 use Rattle.fx_base.specs.Silence.{IsLost}
 use Rattle.fx_trees.specs.declared.schema.Schema.{Schema}
 use Rattle.request_checks.specs.Replies.{said}
@@ -13,14 +13,14 @@ use Rattle.request_checks.specs.Directory.{find}
 use Rattle.row_requests.specs.Page.{VisitsPage}
 use Rattle.row_requests.specs.Written.{IsNamedBy}
 use Rattle.office.specs.Leaving.{AreEachLeft}
-use Rattle.office.proofs.Leaving.{acts_begin, acts_event, acts_input, acts_quiet, each_same, leaves_begin, leaves_by, leaves_edit, leaves_end, leaves_event, leaves_graph, leaves_input, leaves_items, leaves_named, leaves_page, leaves_plan, leaves_rows, leaves_view, left_still, left_unchanged, ok_always}
+use Rattle.office.proofs.Leaving.{acts_begin, acts_event, acts_input, acts_quiet, each_same, err_always, leaves_begin, leaves_by, leaves_edit, leaves_end, leaves_event, leaves_graph, leaves_input, leaves_items, leaves_named, leaves_page, leaves_plan, leaves_rows, leaves_view, left_still, left_unchanged, ok_always, stops_begin, stops_event, stops_input, stops_quiet}
 use Rattle.office.proofs.Costs.{costs_acting, costs_by, costs_items, costs_named, costs_page, costs_rows, costs_still, costs_view}
 use Rattle.office.proofs.Edits.{ready_edited}
 use Rattle.office.proofs.Sent.{kept_order, kept_still}
 use Rattle.office.specs.Caches.{AreKept}
 use Rattle.office.specs.Costs.{CostOfItems, CostOfNamed, CostOfView, CostsTo, counts}
 use Rattle.office.specs.State.{Seen}
-use Rattle.office.proofs.StepLemmas.{left_read, reaches_event, reaches_input, reaches_items, reaches_named, reaches_page, reaches_view, still_ready, stopped}
+use Rattle.office.proofs.StepLemmas.{does_event, does_input, left_read, reaches_event, reaches_input, reaches_items, reaches_named, reaches_page, reaches_view, still_ready, stopped}
 use Rattle.office.proofs.machine.Office.take.Goals as goal
 
 pub returns-in-Page-clause-reached : goal.returns-in-Page-clause-reached
@@ -323,3 +323,55 @@ returns-in-Event-clause-costs g c = ok_always c.post_event.result _ (λ r. costs
 
 pub returns-in-Input-clause-costs : goal.returns-in-Input-clause-costs
 returns-in-Input-clause-costs g c = ok_always c.post_input.result _ (λ r. costs_acting c.args.route (Input c.in-Input.name) (said r) _ _ _ _ _ _ _ c.in-Input.is tt)
+pub returns-in-View-clause-cut : goal.returns-in-View-clause-cut
+returns-in-View-clause-cut g c = err_always c.show_view_to.result _ (stops_quiet c.args.route (View c.in-View.name) c.args.request.now.body.items _ _ _ _ c.in-View.is tt)
+
+pub returns-in-Named-clause-cut : goal.returns-in-Named-clause-cut
+returns-in-Named-clause-cut g c = err_always c.show_named.result _ (stops_quiet c.args.route (Formulas c.in-Named.name) c.args.request.now.body.items _ _ _ _ c.in-Named.is tt)
+
+pub returns-in-Items-clause-cut : goal.returns-in-Items-clause-cut
+returns-in-Items-clause-cut g c = err_always c.show_items_to.result _ (stops_quiet c.args.route (Items c.in-Items.name c.in-Items.gallery c.in-Items.from) c.args.request.now.body.items _ _ _ _ c.in-Items.is tt)
+
+pub returns-in-Page-clause-cut : goal.returns-in-Page-clause-cut
+returns-in-Page-clause-cut g c = err_always c.show_page.result _ (stops_quiet c.args.route (Page c.in-Page.table c.in-Page.after) c.args.request.now.body.items _ _ _ _ c.in-Page.is tt)
+
+pub returns-in-Rows-clause-cut : goal.returns-in-Rows-clause-cut
+returns-in-Rows-clause-cut g c = err_always c.change_rows.result _ (stops_quiet c.args.route (Rows c.in-Rows.name) c.args.request.now.body.items _ _ _ _ c.in-Rows.is tt)
+
+pub returns-in-End-clause-cut : goal.returns-in-End-clause-cut
+returns-in-End-clause-cut g c = stops_quiet c.args.route (End c.in-End.name) c.args.request.now.body.items _ _ _ _ c.in-End.is tt
+
+pub returns-in-Edit-clause-cut : goal.returns-in-Edit-clause-cut
+returns-in-Edit-clause-cut g c = stops_quiet c.args.route (Edit c.in-Edit.name) c.args.request.now.body.items _ _ _ _ c.in-Edit.is tt
+
+pub returns-in-Plan-clause-cut : goal.returns-in-Plan-clause-cut
+returns-in-Plan-clause-cut g c = stops_quiet c.args.route Plan c.args.request.now.body.items _ _ _ _ c.in-Plan.is tt
+
+pub returns-in-Begin-clause-cut : goal.returns-in-Begin-clause-cut
+returns-in-Begin-clause-cut g c =
+    on_err_weaker c.begin.result (λ left. stops_begin c.args.route c.in-Begin.name c.args.request.now.body.items c.args.self.now _ _ c.begin.new.caches.items c.in-Begin.is c.self.view_is left) c.begin.ensures.cut
+
+pub returns-in-Event-clause-cut : goal.returns-in-Event-clause-cut
+returns-in-Event-clause-cut g c =
+    on_err_weaker c.post_event.result (λ stopped.
+    stops_event c.args.route c.in-Event.name c.args.request.now.body.items c.deref-in-Event.result.now c.args.self.now _ _ c.post_event.new.caches.items c.in-Event.is c.self.view_is c.deref-in-Event.ensures.value stopped) c.post_event.ensures.cut
+
+pub returns-in-Input-clause-cut : goal.returns-in-Input-clause-cut
+returns-in-Input-clause-cut g c =
+    on_err_weaker c.post_input.result (λ stopped.
+    stops_input c.args.route c.in-Input.name c.args.request.now.body.items c.deref-in-Input.result.now c.args.self.now _ _ c.post_input.new.caches.items c.in-Input.is c.self.view_is c.deref-in-Input.ensures.value stopped) c.post_input.ensures.cut
+
+pub returns-clause-cut : goal.returns-clause-cut
+returns-clause-cut g c = stops_quiet c.args.route Graph c.args.request.now.body.items _ _ _ _ c.in-Graph.is tt
+
+pub returns-in-Event-clause-step : goal.returns-in-Event-clause-step
+returns-in-Event-clause-step g c =
+    IfOk-weaker c.post_event.result _ _ (λ r posts.
+    does_event c.args.route c.in-Event.name c.args.request.now.body.items c.deref-in-Event.result.now c.args.self.now _ (g.K.Keeper.marks c.post_event.new.keeper) (g.K.Keeper.told c.post_event.new.keeper) c.post_event.new.sessions.items (said r)
+    c.in-Event.is c.self.view_is c.deref-in-Event.ensures.value posts) c.post_event.ensures.done
+
+pub returns-in-Input-clause-step : goal.returns-in-Input-clause-step
+returns-in-Input-clause-step g c =
+    IfOk-weaker c.post_input.result _ _ (λ r posts.
+    does_input c.args.route c.in-Input.name c.args.request.now.body.items c.deref-in-Input.result.now c.args.self.now _ (g.K.Keeper.marks c.post_input.new.keeper) (g.K.Keeper.told c.post_input.new.keeper) c.post_input.new.sessions.items (said r)
+    c.in-Input.is c.self.view_is c.deref-in-Input.ensures.value posts) c.post_input.ensures.done
