@@ -302,7 +302,6 @@ impl<K: Keeper + Drop> Office<K> {
                 &mut self.desks,
                 &name,
                 &request.body,
-                moment,
             ) {
                 Ok(reply) => Ok(reply),
                 Err(Memory) => Err(KeeperEnd::Memory),

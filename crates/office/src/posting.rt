@@ -1,5 +1,5 @@
 //! A desk edits a formula.
-ghost use Rattle.std.specs.Prelude.{◌≡◌, IfOk, OnErr, Option};
+ghost use Rattle.std.specs.Prelude.{◌≡◌, ℕ, IfOk, OnErr, Option};
 ghost use Rattle.app_loader.specs.app_edits.Frames.{frame_of};
 ghost use Rattle.app_loader.specs.Edits.{IsLoaded};
 ghost use Rattle.app_loader.specs.app_semantics.Sound.{IsSound};
@@ -38,7 +38,6 @@ pub fn post_edit(
     desks: &mut Vec<Named<Desk>>,
     name: &Words,
     body: &[u8],
-    moment: u64,
 ) -> Result<Reply, Memory>
     requires loaded { IsLoaded app.old }
     requires sound { IsSound app.old }
@@ -46,7 +45,7 @@ pub fn post_edit(
     requires fit { AreFit app.old.names sessions.old.items }
     requires kept { KeepReplies desks.old.items }
     requires replies { SessionsKeepReplies sessions.old.items }
-    requires cached { (told : Option Tables) × AreKept app.old told moment sessions.old.items caches.old.items }
+    requires cached { (told : Option Tables) × (moment : ℕ) × AreKept app.old told moment sessions.old.items caches.old.items }
     ensures done { IfOk result (λ r. PostsEdit name.now body.now (record { app = app.old; sessions = sessions.old.items; desks = desks.old.items }) (said r) (record { app = app.new; sessions = sessions.new.items; desks = desks.new.items })) }
     ensures whole { IfOk result IsReply }
     ensures app { OnErr result (app.new ≡ app.old) }
@@ -59,14 +58,12 @@ pub fn post_edit(
     ensures fit { AreFit app.new.names sessions.new.items }
     ensures kept { KeepReplies desks.new.items }
     ensures replies { SessionsKeepReplies sessions.new.items }
-    ensures caches { (told : Option Tables) → AreKept app.old told moment sessions.old.items caches.old.items → AreKept app.new told moment sessions.new.items caches.new.items }
+    ensures caches { (told : Option Tables) (moment : ℕ) → AreKept app.old told moment sessions.old.items caches.old.items → AreKept app.new told moment sessions.new.items caches.new.items }
     ensures over { AreEach (λ k. WentOver app.old app.new) caches.old.items caches.new.items }
 {
     match check_desk::<Edit>(alloc, desks, name, body)? {
         Checked::Says(reply) => Ok(reply),
-        Checked::Acts(asked) => make_edit(
-            alloc, app, sessions, caches, desks, name, body, &asked, moment,
-        ),
+        Checked::Acts(asked) => make_edit(alloc, app, sessions, caches, desks, name, body, &asked),
     }
 }
 
@@ -81,7 +78,6 @@ fn make_edit(
     name: &Words,
     body: &[u8],
     asked: &Edit,
-    moment: u64,
 ) -> Result<Reply, Memory>
     requires loaded { IsLoaded app.old }
     requires sound { IsSound app.old }
@@ -89,7 +85,7 @@ fn make_edit(
     requires fit { AreFit app.old.names sessions.old.items }
     requires kept { KeepReplies desks.old.items }
     requires replies { SessionsKeepReplies sessions.old.items }
-    requires cached { (told : Option Tables) × AreKept app.old told moment sessions.old.items caches.old.items }
+    requires cached { (told : Option Tables) × (moment : ℕ) × AreKept app.old told moment sessions.old.items caches.old.items }
     ensures done { IfOk result (λ r. MakesEdit name.now body.now asked.now (record { app = app.old; sessions = sessions.old.items; desks = desks.old.items }) (said r) (record { app = app.new; sessions = sessions.new.items; desks = desks.new.items })) }
     ensures whole { IfOk result IsReply }
     ensures app { OnErr result (app.new ≡ app.old) }
@@ -102,7 +98,7 @@ fn make_edit(
     ensures fit { AreFit app.new.names sessions.new.items }
     ensures kept { KeepReplies desks.new.items }
     ensures replies { SessionsKeepReplies sessions.new.items }
-    ensures caches { (told : Option Tables) → AreKept app.old told moment sessions.old.items caches.old.items → AreKept app.new told moment sessions.new.items caches.new.items }
+    ensures caches { (told : Option Tables) (moment : ℕ) → AreKept app.old told moment sessions.old.items caches.old.items → AreKept app.new told moment sessions.new.items caches.new.items }
     ensures over { AreEach (λ k. WentOver app.old app.new) caches.old.items caches.new.items }
 {
     let accepted = accept(alloc, name, asked.seq, body)?;

@@ -76,38 +76,38 @@ carry_all-requires-clause-cells c = subst (λ (l : List (Option ℕ)). AreOldCel
 
 pub carry_all-requires-clause-order : goal.carry_all-requires-clause-order
 carry_all-requires-clause-order c =
-    kept_order c.args.app.now c.requires.cached.0 c.args.moment c.args.sessions.now.items c.make_rooms.new.caches.items
-    (kept_room c.args.app.now c.requires.cached.0 c.args.moment c.args.sessions.now.items c.args.caches.now.items c.make_rooms.new.caches.items c.make_rooms.ensures.rooms c.requires.cached.1)
+    kept_order c.args.app.now c.requires.cached.0 c.requires.cached.1 c.args.sessions.now.items c.make_rooms.new.caches.items
+    (kept_room c.args.app.now c.requires.cached.0 c.requires.cached.1 c.args.sessions.now.items c.args.caches.now.items c.make_rooms.new.caches.items c.make_rooms.ensures.rooms c.requires.cached.2)
 
 pub carry_all-requires-clause-rooms : goal.carry_all-requires-clause-rooms
 carry_all-requires-clause-rooms c = c.in_ok-make_rooms-in-Ok.ensures.made
 
 -- there is no memory for room
 pub returns-in_err-make_rooms-in-Ok-clause-caches : goal.returns-in_err-make_rooms-in-Ok-clause-caches
-returns-in_err-make_rooms-in-Ok-clause-caches c = λ told kept.
-    kept_room c.args.app.now told c.args.moment c.args.sessions.now.items c.args.caches.now.items c.make_rooms.new.caches.items c.make_rooms.ensures.rooms kept
+returns-in_err-make_rooms-in-Ok-clause-caches c = λ told moment kept.
+    kept_room c.args.app.now told moment c.args.sessions.now.items c.args.caches.now.items c.make_rooms.new.caches.items c.make_rooms.ensures.rooms kept
 
 pub returns-in_err-make_rooms-in-Ok-clause-over : goal.returns-in_err-make_rooms-in-Ok-clause-over
 returns-in_err-make_rooms-in-Ok-clause-over c = each_roomed c.args.app.now c.args.caches.now.items c.make_rooms.new.caches.items c.make_rooms.ensures.rooms
 
 pub returns-in_err-make_room-in-Ok-clause-caches : goal.returns-in_err-make_room-in-Ok-clause-caches
-returns-in_err-make_room-in-Ok-clause-caches c = λ told kept.
+returns-in_err-make_room-in-Ok-clause-caches c = λ told moment kept.
     let sessions = unroomy c.args.sessions.now.len c.args.sessions.now.items c.deref_mut.result.now c.make_room.new.sessions c.args.sessions.now.ok.0 c.deref_mut.ensures.value c.in_err-make_room-in-Ok.ensures.stopped in
-    subst (λ (l : List (Named SessionState)). AreKept c.args.app.now told c.args.moment l c.make_rooms.new.caches.items) (sym sessions)
-    (kept_room c.args.app.now told c.args.moment c.args.sessions.now.items c.args.caches.now.items c.make_rooms.new.caches.items c.make_rooms.ensures.rooms kept)
+    subst (λ (l : List (Named SessionState)). AreKept c.args.app.now told moment l c.make_rooms.new.caches.items) (sym sessions)
+    (kept_room c.args.app.now told moment c.args.sessions.now.items c.args.caches.now.items c.make_rooms.new.caches.items c.make_rooms.ensures.rooms kept)
 
 pub returns-in_err-make_room-in-Ok-clause-over : goal.returns-in_err-make_room-in-Ok-clause-over
 returns-in_err-make_room-in-Ok-clause-over c = each_roomed c.args.app.now c.args.caches.now.items c.make_rooms.new.caches.items c.make_rooms.ensures.rooms
 
 pub returns-in-Ok-clause-caches : goal.returns-in-Ok-clause-caches
-returns-in-Ok-clause-caches c = λ told kept.
+returns-in-Ok-clause-caches c = λ told moment kept.
     let read = roomy c.args.sessions.now.len c.in-Ok.edited.names c.args.sessions.now.items c.deref_mut.result.now c.make_room.new.sessions c.deref_mut-in-Ok.result.now
     c.args.sessions.now.ok.0 c.deref_mut.ensures.value c.in_ok-make_room-in-Ok.ensures.made c.deref_mut-in-Ok.ensures.value in
     let sessions = carried_all c.args.sessions.now.len c.args.app.now.names c.in-Ok.edited.names c.args.sessions.now.items c.deref_mut-in-Ok.result.now _ c.carry.new.sessions
     c.args.sessions.now.ok.0 read c.carry.ensures in
-    subst (λ (l : List (Named SessionState)). AreKept c.in-Ok.edited told c.args.moment l c.carry_all.new.caches.items) (sym sessions)
-    (kept_over c.args.app.now c.in-Ok.edited told c.args.moment c.args.sessions.now.items c.make_rooms.new.caches.items c.carry_all.new.caches.items c.requires.fit
-    (kept_room c.args.app.now told c.args.moment c.args.sessions.now.items c.args.caches.now.items c.make_rooms.new.caches.items c.make_rooms.ensures.rooms kept) c.carry_all.ensures)
+    subst (λ (l : List (Named SessionState)). AreKept c.in-Ok.edited told moment l c.carry_all.new.caches.items) (sym sessions)
+    (kept_over c.args.app.now c.in-Ok.edited told moment c.args.sessions.now.items c.make_rooms.new.caches.items c.carry_all.new.caches.items c.requires.fit
+    (kept_room c.args.app.now told moment c.args.sessions.now.items c.args.caches.now.items c.make_rooms.new.caches.items c.make_rooms.ensures.rooms kept) c.carry_all.ensures)
 
 pub returns-in-Ok-clause-over : goal.returns-in-Ok-clause-over
 returns-in-Ok-clause-over c =

@@ -64,6 +64,7 @@ returns-in-Err-NoRoute-clause-costs g c = inr (inl c.fixed_refusal.ensures.said,
 
 pub returns-in-Err-WrongMethod-clause-costs : goal.returns-in-Err-WrongMethod-clause-costs
 returns-in-Err-WrongMethod-clause-costs g c = inr (inr c.fixed_refusal-in-Err-WrongMethod.ensures.said, (refl, refl))
+
 pub returns-in-Ok-turn-clause-cut : goal.returns-in-Ok-turn-clause-cut
 returns-in-Ok-turn-clause-cut g c =
     on_err_weaker c.take.result (λ stopped.

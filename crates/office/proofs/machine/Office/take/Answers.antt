@@ -103,7 +103,7 @@ invariant_of-self-in-Ok-post_edit g c =
     ready_edited c.self.inside.app c.post_edit.new.app _ _ (g.K.Keeper.told c.self.inside.keeper) c.self.inside.sessions.items c.post_edit.new.sessions.items c.self.inside.desks.items c.post_edit.new.desks.items
     c.self.inside.caches.items c.post_edit.new.caches.items c.self.inside.moment c.self.invariant
     (record { sound = c.post_edit.ensures.sound; tables = c.post_edit.ensures.tables; frame = c.post_edit.ensures.frame }) c.post_edit.ensures.loaded c.post_edit.ensures.fit c.post_edit.ensures.kept c.post_edit.ensures.replies
-    (c.post_edit.ensures.caches (g.K.Keeper.told c.self.inside.keeper) c.self.invariant.cached)
+    (c.post_edit.ensures.caches (g.K.Keeper.told c.self.inside.keeper) c.self.inside.moment c.self.invariant.cached)
 
 pub invariant_of-self-in-Page : goal.invariant_of-self-in-Page
 invariant_of-self-in-Page g c =
@@ -124,7 +124,7 @@ invariant_of-self-in-Page g c =
     }
 
 pub post_edit-requires-clause-cached : goal.post_edit-requires-clause-cached
-post_edit-requires-clause-cached g c = (g.K.Keeper.told c.self.inside.keeper, c.self.invariant.cached)
+post_edit-requires-clause-cached g c = (g.K.Keeper.told c.self.inside.keeper, c.self.inside.moment, c.self.invariant.cached)
 
 pub returns-in-View-clause-clean : goal.returns-in-View-clause-clean
 returns-in-View-clause-clean g c =
@@ -323,6 +323,7 @@ returns-in-Event-clause-costs g c = ok_always c.post_event.result _ (λ r. costs
 
 pub returns-in-Input-clause-costs : goal.returns-in-Input-clause-costs
 returns-in-Input-clause-costs g c = ok_always c.post_input.result _ (λ r. costs_acting c.args.route (Input c.in-Input.name) (said r) _ _ _ _ _ _ _ c.in-Input.is tt)
+
 pub returns-in-View-clause-cut : goal.returns-in-View-clause-cut
 returns-in-View-clause-cut g c = err_always c.show_view_to.result _ (stops_quiet c.args.route (View c.in-View.name) c.args.request.now.body.items _ _ _ _ c.in-View.is tt)
 
