@@ -1,19 +1,11 @@
 -- Lists that grow part by part.
-use Rattle.std.proofs.Common.{◌≡◌, ℕ, ◌+◌, ◌<◌, ◌≤◌, List, [], ◌∷◌, ◌++◌, get_or, length, map, drop, refl, ap, sym, ◌∙◌}
-use Rattle.std.proofs.lemmas.List.{append-nil, append_assoc, drop_all, drop_more, map-append, length-append, length-map}
+use Rattle.std.proofs.Common.{◌≡◌, ℕ, ◌+◌, ◌≤◌, List, [], ◌∷◌, ◌++◌, length, map, drop, refl, ap, sym, ◌∙◌}
+use Rattle.std.proofs.lemmas.List.{append-nil, drop_all, map-append, length-append, length-map}
 use Rattle.std.specs.List.{flat_map, join_by}
 use Rattle.app_file.specs.declared.file.AppFile.{AppFile}
 use Rattle.app_file.specs.declared.file.ControlShape.{ControlShape}
 use Rattle.app_file.specs.declared.file.ScreenShape.{ScreenShape}
 use Rattle.app_file.specs.Limits.{control_names, controls_in}
-
--- one more of the things that are left
-pub grown : {X : Type 0} (f : X → List (List ℕ)) (g : List ℕ → ℕ) (xs : List X) (i : ℕ) (x : X) (now next all : List ℕ) → i < length xs → x ≡ get_or xs i x → next ≡ now ++ map g (f x)
-    → now ++ map g (flat_map f (drop i xs)) ≡ all → next ++ map g (flat_map f (drop (i + 1) xs)) ≡ all
-grown f g xs i x now next all l is e kept =
-    let left : drop i xs ≡ x ∷ drop (i + 1) xs = drop_more xs i x l ∙ ap (λ y. y ∷ drop (i + 1) xs) (sym is) in
-    let parts : map g (flat_map f (drop i xs)) ≡ map g (f x) ++ map g (flat_map f (drop (i + 1) xs)) = ap (λ ys. map g (flat_map f ys)) left ∙ map-append g (f x) (flat_map f (drop (i + 1) xs)) in
-    ap (λ ys. ys ++ map g (flat_map f (drop (i + 1) xs))) e ∙ append_assoc now (map g (f x)) (map g (flat_map f (drop (i + 1) xs))) ∙ ap (λ ys. now ++ ys) (sym parts) ∙ kept
 
 -- as many names as controls
 many_names : (ss : List ScreenShape) → length (map length (flat_map control_names ss)) ≡ length (flat_map (λ (s : ScreenShape). s.controls) ss)

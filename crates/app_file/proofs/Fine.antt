@@ -1,5 +1,5 @@
 -- Which parts are fine and which are bad, form by form.
-use Rattle.std.proofs.Common.{◌≡◌, inl, inr, ℕ, Bool, true, false, List, [], ◌∷◌, Option, Some, None, refl, ap, sym, ◌∙◌, subst}
+use Rattle.std.proofs.Common.{◌≡◌, inl, inr, ℕ, Bool, true, false, List, [], ◌∷◌, Option, Some, None, ap, sym, ◌∙◌, subst}
 use Rattle.std.specs.Prelude.{is_some, option_map, unwrap_or}
 use Rattle.serde_json.specs.Data.{Data, Members, no_members, member}
 use Rattle.serde_json.specs.Find.{as_object, get}
@@ -10,7 +10,7 @@ use Rattle.app_file.specs.declared.steps.Step.{Step}
 use Rattle.app_file.specs.declared.steps.Step.TheVariants.{Member}
 use Rattle.app_file.specs.Contents.{at}
 use Rattle.app_file.specs.FormOfApp.{leaf}
-use Rattle.app_file.specs.Forms.{Form, such, members, by_itself, Fields, no_more, field, IsField, first, later, is_key, HasKey, HasKeyIn, IsBad, IsFine, not_such, no_object, other_member, no_member, bad_member, bad_by_itself}
+use Rattle.app_file.specs.Forms.{Form, members, by_itself, Fields, no_more, field, IsField, first, later, is_key, HasKey, HasKeyIn, IsBad, IsFine, not_such, no_object, other_member, no_member, bad_member, bad_by_itself}
 use Rattle.app_file.specs.Keys.{is_one_of}
 use Rattle.app_file.specs.Readings.{HasOnlyKeys, HaveOnlyKeys, IsBadMember, missing, below, IsBadObject, none, other, IsBelow, IsFineMember, TellsPath}
 
@@ -19,37 +19,11 @@ pub tells_weaker : (P Q : List Step → Type 0) → ((path : List Step) → P pa
 tells_weaker P Q f (Refused path) h = f path h
 tells_weaker P Q f Memory h = tt
 
-pub fine_such : (p : Data → Bool) (d : Data) → p d ≡ true → IsFine (such p) d
-fine_such p d e path (not_such _ _ f) = let g : true ≡ false = sym e ∙ f in cc
-
--- data of which something is told, and of which nothing is
-pub fine_leaf : {A : Type 0} (f : Data → Option A) (d : Data) (a : A) → Some a ≡ f d → IsFine (leaf f) d
-fine_leaf f d a e = fine_such (λ x. is_some (f x)) d (ap is_some (sym e))
-
-pub held_leaf : {A : Type 0} (o : Option A) (a b : A) → Some a ≡ o → a ≡ unwrap_or o b
-held_leaf o a b e = ap (λ p. unwrap_or p b) e
-
 pub bad_leaf : {A : Type 0} (f : Data → Option A) (d : Data) → None ≡ f d → IsBad (leaf f) d []
 bad_leaf f d e = not_such (λ x. is_some (f x)) d (ap is_some (sym e))
 
 pub told_leaf : {A : Type 0} (f : Data → Option A) (d : Data) → None ≡ f d → (e : OrMemory (List Step)) → e ≡ Refused [] → TellsPath (IsBad (leaf f) d) e
 told_leaf f d n e is = subst (TellsPath (IsBad (leaf f) d)) (sym is) (bad_leaf f d n)
-
--- what a member that stands is
-pub fine_member : (needed : Bool) (f : Form) (o : Option Data) (x : Data) → Some x ≡ o → IsFine f x → IsFineMember needed f o
-fine_member needed f o x e h = subst (IsFineMember needed f) e h
-
-pub no_fine_member : (f : Form) (o : Option Data) → None ≡ o → IsFineMember false f o
-no_fine_member f o e = subst (IsFineMember false f) e refl
-
-pub held_member : {A : Type 0} (h : Data → A) (o : Option Data) (x : Data) (a : A) → Some x ≡ o → a ≡ h x → Some a ≡ option_map h o
-held_member h o x a e is = ap Some is ∙ ap (option_map h) e
-
-pub held_at : {A : Type 0} (h : Data → A) (key : List ℕ) (d x : Data) (a default : A) → Some x ≡ get key d → a ≡ h x → a ≡ at h key default d
-held_at h key d x a default e is = is ∙ ap (λ o. unwrap_or (option_map h o) default) e
-
-pub default_at : {A : Type 0} (h : Data → A) (key : List ℕ) (d : Data) (default : A) → None ≡ get key d → default ≡ at h key default d
-default_at h key d default e = ap (λ o. unwrap_or (option_map h o) default) e
 
 pub at_held : {A : Type 0} (h : Data → A) (key : List ℕ) (d : Data) (a default : A) → Some a ≡ option_map h (get key d) → a ≡ at h key default d
 at_held h key d a default e = ap (λ o. unwrap_or o default) e
@@ -89,10 +63,6 @@ only_key keys (member l d ms) k h (inr i) = only_key keys ms k h.1 i
 only_here : (keys : List (List ℕ)) (o : Option Members) (k : List ℕ) → HasOnlyKeys keys o → HasKey k o → is_one_of keys k ≡ true
 only_here keys (Some ms) k h i = only_key keys ms k h i
 only_here keys None k h i = absurd h
-
-pub is_object : (keys : List (List ℕ)) (o : Option Members) → HasOnlyKeys keys o → is_some o ≡ true
-is_object keys (Some ms) h = refl
-is_object keys None h = absurd h
 
 -- an object that has its keys alone, and each member as it has to be, is fine
 pub fine_members : (keys : List (List ℕ)) (fs : Fields) (d : Data) → ((k : List ℕ) → is_key k fs ≡ is_one_of keys k) → HasOnlyKeys keys (as_object d) → AreFields fs d

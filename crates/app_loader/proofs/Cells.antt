@@ -1,8 +1,8 @@
 -- The formulas of names in an accepted app.
-use Rattle.std.proofs.Common.{inl, inr, ◌⊎◌, ◌≡◌, ℕ, zero, suc, ◌+◌, ◌++◌, List, [], ◌∷◌, Bool, true, false, map, Option, Some, None, Ok, nat_eq, bytes_eq, codes, encode_utf8_all, refl, ap, sym, subst, ◌∙◌, slice_get, if◌then◌else◌, arith, rules}
+use Rattle.std.proofs.Common.{inl, inr, ◌≡◌, ℕ, zero, suc, ◌+◌, ◌++◌, List, [], ◌∷◌, Bool, true, false, map, Option, Some, None, Ok, nat_eq, bytes_eq, codes, encode_utf8_all, refl, ap, sym, subst, ◌∙◌, slice_get, if◌then◌else◌, arith, rules}
 use Rattle.std.specs.Prelude.{◌&&◌, ◌||◌}
 use Rattle.std.specs.List.{AllZip}
-use Rattle.std.proofs.lemmas.Bool.{eq-eqb, eqb-true}
+use Rattle.std.proofs.lemmas.Bool.{and_parts, eq-eqb, eqb-true, or_cases}
 use Rattle.fx_data.specs.TypeView.{shape}
 use Rattle.fx_data.specs.Types.{Shape, blanks, numbers, texts, booleans, dates, records, tables, no_columns}
 use Rattle.fx_data.specs.declared.controls.Control.{Control}
@@ -22,7 +22,6 @@ use Rattle.fx_typing.specs.Meaning.{Place, place_of}
 use Rattle.fx_typing.specs.Parts.{Part, piece, meant, target, assigned}
 use Rattle.fx_typing.specs.Typing.{at_node, judge, judge_whole, onward, outermost, position, to_wanted, whole_of}
 use Rattle.fx_typing.proofs.Frame.{at_node_ok, onward_ok}
-use Rattle.fx_typing.proofs.Functions.{both_true}
 use Rattle.fx_trees.specs.Tree.{Tree}
 use Rattle.fx_data.specs.declared.types.Ty.{Ty}
 use Rattle.fx_data.specs.declared.types.Ty.TheVariants as ty
@@ -142,7 +141,7 @@ bytes_same [] [] e = refl
 bytes_same [] (y ∷ ys) e = absurd cc
 bytes_same (x ∷ xs) [] e = absurd cc
 bytes_same (x ∷ xs) (y ∷ ys) e =
-    let both = both_true (nat_eq x y) (bytes_eq xs ys) e in
+    let both = and_parts (nat_eq x y) (bytes_eq xs ys) e in
     let first : x ≡ y = eqb-true x y both.0 in
     let rest : xs ≡ ys = bytes_same xs ys both.1 in
     cc
@@ -186,7 +185,7 @@ pub items_found : (cells : List Cell) (seen : List rounds.Cell) (ps : List Prope
 items_found cells seen ps i p at c u s e n m there its =
     let w = keeps_one (items_test p.control) 0 ps i p e (passes p n) in
     let q = w.0 in
-    let t = both_true (nat_eq q.control p.control) (bytes_eq q.name (codes "Items")) w.4 in
+    let t = and_parts (nat_eq q.control p.control) (bytes_eq q.name (codes "Items")) w.4 in
     let who : q.control ≡ p.control = eqb-true q.control p.control t.0 in
     let name : q.name ≡ codes "Items" = bytes_same q.name (codes "Items") t.1 in
     let d = property_at cells 0 w.1 q (subst (λ xs. slice_get xs w.1 ≡ Some q) s w.3) in
@@ -254,10 +253,6 @@ pure_type k n t = if is_items k n then Some t else property_type k n
 impure : (k : Control) (n name : List ℕ) (t : Shape) → bytes_eq n name ≡ true → pure_type k name t ≡ None → pure_type k n t ≡ None
 impure k n name t e h = subst (λ z. pure_type k z t ≡ None) (sym (bytes_same n name e)) h
 
-either_true : (a b : Bool) → (a || b) ≡ true → (a ≡ true) ⊎ (b ≡ true)
-either_true true b e = inl refl
-either_true false b e = inr e
-
 acts_impure : (k : Control) (n : List ℕ) (t : Shape) → is_behaviour k n ≡ true → pure_type k n t ≡ None
 acts_impure control.Label n t e = impure control.Label n (codes "OnSelect") t e refl
 acts_impure control.Button n t e = impure control.Button n (codes "OnSelect") t e refl
@@ -265,7 +260,7 @@ acts_impure control.Gallery n t e = impure control.Gallery n (codes "OnSelect") 
 acts_impure control.TextInput n t e = impure control.TextInput n (codes "OnChange") t e refl
 acts_impure control.Slider n t e = impure control.Slider n (codes "OnChange") t e refl
 acts_impure control.DatePicker n t e = impure control.DatePicker n (codes "OnChange") t e refl
-acts_impure control.Checkbox n t e = elim (either_true (bytes_eq n (codes "OnCheck")) (bytes_eq n (codes "OnUncheck")) e) [
+acts_impure control.Checkbox n t e = elim (or_cases (bytes_eq n (codes "OnCheck")) (bytes_eq n (codes "OnUncheck")) e) [
   | inl h ↦ impure control.Checkbox n (codes "OnCheck") t h refl
   | inr h ↦ impure control.Checkbox n (codes "OnUncheck") t h refl
 ]

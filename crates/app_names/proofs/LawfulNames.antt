@@ -1,10 +1,9 @@
 -- The names of an app of which nothing is broken are lawful.
-use Rattle.std.proofs.lemmas.Bool.{cases_lt, lt-ltb}
+use Rattle.std.proofs.lemmas.Bool.{cases_lt, lt-ltb, or_parts}
 use Rattle.std.proofs.lemmas.Slice.Eq.{bytes_eq-Decides}
 use Rattle.std.proofs.lemmas.List.Elements.{All-nil, All-cons, All-head, All-tail, All-append}
 use Rattle.std.proofs.lemmas.List.Folds.{list_any-append}
 use Rattle.std.proofs.Common.{IfOk, Result, Ok, Err, inl, inr, ◌≡◌, ◌≢◌, ℕ, suc, ◌+◌, ◌<◌, ◌≤◌, ◌^◌, Bool, true, false, List, [], ◌∷◌, ◌++◌, Option, Some, None, option_map, map, flat_map, length, get_or, slice_get, codes, bytes_eq, refl, ap, sym, subst, ◌∙◌, arith, All, if◌then◌else◌}
-use Rattle.std.specs.Prelude.{◌||◌}
 use Rattle.fx_data.specs.declared.types.Ty.TheVariants as ty
 use Rattle.fx_trees.specs.Lawful.{AreDistinct, DiffersFromAll, Has, IsColumnType, IsLawful, IsLawfulControl, IsLawfulGallery, IsLawfulProperty, IsLawfulSchema, IsLawfulScreen, IsLawfulTable, id_name}
 use Rattle.fx_trees.specs.declared.broken.Broken.{Broken}
@@ -60,11 +59,6 @@ unbroken fs f cs e =
     let limits = none_both (passed most_cells (length cs) (codes "cells")) (passed most_variables n (codes "variables")) (none_mapped (in_app rule.LimitPassed) (app_limit (length cs) n) both.1) in
     (none_mapped (in_app rule.NameTwice) (frame_twice f cs) both.0, (within most_cells (length cs) (codes "cells") limits.0, within most_variables n (codes "variables") limits.1))
 
--- names of which none is taken are distinct
-or_false : (a b : Bool) → (a || b) ≡ false → (a ≡ false) × (b ≡ false)
-or_false true b e = absurd cc
-or_false false b e = (refl, e)
-
 not_taken : (b : Bool) (x : List ℕ) (o : Option (List ℕ)) → (if b then Some x else o) ≡ None → (b ≡ false) × (o ≡ None)
 not_taken true x o e = absurd cc
 not_taken false x o e = (refl, e)
@@ -78,8 +72,8 @@ unlike x y e same = let h : true ≡ false = sym ((bytes_eq-Decides x y).1 same)
 
 behind : (before : List (List ℕ)) (x y : List ℕ) → is_among (before ++ x ∷ []) y ≡ false → (is_among before y ≡ false) × (x ≢ y)
 behind before x y e =
-    let both = or_false (is_among before y) (is_among (x ∷ []) y) (sym (list_any-append (λ z. bytes_eq z y) before (x ∷ [])) ∙ e) in
-    (both.0, unlike x y (or_false (bytes_eq x y) false both.1).0)
+    let both = or_parts (is_among before y) (is_among (x ∷ []) y) (sym (list_any-append (λ z. bytes_eq z y) before (x ∷ [])) ∙ e) in
+    (both.0, unlike x y (or_parts (bytes_eq x y) false both.1).0)
 
 apart : (before : List (List ℕ)) (x : List ℕ) (ys : List (List ℕ)) → NoneAmong (before ++ x ∷ []) ys → NoneAmong before ys × DiffersFromAll x ys
 apart before x [] h = (tt, tt)
@@ -89,7 +83,7 @@ free : (before xs : List (List ℕ)) → first_twice before xs ≡ None → None
 free before [] e = (tt, tt)
 free before (x ∷ xs) e =
     let k = not_taken (is_taken before x) x (first_twice (before ++ x ∷ []) xs) e in
-    let new = or_false (is_reserved x) (is_among before x) k.0 in
+    let new = or_parts (is_reserved x) (is_among before x) k.0 in
     let r = free (before ++ x ∷ []) xs k.1 in
     let s = apart before x xs r.0 in
     ((new.1, s.0), (s.1, r.1))
@@ -110,7 +104,7 @@ tables_free : (before : List (List ℕ)) (ts : List TableShape) → table_twice 
 tables_free before [] e = (tt, (tt, All-nil IsFree))
 tables_free before (t ∷ ts) e =
     let k = not_taken (is_taken before t.name) t.name (or_else (column_twice t) (table_twice (before ++ t.name ∷ []) ts)) e in
-    let new = or_false (is_reserved t.name) (is_among before t.name) k.0 in
+    let new = or_parts (is_reserved t.name) (is_among before t.name) k.0 in
     let both = none_both (column_twice t) (table_twice (before ++ t.name ∷ []) ts) k.1 in
     let r = tables_free (before ++ t.name ∷ []) ts both.1 in
     let s = apart before t.name (names_in ts) r.0 in

@@ -1,6 +1,5 @@
 pub mod Walks
 pub mod NameSteps
-pub mod ThingSteps
 pub mod BreakSteps
 pub mod TwiceSteps
 pub mod Screens

@@ -1,8 +1,6 @@
 -- What trees declare, part by part.
-use Rattle.std.proofs.Common.{◌≡◌, ℕ, zero, suc, ◌+◌, ◌<◌, List, [], ◌∷◌, ◌++◌, length, get_or, ap, ◌∙◌, arith}
-use Rattle.std.proofs.lemmas.List.{append_assoc}
+use Rattle.std.proofs.Common.{◌≡◌, ℕ, zero, suc, ◌<◌, List, [], ◌∷◌, length, get_or, ap, arith}
 use Rattle.fx_trees.specs.Tree.{Tree, NamedTree, forest, parts_of, tree_size, forest_size}
-use Rattle.app_names.specs.declared.declarations.Declared.{Declared}
 
 -- a part is smaller than all of them
 pub part_is_smaller : (ts : List Tree) (i : ℕ) (t : Tree) → i < length ts → t ≡ get_or ts i t → tree_size t < forest_size (forest ts)
@@ -14,8 +12,3 @@ pub field_is_smaller : (fs : List NamedTree) (i : ℕ) (f : NamedTree) → i < l
 field_is_smaller [] i f below is = absurd (omega arith)
 field_is_smaller (g ∷ gs) zero f below is = let e = ap (λ (x : NamedTree). tree_size x.1) is in omega arith
 field_is_smaller (g ∷ gs) (suc i) f below is = omega (arith, field_is_smaller gs i f (omega arith) is)
-
--- a step of a walk that adds to a list
-pub step : (now next rest whole old all : List Declared) → next ≡ now ++ rest → now ++ whole ≡ old ++ all → (more : List Declared) → rest ++ more ≡ whole → next ++ more ≡ old ++ all
-step now next rest whole old all is kept more parts =
-    ap (λ xs. xs ++ more) is ∙ append_assoc now rest more ∙ ap (λ xs. now ++ xs) parts ∙ kept

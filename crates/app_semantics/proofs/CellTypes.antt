@@ -2,7 +2,8 @@
 use Rattle.std.proofs.Common.{◌≡◌, ℕ, suc, List, [], ◌∷◌, Bool, true, false, Option, Some, None, refl, sym, subst, arith, ◌∙◌, if◌then◌else◌}
 use Rattle.std.proofs.lemmas.Slice.Eq.{bytes_eq-Decides}
 use Rattle.std.specs.List.{find, slice_get}
-use Rattle.std.specs.Prelude.{nat_eq, ◌&&◌, bytes_eq, codes, encode_utf8_all, option_map, option_and_then}
+use Rattle.std.specs.Prelude.{nat_eq, bytes_eq, codes, encode_utf8_all, option_map, option_and_then}
+use Rattle.std.proofs.lemmas.Bool.{and_parts}
 use Rattle.app_cells.specs.Leaning.{cell_of_property, default_cell, default_name, is_property, items_cell}
 use Rattle.app_cells.specs.declared.app.App.{App}
 use Rattle.app_cells.specs.declared.app.CellInfo.{CellInfo}
@@ -21,10 +22,6 @@ use Rattle.fx_trees.specs.declared.sources.Source.TheVariants as source
 
 pub equal : (a b : ℕ) → nat_eq a b ≡ true → a ≡ b
 equal a b e = grind arith
-
-pub both_true : (a b : Bool) → (a && b) ≡ true → (a ≡ true) × (b ≡ true)
-both_true true b e = (refl, e)
-both_true false b e = absurd cc
 
 pub then_some : {A B : Type 0} (f : A → Option B) (o : Option A) (b : B) → option_and_then f o ≡ Some b → (a : A) × (o ≡ Some a) × (f a ≡ Some b)
 then_some f None b e = absurd cc
@@ -84,7 +81,7 @@ found (p ∷ ps) k name d e = by (is_property k name p) refl (found ps k name d)
   where
     by : (b : Bool) → is_property k name p ≡ b → (option_map (λ (q : Property). q.cell) (find (is_property k name) ps) ≡ Some d → IsFound ps k name d) → option_map (λ (q : Property). q.cell) (if b then Some p else find (is_property k name) ps) ≡ Some d → IsFound (p ∷ ps) k name d
     by true q later r =
-        let parts = both_true (nat_eq p.control k) (bytes_eq (encode_utf8_all p.name) name) q in record {
+        let parts = and_parts (nat_eq p.control k) (bytes_eq (encode_utf8_all p.name) name) q in record {
           property = p;
           place = 0;
           there = refl;

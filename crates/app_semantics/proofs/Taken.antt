@@ -1,13 +1,14 @@
 -- The tree of a formula that is evaluated: it reads no more than the formula's, and is as lawful.
 use Rattle.std.proofs.Common.{ℕ, suc, List, [], Bool, true, false, not, inl, inr}
 use Rattle.std.specs.Prelude.{◌&&◌, if◌then◌else◌}
-use Rattle.app_semantics.proofs.Typings.{among_either, among_left, among_right}
+use Rattle.app_semantics.proofs.Typings.{among_either}
 use Rattle.fx_plan.specs.Sites.{count_of, deeper, is_first, is_query, opens}
 use Rattle.fx_semantics.specs.Sound.{AreLawfulTrees, IsLawfulTree}
 use Rattle.fx_trees.specs.Reads.{IsAmong, read_by, sources_among, sources_in}
 use Rattle.fx_trees.specs.Term.{Term, Terms, of, nil, cons, Top}
 use Rattle.fx_trees.specs.declared.schema.TableShape.{TableShape}
 use Rattle.fx_trees.specs.declared.sources.Source.{Source}
+use Rattle.fx_semantics.proofs.Wider.{among_left, among_right}
 use Rattle.fx_plan.specs.Limited.{first_rows, limited, parts_limited, takes_first_whole}
 
 capped_reads : (b : Bool) (n : ℕ) (t : Term) (x : Source) → IsAmong x (sources_in (if b then first_rows n t else t)) → IsAmong x (sources_in t)

@@ -1,6 +1,7 @@
 -- A typing speaks of the sources alone that the tree reads, and each of these has a type.
-use Rattle.std.proofs.Common.{◌≡◌, ℕ, ◌+◌, List, [], ◌∷◌, ◌++◌, length, Bool, true, false, Option, Some, refl, sym, subst, inl, inr}
-use Rattle.std.specs.Prelude.{◌||◌, ◌⊎◌}
+use Rattle.std.proofs.Common.{◌≡◌, ℕ, ◌+◌, List, [], ◌∷◌, ◌++◌, length, false, Option, Some, refl, sym, subst, inl, inr}
+use Rattle.std.specs.Prelude.{◌⊎◌}
+use Rattle.std.proofs.lemmas.Bool.{or_parts}
 use Rattle.fx_data.specs.Types.{Shape, blanks, numbers, texts, booleans, dates, records, tables}
 use Rattle.fx_trees.specs.Reads.{IsAmong, read_by, sources_among, sources_in}
 use Rattle.fx_trees.specs.Term.{Term, Terms, of, nil, cons, Top, const, read, row, item, caught, dot, call, over, form, within, rec, list, coerce, chain, act}
@@ -9,25 +10,13 @@ use Rattle.fx_typing.specs.Acts.{acts, any_acts, is_acting}
 use Rattle.fx_semantics.specs.Sound.{IsLawfulType}
 use Rattle.fx_semantics.proofs.Lawful.{constant_lawful}
 use Rattle.fx_typing.specs.WellTyped.{AreTyped, Context, IsRuled, IsTyped, Standing, bound, catching, context_for, inside, parts_count, plain, standing_at}
+use Rattle.fx_semantics.proofs.Wider.{among_left, among_right}
 
 -- ---- lists of sources
-pub among_left : (s : Source) (xs ys : List Source) → IsAmong s xs → IsAmong s (xs ++ ys)
-among_left s [] ys h = absurd h
-among_left s (x ∷ xs) ys (inl e) = inl e
-among_left s (x ∷ xs) ys (inr h) = inr (among_left s xs ys h)
-
-pub among_right : (s : Source) (xs ys : List Source) → IsAmong s ys → IsAmong s (xs ++ ys)
-among_right s [] ys h = h
-among_right s (x ∷ xs) ys h = inr (among_right s xs ys h)
-
 pub among_either : (s : Source) (xs ys : List Source) → IsAmong s (xs ++ ys) → IsAmong s xs ⊎ IsAmong s ys
 among_either s [] ys h = inr h
 among_either s (x ∷ xs) ys (inl e) = inl (inl e)
 among_either s (x ∷ xs) ys (inr h) = elim (among_either s xs ys h) [ inl a ↦ inl (inr a) | inr b ↦ inr b ]
-
-neither : (a b : Bool) → (a || b) ≡ false → (a ≡ false) × (b ≡ false)
-neither true b e = absurd cc
-neither false b e = (refl, e)
 
 -- ---- other sources
 abbrev Types : Type 0
@@ -127,7 +116,7 @@ mutual
   -- a typing over some lawful types of sources is one over others that keep those of what is read
   pub typed_over : (S : Types) (t : Term) (c : Context) (u : Shape) → acts t ≡ false → HaveLawfulTypes c.sources → Keeps c.sources S (sources_in t) → IsTyped c t u → IsTyped (over_types S c) t u
   typed_over S (of h ts) c u q l k w =
-      let calm : (is_acting h ≡ false) × (any_acts ts ≡ false) = neither (is_acting h) (any_acts ts) q in (
+      let calm : (is_acting h ≡ false) × (any_acts ts ≡ false) = or_parts (is_acting h) (any_acts ts) q in (
         w.0,
         parts_over S ts h (parts_count ts) [] c w.0 calm.1 l (λ s t a. k s t (among_right s (read_by h) (sources_among ts) a)) w.1,
         ruled S c h ts w.0 u calm.0 l (λ s t a. k s t (among_left s (read_by h) (sources_among ts) a)) w.2,
@@ -137,7 +126,7 @@ mutual
       AreTyped c h n done ts us → AreTyped (over_types S c) h n done ts us
   parts_over S nil h n done c us q l k w = w
   parts_over S (cons t ts) h n done c us q l k w =
-      let calm : (acts t ≡ false) × (any_acts ts ≡ false) = neither (acts t) (any_acts ts) q in
+      let calm : (acts t ≡ false) × (any_acts ts ≡ false) = or_parts (acts t) (any_acts ts) q in
       let st : Standing = standing_at h n (length done) in
       let kept : Keeps (context_for st c done).sources S (sources_in t) =
       subst (λ T. Keeps T S (sources_in t)) (sym (same_sources st c done)) (λ s x a. k s x (among_left s (sources_in t) (sources_among ts) a)) in (

@@ -5,6 +5,7 @@ use Rattle.std.proofs.lemmas.List.Sums.{sum_by-cons}
 use Rattle.std.proofs.lemmas.Slice.Eq.{bytes_eq-Decides}
 use Rattle.std.specs.List.{count_by, find, slice_get}
 use Rattle.std.specs.Prelude.{◌&&◌, ◌||◌, bytes_eq, codes, cond, encode_utf8_all, nat_eq, nat_le, option_map, unwrap_or}
+use Rattle.std.proofs.lemmas.List.{length_push}
 use Rattle.recalc.proofs.of_app_semantics.CellTypes.{equal}
 use Rattle.recalc.specs.Templates.{steps_of}
 use Rattle.recalc.specs.app_cells.Leaning.{cell_of_property, is_property}
@@ -155,18 +156,10 @@ one_item n f before after first one all = let more : (n + 1) * f ≡ n * f + 1 *
 pub at_least : (a b : ℕ) → a ≤ a + b
 at_least a b = omega arith
 
-long : {A : Type 0} (xs : List A) (x : A) → length (xs ++ x ∷ []) ≡ length xs + 1
-long [] x = refl
-long (y ∷ ys) x =
-    let rest = long ys x in
-    let all : length (y ∷ (ys ++ x ∷ [])) ≡ suc (length (ys ++ x ∷ [])) = refl in
-    let some : length (y ∷ ys) ≡ suc (length ys) = refl in
-    omega (arith, rest, all, some)
-
 -- and in the list
 pub items_more : {A : Type 0} (xs more : List A) (x : A) (f first before after : ℕ) → more ≡ xs ++ x ∷ [] → after ≤ before + f → before ≤ first + length xs * f → after ≤ first + length more * f
 items_more {A} xs more x f first before after grown one all =
-    let many : length more ≡ length xs + 1 = ap (λ (ys : List A). length ys) grown ∙ long xs x in
+    let many : length more ≡ length xs + 1 = ap (λ (ys : List A). length ys) grown ∙ length_push xs x in
     subst (λ n. after ≤ first + n * f) (sym many) (one_item (length xs) f before after first one all)
 
 pub shown_both : (n : Names) (xs ys : List Shown) → shown_steps n (xs ++ ys) ≡ shown_steps n xs + shown_steps n ys

@@ -1,7 +1,8 @@
 -- What controls show.
-use Rattle.std.proofs.Common.{◌≡◌, ℕ, Bool, true, false, Option, Some, None, refl, ap, ◌∙◌}
+use Rattle.std.proofs.Common.{◌≡◌, ℕ, false, Option, Some, None, refl, ap, ◌∙◌}
 use Rattle.std.specs.Prelude.{option_and_then}
 use Rattle.std.specs.List.{slice_get}
+use Rattle.std.proofs.lemmas.Bool.{both_ways}
 use Rattle.recalc.specs.app_semantics.Holding.{HoldsFitting}
 use Rattle.recalc.specs.app_semantics.Present.{Present}
 use Rattle.app_views.specs.Galleries.{is_gallery}
@@ -20,12 +21,9 @@ use Rattle.session_state.specs.Sessions.{Holds, SessionState}
 pub input_held : (n : Names) (s : SessionState) (k : ℕ) (c : ControlName) (t : Shape) → HoldsFitting n s → slice_get n.controls k ≡ Some c → input_type c.kind ≡ Some t → Holds s (source.Input k)
 input_held n s k c t holds there takes = holds.sources_held (source.Input k) t tt (ap (λ (o : Option ControlName). option_and_then (λ (d : ControlName). input_type d.kind) o) there ∙ takes)
 
-not_both : (b : Bool) → b ≡ false → b ≡ true → ⊥
-not_both b e f = cc
-
 -- a control outside a gallery's template isn't shown for its items
 pub not_in : (p : Present) (values : ℕ → Data) (g : ℕ) (item : Data) (k : ℕ) (c : ControlName) → is_in g c.gallery ≡ false → IsShownFor p values g item k c None
-not_in p values g item k c out = λ h. absurd (not_both (is_in g c.gallery) out h)
+not_in p values g item k c out = λ h. absurd (both_ways (is_in g c.gallery) out h)
 
 -- a control that is no gallery has no items
 pub no_items : (p : Present) (values : ℕ → Data) (k : ℕ) (c : Control) → is_gallery c ≡ false → ShowsFirstItems p values k c None

@@ -1,12 +1,13 @@
 -- The properties of the controls of a template.
-use Rattle.std.proofs.Common.{◌≡◌, ℕ, zero, suc, ◌<◌, List, [], ◌∷◌, length, get_or, true, Option, Some, None, refl, sym, subst, ap, ◌∙◌, arith}
+use Rattle.std.proofs.Common.{◌≡◌, ℕ, zero, suc, ◌<◌, List, [], ◌∷◌, length, get_or, true, Option, Some, None, refl, sym, subst, ap, ◌∙◌}
 use Rattle.std.proofs.lemmas.List.Quantifiers.{position-Some}
 use Rattle.std.proofs.lemmas.Option.{get_or_from_slice_get, slice_get_within}
 use Rattle.std.specs.List.{position, slice_get}
 use Rattle.std.specs.Prelude.{bytes_eq, codes, option_map}
+use Rattle.std.proofs.lemmas.Bool.{and_parts}
 use Rattle.recalc.specs.app_cells.Leaning.{cell_of_property, items_cell}
 use Rattle.recalc.specs.app_cells.declared.app.App.{App}
-use Rattle.recalc.proofs.of_app_semantics.CellTypes.{both_true, equal, found, items_have, property_found, type_by}
+use Rattle.recalc.proofs.of_app_semantics.CellTypes.{equal, found, items_have, property_found, type_by}
 use Rattle.recalc.specs.app_semantics.Present.{items_of, value_or}
 use Rattle.recalc.specs.app_semantics.Sound.{IsSound}
 use Rattle.app_views.specs.Galleries.{is_gallery, is_gallery_named}
@@ -33,6 +34,7 @@ use Rattle.fx_value.specs.Fits.{fits_in}
 use Rattle.recalc.specs.Values.{CellsFit}
 use Rattle.recalc.specs.Templates.{IsTemplateProperty}
 use Rattle.recalc.proofs.ForItems.{in_gallery, template}
+use Rattle.recalc.proofs.of_app_semantics.Freshness.{got}
 
 -- a control of a template stands in its gallery
 pub is_in_gallery : (g : ℕ) (o : Option ℕ) → is_in g o ≡ true → o ≡ Some g
@@ -79,11 +81,6 @@ gallery_kind control.Slider e = absurd cc
 gallery_kind control.Checkbox e = absurd cc
 gallery_kind control.DatePicker e = absurd cc
 
-got : {A : Type 0} (xs : List A) (i : ℕ) → i < length xs → (x : A) × (slice_get xs i ≡ Some x)
-got [] i h = absurd (omega (arith, h))
-got (x ∷ xs) zero h = (x, refl)
-got (x ∷ xs) (suc i) h = got xs i (omega (arith, h))
-
 -- what has the name of a gallery is one
 pub gallery_there : (n : Names) (name : List ℕ) (k : ℕ) → position (is_gallery_named name) n.controls ≡ Some k → k < length n.controls → IsGalleryOf n k
 gallery_there n name k e within =
@@ -91,7 +88,7 @@ gallery_there n name k e within =
     let is = position-Some (is_gallery_named name) n.controls k c.0 e in
     let here : get_or n.controls k c.0 ≡ c.0 = get_or_from_slice_get n.controls k c.0 c.0 c.1 in
     let passed : is_gallery_named name c.0 ≡ true = subst (λ (x : ControlName). is_gallery_named name x ≡ true) here is.1 in
-    (c.0, record { there = c.1; kind = gallery_kind (c.0).kind (both_true (is_gallery (c.0).kind) (bytes_eq (c.0).name name) passed).0 })
+    (c.0, record { there = c.1; kind = gallery_kind (c.0).kind (and_parts (is_gallery (c.0).kind) (bytes_eq (c.0).name name) passed).0 })
 
 -- ---- the rows of a gallery
 row_got : (cs : ColumnList) (rows : List Row) (i : ℕ) (r : Row) → RowsFit cs rows → slice_get rows i ≡ Some r → RowFits cs r

@@ -1,7 +1,6 @@
 -- Cells that are gathered from things, one after another.
-use Rattle.std.proofs.Common.{◌≡◌, ◌⊎◌, ℕ, zero, suc, ◌+◌, ◌<◌, ◌≤◌, List, [], ◌∷◌, ◌++◌, length, get_or, Bool, true, false, Option, Some, None, refl, sym, subst, ap, ◌∙◌, arith, inl, inr}
+use Rattle.std.proofs.Common.{◌≡◌, ◌⊎◌, ℕ, zero, suc, ◌+◌, ◌<◌, ◌≤◌, List, [], ◌∷◌, length, get_or, Bool, true, false, Option, Some, None, refl, sym, subst, ap, ◌∙◌, arith, inl, inr}
 use Rattle.std.proofs.lemmas.Bool.{cases_lt}
-use Rattle.std.proofs.lemmas.List.Elements.{Contains-append_left, Contains-append_right, Contains-push_cases}
 use Rattle.std.proofs.lemmas.Option.{slice_get-get_or, slice_get_within}
 use Rattle.std.specs.List.{Contains, slice_get}
 use Rattle.std.specs.Prelude.{◌↔◌}
@@ -20,31 +19,7 @@ Adds P Q old new = (k : ℕ) → Contains new k ↔ (Contains old k ⊎ (P k × 
 abbrev pub UpTo : {A : Type 0} → (A → ℕ → Type 0) → List A → ℕ → ℕ → Type 0
 UpTo {A} P xs i k = (j : ℕ) × (x : A) × (j < i) × (slice_get xs j ≡ Some x) × P x k
 
--- ---- one number
--- none is added
-pub none_added : (P Q : ℕ → Type 0) (old : List ℕ) → ((k : ℕ) → P k → Q k → ⊥) → Adds P Q old old
-none_added P Q old never k = (λ h. inl h, λ h. by h)
-  where
-    by : Contains old k ⊎ (P k × Q k) → Contains old k
-    by (inl h) = h
-    by (inr h) = absurd (never k h.0 h.1)
-
--- one is
-pub one_added : (P Q : ℕ → Type 0) (old : List ℕ) (x : ℕ) → P x → Q x → ((k : ℕ) → P k → x ≡ k) → Adds P Q old (old ++ x ∷ [])
-one_added P Q old x p q only k = (λ h. forth (Contains-push_cases old x k h), λ h. back h)
-  where
-    forth : Contains old k ⊎ (x ≡ k) → Contains old k ⊎ (P k × Q k)
-    forth (inl h) = inl h
-    forth (inr e) = inr (subst P e p, subst Q e q)
-
-    back : Contains old k ⊎ (P k × Q k) → Contains (old ++ x ∷ []) k
-    back (inl h) = Contains-append_left old (x ∷ []) k h
-    back (inr h) = Contains-append_right old (x ∷ []) k (0, omega arith, only k h.0)
-
 -- ---- many
-pub none_yet : {A : Type 0} (P : A → ℕ → Type 0) (Q : ℕ → Type 0) (xs : List A) (old : List ℕ) → Adds (UpTo P xs 0) Q old old
-none_yet P Q xs old = none_added (UpTo P xs 0) Q old (λ k p q. let l = p.2 in omega (arith, l))
-
 same_got : {A : Type 0} (x y : A) (o : Option A) → o ≡ Some x → o ≡ Some y → x ≡ y
 same_got x y o e f = cc
 

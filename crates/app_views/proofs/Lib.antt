@@ -7,7 +7,6 @@ pub mod Looks
 pub mod Needing
 pub mod OneVisits
 pub mod Pages
-pub mod Places
 pub mod Replies
 pub mod Single
 pub mod Visiting

@@ -4,8 +4,9 @@ use Rattle.std.proofs.lemmas.List.{get_or_default}
 use Rattle.std.proofs.lemmas.Option.{slice_get_within}
 use Rattle.std.specs.List.{Contains, slice_get}
 use Rattle.std.specs.Prelude.{◌&&◌, ◌||◌, ◌==◌, bytes_eq, codes, is_none, is_some, not, option_and_then, option_map, unwrap_or, if◌then◌else◌}
+use Rattle.std.proofs.lemmas.Bool.{or_from}
 use Rattle.recalc.proofs.ForItems.{template_cell, visible_for}
-use Rattle.recalc.proofs.Kept.{gives_agrees}
+use Rattle.recalc.proofs.Kept.{gives_agrees, where_map}
 use Rattle.recalc.proofs.of_app_semantics.CellTypes.{found, property_found, then_some, type_by}
 use Rattle.recalc.proofs.of_app_semantics.Freshness.{got, read_behind, taken}
 use Rattle.recalc.proofs.of_app_semantics.Ordered.{earlier, leaning_edge}
@@ -14,7 +15,7 @@ use Rattle.recalc.specs.Templates.{IsTemplateProperty}
 use Rattle.recalc.specs.app_cells.Leaning.{LeansOn, cell_of_property, default_cell, default_name, edges_of, items_cell}
 use Rattle.recalc.specs.app_cells.declared.app.App.{App}
 use Rattle.recalc.specs.app_cells.declared.app.CellInfo.{CellInfo}
-use Rattle.recalc.specs.app_semantics.Fresh.{CanRead, IsValueOf, IsWhere, is_told, standing}
+use Rattle.recalc.specs.app_semantics.Fresh.{CanRead, IsValueOf, is_told, standing}
 use Rattle.recalc.specs.app_semantics.Present.{Gives, Present, given_or, input_of, items_of, unset_at, value_or}
 use Rattle.recalc.specs.app_semantics.Properties.{IsForItem, IsPropertyForItem, is_true, is_visible, property_value}
 use Rattle.recalc.specs.app_semantics.Sound.{IsCellOf, IsSound}
@@ -52,10 +53,6 @@ Agrees a of values others = (k : ℕ) (i : CellInfo) → IsLookedAt a of k → s
 abbrev IsQuiet : List ℕ → Type 0
 IsQuiet name = (kind : Control) → is_behaviour kind name ≡ false
 
-neither : (a b : Bool) → a ≡ false → b ≡ false → (a || b) ≡ false
-neither true b e f = e
-neither false b e f = f
-
 quiet : (name : List ℕ) → bytes_eq name (codes "OnSelect") ≡ false → bytes_eq name (codes "OnChange") ≡ false → bytes_eq name (codes "OnCheck") ≡ false → bytes_eq name (codes "OnUncheck") ≡ false → IsQuiet name
 quiet name a b c d control.Label = a
 quiet name a b c d control.Button = a
@@ -63,7 +60,7 @@ quiet name a b c d control.Gallery = a
 quiet name a b c d control.TextInput = b
 quiet name a b c d control.Slider = b
 quiet name a b c d control.DatePicker = b
-quiet name a b c d control.Checkbox = neither (bytes_eq name (codes "OnCheck")) (bytes_eq name (codes "OnUncheck")) c d
+quiet name a b c d control.Checkbox = or_from (bytes_eq name (codes "OnCheck")) (bytes_eq name (codes "OnUncheck")) c d
 
 text_quiet : IsQuiet (codes "Text")
 text_quiet = quiet (codes "Text") refl refl refl refl
@@ -132,9 +129,6 @@ property_same : (a : App) (of : ℕ → Bool) (values others : ℕ → Data) (k 
     property_value a.names values k name u ≡ property_value a.names others k name u
 property_same a of values others k c name u s agree own there calm = value_same values others u (cell_of_property a.names k name) (cell_same a of values others k c name s agree own there calm)
 
-same_some : {A : Type 0} (x y : A) (o : Option A) → o ≡ Some x → o ≡ Some y → x ≡ y
-same_some x y o e f = cc
-
 input_same : (a : App) (of : ℕ → Bool) (values others : ℕ → Data) (r : SessionState) (k : ℕ) (c : ControlName) → IsSound a → Agrees a of values others → of k ≡ true → slice_get a.names.controls k ≡ Some c → input_of a.names r values k ≡ input_of a.names r others k
 input_same a of values others r k c s agree own there =
     ap (given_or (held r (source.Input k))) (value_same values others (unset_at (slice_get a.names.controls k)) (default_cell a.names k) (λ d e.
@@ -185,10 +179,6 @@ both false b e f = f
 
 pub under : (of : ℕ → Bool) (c : CellInfo) (g : ℕ) → of g ≡ true → c.cell.acts ≡ false → c.cell.item ≡ Some g → is_in_template of c ≡ true
 under of c g h calm item = both c.cell.acts (is_one of c.cell.item) calm (ap (is_one of) item ∙ h)
-
-where_map : {P P' : Type 0} (Q : Type 0) (b : Bool) → (P → P') → IsWhere b P Q → IsWhere b P' Q
-where_map Q true f h = f h
-where_map Q false f h = h
 
 -- its value hangs on the cells on which it leans
 value_moved : (p : Present) (values others : ℕ → Data) (item : Option Data) (c : CellInfo) (v : Data) → ((d : ℕ) → LeansOn p.app.names c d → values d ≡ others d) → IsValueOf p values item c v → IsValueOf p others item c v

@@ -1,7 +1,8 @@
 -- What is brought up to date is fresh where it is looked at.
-use Rattle.std.proofs.Common.{◌≡◌, ℕ, List, Bool, true, false, Option, Some, None, Result, Ok, refl, sym, subst, ap, ◌∙◌}
+use Rattle.std.proofs.Common.{◌≡◌, ℕ, List, Bool, true, false, Option, Some, None, refl, sym, subst, ap, ◌∙◌}
 use Rattle.std.specs.List.{Contains, slice_get}
-use Rattle.std.specs.Prelude.{OnOk, option_map, unwrap_or}
+use Rattle.std.specs.Prelude.{option_map, unwrap_or}
+use Rattle.std.proofs.lemmas.Bool.{both_ways}
 use Rattle.recalc.proofs.Kept.{no_value}
 use Rattle.recalc.specs.app_cells.declared.app.App.{App}
 use Rattle.recalc.specs.app_cells.declared.app.CellInfo.{CellInfo}
@@ -19,9 +20,6 @@ use Rattle.app_views.specs.declared.roots.Part.TheVariants as part
 alone_of : (cells : List CellInfo) (k : ℕ) (i : CellInfo) → slice_get cells k ≡ Some i → is_alone cells k ≡ stands_alone i
 alone_of cells k i there = ap (λ (o : Option CellInfo). unwrap_or (option_map stands_alone o) false) there
 
-not_both : (b : Bool) → b ≡ false → b ≡ true → ⊥
-not_both b e f = cc
-
 one_stamp : (e f : Stamp) (o : Option Stamp) → o ≡ Some e → o ≡ Some f → f ≡ e
 one_stamp e f o x y = cc
 
@@ -30,7 +28,7 @@ only_itself : (a : App) (k d : ℕ) → is_alone a.cells k ≡ false → Needs a
 only_itself a k d e (itself j) = refl
 only_itself a k d e (further j x y i need there alone leans) =
     let same : x ≡ j = only_itself a j x e need in
-    absurd (not_both (is_alone a.cells j) e (subst (λ n. is_alone a.cells n ≡ true) same (alone_of a.cells x i there ∙ alone)))
+    absurd (both_ways (is_alone a.cells j) e (subst (λ n. is_alone a.cells n ≡ true) same (alone_of a.cells x i there ∙ alone)))
 
 -- and is fresh where it is blank
 pub fresh_aside : (p : Present) (values : ℕ → Data) (k : ℕ) → is_alone p.app.cells k ≡ false → values k ≡ blank → IsFreshAt p values k
@@ -58,10 +56,6 @@ pub made_for : (a : App) (c : Kept) (of : ℕ → Bool) (roots : List ℕ) → I
 made_for a c of roots order looked clean = λ r k at need own. needed_clean a c order r k (λ alone. clean r ((looked r).1 (at, alone))) need own
 
 -- ---- calls
--- what holds where a call gives a value
-pub on_ok : {T E : Type 0} (r : Result T E) (x : T) (P : Type 0) → r ≡ Ok x → OnOk r P → P
-on_ok r x P e h = subst (λ q. OnOk q P) e h
-
 -- where nothing is done, nothing is lost
 pub leaves_none : (a : App) (c : Kept) → Leaves a c c
 leaves_none a c = record {

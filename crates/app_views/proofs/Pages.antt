@@ -1,8 +1,8 @@
 -- The items that a page has.
 use Rattle.std.proofs.Common.{◌≡◌, ℕ, zero, suc, ◌≤◌, ◌-◌, max, min, List, [], ◌∷◌, length, take, drop, Option, Some, None, refl, sym, subst, ap, ◌∙◌, arith}
 use native.Mathlib.Numerals.{unary_clauses}
-use Rattle.std.proofs.Math.Seq.{drop-nil, take-nil}
-use Rattle.std.proofs.lemmas.List.{length-take, take_rest}
+use Rattle.std.proofs.Math.Seq.{take-nil}
+use Rattle.std.proofs.lemmas.List.{drop_min, length-take, take_rest}
 use Rattle.std.specs.List.{slice_get}
 use Rattle.recalc.specs.app_semantics.Present.{Present}
 use Rattle.app_views.specs.Views.{AreGiven, AreItemsIn, AreItemsUnless, AreRowItems, fault_in}
@@ -32,11 +32,6 @@ by_rows p values g from d e o rows i same is none all h =
 
 -- ---- pages
 
-drop_least : {A : Type 0} (n : ℕ) (xs : List A) → drop (min n (length xs)) xs ≡ drop n xs
-drop_least n [] = drop-nil (min n 0) ∙ sym (drop-nil n)
-drop_least zero (x ∷ xs) = simp unary_clauses refl
-drop_least (suc n) (x ∷ xs) = simp unary_clauses (drop_least n xs)
-
 take_least : {A : Type 0} (n : ℕ) (xs : List A) → take (min (length xs) n) xs ≡ take n xs
 take_least n [] = take-nil (min 0 n) ∙ sym (take-nil n)
 take_least zero (x ∷ xs) = simp unary_clauses refl
@@ -46,7 +41,7 @@ take_least (suc n) (x ∷ xs) = simp unary_clauses (ap (λ ys. x ∷ ys) (take_l
 pub page_is : {A : Type 0} (behind start end : ℕ) (rows : List A) → start ≡ min behind (length rows) → end ≡ min (length (take (length rows - start) (drop start rows))) 100 →
     take end (take (length rows - start) (drop start rows)) ≡ take 100 (drop behind rows)
 page_is {A} behind start end rows begins ends =
-    let same : drop start rows ≡ drop behind rows = ap (λ (n : ℕ). drop n rows) begins ∙ drop_least behind rows in
+    let same : drop start rows ≡ drop behind rows = ap (λ (n : ℕ). drop n rows) begins ∙ drop_min behind rows in
     let cut : end ≡ min (length (drop start rows)) 100 = ends ∙ ap (λ (xs : List A). min (length xs) 100) (take_rest rows start) in
     ap (λ (xs : List A). take end xs) (take_rest rows start)
     ∙ ap (λ (n : ℕ). take n (drop start rows)) cut ∙ take_least 100 (drop start rows) ∙ ap (λ (xs : List A). take 100 xs) same

@@ -2,6 +2,7 @@
 use Rattle.std.proofs.Common.{◌≡◌, ℕ, suc, List, [], ◌∷◌, Bool, true, false, codes, max, take, drop, ◌-◌, Option, Some, None, refl, sym, subst, ap, ◌∙◌}
 use Rattle.std.specs.List.{slice_get}
 use Rattle.std.specs.Prelude.{if◌then◌else◌}
+use Rattle.std.proofs.lemmas.Bool.{both_ways}
 use Rattle.recalc.proofs.of_app_semantics.FreshAt.{fits_at}
 use Rattle.recalc.specs.Values.{CellsFit}
 use Rattle.recalc.specs.app_cells.declared.app.App.{App}
@@ -55,20 +56,17 @@ control_one p values item k c s t g h j =
     let kind : s.kind ≡ t.kind = h.kind ∙ sym j.kind in
     λ i. record { name = name i; kind = kind i; values = shows i }
 
-not_both : (b : Bool) → b ≡ false → b ≡ true → ⊥
-not_both b e f = cc
-
 pub for_one : (p : Present) (values : ℕ → Data) (gallery : ℕ) (item : Data) → Ground p values → IsSingle (IsShownFor p values gallery item)
 for_one p values gallery item g k c None None h j = refl
 for_one p values gallery item g k c (Some s) (Some t) h j = ap (λ (x : ItemControl). Some x) (control_one p values item k c s t g h.2 j.2)
 for_one p values gallery item g k c None (Some t) h j =
     let v = h j.0 in
     let same : v.0 ≡ (j.1).0 = property_one p values item k (codes "Visible") (boolean true) v.0 (j.1).0 g v.1 (j.1).1 in
-    absurd (not_both (is_true v.0) v.2 (ap is_true same ∙ (j.1).2))
+    absurd (both_ways (is_true v.0) v.2 (ap is_true same ∙ (j.1).2))
 for_one p values gallery item g k c (Some s) None h j =
     let v = j h.0 in
     let same : v.0 ≡ (h.1).0 = property_one p values item k (codes "Visible") (boolean true) v.0 (h.1).0 g v.1 (h.1).1 in
-    absurd (not_both (is_true v.0) v.2 (ap is_true same ∙ (h.1).2))
+    absurd (both_ways (is_true v.0) v.2 (ap is_true same ∙ (h.1).2))
 
 item_one : (p : Present) (values : ℕ → Data) (gallery : ℕ) → Ground p values → IsSingle (IsItemAt p values gallery)
 item_one p values gallery g k row None o h j = absurd h
@@ -121,8 +119,8 @@ shown_control_one p values k c s t g h j =
 
 pub shown_one : (p : Present) (values : ℕ → Data) → Ground p values → IsSingle (IsShown p values)
 shown_one p values g k c None None h j = refl
-shown_one p values g k c None (Some t) h j = absurd (not_both (is_shown p.app.names p.session values k c) h j.0)
-shown_one p values g k c (Some s) None h j = absurd (not_both (is_shown p.app.names p.session values k c) j h.0)
+shown_one p values g k c None (Some t) h j = absurd (both_ways (is_shown p.app.names p.session values k c) h j.0)
+shown_one p values g k c (Some s) None h j = absurd (both_ways (is_shown p.app.names p.session values k c) j h.0)
 shown_one p values g k c (Some s) (Some t) h j = ap (λ (x : Shown). Some x) (shown_control_one p values k c s t g h.1 j.1)
 
 same_name : (m n : List ℕ) (o : Option (List ℕ)) → o ≡ Some m → o ≡ Some n → m ≡ n
@@ -176,8 +174,8 @@ one_view one once p v w s n known h j =
 
 seen_one : (p : Present) (values : ℕ → Data) (gallery from : ℕ) (o q : Option Items) → Ground p values → AreSeenItems p values gallery from o → AreSeenItems p values gallery from q → o ≡ q
 seen_one p values gallery from None None g h j = refl
-seen_one p values gallery from None (Some t) g h j = absurd (not_both (is_seen_at p.app.names p.session values gallery) h j.0)
-seen_one p values gallery from (Some s) None g h j = absurd (not_both (is_seen_at p.app.names p.session values gallery) j h.0)
+seen_one p values gallery from None (Some t) g h j = absurd (both_ways (is_seen_at p.app.names p.session values gallery) h j.0)
+seen_one p values gallery from (Some s) None g h j = absurd (both_ways (is_seen_at p.app.names p.session values gallery) j h.0)
 seen_one p values gallery from (Some s) (Some t) g h j = ap (λ (x : Items). Some x) (items_from_one p values gallery from s t g h.1 j.1)
 
 -- ONE LIST OF ITEMS

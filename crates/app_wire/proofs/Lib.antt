@@ -1,7 +1,6 @@
 pub mod Blanks
 pub mod Bodies
 pub mod Doorways
-pub mod Heads
 pub mod ListsInMemory
 pub mod Nexts
 pub mod OneThing

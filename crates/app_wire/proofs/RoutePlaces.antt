@@ -497,7 +497,3 @@ ends k part p i m path Memory same l e = tt
 pub reads_at : (p : Place) (m : Method) (path : List ℕ) (r : Route) → p ≡ place_of r → Placed path (Some p) → is_session (place_of r) ≡ false → SaidFrom 1 (path_of r) (parts_of path)
     → Finds p m path (Ok r)
 reads_at p m path r same at e h = subst (λ q. Finds q m path (Ok r)) (sym same) (reads path r m (subst (λ q. Placed path (Some q)) same at) e h)
-
-pub ends_at : {A : Type 0} (k : Kind) (part : A → Part) (q : Place) (i : ℕ) (p : Place) (m : Method) (path : List ℕ) (e : RouteEnd) → p ≡ q → get_or (text [] ∷ kinds q) i (text []) ≡ k
-    → i < suc (length (kinds q)) → Reads k part (get_or (parts_of path) i []) (Err e) → Finds p m path (Err e)
-ends_at k part q i p m path e same is l h = subst (λ x. Finds x m path (Err e)) (sym same) (ends k part q i m path e is l h)

@@ -1,7 +1,7 @@
 -- The router's search over rows, one step at a time.
 use Rattle.std.proofs.Common.{◌≡◌, ℕ, zero, suc, ◌-◌, ◌<◌, List, [], ◌∷◌, ◌++◌, length, drop, Option, Some, None, Bool, true, false, cond, ltb, refl, ap, sym, ◌∙◌, arith, nat_eq, ◌==◌, ◌&&◌, ◌||◌, ◌⊎◌, inl, inr}
 use Rattle.std.proofs.lemmas.Bool.Decides.{nat_tests}
-use Rattle.std.proofs.lemmas.Bool.{and_parts}
+use Rattle.std.proofs.lemmas.Bool.{and_from, and_parts, or_cases}
 use Rattle.std.proofs.lemmas.List.{length-append}
 use Rattle.std.proofs.lemmas.Slice.Eq.{bytes_eq-Decides}
 use Rattle.std.proofs.Math.Seq.{drop-append_seam, drop-length}
@@ -38,19 +38,11 @@ module _ {K : Type 0} where
   any_goes_on (([], k) ∷ rest) = any_goes_on rest
   any_goes_on ((x ∷ t, k) ∷ rest) = true
 
-either : (a b : Bool) → (a || b) ≡ true → (a ≡ true) ⊎ (b ≡ true)
-either true b h = inl refl
-either false b h = inr h
-
-both : (a b : Bool) → a ≡ true → b ≡ true → (a && b) ≡ true
-both true b h e = e
-both false b h e = cc
-
 -- the token of a good pattern
 good_parts : (x : ℕ) (t : List ℕ) → is_good (x ∷ t) ≡ true → ((x < 256) ⊎ ((x ≡ 256) × (opens t ≡ true))) × (is_good t ≡ true)
 good_parts x t h =
     let two = and_parts (ltb x 256 || ((x == 256) && opens t)) (is_good t) h in
-    (by (either (ltb x 256) ((x == 256) && opens t) two.0), two.1)
+    (by (or_cases (ltb x 256) ((x == 256) && opens t) two.0), two.1)
   where
     by : (ltb x 256 ≡ true) ⊎ (((x == 256) && opens t) ≡ true) → (x < 256) ⊎ ((x ≡ 256) × (opens t ≡ true))
     by (inl e) = let small : x < 256 = grind (arith, nat_tests) in inl small
@@ -83,7 +75,7 @@ module _ {K : Type 0} where
       by (x == b) (good_parts x t two.0).1 (good_step b rs two.1)
     where
       by : (v : Bool) → is_good t ≡ true → all_good (step b rs) ≡ true → all_good (cond v ((t, k) ∷ step b rs) (step b rs)) ≡ true
-      by true g ih = both (is_good t) (all_good (step b rs)) g ih
+      by true g ih = and_from (is_good t) (all_good (step b rs)) g ih
       by false g ih = ih
 
   pub open_step : (rs : RowsOf K) → all_good rs ≡ true → all_open (step 256 rs) ≡ true
@@ -94,7 +86,7 @@ module _ {K : Type 0} where
       by (x == 256) refl two.0 (open_step rs two.1)
     where
       by : (v : Bool) → (x == 256) ≡ v → is_good (x ∷ t) ≡ true → all_open (step 256 rs) ≡ true → all_open (cond v ((t, k) ∷ step 256 rs) (step 256 rs)) ≡ true
-      by true q g ih = both (opens t) (all_open (step 256 rs)) (opens_param x t g q) ih
+      by true q g ih = and_from (opens t) (all_open (step 256 rs)) (opens_param x t g q) ih
       by false q g ih = ih
 
   pub no_catch_all : (rs : RowsOf K) → all_good rs ≡ true → step 257 rs ≡ []
@@ -173,7 +165,7 @@ module _ {K : Type 0} where
       by (pointwise nat_eq (segment u) s) two.0 (good_suffix s rs two.1)
     where
       by : (v : Bool) → is_good u ≡ true → all_good (with_suffix s rs) ≡ true → all_good (cond v ((u, l) ∷ with_suffix s rs) (with_suffix s rs)) ≡ true
-      by true g ih = both (is_good u) (all_good (with_suffix s rs)) g ih
+      by true g ih = and_from (is_good u) (all_good (with_suffix s rs)) g ih
       by false g ih = ih
 
   -- which suffix is the longest

@@ -32,17 +32,6 @@ gets_done states n x lt e = elim (cases_eq x n) [
   | inr ne ↦ other states n x Done ne ∙ e
 ]
 
-pub begun : (reads : List (List ℕ)) (states : List State) → ((n : ℕ) → state_at states n ≡ New) → IsSearch reads states [] []
-begun reads states new = record {
-  is_open = λ n place left e. let h = new n in cc;
-  on_path = λ k lt. absurd (omega arith);
-  steps = λ k lt. absurd (omega arith);
-  ordered = λ k lt. absurd (omega arith);
-  done = λ n e. let h = new n in cc;
-  once = λ i j d lt within. absurd (omega arith);
-  behind = λ k b lt h. absurd (omega arith);
-}
-
 place_of : (p q l m : ℕ) → Open p l ≡ Open q m → p ≡ q
 place_of p q l m e = cc
 

@@ -1,6 +1,6 @@
 -- Deeds, behind the parts that they take.
 use Rattle.std.proofs.Common.{◌≡◌, ℕ, List, [], ◌∷◌, Option, Result, refl, sym, subst, ◌∙◌}
-use Rattle.fx_base.proofs.Silences.{goes_two, later_then}
+use Rattle.fx_base.proofs.Silences.{goes_two, goes_weaker, later_then}
 use Rattle.fx_base.specs.Silence.{Goes, IsLater, IsLost, Marks}
 use Rattle.std.specs.Prelude.{IfOk}
 use Rattle.fx_data.specs.declared.faults.Kind.{Kind}
@@ -27,7 +27,6 @@ use Rattle.fx_behave.specs.Actable.{AreActable, IsActable}
 use Rattle.fx_deeds.specs.Doable.{AnswersAs, CanDo}
 use Rattle.fx_deeds.specs.Fitting.{SourceTypes}
 use Rattle.fx_behave.specs.Perform.{AreEach, ArePerformed, Doing, IsAct, IsUpdateIf, Performs, performing, performings}
-use Rattle.fx_deeds.proofs.Passing.{goes_weaker}
 use Rattle.fx_deeds.specs.Deeds.{OrError}
 use Rattle.fx_deeds.specs.Done.{IsDeed, IsUpdate}
 use Rattle.fx_deeds.specs.State.{Ground, State}

@@ -1,6 +1,7 @@
 -- What nodes do by their parts, and what their values fit.
 use Rattle.std.proofs.Common.{◌≡◌, ℕ, ◌+◌, ◌≤◌, List, [], ◌∷◌, true, false, Option, refl, ap, sym, subst, ◌∙◌}
 use Rattle.fx_base.specs.Silence.{Goes}
+use Rattle.fx_base.proofs.Silences.{goes_weaker}
 use Rattle.fx_data.specs.Types.{Shape, tables}
 use Rattle.fx_data.specs.Values.{Data}
 use Rattle.fx_eval.proofs.Sizes.{table_falls}
@@ -20,7 +21,6 @@ use Rattle.fx_trees.specs.ColumnLists.{row_columns}
 use Rattle.fx_typing.specs.LawfulTypes.{IsLawfulType}
 use Rattle.fx_value.specs.Coercion.{IsCoerced}
 use Rattle.fx_value.specs.Fits.{fits_in}
-use Rattle.fx_deeds.proofs.Passing.{goes_weaker}
 use Rattle.fx_deeds.specs.Fitting.{SourceTypes}
 use Rattle.fx_deeds.specs.State.{Ground, State}
 use Rattle.fx_places.specs.Places.{is_for_all, may_act}

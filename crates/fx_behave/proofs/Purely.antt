@@ -1,7 +1,7 @@
 -- A formula that doesn't act.
 use Rattle.std.proofs.Common.{◌≡◌, ℕ, suc, List, [], ◌∷◌, length, false, Option, None, Some, refl, ap, sym, subst, ◌∙◌}
 use Rattle.std.specs.Prelude.{option_map, slice_get}
-use Rattle.fx_base.proofs.Silences.{goes_two}
+use Rattle.fx_base.proofs.Silences.{goes_two, goes_weaker}
 use Rattle.fx_base.specs.Silence.{Goes, IsLater, IsLost, Marks}
 use Rattle.fx_base.specs.Telling.{Stays}
 use Rattle.fx_data.specs.Types.{Shape, tables}
@@ -22,7 +22,6 @@ use Rattle.fx_trees.specs.SourceTypes.{columns_of, sources}
 use Rattle.fx_trees.specs.Term.{Term, of}
 use Rattle.fx_typing.specs.Acts.{acts}
 use Rattle.fx_plan.specs.Limited.{LimitedTypes, limited}
-use Rattle.fx_deeds.proofs.Passing.{goes_weaker}
 use Rattle.fx_deeds.proofs.Told.{state_holds}
 use Rattle.fx_deeds.specs.Fitting.{ReadsTables, SourceTypes}
 use Rattle.fx_behave.specs.Perform.{IsDone, Performs, performings, taken}

@@ -2,9 +2,9 @@
 use Rattle.std.proofs.Common.{◌≡◌, ℕ, List, [], ◌∷◌, ◌++◌, append_assoc, ◌+◌, ◌≤◌, true, false, Option, None, Some, Result, refl, ap, sym, subst, ◌∙◌, arith}
 use Rattle.std.specs.Prelude.{IfOk, length, nat_eq}
 use Rattle.std.proofs.lemmas.Bool.{eqb-true}
-use Rattle.std.proofs.lemmas.List.{append-nil}
+use Rattle.std.proofs.lemmas.List.{append-nil, nil_from_length}
 use Rattle.std.proofs.lemmas.Result.{IfOk-weaker}
-use Rattle.fx_base.proofs.Silences.{goes_two}
+use Rattle.fx_base.proofs.Silences.{goes_two, goes_weaker}
 use Rattle.fx_base.specs.Silence.{Goes, IsLater, IsLost, Marks}
 use Rattle.fx_data.specs.declared.faults.Fault.{Fault}
 use Rattle.fx_data.specs.declared.faults.Kind.{Kind}
@@ -25,8 +25,6 @@ use Rattle.fx_tables.specs.Unions.{is_fault}
 use Rattle.fx_trees.specs.Term.{Term, Terms, of, nil, cons, all, Top, term_size, terms_size}
 use Rattle.fx_typing.specs.Acts.{acts}
 use Rattle.fx_behave.proofs.Going.{Rest, end_here, end_on, step_on}
-use Rattle.fx_deeds.proofs.Passing.{goes_weaker}
-use Rattle.fx_deeds.proofs.Steps.{none_left as none_more}
 use Rattle.fx_deeds.specs.Deeds.{OrError}
 use Rattle.fx_deeds.specs.Lefts.{Decides}
 use Rattle.fx_deeds.specs.State.{Giving, Ground, State, ground}
@@ -45,7 +43,7 @@ back P a b h j e q r = subst (λ (s : Held). P a s) q (subst (λ (f : Fixed). P 
 -- ---- what is left of a list
 
 pub none_left_is : {X : Type 0} (xs : List X) → nat_eq (length xs) 0 ≡ true → xs ≡ []
-none_left_is xs e = none_more xs (eqb-true (length xs) 0 e)
+none_left_is xs e = nil_from_length xs (eqb-true (length xs) 0 e)
 
 pub some_left : {X : Type 0} (xs : List X) → nat_eq (length xs) 0 ≡ false → xs ≡ [] → ⊥
 some_left {X} xs e q = let wrong : true ≡ false = subst (λ (ys : List X). nat_eq (length ys) 0 ≡ false) q e in absurd cc
@@ -292,9 +290,6 @@ module _ {A : Type 0} (g : Ground A) (h : Held) (lost : Type 0) (x y : Option (S
 all_left : {A : Type 0} (lost : Type 0) (x : Option (State A)) (ds : List Data) (W : Many A) → ds ≡ [] → Goes lost (DecideAll ds W W) x x
 all_left lost None ds W e = refl
 all_left {A} lost (Some s) ds W e = λ es u r. subst (λ (vs : List Data). W s (vs ++ es) u) (sym e) r
-
-pub each_begins : {A : Type 0} (lost : Type 0) (x : Option (State A)) (g : Ground A) (h : Held) (f : Term) (rows : List Row) (ds : List Data) → ds ≡ [] → Goes lost (DecideAll ds (each_of g h f rows) (each_of g h f rows)) x x
-each_begins lost x g h f rows ds = all_left lost x ds (each_of g h f rows)
 
 pub performed_begins : {A : Type 0} (lost : Type 0) (x : Option (State A)) (g : Ground A) (h : Held) (ts : List Term) (ds : List Data) → ds ≡ [] → Goes lost (DecideAll ds (parts_of g h ts) (parts_of g h ts)) x x
 performed_begins lost x g h ts ds = all_left lost x ds (parts_of g h ts)

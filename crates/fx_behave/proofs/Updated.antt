@@ -108,16 +108,5 @@ module _ (types : SourceTypes) (s : Held) (p : Target) where
         follows = λ ds q. can_update t f u k d g taken (b ∙ a) ds q;
       }
 
--- two parts, as they are found
-pub two_is : (ts : List Term) (t : Term) (others : List Term) (f : Term) (beyond : List Term) → AreTwo ts → ts ≡ t ∷ others → others ≡ f ∷ beyond → ts ≡ t ∷ f ∷ []
-two_is ts t others f [] h e q = e ∙ ap (λ z. t ∷ z) q
-two_is ts t others f (k ∷ beyond) h e q = absurd (subst AreTwo (e ∙ ap (λ z. t ∷ z) q) h)
-
-pub second_there : (ts : List Term) (t : Term) (others : List Term) → AreTwo ts → ts ≡ t ∷ others → others ≡ [] → ⊥
-second_there ts t others h e q = subst AreTwo (e ∙ ap (λ z. t ∷ z) q) h
-
-pub first_there : (ts : List Term) → AreTwo ts → ts ≡ [] → ⊥
-first_there ts h e = subst AreTwo e h
-
 pub two_sizes : (ts : List Term) (t f : Term) → ts ≡ t ∷ f ∷ [] → term_size t + term_size f + 2 ≤ terms_size (all ts)
 two_sizes ts t f e = let k : terms_size (all ts) ≡ terms_size (all (t ∷ f ∷ [])) = ap (λ (z : List Term). terms_size (all z)) e in omega (arith, k)

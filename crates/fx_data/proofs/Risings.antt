@@ -61,10 +61,6 @@ module _ {A : Type 0} where
       (rising_filter p (take i fs) (rising_take i fs r))
       (above_filter p x.0 (take i fs) (above_before fs i x h e r))
 
-  -- an item may be pushed on those before it
-  pub rising_next_of : (fs : List (List ℕ × A)) (i : ℕ) (x : List ℕ × A) → i < length fs → x ≡ get_or fs i x → AreRising fs → AreRising (take i fs ++ (x.0, x.1) ∷ [])
-  rising_next_of fs i x h e r = rising_push (take i fs) x.0 x.1 (rising_take i fs r) (above_before fs i x h e r)
-
 module _ {A B : Type 0} where
   below_names : (n : List ℕ) (fs : List (List ℕ × A)) (gs : List (List ℕ × B)) → names_of fs ≡ names_of gs → IsBelowAll n fs → IsBelowAll n gs
   below_names n [] [] e h = tt

@@ -2,7 +2,7 @@
 use Rattle.std.proofs.Common.{◌≡◌, ◌⊎◌, ℕ, List, [], ◌∷◌, ◌++◌, Bool, true, false, Option, Result, ap, sym, subst, ◌∙◌, append_assoc, inl, inr}
 use Rattle.std.specs.Prelude.{IfOk, OnErr}
 use Rattle.std.proofs.lemmas.List.{append-nil}
-use Rattle.fx_base.proofs.Silences.{goes_two}
+use Rattle.fx_base.proofs.Silences.{goes_two, goes_weaker}
 use Rattle.fx_base.specs.Silence.{Goes, IsLost}
 use Rattle.fx_base.specs.Telling.{Stays}
 use Rattle.fx_data.specs.Values.{Data}
@@ -12,7 +12,7 @@ use Rattle.fx_trees.specs.declared.sources.Source.TheVariants as source
 use Rattle.session_state.specs.declared.change.Change.{Change}
 use Rattle.row_keeper.specs.declared.rows.Put.{Put}
 use Rattle.row_keeper.specs.declared.rows.Put.TheVariants.{Id, NoRow, Refused}
-use Rattle.fx_deeds.proofs.Passing.{either_end, goes_weaker, same_state}
+use Rattle.fx_deeds.proofs.Passing.{either_end, same_state}
 use Rattle.fx_deeds.specs.Changed.{IsChanged, IsRowChanged, IsRowMade, IsRowRemoved, written}
 use Rattle.fx_deeds.specs.Stages.{Passed, Stage}
 use Rattle.fx_deeds.specs.State.{State}

@@ -1,5 +1,5 @@
 -- Cells under the names of their columns.
-use Rattle.std.proofs.Common.{◌≡◌, ◌≢◌, ℕ, List, [], ◌∷◌, map, Bool, true, false, bytes_eq, Option, Some, None, refl, sym, ap, ◌∙◌, subst, if◌then◌else◌}
+use Rattle.std.proofs.Common.{◌≡◌, ◌≢◌, ℕ, List, [], ◌∷◌, Bool, true, false, bytes_eq, Option, Some, None, refl, sym, ap, ◌∙◌, subst, if◌then◌else◌}
 use Rattle.std.specs.Prelude.{cond, unwrap_or}
 use Rattle.std.specs.List.{find}
 use Rattle.std.specs.Option.{option_or}
@@ -32,12 +32,10 @@ use Rattle.fx_value.specs.Fits.{fits_in}
 use Rattle.fx_value.specs.Order.{IsScalar}
 use Rattle.row_queries.specs.TableRows.{AreCellsOf, IsRowOf, id_value, record_of, with_cells}
 use Rattle.row_queries.specs.declared.rows.Row.{Row}
+use Rattle.row_queries.proofs.Lacking.{AllLack, AllLackTypes, Lacks, LacksType, all_lack_id, all_lack_one, all_lack_put, all_lack_types, names_of}
 use Rattle.fx_deeds.proofs.Joins.{field_can}
 use Rattle.fx_deeds.specs.Fitting.{AreOfSome}
 use Rattle.fx_deeds.specs.RowValues.{blank_cells, cells_in, changed_cells, changed_value, values_among, values_of}
-
-abbrev names_of : List Column → List (List ℕ)
-names_of = map (λ (c : Column). c.name)
 
 other_name : (n m : List ℕ) → (n ≡ m → ⊥) → bytes_eq n m ≡ false
 other_name n m h = by (bytes_eq n m) refl
@@ -47,15 +45,6 @@ other_name n m h = by (bytes_eq n m) refl
     by false e = refl
 
 -- ---- the cells of a record
-
--- no field of this name
-abbrev Lacks : List ℕ → Fields → Type 0
-Lacks m [] = Unit {0}
-Lacks m (f ∷ fs) = (m ≢ f.0) × Lacks m fs
-
-abbrev AllLack : List Column → Fields → Type 0
-AllLack [] fs = Unit {0}
-AllLack (c ∷ cs) fs = Lacks c.name fs × AllLack cs fs
 
 put_own : (n : List ℕ) (d : Data) (fs : Fields) → Lacks n fs → item_of n (with_field n d fs) ≡ Some d
 put_own n d [] l = rw (own_name n) refl
@@ -72,22 +61,6 @@ put_other n m d (f ∷ fs) a = by (is_lt (slice_cmp nat_cmp m f.0)) (put_other n
     by : (b : Bool) → item_of n (with_field m d fs) ≡ item_of n fs → item_of n (if b then (m, d) ∷ f ∷ fs else f ∷ with_field m d fs) ≡ item_of n (f ∷ fs)
     by true h = rw (other_name m n (λ e. a (sym e))) refl
     by false h = ap (λ (o : Option Data). if bytes_eq f.0 n then Some f.1 else o) h
-
-lacks_put : (n m : List ℕ) (d : Data) (fs : Fields) → n ≢ m → Lacks n fs → Lacks n (with_field m d fs)
-lacks_put n m d [] a l = (a, tt)
-lacks_put n m d (f ∷ fs) a l = by (is_lt (slice_cmp nat_cmp m f.0)) (lacks_put n m d fs a l.1)
-  where
-    by : (b : Bool) → Lacks n (with_field m d fs) → Lacks n (if b then (m, d) ∷ f ∷ fs else f ∷ with_field m d fs)
-    by true k = (a, l)
-    by false k = (l.0, k)
-
-all_lack_put : (m : List ℕ) (d : Data) (cs : List Column) (fs : Fields) → DiffersFromAll m (names_of cs) → AllLack cs fs → AllLack cs (with_field m d fs)
-all_lack_put m d [] fs a l = tt
-all_lack_put m d (c ∷ cs) fs a l = (lacks_put c.name m d fs (λ e. a.0 (sym e)) l.0, all_lack_put m d cs fs a.1 l.1)
-
-all_lack_one : (m : List ℕ) (d : Data) (cs : List Column) → DiffersFromAll m (names_of cs) → AllLack cs ((m, d) ∷ [])
-all_lack_one m d [] a = tt
-all_lack_one m d (c ∷ cs) a = ((λ e. a.0 (sym e), tt), all_lack_one m d cs a.1)
 
 others_stay : (n : List ℕ) (cs : List Column) (ds : List Data) (fs : Fields) → DiffersFromAll n (names_of cs) → item_of n (with_cells cs ds fs) ≡ item_of n fs
 others_stay n [] ds fs a = refl
@@ -108,15 +81,6 @@ cells_back t r l h = cells_under t.columns r.cells ((id_name, id_value r.id) ∷
 
 -- ---- the types of columns
 
--- no column of this name
-abbrev LacksType : List ℕ → ColumnList → Type 0
-LacksType n no_columns = Unit {0}
-LacksType n (column m t ks) = (n ≢ m) × LacksType n ks
-
-abbrev AllLackTypes : List Column → ColumnList → Type 0
-AllLackTypes [] ks = Unit {0}
-AllLackTypes (c ∷ cs) ks = LacksType c.name ks × AllLackTypes cs ks
-
 type_own : (n : List ℕ) (u : Shape) (ks : ColumnList) → LacksType n ks → type_in n (put_column n u ks) ≡ Some u
 type_own n u no_columns l = rw (own_name n) refl
 type_own n u (column m t ks) l = by (slice_cmp nat_cmp n m) refl (type_own n u ks l.1)
@@ -135,23 +99,6 @@ type_other n m u (column k t ks) a l = by (slice_cmp nat_cmp m k) refl (type_oth
     by Less e h = rw (other_name m n (λ q. a (sym q))) refl
     by Equal e h = absurd (l.0 (exact_bytes m k e))
     by Greater e h = ap (λ (o : Option Shape). if bytes_eq k n then Some t else o) h
-
-lacks_type_put : (n m : List ℕ) (u : Shape) (ks : ColumnList) → n ≢ m → LacksType n ks → LacksType n (put_column m u ks)
-lacks_type_put n m u no_columns a l = (a, tt)
-lacks_type_put n m u (column k t ks) a l = by (slice_cmp nat_cmp m k) (lacks_type_put n m u ks a l.1)
-  where
-    by : (o : Ordering) → LacksType n (put_column m u ks) → LacksType n (match_ordering o (column m u (column k t ks)) (column k u ks) (column k t (put_column m u ks)))
-    by Less more = (a, l)
-    by Equal more = l
-    by Greater more = (l.0, more)
-
-all_lack_types : (m : List ℕ) (u : Shape) (cs : List Column) (ks : ColumnList) → DiffersFromAll m (names_of cs) → AllLackTypes cs ks → AllLackTypes cs (put_column m u ks)
-all_lack_types m u [] ks a l = tt
-all_lack_types m u (c ∷ cs) ks a l = (lacks_type_put c.name m u ks (λ e. a.0 (sym e)) l.0, all_lack_types m u cs ks a.1 l.1)
-
-all_lack_id : (m : List ℕ) (u : Shape) (cs : List Column) → DiffersFromAll m (names_of cs) → AllLackTypes cs (column m u no_columns)
-all_lack_id m u [] a = tt
-all_lack_id m u (c ∷ cs) a = ((λ e. a.0 (sym e), tt), all_lack_id m u cs a.1)
 
 types_stay : (n : List ℕ) (cs : List Column) (ks : ColumnList) → DiffersFromAll n (names_of cs) → AreDistinct (names_of cs) → AllLackTypes cs ks → type_in n (put_columns cs ks) ≡ type_in n ks
 types_stay n [] ks a x l = refl

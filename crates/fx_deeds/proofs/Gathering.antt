@@ -1,7 +1,6 @@
 -- Rows of collections, one after another.
 use Rattle.std.proofs.Common.{◌≡◌, ℕ, List, [], ◌∷◌, ◌++◌, Bool, true, false, map, Option, Some, None, refl, ap, sym, subst, ◌∙◌, append_assoc, inl, inr}
 use Rattle.std.specs.Prelude.{◌↔◌, IsTrue}
-use Rattle.std.proofs.lemmas.List.{append-nil}
 use Rattle.fx_base.proofs.Silences.{goes_two}
 use Rattle.fx_base.specs.Silence.{Goes, IsLater, IsLost, Marks}
 use Rattle.fx_data.specs.declared.values.Value.{Value}
@@ -14,14 +13,13 @@ use Rattle.fx_semantics.specs.Rows.{table_of}
 use Rattle.fx_value.specs.Columns.{Row}
 use Rattle.fx_value.proofs.SameLemmas.{rec_tells}
 use Rattle.session_state.specs.declared.change.Change.TheVariants as change
-use Rattle.fx_deeds.proofs.Passing.{goes_weaker}
-use Rattle.fx_deeds.proofs.Steps.{Whole}
+use Rattle.fx_deeds.proofs.Steps.{Whole, none_is}
 use Rattle.fx_deeds.specs.Changed.{IsChanged}
-use Rattle.fx_deeds.specs.Collections.{Appends, AreTaken, IsFirst, Lacks, PutsFor, rows_held}
-use Rattle.fx_deeds.specs.Deeds.{IsGiven, Makes}
+use Rattle.fx_deeds.specs.Collections.{AreTaken, IsFirst, Lacks, rows_held}
+use Rattle.fx_deeds.specs.Deeds.{IsGiven}
 use Rattle.fx_deeds.specs.Found.{IsTakenFrom}
 use Rattle.fx_deeds.specs.Lefts.{Decides}
-use Rattle.fx_deeds.specs.RowValues.{not_found, row_named, too_much}
+use Rattle.fx_deeds.specs.RowValues.{row_named, too_much}
 use Rattle.fx_deeds.specs.State.{State}
 
 -- ---- the first row that is this one
@@ -34,9 +32,6 @@ lacks_more r q (x ∷ xs) n h = (h.0, lacks_more r q xs n h.1)
 pub record IsPart (rows : List Row) (d : Data) (before rest : List Row) : Type 0 where
   pub parted : before ++ rest ≡ rows
   pub lacks : (r : Row) → d ≡ record_of r → Lacks r before
-
-pub part_begins : (rows before : List Row) (d : Data) → before ≡ [] → IsPart rows d before rows
-part_begins rows before d e = record { parted = ap (λ z. z ++ rows) e; lacks = λ r h. subst (Lacks r) (sym e) tt }
 
 pub part_first : (rows before rest others start after : List Row) (d : Data) (q : Row) (b : Bool) → IsPart rows d before rest → rest ≡ q ∷ others → start ≡ [] → after ≡ start ++ others →
     IsTrue b ↔ (record_of q ≡ d) → b ≡ true → (r : Row) → d ≡ record_of r → IsFirst r rows before after
@@ -56,9 +51,6 @@ part_goes rows before now rest others d q copy b p e c n w is = record {
       (lacks_more r copy before (λ same. let yes : b ≡ true = w.1 (ap record_of (sym c ∙ same) ∙ sym h) in let wrong : true ≡ false = sym yes ∙ is in absurd cc) (p.lacks r h));
 }
 
-pub part_ends : (rows before rest : List Row) (d : Data) → IsPart rows d before rest → rest ≡ [] → (r : Row) → d ≡ record_of r → Lacks r rows
-part_ends rows before rest d p e r h = subst (Lacks r) (sym (append-nil before) ∙ ap (λ z. before ++ z) (sym e) ∙ p.parted) (p.lacks r h)
-
 -- ---- the rows that are held, and then a change
 
 abbrev pub HeldRows : {A : Type 0} → ℕ → List Row → State A → State A → Type 0
@@ -66,14 +58,6 @@ HeldRows k rows s t = (t ≡ s) × (rows ≡ rows_held k s)
 
 given_there : {A : Type 0} (n : ℕ) (left rows : List Row) (done : Bool) (s b t : State A) → left ≡ rows → b ≡ s → IsChanged (change.Gather n (Tab left)) done b t → IsGiven (change.Gather n) (table_of rows) done s t
 given_there n left rows done s b t e f h = (Tab left, ap table_of e, subst (λ z. IsChanged (change.Gather n (Tab left)) done z t) f h)
-
-makes_there : {A : Type 0} (n : ℕ) (left : List Row) (taken : Data) (s b : State A) (x : Data) (t : State A) → b ≡ s → Makes (change.Gather n (Tab left)) taken b x t → Makes (change.Gather n (Tab left)) taken s x t
-makes_there n left taken s b x t f h = subst (λ z. Makes (change.Gather n (Tab left)) taken z x t) f h
-
--- `Remove`: there is no such row
-pub take_misses : {A : Type 0} (lost : Type 0) (x y : Option (State A)) (n : ℕ) (r : Row) (rows all : List Row) (e : Value) → all ≡ rows → view e ≡ not_found → Lacks r all →
-    Goes lost (HeldRows n rows) x y → Goes lost (IsTakenFrom n r (Some e)) x y
-take_misses lost x y n r rows all e p q l = goes_weaker lost (HeldRows n rows) (IsTakenFrom n r (Some e)) (λ s t h. inr (subst (Lacks r) (p ∙ h.1) l, (q, h.0))) x y
 
 module _ {A : Type 0} (k l m : Marks) (x y z : Option (State A)) (n : ℕ) (r : Row) (rows all before after : List Row) (a : IsLater k l) (b : IsLater l m) (p : all ≡ rows) (f : IsFirst r all before after) where
   first_held : (s : State A) → rows ≡ rows_held n s → IsFirst r (rows_held n s) before after
@@ -92,29 +76,6 @@ module _ {A : Type 0} (k l m : Marks) (x y z : Option (State A)) (n : ℕ) (r : 
   take_fails left done w e is q =
       goes_two (HeldRows n rows) (IsChanged (change.Gather n (Tab left)) done) (IsTakenFrom n r (Some w))
       (λ s c t h j. inl (before, after, first_held s h.1, subst (λ o. IsGiven (change.Gather n) (table_of (before ++ after)) o s t) is (given_there n left (before ++ after) done s c t e h.0 j), q)) k l m a b x y z
-
-  -- another row stands in its place
-  pub put_there : (with_one made : List Row) (q : Row) (taken v : Data) → with_one ≡ before ++ q ∷ [] → made ≡ with_one ++ after → taken ≡ record_of q → Goes (IsLost k l) (HeldRows n rows) x y →
-      Goes (IsLost l m) (λ s t. Makes (change.Gather n (Tab made)) taken s v t) y z → Goes (IsLost k m) (λ s t. PutsFor n r q s v t) x z
-  put_there with_one made q taken v e w is =
-      goes_two (HeldRows n rows) (λ s t. Makes (change.Gather n (Tab made)) taken s v t) (λ s t. PutsFor n r q s v t)
-      (λ s c t h j. inl (
-        before,
-        after,
-        first_held s h.1,
-        (Tab made, ap table_of (w ∙ ap (λ zs. zs ++ after) e ∙ append_assoc before (q ∷ []) after), subst (λ d. Makes (change.Gather n (Tab made)) d s v t) is (makes_there n made taken s c v t h.0 j)),
-      )) k l m a b x y z
-
-pub put_misses : {A : Type 0} (lost : Type 0) (x y : Option (State A)) (n : ℕ) (r q : Row) (rows all : List Row) (e : Data) → all ≡ rows → e ≡ not_found → Lacks r all →
-    Goes lost (HeldRows n rows) x y → Goes lost (λ s t. PutsFor n r q s e t) x y
-put_misses lost x y n r q rows all e p w l = goes_weaker lost (HeldRows n rows) (λ s t. PutsFor n r q s e t) (λ s t h. inr (subst (Lacks r) (p ∙ h.1) l, (w, h.0))) x y
-
--- a row stands behind the others
-pub appends_there : {A : Type 0} (k l m : Marks) (x y z : Option (State A)) (n : ℕ) (r : Row) (rows made : List Row) (taken v : Data) → IsLater k l → IsLater l m → made ≡ rows ++ r ∷ [] → taken ≡ record_of r →
-    Goes (IsLost k l) (HeldRows n rows) x y → Goes (IsLost l m) (λ s t. Makes (change.Gather n (Tab made)) taken s v t) y z → Goes (IsLost k m) (λ s t. Appends n r s v t) x z
-appends_there k l m x y z n r rows made taken v a b e is =
-    goes_two (HeldRows n rows) (λ s t. Makes (change.Gather n (Tab made)) taken s v t) (λ s t. Appends n r s v t)
-    (λ s c t h j. (Tab made, ap table_of (e ∙ ap (λ zs. zs ++ r ∷ []) h.1), subst (λ d. Makes (change.Gather n (Tab made)) d s v t) is (makes_there n made taken s c v t h.0 j))) k l m a b x y z
 
 -- ---- rows, one after another
 
@@ -135,10 +96,6 @@ pub take_stops : {A : Type 0} (k l m : Marks) (x y z : Option (State A)) (W : Wh
 take_stops k l m x y z W cs n v e o vs rest r before later q f is =
     goes_two (Decides (taking cs n rest) W) (IsTakenFrom n r o) (λ s t. W s (view e) t)
     (λ s b t h j. h (view e) t (taken_stops cs n v e vs rest r b t q f (subst (λ i. IsTakenFrom n r i b t) is j))) k l m before later x y z
-
-none_is : (o : Option Value) → ((e : Value) → o ≡ Some e → ⊥) → o ≡ None
-none_is None f = refl
-none_is (Some e) f = absurd (f e refl)
 
 pub take_goes : {A : Type 0} (k l m : Marks) (x y z : Option (State A)) (W : Whole A) (cs : ColumnList) (n : ℕ) (v : Value) (o : Option Value) (vs rest : List Value) (r : Row) → IsLater k l → IsLater l m → rest ≡ v ∷ vs →
     r ≡ row_named cs (view v) → ((e : Value) → o ≡ Some e → ⊥) → Goes (IsLost k l) (Decides (taking cs n rest) W) x y → Goes (IsLost l m) (IsTakenFrom n r o) y z → Goes (IsLost k m) (Decides (taking cs n vs) W) x z

@@ -2,7 +2,8 @@
 use Rattle.std.proofs.Common.{◌≡◌, ℕ, List, [], ◌∷◌, ◌++◌, true, false, Option, None, Result, Ok, Err, refl, ap, sym, subst, ◌∙◌}
 use Rattle.std.specs.Prelude.{IfOk}
 use Rattle.std.specs.List.{find}
-use Rattle.fx_base.proofs.Silences.{goes_two}
+use Rattle.std.proofs.lemmas.Bool.{and_from}
+use Rattle.fx_base.proofs.Silences.{goes_two, goes_weaker}
 use Rattle.fx_base.specs.Silence.{Goes, IsLater, IsLost, Marks}
 use Rattle.fx_data.specs.declared.values.Value.{Value}
 use Rattle.fx_data.specs.declared.values.Value.TheVariants.{Tab}
@@ -14,14 +15,13 @@ use Rattle.fx_semantics.specs.Rows.{fields_of, rows_in, table_of}
 use Rattle.fx_value.specs.Columns.{Row}
 use Rattle.fx_tables.specs.Unions.{is_fault}
 use Rattle.fx_trees.specs.declared.sources.Source.TheVariants as source
-use Rattle.fx_value.proofs.Widenings.{both, own_name}
+use Rattle.fx_value.proofs.Widenings.{own_name}
 use Rattle.fx_value.specs.Fits.{fields_fit, fits_in}
 use Rattle.session_state.specs.declared.change.Change.TheVariants as change
 use Rattle.fx_typing.specs.LawfulTypes.{AreLawfulColumns}
 use Rattle.fx_deeds.proofs.Deeding.{by_none}
 use Rattle.fx_deeds.proofs.Gathering.{HeldRows}
 use Rattle.fx_deeds.proofs.Joins.{can_change}
-use Rattle.fx_deeds.proofs.Passing.{goes_weaker}
 use Rattle.fx_deeds.specs.Collections.{AreLeft, AreTakenIf, AreUpdatedIn, AreWith, IsPatchedIn, PatchesRow, rows_held}
 use Rattle.fx_deeds.specs.Deeds.{Makes, OrError}
 use Rattle.fx_deeds.specs.Fitting.{AreOfSome, CanChange, CanChangeAll, IsOfColumns, SourceTypes}
@@ -86,7 +86,7 @@ patched_in (Ok v) lost y z n types cs b ys start rows row changed c begin q none
 
 blank_fits : (cs : ColumnList) → fields_fit (field_list (blank_row cs)) cs ≡ true
 blank_fits no_columns = refl
-blank_fits (column n t cs) = both _ _ (own_name n) (both true _ refl (blank_fits cs))
+blank_fits (column n t cs) = and_from _ _ (own_name n) (and_from true _ refl (blank_fits cs))
 
 fields_again : (fs : FieldList) → field_list (fields_of fs) ≡ fs
 fields_again no_fields = refl
@@ -106,7 +106,7 @@ named_fits cs (tab rs) h = blank_fits cs
 pub base_can : (cs : ColumnList) (b : Data) (changes : List Row) → AreLawfulColumns cs → fits_in b (records cs) ≡ true → AreOfSome cs changes → CanChange cs changes (row_named cs b)
 base_can cs b changes l f h = can_change cs l changes h (row_named cs b) (named_fits cs b f)
 
-some_first : (cs : ColumnList) (xs ys : List Row) → AreOfSome cs (xs ++ ys) → AreOfSome cs xs × AreOfSome cs ys
+pub some_first : (cs : ColumnList) (xs ys : List Row) → AreOfSome cs (xs ++ ys) → AreOfSome cs xs × AreOfSome cs ys
 some_first cs [] ys h = (tt, h)
 some_first cs (x ∷ xs) ys h = let k = some_first cs xs ys h.1 in ((h.0, k.0), k.1)
 

@@ -1,9 +1,8 @@
 -- What is answered for rows, in its parts.
-use Rattle.std.proofs.Common.{◌≡◌, ℕ, zero, suc, ◌≤◌, arith, length, List, [], ◌∷◌, Some, None, refl, ap, sym, ◌∙◌}
+use Rattle.std.proofs.Common.{◌≡◌, ℕ, zero, suc, ◌≤◌, arith, length, List, [], ◌∷◌, Some, refl, ap, sym, ◌∙◌}
 use Rattle.std.specs.Prelude.{slice_get}
 use Rattle.fx_data.specs.Values.{Data}
 use Rattle.fx_semantics.proofs.RowsBack.{rows_back}
-use Rattle.fx_semantics.specs.Around.{record_of}
 use Rattle.fx_semantics.specs.Rows.{rows_in, table_of}
 use Rattle.fx_trees.specs.declared.schema.Column.{Column}
 use Rattle.fx_value.specs.Columns.{Row}
@@ -22,28 +21,10 @@ name_missing [] k h = refl
 name_missing (c ∷ cs) zero h = absurd (omega (arith, h))
 name_missing (c ∷ cs) (suc k) h = name_missing cs k (omega (arith, h))
 
-pub name_behind : (cs : List Column) (n k : ℕ) → n ≡ suc k → column_name cs (Some (suc k)) ≡ column_name cs (Some n)
-name_behind cs n k e = ap (λ z. column_name cs (Some z)) (sym e)
-
 -- ---- the one record of a table
-
-one_row_there : (d : Data) (rows : List Row) (r : Row) → d ≡ table_of rows → d ≡ table_of (r ∷ []) → rows ≡ r ∷ []
-one_row_there d rows r e h = rows_back rows ∙ ap rows_in (sym e ∙ h) ∙ sym (rows_back (r ∷ []))
-
-pub only_there : (d : Data) (rows all others : List Row) (q copy r : Row) → d ≡ table_of rows → all ≡ rows → all ≡ q ∷ others → copy ≡ q → d ≡ table_of (r ∷ []) → record_of copy ≡ record_of r
-only_there d rows all others q copy r e f g c h =
-    let parts : q ∷ others ≡ r ∷ [] = sym g ∙ f ∙ one_row_there d rows r e h in
-    let same : q ≡ r = cc in
-    ap record_of (c ∙ same)
-
-pub none_there : (d : Data) (rows all : List Row) (r : Row) → d ≡ table_of rows → all ≡ rows → all ≡ [] → d ≡ table_of (r ∷ []) → ⊥
-none_there d rows all r e f g h = let wrong : [] ≡ r ∷ [] = sym g ∙ f ∙ one_row_there d rows r e h in cc
 
 -- ---- the cells of the first record of a table
 
 pub first_there : (cs : List Column) (d : Data) (rows all others : List Row) (q : Row) (cells : List Data) → d ≡ table_of rows → all ≡ rows → all ≡ q ∷ others → cells ≡ cells_in cs q → Some cells ≡ first_cells cs (rows_in d)
 first_there cs d rows all others q cells e f g h =
     ap Some h ∙ ap (first_cells cs) (sym g ∙ f ∙ rows_back rows ∙ ap rows_in (sym e))
-
-pub first_none : (cs : List Column) (d : Data) (rows all : List Row) → d ≡ table_of rows → all ≡ rows → all ≡ [] → None ≡ first_cells cs (rows_in d)
-first_none cs d rows all e f g = ap (first_cells cs) (sym g ∙ f ∙ rows_back rows ∙ ap rows_in (sym e))

@@ -2,7 +2,7 @@
 use Rattle.std.proofs.Common.{◌≡◌, ◌≤◌, List, [], ◌∷◌, ◌++◌, Option, Some, None, Result, Ok, Err, refl, ap, sym, subst, ◌∙◌, arith, append_assoc, inl, inr}
 use Rattle.std.specs.Prelude.{IfOk, OnErr}
 use Rattle.std.proofs.lemmas.List.{append-nil}
-use Rattle.fx_base.proofs.Silences.{goes_two, later_then}
+use Rattle.fx_base.proofs.Silences.{goes_two, goes_weaker, later_then}
 use Rattle.fx_base.specs.Silence.{Goes, IsLater, IsLost}
 use Rattle.fx_base.specs.Telling.{Stays}
 use Rattle.fx_trees.specs.declared.sources.Source.{Source}
@@ -55,12 +55,6 @@ within_on a b c p q = record {
   wrote = q.wrote ∙ ap (λ z. z ++ q.more) p.wrote ∙ append_assoc a.wrote p.more q.more;
   same = same_on p.more q.more a b c p.same q.same;
 }
-
--- what is told of less
-pub goes_weaker : {A : Type 0} (lost : Type 0) (P Q : A → A → Type 0) → ((a b : A) → P a b → Q a b) → (x y : Option A) → Goes lost P x y → Goes lost Q x y
-goes_weaker lost P Q f None y h = h
-goes_weaker lost P Q f (Some a) None h = h
-goes_weaker lost P Q f (Some a) (Some b) h = f a b h
 
 pub passed_on : {A : Type 0} (a b c : Stage A) → Passed a b → Passed b c → Passed a c
 passed_on a b c p q = record {

@@ -1,13 +1,12 @@
 -- Rows of tables that changes leave.
-use Rattle.std.proofs.Common.{◌≡◌, ℕ, List, [], ◌∷◌, ◌++◌, true, map, Option, Some, None, Result, Ok, Err, refl, ap, sym, subst, ◌∙◌, inl, inr}
+use Rattle.std.proofs.Common.{◌≡◌, ℕ, List, [], ◌∷◌, true, map, Option, Some, None, Result, Ok, Err, refl, ap, sym, subst, ◌∙◌, inl, inr}
 use Rattle.std.specs.Prelude.{◌⊎◌, MatchOption, MatchResult}
 use Rattle.std.specs.List.{find}
 use Rattle.std.specs.Option.{option_or}
 use Rattle.std.proofs.lemmas.List.Folds.{find-append}
-use Rattle.fx_base.proofs.Silences.{goes_two}
+use Rattle.fx_base.proofs.Silences.{goes_two, goes_weaker}
 use Rattle.fx_base.specs.Silence.{Goes, IsLater, IsLost, Marks}
 use Rattle.fx_data.specs.declared.values.Value.{Value}
-use Rattle.fx_data.specs.Types.{ColumnList}
 use Rattle.fx_data.specs.Values.{Data, blank, number, text, boolean, date, rec, tab, fault}
 use Rattle.fx_data.specs.ValueView.{view}
 use Rattle.fx_semantics.specs.Around.{record_of}
@@ -20,8 +19,7 @@ use Rattle.fx_typing.specs.LawfulTypes.{AreLawfulColumns}
 use Rattle.row_keeper.specs.declared.rows.Put.{Put}
 use Rattle.row_keeper.specs.declared.rows.Put.TheVariants.{Id, NoRow, Refused}
 use Rattle.row_queries.specs.declared.rows.Row.{Row as KeptRow}
-use Rattle.fx_deeds.proofs.Passing.{goes_weaker}
-use Rattle.fx_deeds.proofs.Steps.{Whole}
+use Rattle.fx_deeds.proofs.Steps.{Whole, none_is}
 use Rattle.fx_deeds.specs.Changed.{IsRowChanged}
 use Rattle.fx_deeds.specs.Deeds.{Answers, AreUpdated, ByPut, ChangesRow, PatchesById, PatchesRow, Updates, id_of, named_id, row_at}
 use Rattle.fx_deeds.specs.Done.{errors_in, errors_of}
@@ -30,6 +28,7 @@ use Rattle.fx_deeds.specs.Finding.{CanChangeEach, IsRowPatched, IsStopped, IsUpd
 use Rattle.fx_deeds.specs.Lefts.{Decides}
 use Rattle.fx_deeds.specs.RowValues.{changed_cells, not_found, put_answer, rows_among, values_among}
 use Rattle.fx_deeds.specs.State.{State}
+use Rattle.fx_deeds.proofs.Holding.{some_first}
 
 -- ---- one row
 
@@ -101,10 +100,6 @@ updated_stops p k r rs rest v e vs left s t q f h =
     by (Ok id) j = stops_there p k (rows_in (view v)) id j.0 j.1 s (λ u. updating p k rs vs u (view e) t) (view e) t j.2 j.3
     by (Err g) j = j
 
-none_is : (o : Option Value) → ((e : Value) → o ≡ Some e → ⊥) → o ≡ None
-none_is None f = refl
-none_is (Some e) f = absurd (f e refl)
-
 pub update_stops : {A : Type 0} (k l m : Marks) (x y z : Option (State A)) (W : Whole A) (p : TableShape) (n : ℕ) (r : Row) (rs rest : List Row) (v e : Value) (o : Option Value) (vs left : List Value) → IsLater k l → IsLater l m →
     rest ≡ r ∷ rs → left ≡ v ∷ vs → o ≡ Some e → Goes (IsLost k l) (Decides (updating p n rest left) W) x y → Goes (IsLost l m) (IsUpdatedRow p n r (view v) o) y z → Goes (IsLost k m) (λ s t. W s (view e) t) x z
 update_stops k l m x y z W p n r rs rest v e o vs left before later q f is =
@@ -150,10 +145,6 @@ no_error (boolean b) h = h
 no_error (date z) h = h
 no_error (rec fs) h = h
 no_error (tab rs) h = h
-
-some_first : (cs : ColumnList) (xs ys : List Row) → AreOfSome cs (xs ++ ys) → AreOfSome cs xs × AreOfSome cs ys
-some_first cs [] ys h = (tt, h)
-some_first cs (x ∷ xs) ys h = let k = some_first cs xs ys h.1 in ((h.0, k.0), k.1)
 
 pub can_each : (p : TableShape) → AreLawfulColumns (columns_of p) → (ds : List Data) → AreOfSome (columns_of p) (rows_among ds) → find is_fault (errors_in ds) ≡ None → CanChangeEach p ds
 can_each p l [] h n = tt

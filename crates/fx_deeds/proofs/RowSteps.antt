@@ -5,6 +5,7 @@ use Rattle.std.specs.Option.{option_or}
 use Rattle.std.specs.List.{find}
 use Rattle.std.proofs.lemmas.List.Folds.{find-append}
 use Rattle.std.proofs.lemmas.List.{append-nil, map-append}
+use Rattle.std.proofs.lemmas.Bool.{and_from}
 use Rattle.fx_data.proofs.Utf8Order.{and_second, and_first}
 use Rattle.fx_data.specs.declared.types.Ty.{Ty}
 use Rattle.fx_data.specs.declared.values.Value.{Value}
@@ -16,11 +17,12 @@ use Rattle.fx_data.specs.Values.{Data, blank, field_list}
 use Rattle.fx_data.specs.ValueView.{fields_view, view}
 use Rattle.fx_value.specs.Columns.{Row}
 use Rattle.fx_tables.specs.Unions.{is_fault}
-use Rattle.fx_value.proofs.Widenings.{both, own_name, rises_by_fit}
+use Rattle.fx_value.proofs.Widenings.{own_name, rises_by_fit}
 use Rattle.fx_value.specs.Coercion.{widened}
 use Rattle.fx_value.specs.Fits.{fields_fit, fits_in}
 use Rattle.fx_deeds.specs.Fitting.{CanChange}
 use Rattle.fx_deeds.specs.RowValues.{blank_row, changed_row, changed_value, values_among, values_of}
+use Rattle.fx_deeds.proofs.Steps.{none_is}
 
 -- one field more
 fields_more : (xs ys : List (List ℕ × Value)) (m : List ℕ) (v : Value) → ys ≡ xs ++ (m, v) ∷ [] → fields_view ys ≡ fields_view xs ++ (m, view v) ∷ []
@@ -31,12 +33,6 @@ one_on xs ys m n v d more e f g =
     ap (λ z. z ++ more) (fields_more xs ys m v e) ∙ append_assoc (fields_view xs) ((m, view v) ∷ []) more ∙ (λ i. fields_view xs ++ (f i, g i) ∷ more)
 
 -- ---- a row of blanks
-
-pub blank_more : (cs others : List (List ℕ × Ty)) (c : List ℕ × Ty) (xs ys : List (List ℕ × Value)) (m : List ℕ) (v : Value) (whole : Row) → cs ≡ c ∷ others → ys ≡ xs ++ (m, v) ∷ [] → m ≡ c.0 → view v ≡ blank →
-    fields_view xs ++ blank_row (column_list (columns_view cs)) ≡ whole → fields_view ys ++ blank_row (column_list (columns_view others)) ≡ whole
-blank_more cs others c xs ys m v whole e f g h w =
-    one_on xs ys m c.0 v blank (blank_row (column_list (columns_view others))) f g h
-    ∙ ap (λ (z : List (List ℕ × Ty)). fields_view xs ++ blank_row (column_list (columns_view z))) (sym e) ∙ w
 
 pub blank_ends : (cs : List (List ℕ × Ty)) (xs : List (List ℕ × Value)) (whole : Row) → cs ≡ [] → fields_view xs ++ blank_row (column_list (columns_view cs)) ≡ whole → fields_view xs ≡ whole
 blank_ends cs xs whole e w = sym (append-nil (fields_view xs)) ∙ ap (λ (z : List (List ℕ × Ty)). fields_view xs ++ blank_row (column_list (columns_view z))) (sym e) ∙ w
@@ -53,14 +49,14 @@ blanks_rise (c ∷ cs) h = (below_blanks c.0 cs h.0, blanks_rise cs h.1)
 
 fit_more : (xs : List (List ℕ × Data)) (cs : List (List ℕ × Shape)) (n : List ℕ) (d : Data) (t : Shape) → fields_fit (field_list xs) (column_list cs) ≡ true → fits_in d t ≡ true →
     fields_fit (field_list (xs ++ (n, d) ∷ [])) (column_list (cs ++ (n, t) ∷ [])) ≡ true
-fit_more [] [] n d t h k = both (bytes_eq n n) _ (own_name n) (both (fits_in d t) true k refl)
+fit_more [] [] n d t h k = and_from (bytes_eq n n) _ (own_name n) (and_from (fits_in d t) true k refl)
 fit_more [] (c ∷ cs) n d t h k = absurd cc
 fit_more (x ∷ xs) [] n d t h k = absurd cc
 fit_more (x ∷ xs) (c ∷ cs) n d t h k =
     let rest = fields_fit (field_list xs) (column_list cs) in
     let more = and_second (bytes_eq x.0 c.0) (fits_in x.1 c.1 && rest) h in
-    both (bytes_eq x.0 c.0) _ (and_first (bytes_eq x.0 c.0) (fits_in x.1 c.1 && rest) h)
-    (both (fits_in x.1 c.1) _ (and_first (fits_in x.1 c.1) rest more) (fit_more xs cs n d t (and_second (fits_in x.1 c.1) rest more) k))
+    and_from (bytes_eq x.0 c.0) _ (and_first (bytes_eq x.0 c.0) (fits_in x.1 c.1 && rest) h)
+    (and_from (fits_in x.1 c.1) _ (and_first (fits_in x.1 c.1) rest more) (fit_more xs cs n d t (and_second (fits_in x.1 c.1) rest more) k))
 
 -- the fields so far fit the columns before, and those that are left follow
 pub record IsChanging (columns : List (List ℕ × Shape)) (changes : List Row) (r : Row) (items : List (List ℕ × Value)) (rest : List (List ℕ × Ty)) : Type 0 where
@@ -69,16 +65,6 @@ pub record IsChanging (columns : List (List ℕ × Shape)) (changes : List Row) 
   pub before : List (List ℕ × Shape)
   pub parted : columns ≡ before ++ columns_view rest
   pub fits : fields_fit (field_list (fields_view items)) (column_list before) ≡ true
-
-pub change_begins : (columns : List (List ℕ × Shape)) (changes : List Row) (r : Row) (items : List (List ℕ × Value)) (rest : List (List ℕ × Ty)) → items ≡ [] → columns_view rest ≡ columns → CanChange (column_list columns) changes r →
-    IsChanging columns changes r items rest
-change_begins columns changes r items rest e f can = record {
-  made = ap (λ z. fields_view z ++ changed_row (column_list (columns_view rest)) changes r) e ∙ ap (λ z. changed_row (column_list z) changes r) f;
-  can = subst (λ z. CanChange (column_list z) changes r) (sym f) can;
-  before = [];
-  parted = sym f;
-  fits = subst (λ z. fields_fit (field_list (fields_view z)) (column_list []) ≡ true) (sym e) refl;
-}
 
 first_can : (changes : List Row) (r : Row) (c : List ℕ × Ty) (rest others : List (List ℕ × Ty)) → rest ≡ c ∷ others → CanChange (column_list (columns_view rest)) changes r → CanChange (column_list (columns_view (c ∷ others))) changes r
 first_can changes r c rest others e h = subst (λ (z : List (List ℕ × Ty)). CanChange (column_list (columns_view z)) changes r) e h
@@ -98,12 +84,6 @@ change_goes columns changes r items now rest others c m v old new h e f g p q w 
           (fit_more (fields_view items) h.before c.0 (view v) (shape c.1) h.fits fit);
     }
 
--- where nothing is left
-pub changed_whole : (columns : List (List ℕ × Shape)) (changes : List Row) (r : Row) (items : List (List ℕ × Value)) (rest : List (List ℕ × Ty)) → IsChanging columns changes r items rest → rest ≡ [] →
-    fields_view items ≡ changed_row (column_list columns) changes r
-changed_whole columns changes r items rest h e =
-    sym (append-nil (fields_view items)) ∙ ap (λ (z : List (List ℕ × Ty)). fields_view items ++ changed_row (column_list (columns_view z)) changes r) (sym e) ∙ h.made
-
 pub changed_fits : (columns : List (List ℕ × Shape)) (changes : List Row) (r : Row) (items : List (List ℕ × Value)) (rest : List (List ℕ × Ty)) → IsChanging columns changes r items rest → rest ≡ [] →
     fields_fit (field_list (fields_view items)) (column_list columns) ≡ true
 changed_fits columns changes r items rest h e =
@@ -115,10 +95,6 @@ pub changed_rises : (columns : List (List ℕ × Shape)) (changes : List Row) (r
 changed_rises columns changes r items rest h e rise = rises_by_fit (fields_view items) columns (changed_fits columns changes r items rest h e) rise
 
 -- ---- errors among rows
-
-none_there : (o : Option Value) → ((e : Value) → o ≡ Some e → ⊥) → o ≡ None
-none_there None f = refl
-none_there (Some e) f = absurd (f e refl)
 
 among_parts : (rest others : List Row) (q : Row) → rest ≡ q ∷ others → find is_fault (values_among rest) ≡ option_or (find is_fault (values_of q)) (find is_fault (values_among others))
 among_parts rest others q e = ap (λ (z : List Row). find is_fault (values_among z)) e ∙ find-append is_fault (values_of q) (values_among others)
@@ -132,5 +108,5 @@ among_first rest others q o e whole h p f is =
 pub among_more : (rest others : List Row) (q : Row) (o : Option Value) (whole : Option Data) → find is_fault (values_among rest) ≡ whole → rest ≡ q ∷ others → option_map view o ≡ find is_fault (values_of q) → ((e : Value) → o ≡ Some e → ⊥) →
     find is_fault (values_among others) ≡ whole
 among_more rest others q o whole h p f none =
-    let found : find is_fault (values_of q) ≡ None = sym f ∙ ap (option_map view) (none_there o none) in
+    let found : find is_fault (values_of q) ≡ None = sym f ∙ ap (option_map view) (none_is o none) in
     sym (among_parts rest others q p ∙ ap (λ z. option_or z (find is_fault (values_among others))) found) ∙ h

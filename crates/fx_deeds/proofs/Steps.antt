@@ -1,6 +1,6 @@
 -- One step of a deed after another.
-use Rattle.std.proofs.Common.{◌≡◌, ℕ, List, [], ◌∷◌, length, Bool, true, false, map, Option, Some, None, Result, Ok, Err, refl, ap, sym, subst, arith}
-use Rattle.fx_base.proofs.Silences.{goes_two}
+use Rattle.std.proofs.Common.{◌≡◌, ℕ, List, [], ◌∷◌, Bool, true, false, map, Option, Some, None, Result, Ok, Err, refl, ap, sym, subst}
+use Rattle.fx_base.proofs.Silences.{goes_two, goes_weaker}
 use Rattle.fx_base.specs.Silence.{Goes, IsLater, IsLost, Marks}
 use Rattle.fx_data.specs.declared.values.Value.{Value}
 use Rattle.fx_data.specs.Values.{Data, boolean}
@@ -8,7 +8,6 @@ use Rattle.fx_data.specs.ValueView.{view}
 use Rattle.fx_trees.specs.declared.sources.Source.{Source}
 use Rattle.fx_trees.specs.declared.sources.Source.TheVariants as source
 use Rattle.session_state.specs.declared.change.Change.TheVariants as change
-use Rattle.fx_deeds.proofs.Passing.{goes_weaker}
 use Rattle.std.specs.Prelude.{MatchResult}
 use Rattle.fx_deeds.specs.Changed.{IsChanged, IsRowRemoved}
 use Rattle.fx_deeds.specs.Deeds.{Answers, AreRemoved, AreSet, ByDone, Removes, id_of, named_id}
@@ -17,10 +16,6 @@ use Rattle.fx_deeds.specs.Fitting.{CanTakeAll, SourceTypes}
 use Rattle.fx_deeds.specs.Lefts.{Decides}
 use Rattle.fx_deeds.specs.RowValues.{not_found, too_much}
 use Rattle.fx_deeds.specs.State.{State}
-
-pub none_left : {A : Type 0} (xs : List A) → length xs ≡ 0 → xs ≡ []
-none_left [] e = refl
-none_left (x ∷ xs) e = absurd (omega (arith, e))
 
 abbrev pub Whole : Type 0 → Type 1
 Whole A = State A → Data → State A → Type 0
@@ -97,7 +92,7 @@ remove_stops k l m x y z W n v e o vs rest before later q is =
     goes_two (Decides (removing n rest) W) (IsTakenOut n (view v) o) (λ s t. W s (view e) t)
     (λ s b t h j. h (view e) t (removed_stops n v e vs rest b t q (subst (λ r. IsTakenOut n (view v) r b t) is j))) k l m before later x y z
 
-none_is : (o : Option Value) → ((e : Value) → o ≡ Some e → ⊥) → o ≡ None
+pub none_is : (o : Option Value) → ((e : Value) → o ≡ Some e → ⊥) → o ≡ None
 none_is None f = refl
 none_is (Some e) f = absurd (f e refl)
 

@@ -3,7 +3,7 @@ use Rattle.std.proofs.Common.{◌≡◌, ℕ, zero, suc, ◌==◌, arith, List, 
 use Rattle.std.specs.Prelude.{IfOk, IfSome, IsSomeAnd, MatchOption, MatchResult, option_map, slice_get}
 use Rattle.std.specs.List.{AllByRecursion, find}
 use Rattle.std.proofs.lemmas.List.Elements.{recursion_from_All}
-use Rattle.fx_base.proofs.Silences.{goes_two}
+use Rattle.fx_base.proofs.Silences.{goes_two, goes_weaker}
 use Rattle.fx_base.specs.Silence.{Goes, IsLater, IsLost, Marks}
 use Rattle.fx_data.specs.declared.faults.Fault.{Fault}
 use Rattle.fx_data.specs.declared.values.Value.{Value}
@@ -21,7 +21,7 @@ use Rattle.fx_trees.specs.declared.schema.TableShape.{TableShape}
 use Rattle.fx_trees.specs.Lawful.{IsLawfulSchema, IsLawfulTable}
 use Rattle.fx_value.specs.Columns.{Row}
 use Rattle.row_keeper.specs.Changes.{IsInserted, IsReplaced}
-use Rattle.row_keeper.specs.Tables.{TableState, columns_at, columns_in, has_id, rows_of, state_at}
+use Rattle.row_keeper.specs.Tables.{columns_at, columns_in, has_id, rows_of}
 use Rattle.row_keeper.specs.declared.rows.Put.{Put}
 use Rattle.row_keeper.specs.declared.rows.Put.TheVariants.{Id, NoRow, Refused}
 use Rattle.row_queries.specs.Answers.{IsScanValue}
@@ -29,15 +29,15 @@ use Rattle.row_queries.specs.Laws.{AskedOnce}
 use Rattle.row_queries.specs.TableRows.{AreCellsOf, IsHeldRow, IsRowOf, rows_at, table_of}
 use Rattle.row_queries.specs.TableRows.{record_of as kept_record}
 use Rattle.row_queries.specs.declared.rows.Row.{Row as KeptRow}
+use Rattle.row_keeper.specs.Numbered.{one_row}
 use Rattle.fx_deeds.proofs.Cells.{cells_back}
 use Rattle.fx_deeds.proofs.Deeding.{by_none}
 use Rattle.fx_deeds.proofs.Finding.{found_in}
-use Rattle.row_keeper.proofs.NumberedRows.{one}
-use Rattle.fx_deeds.proofs.Passing.{goes_weaker}
+use Rattle.row_keeper.proofs.NumberedRows.{one, rows_are}
 use Rattle.fx_deeds.proofs.Patching.{by_number, patched_row}
 use Rattle.fx_deeds.specs.Changed.{IsRowChanged, IsRowMade}
 use Rattle.fx_deeds.specs.Deeds.{Answers, IsPatched, MakesRow, OfTable, PatchesBase, PatchesById, PatchesRow, id_of, named_id, row_at}
-use Rattle.fx_deeds.specs.Finding.{FindsCells, IsPutEnd, IsPutOf, IsRowAt, IsRowPatched, IsShape, IsUpdatedRow, first_cells, one_row}
+use Rattle.fx_deeds.specs.Finding.{FindsCells, IsPutEnd, IsPutOf, IsRowAt, IsRowPatched, IsShape, IsUpdatedRow, first_cells}
 use Rattle.fx_deeds.specs.RowValues.{blank_cells, changed_cells, not_found, put_answer, rows_among, values_among}
 use Rattle.fx_deeds.specs.State.{State}
 
@@ -120,11 +120,6 @@ cells_found law s told table id p d o shape v e =
       found = cells;
       fit = subst (λ z. IfSome z (IsRowAt p id)) (sym cells) (found_fits p id rows fit);
     }
-
-rows_are : (states : List TableState) (table : ℕ) → rows_at (rows_of states) table ≡ (state_at states table).rows
-rows_are [] table = refl
-rows_are (s ∷ states) zero = refl
-rows_are (s ∷ states) (suc table) = rows_are states table
 
 -- they are those of the state that is told
 pub found_there : {A B : Type 0} (state : Option (State A)) (told : Option (Told B)) (p : TableShape) (table id : ℕ) (o : Option (List Data)) → (told ≡ None → state ≡ None) →

@@ -23,12 +23,9 @@ use Rattle.fx_deeds.specs.Done.{errors_in, errors_of}
 use Rattle.fx_deeds.specs.Fitting.{CanChange, CanChangeAll}
 use Rattle.fx_deeds.specs.Lefts.{AreRecords, IsChangedFirst, IsFirstOf, behind, rows_by}
 use Rattle.fx_deeds.specs.RowValues.{changed_row, row_named}
+use Rattle.fx_deeds.proofs.Steps.{none_is}
 
 -- ---- errors among changes
-
-pub none_there : (o : Option Value) → ((e : Value) → o ≡ Some e → ⊥) → o ≡ None
-none_there None f = refl
-none_there (Some e) f = absurd (f e refl)
 
 in_parts : (rest others : List Value) (v : Value) → rest ≡ v ∷ others →
     find is_fault (errors_in (map view rest)) ≡ option_or (find is_fault (errors_of (view v))) (find is_fault (errors_in (map view others)))
@@ -43,7 +40,7 @@ changes_first rest others v o e whole h p f is =
 pub changes_more : (rest others : List Value) (v : Value) (o : Option Value) (whole : Option Data) → find is_fault (errors_in (map view rest)) ≡ whole → rest ≡ v ∷ others →
     option_map view o ≡ find is_fault (errors_of (view v)) → ((e : Value) → o ≡ Some e → ⊥) → find is_fault (errors_in (map view others)) ≡ whole
 changes_more rest others v o whole h p f none =
-    let found : find is_fault (errors_of (view v)) ≡ None = sym f ∙ ap (option_map view) (none_there o none) in
+    let found : find is_fault (errors_of (view v)) ≡ None = sym f ∙ ap (option_map view) (none_is o none) in
     sym (in_parts rest others v p ∙ ap (λ z. option_or z (find is_fault (errors_in (map view others)))) found) ∙ h
 
 -- ---- rows with changes among them
@@ -59,14 +56,6 @@ pub record IsWith (cs : ColumnList) (rows : List Row) (kept changes : List Value
   pub can : CanChangeAll cs (rows_by wanted) (map view left)
   pub done : WithTo cs rows kept changes made wanted left rest
   pub fits : RowsFit cs rows → RowsFit cs made × RowsFit cs rest
-
-pub with_begins : (cs : ColumnList) (rows made : List Row) (kept changes : List Value) → made ≡ [] → AreRecords kept → CanChangeAll cs (rows_by kept) (map view changes) → IsWith cs rows kept changes made kept changes rows
-with_begins cs rows made kept changes e r c = record {
-  records = r;
-  can = c;
-  done = λ more h. subst (λ z. AreWith cs rows (rows_by kept) (map view changes) (z ++ more)) (sym e) h;
-  fits = λ h. (subst (RowsFit cs) (sym e) tt, h);
-}
 
 still_can : (cs : ColumnList) (wanted left : List Value) → CanChangeAll cs (rows_by wanted) (map view left) → CanChangeAll cs (rows_by (behind wanted)) (map view (behind left))
 still_can cs [] [] h = tt
@@ -146,20 +135,6 @@ pub with_fits : (cs : ColumnList) (rows made rest : List Row) (kept changes want
 with_fits cs rows made rest kept changes wanted left h f = table_fits cs made (h.fits (fit_table cs rows f)).0
 
 -- ---- the first of the rows that were kept
-
--- where no row or no change is left
-pub none_first : (cs : ColumnList) (r : Row) (kept changes : List Value) → changes ≡ [] → IsChangedFirst cs r (rows_by kept) (map view changes) None
-none_first cs r [] changes e = tt
-none_first cs r (q ∷ kept) changes e = subst (λ z. IsChangedFirst cs r (rows_by (q ∷ kept)) (map view z) None) (sym e) tt
-
--- where it is another row
-pub not_first : (cs : ColumnList) (r : Row) (kept changes : List Value) (v : Value) → view v ≡ record_of r → AreRecords kept → (IsFirstOf kept v → ⊥) → IsChangedFirst cs r (rows_by kept) (map view changes) None
-not_first cs r [] changes v e a n = tt
-not_first cs r (w ∷ ws) [] v e a n = tt
-not_first cs r (w ∷ ws) (d ∷ ds) v e a n = λ same. n (first_record w ws a ∙ ap record_of same ∙ sym e)
-  where
-    first_record : (w : Value) (ws : List Value) → AreRecords (w ∷ ws) → view w ≡ record_of (row_named no_columns (view w))
-    first_record w ws a = cc
 
 -- where it is that row, it can be changed
 pub first_can : (cs : ColumnList) (r : Row) (kept changes others : List Value) (v d : Value) (start rows : List Row) → changes ≡ d ∷ others → start ≡ [] → rows ≡ start ++ rows_in (view d) → view v ≡ record_of r → IsFirstOf kept v →

@@ -1,7 +1,6 @@
 -- How the row of a number is found and changed.
-use Rattle.std.specs.Prelude.{◌≡◌, ℕ, ◌++◌, List, [], ◌∷◌, Option, Some, None, Ok, MatchOption, MatchResult, option_map, slice_get}
+use Rattle.std.specs.Prelude.{◌≡◌, ℕ, List, [], ◌∷◌, Option, Some, None, Ok, MatchOption, MatchResult, option_map, slice_get}
 use Rattle.std.specs.List.{find}
-use Rattle.fx_data.specs.declared.comparisons.Cmp.TheVariants.{Eq}
 use Rattle.fx_data.specs.declared.values.Value.{Value}
 use Rattle.fx_data.specs.Values.{Data}
 use Rattle.fx_data.specs.ValueView.{view}
@@ -15,34 +14,15 @@ use Rattle.fx_trees.specs.declared.schema.TableShape.{TableShape}
 use Rattle.fx_trees.specs.Lawful.{IsLawfulTable}
 use Rattle.fx_trees.specs.SourceTypes.{columns_of}
 use Rattle.fx_typing.specs.LawfulTypes.{AreLawfulColumns}
-use Rattle.fx_value.specs.Keys.{key_bytes}
 use Rattle.row_keeper.specs.declared.rows.Put.{Put}
 use Rattle.row_keeper.specs.declared.rows.Put.TheVariants.{Id, NoRow, Refused}
-use Rattle.row_queries.specs.Conditions.{compares}
-use Rattle.row_queries.specs.TableRows.{IsRowOf, id_value}
-use Rattle.row_queries.specs.declared.queries.Query.{Query}
-use Rattle.row_queries.specs.declared.ranges.KeyRange.{KeyRange}
+use Rattle.row_queries.specs.TableRows.{IsRowOf}
 use Rattle.row_queries.specs.declared.rows.Row.{Row}
 use Rattle.fx_deeds.specs.Changed.{IsRowChanged}
 use Rattle.fx_deeds.specs.Deeds.{Answers, id_of, named_id, row_at}
 use Rattle.fx_deeds.specs.Fitting.{AreOfSome}
 use Rattle.fx_deeds.specs.RowValues.{cells_in, changed_cells, not_found, rule_error, values_among}
 use Rattle.fx_deeds.specs.State.{State}
-
--- the range of one key alone: up to the first bytes after it
-abbrev pub only : List ℕ → KeyRange
-only key = record { from = key; upto = Some (key ++ 0 ∷ []) }
-
--- the row of a number
-abbrev pub one_row : ℕ → ℕ → Query
-one_row table id = record {
-  table = table;
-  column = 0;
-  ranges = only (key_bytes (id_value id)) ∷ [];
-  test = compares Eq 0 (id_value id);
-  order = None;
-  take = None;
-}
 
 -- the cells of the first of some records, if there is one
 abbrev pub first_cells : List Column → List Fields → Option (List Data)

@@ -1,13 +1,13 @@
 -- The average of numbers, of which totals tell.
-use Rattle.std.proofs.Common.{◌≡◌, ◌≢◌, ◌∙◌, ℕ, suc, ◌+◌, ◌<◌, ℤ, pos, ◌+ℤ◌, ◌≤ℤ◌, List, [], ◌∷◌, length, Option, Some, None, Err, refl, ap, sym, subst, arith}
+use Rattle.std.proofs.Common.{◌≡◌, ◌≢◌, ◌∙◌, ℕ, suc, ◌+◌, ℤ, pos, ◌+ℤ◌, ◌≤ℤ◌, List, [], ◌∷◌, length, Option, Some, Err, refl, sym, subst, arith}
 use Rattle.std.proofs.lemmas.Int.{ints}
 use Rattle.std.proofs.lemmas.List.Elements.{recursion_from_All}
 use Rattle.std.specs.List.{All, AllByRecursion, Contains, fold}
 use Rattle.std.specs.Prelude.{MatchOption}
-use Rattle.fx_builtins.specs.Folds.{IsSum, average_of, total}
+use Rattle.fx_builtins.specs.Folds.{IsSum}
 use Rattle.fx_data.specs.declared.faults.Kind.TheVariants.{Numeric}
 use Rattle.fx_data.specs.declared.aggregates.Totals.{Totals}
-use Rattle.fx_number.specs.Decimal.{IsInRange, rounded}
+use Rattle.fx_number.specs.Decimal.{IsInRange}
 use Rattle.fx_value.specs.Aggregates.{IsLeast, IsWithin, SumsUp, sum_of}
 
 -- the sum of numbers in range is in that of so many, also behind others
@@ -37,29 +37,6 @@ sums_within zs t m n x y s e f i j v w =
     let a : MatchOption (Some m) (zs ≡ []) (λ x. Contains zs x × All (λ z. x ≤ℤ z) zs) = subst (λ (o : Option ℤ). MatchOption o (zs ≡ []) (λ x. Contains zs x × All (λ z. x ≤ℤ z) zs)) e s.has_least in
     let b : MatchOption (Some n) (zs ≡ []) (λ x. Contains zs x × All (λ z. z ≤ℤ x) zs) = subst (λ (o : Option ℤ). MatchOption o (zs ≡ []) (λ x. Contains zs x × All (λ z. z ≤ℤ x) zs)) f s.has_greatest in
     rw (s.count, s.sum) (all_within zs (all_between zs m n a.1 b.1 h k))
-
--- there are some
-pub some_counted : (zs : List ℤ) (t : Totals) (m : ℤ) → SumsUp zs t → t.least ≡ Some m → 0 < t.count
-some_counted zs t m s e =
-    let a : MatchOption (Some m) (zs ≡ []) (λ x. Contains zs x × All (λ z. x ≤ℤ z) zs) = subst (λ (o : Option ℤ). MatchOption o (zs ≡ []) (λ x. Contains zs x × All (λ z. x ≤ℤ z) zs)) e s.has_least in
-    let l = a.0.1 in
-    let c = s.count in
-    omega arith
-
--- their average
-pub average_is : (zs : List ℤ) (t : Totals) (r : Option ℤ) → SumsUp zs t → 0 < t.count → r ≡ Some (rounded t.sum t.count) → r ≡ average_of zs
-average_is [] t r s l e = let c = s.count in absurd (omega arith)
-average_is (z ∷ zs) t r s l e = e ∙ ap (λ x. Some (rounded x t.count)) s.sum ∙ ap (λ n. Some (rounded (total (z ∷ zs)) n)) s.count
-
--- none of no numbers
-none_of : (zs : List ℤ) → zs ≡ [] → None ≡ average_of zs
-none_of zs e = rw e refl
-
-pub no_least : (zs : List ℤ) (t : Totals) → SumsUp zs t → t.least ≡ None → None ≡ average_of zs
-no_least zs t s e = none_of zs (subst (λ (o : Option ℤ). MatchOption o (zs ≡ []) (λ x. Contains zs x × All (λ z. x ≤ℤ z) zs)) e s.has_least)
-
-pub no_greatest : (zs : List ℤ) (t : Totals) → SumsUp zs t → t.greatest ≡ None → None ≡ average_of zs
-no_greatest zs t s e = none_of zs (subst (λ (o : Option ℤ). MatchOption o (zs ≡ []) (λ x. Contains zs x × All (λ z. z ≤ℤ x) zs)) e s.has_greatest)
 
 -- a sum that is out of range
 pub sum_out : (zs : List ℤ) (t : Totals) (x : ℤ) (cs : List ℕ) → SumsUp zs t → t.count ≢ 0 → x ≡ t.sum → ¬ IsInRange x → cs ≡ [] → IsSum zs (Err Numeric) × (cs ≡ [])

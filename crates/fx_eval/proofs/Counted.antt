@@ -1,4 +1,5 @@
 -- How many rows lie in the ranges of a condition.
+use Rattle.std.proofs.lemmas.Option.{same_Some}
 use Rattle.std.proofs.Common.{◌≡◌, ◌∙◌, ℕ, zero, suc, ◌+◌, List, [], ◌∷◌, length, Bool, true, false, Option, Some, None, ap, refl, sym, subst, arith}
 use Rattle.std.specs.Prelude.{cond, if◌then◌else◌, option_map, slice_get, unwrap_or}
 use Rattle.std.specs.List.{All, filter, list_any}
@@ -8,7 +9,6 @@ use Rattle.fx_data.specs.Types.{Shape, numbers}
 use Rattle.fx_data.specs.Values.{Data, blank}
 use Rattle.fx_eval.specs.Laws.{AreHeld}
 use Rattle.fx_eval.specs.Visits.{AskedTables, InRanges, lies_in}
-use Rattle.fx_plan.proofs.Placing.{some_is}
 use Rattle.fx_plan.proofs.Testing.{value_scalar}
 use Rattle.fx_plan.specs.declared.plans.Sketch.{Sketch}
 use Rattle.fx_plan.specs.declared.ranges.Reach.{Reach}
@@ -34,7 +34,7 @@ typed_from i (c ∷ cs) test k e = by (is_reached c (suc i) test) (λ q. typed_f
     Later = first_reached (suc (suc i)) cs test ≡ Some k → (j : ℕ) × (d : Column) × (k ≡ suc (suc i) + j) × (slice_get cs j ≡ Some d)
 
     by : (b : Bool) → Later → (if b then Some (suc i) else first_reached (suc (suc i)) cs test) ≡ Some k → (j : ℕ) × (d : Column) × (k ≡ suc i + j) × (slice_get (c ∷ cs) j ≡ Some d)
-    by true later q = let same : suc i ≡ k = some_is (suc i) k q in (0, c, omega (arith, same), refl)
+    by true later q = let same : suc i ≡ k = same_Some (suc i) k q in (0, c, omega (arith, same), refl)
     by false later q =
         let r = later q in
         let same : k ≡ suc (suc i) + r.0 = r.2 in
@@ -48,18 +48,18 @@ reached_typed t test k e = by (is_empty (comparisons 0 test)) e
         let r = typed_from 0 t.columns test k q in
         let same : k ≡ suc r.0 = let s : k ≡ 1 + r.0 = r.2 in omega (arith, s) in
         (shape r.1.ty, subst (λ (j : ℕ). column_type t j ≡ Some (shape r.1.ty)) (sym same) (ap (λ (o : Option Column). option_map (λ (c : Column). shape c.ty) o) r.3))
-    by false q = let same : 0 ≡ k = some_is 0 k q in (numbers, subst (λ (j : ℕ). column_type t j ≡ Some numbers) same refl)
+    by false q = let same : 0 ≡ k = same_Some 0 k q in (numbers, subst (λ (j : ℕ). column_type t j ≡ Some numbers) same refl)
 
 -- ---- a row's value in a column
 
 cell_fits : (cs : List Column) (ds : List Data) (k : ℕ) (u : Shape) → AreCellsOf cs ds → option_map (λ (c : Column). shape c.ty) (slice_get cs k) ≡ Some u → fits_in (unwrap_or (slice_get ds k) blank) u ≡ true
 cell_fits [] ds k u h e = absurd cc
 cell_fits (c ∷ cs) [] k u h e = absurd h
-cell_fits (c ∷ cs) (d ∷ ds) zero u h e = subst (λ (s : Shape). fits_in d s ≡ true) (some_is (shape c.ty) u e) h.1
+cell_fits (c ∷ cs) (d ∷ ds) zero u h e = subst (λ (s : Shape). fits_in d s ≡ true) (same_Some (shape c.ty) u e) h.1
 cell_fits (c ∷ cs) (d ∷ ds) (suc k) u h e = cell_fits cs ds k u h.2 e
 
 value_fits : (t : TableShape) (r : Row) (k : ℕ) (u : Shape) → IsRowOf t r → column_type t k ≡ Some u → fits_in (value_at (values_of r) k) u ≡ true
-value_fits t r zero u h e = let q : numbers ≡ u = some_is numbers u e in subst (λ (s : Shape). fits_in (value_at (values_of r) zero) s ≡ true) q refl
+value_fits t r zero u h e = let q : numbers ≡ u = same_Some numbers u e in subst (λ (s : Shape). fits_in (value_at (values_of r) zero) s ≡ true) q refl
 value_fits t r (suc k) u h e = cell_fits t.columns r.cells k u h.1 e
 
 proper_at : (ds : List Data) (k : ℕ) → All IsProper ds → IsProper (value_at ds k)
@@ -98,6 +98,6 @@ count_same t p q same (r ∷ rows) held = by (p r) (q r) (same r (All-head (IsHe
 -- so many rows lie in the ranges of a query expression
 pub one_count : (w : AskedTables) (s : Sketch) (ds : List Data) (m n : ℕ) → AreHeld w → InRanges w s ds m → InRanges w s ds n → m ≡ n
 one_count w s ds m n held h k =
-    let same : h.0 ≡ k.0 = some_is h.0 k.0 (sym h.2 ∙ k.2) in
+    let same : h.0 ≡ k.0 = same_Some h.0 k.0 (sym h.2 ∙ k.2) in
     let reach : IsReachBy (list_any is_fault ds) h.0 (filled ds s.test) k.1 = subst (λ (t : TableShape). IsReachBy (list_any is_fault ds) t (filled ds s.test) k.1) (sym same) k.3 in
     h.4 ∙ count_same h.0 (lies_in h.1) (lies_in k.1) (reach_by_same (list_any is_fault ds) h.0 (filled ds s.test) h.1 k.1 h.3 reach) (rows_at w.rows s.table) (held s.table h.0 h.2) ∙ sym k.4

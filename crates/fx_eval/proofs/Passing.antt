@@ -1,11 +1,9 @@
 -- What an evaluation leaves as it was, and what is ready there still.
-use Rattle.std.proofs.Common.{◌≡◌, List, [], ◌∷◌, ◌++◌, map, Option, Some, None, refl, ap, sym, subst, ◌∙◌, arith}
+use Rattle.std.proofs.Common.{◌≡◌, Option, Some, None, refl, sym, subst, ◌∙◌, arith}
 use Rattle.fx_base.proofs.Silences.{goes_two, later_then}
 use Rattle.fx_base.specs.Silence.{Goes, IsLost}
 use Rattle.fx_base.specs.Telling.{Stays}
 use Rattle.fx_data.specs.Types.{Shape}
-use Rattle.fx_data.specs.declared.values.Value.{Value}
-use Rattle.fx_data.specs.ValueView.{view}
 use Rattle.fx_data.specs.Values.{Data}
 use Rattle.fx_eval.specs.Moments.{Moment, Went}
 use Rattle.fx_env.specs.Scopes.{Fixed, Held, around}
@@ -57,15 +55,3 @@ heard_before a b w f h = heard_back (IsLost a.marks b.marks) a.told b.told f w.t
 pub heard_told : {A : Type 0} (x : Option A) → IsHeard x x
 heard_told None = tt
 heard_told (Some a) = refl
-
--- the rows without the one that was added
-pub popped : (xs : List Value) (x : Value) (ds : List Data) (d : Data) → map view (xs ++ x ∷ []) ≡ ds ++ d ∷ [] → map view xs ≡ ds
-popped [] x [] d e = refl
-popped [] x (a ∷ []) d e = absurd cc
-popped [] x (a ∷ b ∷ ds) d e = absurd cc
-popped (y ∷ []) x [] d e = absurd cc
-popped (y ∷ z ∷ xs) x [] d e = absurd cc
-popped (y ∷ xs) x (a ∷ ds) d e =
-    let first : view y ≡ a = cc in
-    let rest : map view (xs ++ x ∷ []) ≡ ds ++ d ∷ [] = cc in
-    ap (λ z. z ∷ map view xs) first ∙ ap (λ zs. a ∷ zs) (popped xs x ds d rest)

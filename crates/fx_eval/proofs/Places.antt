@@ -2,9 +2,8 @@
 use Rattle.std.proofs.Common.{◌≡◌, ◌≤◌, ℕ, suc, ◌%◌, List, [], ◌∷◌, length, Bool, true, false, refl, ap, sym, subst, arith}
 use Rattle.std.specs.Prelude.{nat_eq, nat_le, ◌||◌, ◌&&◌, if◌then◌else◌}
 use Rattle.std.proofs.lemmas.Bool.{leb-true, eqb-true, eq-eqb}
-use Rattle.fx_trees.specs.Rows.{row_of, inner_at, ended_at, takes_at, takes_count, is_ended, is_within}
+use Rattle.fx_trees.specs.Rows.{row_of, inner_at, ended_at, takes_count, is_ended, is_within}
 use Rattle.fx_trees.specs.declared.functions.Fun.{Fun}
-use Rattle.fx_trees.specs.declared.functions.Fun.TheVariants as fun
 use Rattle.fx_trees.specs.declared.rows.Ending.{Ending}
 use Rattle.fx_trees.specs.declared.rows.Ending.TheVariants as ending
 use Rattle.fx_trees.specs.declared.rows.Row.{Row}
@@ -28,28 +27,8 @@ inner_behind P r i b c d =
     (by_choice P (nat_eq (suc i) 1) r.second (if nat_eq (suc i % 2) 0 then r.third else r.fourth) b
     (by_choice P (nat_eq (suc i % 2) 0) r.third r.fourth c d))
 
-inner_everywhere : (P : Takes → Type 0) (r : Row) (i : ℕ) → P r.first → P r.second → P r.third → P r.fourth → P (inner_at r i)
-inner_everywhere P r i a b c d =
-    by_choice P (nat_eq i 0) r.first (if nat_eq i 1 then r.second else (if nat_eq (i % 2) 0 then r.third else r.fourth)) a
-    (by_choice P (nat_eq i 1) r.second (if nat_eq (i % 2) 0 then r.third else r.fourth) b
-    (by_choice P (nat_eq (i % 2) 0) r.third r.fourth c d))
-
--- what holds of each place
-everywhere : (P : Takes → Type 0) (r : Row) (n i : ℕ) → P takes.Branch → P r.first → P r.second → P r.third → P r.fourth → P (takes_at r n i)
-everywhere P r n i e a b c d = by r.ending
-  where
-    by : (x : Ending) → P (ended_at x r n i)
-    by ending.Branch = by_choice P (nat_eq (suc i) n) takes.Branch (inner_at r i) e (inner_everywhere P r i a b c d)
-    by ending.Open = inner_everywhere P r i a b c d
-    by ending.Whole = inner_everywhere P r i a b c d
-
 abbrev IsSettled : Takes → Type 0
 IsSettled k = standing_of k ≡ (if is_inner k then inside else plain)
-
--- a part of a call stands in the scope of a row, or where the whole stands
-pub settled : (f : Fun) (n i : ℕ) → IsSettled (takes_at (row_of f) n i)
-settled fun.Filter n i = everywhere IsSettled (row_of fun.Filter) n i refl refl refl refl refl
-settled f n i = everywhere IsSettled (row_of f) n i refl refl refl refl refl
 
 -- ---- how many parts
 or_second : (a b : Bool) → a ≡ false → (a || b) ≡ true → b ≡ true

@@ -3,6 +3,7 @@ use Rattle.std.proofs.Common.{◌≡◌, ◌≢◌, ◌<◌, ◌≤◌, ◌+◌,
 use Rattle.std.specs.Prelude.{IfSome, IsSomeAnd, ◌||◌, option_map, slice_get}
 use Rattle.std.specs.List.{All, AllByRecursion, list_any}
 use Rattle.std.proofs.lemmas.List.Elements.{recursion_from_All, All-from_recursion}
+use Rattle.std.proofs.lemmas.Option.{same_Some}
 use Rattle.fx_base.specs.Silence.{Goes, IsLater, IsLost, Marks}
 use Rattle.fx_base.specs.Telling.{Stays}
 use Rattle.fx_data.specs.declared.faults.Fault.{Fault}
@@ -51,7 +52,7 @@ use Rattle.fx_trees.specs.Term as top
 use Rattle.fx_typing.specs.Acts.{acts, any_acts}
 use Rattle.fx_typing.specs.WellTyped.{AllStand, AreTyped, Context, first_type, parts_count, row_type}
 use Rattle.fx_value.specs.Fits.{fits_in}
-use Rattle.fx_plan.proofs.Placing.{column_typed, lawful_at, some_is}
+use Rattle.fx_plan.proofs.Placing.{column_typed, fit_many, lawful_at}
 use Rattle.fx_plan.proofs.Wholes.{fit_rows, rows_back}
 use Rattle.fx_plan.specs.Constants.{HaveTypes, ReadsTables, SketchesCanPlan, in_row, row_shape}
 use Rattle.fx_plan.specs.Consumers.{AreTotalsOf, CountsAreValues, FirstsAreValues, FoundAreValues, ScansAreFirstRows, ScansAreValues, TotalsAreValues, over_query}
@@ -66,6 +67,7 @@ use Rattle.row_queries.specs.Laws.{RowsFit}
 use Rattle.row_queries.specs.Queries.{CanTotal, IsOfNumbers, IsQuery, first_fault, given_of, outcome_on, rows_or_fault}
 use Rattle.row_queries.specs.RowTests.{HasNoFaults, HaveNoFaults, IsNoFault}
 use Rattle.row_queries.specs.TableRows.{IsRowOf, record_of, rows_at, table_of}
+use Rattle.fx_plan.proofs.Sound.{no_fault_at}
 
 -- ---- constants
 
@@ -98,12 +100,6 @@ all_fit law types told s (t ∷ ts) (u ∷ us) h [] k = absurd k
 all_fit law types told s (t ∷ ts) (u ∷ us) h (d ∷ ds) k = (ready_fits law types told s t u h.0 d k.0, all_fit law types told s ts us h.1 ds k.1)
 all_fit law types told s [] (u ∷ us) h ds k = absurd h
 all_fit law types told s (t ∷ ts) [] h ds k = absurd h
-
-pub fit_many : (ds : List Data) (us : List Shape) → AreFit ds us → length ds ≡ length us
-fit_many [] [] h = refl
-fit_many (d ∷ ds) (u ∷ us) h = ap suc (fit_many ds us h.1)
-fit_many [] (u ∷ us) h = absurd h
-fit_many (d ∷ ds) [] h = absurd h
 
 lawful_in : (c : Context) (t : Term) (u : Shape) → Lawfully c t u → IsLawfulType u
 lawful_in c (of h ts) u l = l.1.0
@@ -362,7 +358,7 @@ module _ (scans : ScansAreValues) (firsts : ScansAreFirstRows) (counts : CountsA
       let m = a.3.1 in
       let p = planned h.0 None a.0 m.0 m.1 h.3 a.1 a.2 m.2 in
       let column = h.4 in
-      let same : column.0 ≡ m.0 = some_is column.0 m.0 (sym column.1 ∙ p.is_table) in
+      let same : column.0 ≡ m.0 = same_Some column.0 m.0 (sym column.1 ∙ p.is_table) in
       let named : column_of m.0 (length s.rows) Number h.1 ≡ Some i = subst (λ (x : TableShape). column_of x (length s.rows) Number h.1 ≡ Some i) same column.2 in
       let z = totals here shapes m.0 h.0 h.1 k a.0 m.1 i a.3.0 p named m.3 in
       called (over_query (fun_of f) h.0 (cons h.1 nil)) h.2 (folded f h.0 h.1 z.0 (a.3.2 z.0 z.1) z.2)
@@ -535,19 +531,6 @@ constants_smaller f x s t d k cs a e =
     subst (λ (xs : List Term). terms_size (all xs) < term_size t) (sym e) (demand_smaller (length s.rows) f.schema.tables d k t a.demand)
 
 -- ---- tests without errors
-
-first_false : (a b : Bool) → (a || b) ≡ false → a ≡ false
-first_false true b e = absurd cc
-first_false false b e = refl
-
-second_false : (a b : Bool) → (a || b) ≡ false → b ≡ false
-second_false true b e = absurd cc
-second_false false b e = e
-
-no_fault_at : (ds : List Data) (i : ℕ) → list_any is_fault ds ≡ false → is_fault (value_at ds i) ≡ false
-no_fault_at [] i e = refl
-no_fault_at (d ∷ ds) zero e = first_false (is_fault d) (list_any is_fault ds) e
-no_fault_at (d ∷ ds) (suc i) e = no_fault_at ds i (second_false (is_fault d) (list_any is_fault ds) e)
 
 no_error : (d : Data) → is_fault d ≡ false → IsNoFault d
 no_error (fault k cs) e = absurd cc

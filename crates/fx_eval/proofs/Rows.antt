@@ -32,7 +32,7 @@ use Rattle.fx_tables.specs.Unions.{is_fault}
 use Rattle.fx_value.specs.Columns.{Row}
 use Rattle.fx_trees.specs.Term.{Term, Terms, of, cons, all, over}
 use Rattle.fx_value.specs.Fits.{fits_in}
-use Rattle.fx_typing.specs.WellTyped.{Context, AreTyped, AllStand, Stands, Standing, plain, inside, bound, catching, context_for, first_type, head_of, parts_count, standing_at, standing_of}
+use Rattle.fx_typing.specs.WellTyped.{Context, AreTyped, AllStand, Stands, Standing, plain, inside, bound, catching, context_for, first_type, parts_count, standing_at, standing_of}
 
 abbrev Types : Type 0
 Types = Source → Option Shape
@@ -83,9 +83,6 @@ table_ready types s f t ts u r =
 
 pub table_can : (types : Types) (s : Held) (f : Fun) (t : Term) (ts : List Term) → CanEvaluate types s (of (over f) (cons t (all ts))) → CanEvaluate types s t
 table_can types s f t ts r = (r.1.typed.1.0, table_ready types s f t ts r.0 r.1)
-
-pub is_over : (types : Types) (s : Held) (f : Fun) (ts : Terms) → CanEvaluate types s (of (over f) ts) → head_of f ≡ over f
-is_over types s f ts r = r.1.typed.2.0
 
 -- its columns
 table_columns : (types : Types) (s : Held) (f : Fun) (t : Term) (ts : List Term) (u : Shape) → (r : IsReady types s (of (over f) (cons t (all ts))) u) →

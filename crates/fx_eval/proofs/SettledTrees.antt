@@ -7,7 +7,7 @@ use Rattle.fx_eval.specs.declared.demands.Demand.{Demand}
 use Rattle.fx_eval.specs.declared.demands.Demand.TheVariants as demand
 use Rattle.fx_eval.specs.declared.demands.Fold.{Fold}
 use Rattle.fx_eval.specs.declared.demands.Fold.TheVariants as fold
-use Rattle.fx_eval.proofs.Queried.{fit_many, setting_of}
+use Rattle.fx_eval.proofs.Queried.{setting_of}
 use Rattle.fx_eval.proofs.Ready.{suits_inside}
 use Rattle.fx_eval.specs.Demands.{IsAskedFor, IsDemand, SettledAreReady, SettledAreSmall, SettledAreValues, fun_of, settled_in}
 use Rattle.fx_eval.specs.Parts.{inner}
@@ -34,6 +34,7 @@ use Rattle.fx_typing.specs.Acts.{acts}
 use Rattle.fx_typing.specs.WellTyped.{Context, plain, standing_at}
 use Rattle.fx_plan.proofs.Retyping.{table_replaced}
 use Rattle.fx_plan.specs.Settled.{AreFittingFor, SearchesAreWorth, SearchesHaveTypes, SettledAreNoMore, SettledAreWorth, SettledHaveTypes, call_settled, query_settled, search_settled}
+use Rattle.fx_plan.proofs.Placing.{fit_many}
 
 abbrev Types : Type 0
 Types = Source → Option Shape

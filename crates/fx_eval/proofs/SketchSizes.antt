@@ -1,9 +1,10 @@
 -- The constants of a query expression are smaller than it is.
 use Rattle.std.proofs.Common.{◌≡◌, ◌∙◌, ℕ, ◌+◌, ◌<◌, ◌≤◌, suc, List, [], ◌∷◌, ◌++◌, Bool, true, false, Option, Some, None, ap, refl, subst, arith, if◌then◌else◌}
 use Rattle.std.specs.Prelude.{slice_get, option_map, option_and_then, is_some}
+use Rattle.std.proofs.lemmas.Option.{same_Some}
 use Rattle.fx_data.specs.declared.comparisons.Cmp.{Cmp}
 use Rattle.fx_plan.specs.declared.plans.Sketch.{Sketch}
-use Rattle.fx_plan.specs.Outlines.{Outline, always, flag, constant, compares, is_blank, starts, contains, all_of, any_of, opposite, outline_list}
+use Rattle.fx_plan.specs.Outlines.{Outline, always, flag, constant, compares, is_blank, starts, contains, all_of, any_of, outline_list}
 use Rattle.fx_plan.specs.QueryExpressions.{along, behind, beside, called, called_with_one, called_with_two, column_of, compared, compared_with, comparison_by, filtered, is_constant, is_falling, negated, pattern_by, pattern_of, patterns_of, plain_column, sketch_of, sorted, sorted_by, turned, with_constant}
 use Rattle.fx_trees.specs.declared.functions.Form.TheVariants as form
 use Rattle.fx_trees.specs.declared.functions.Fun.{Fun}
@@ -15,7 +16,7 @@ use Rattle.fx_trees.specs.declared.schema.TableShape.{TableShape}
 use Rattle.fx_trees.specs.declared.sources.Source.TheVariants as source
 use Rattle.fx_trees.specs.Term.{Term, Terms, of, nil, cons, Top, all, term_size, terms_size}
 use Rattle.fx_trees.specs.Term as top
-use Rattle.fx_plan.proofs.Placing.{in_front, joined, some_is, some_map, some_then}
+use Rattle.fx_plan.proofs.Placing.{in_front, joined, negated_same, some_map, some_then}
 
 abbrev weight : List Term → ℕ
 weight ds = terms_size (all ds)
@@ -68,11 +69,6 @@ module _ (k : ℕ) where
   call_falls t f (cons x (cons y nil)) ds o es e = let h = pair_falls t f x y ds o es e in omega (arith, h)
   call_falls t f (cons x (cons y (cons z zs))) ds o es e = absurd cc
 
-  negated_same : (p : List Outline × List Term) (o : Outline) (es : List Term) → negated p ≡ Some (o, es) → p.1 ≡ es
-  negated_same ([], ds) o es e = absurd cc
-  negated_same (x ∷ [], ds) o es e = ap (λ p. p.1) (some_is (opposite x, ds) (o, es) e)
-  negated_same (x ∷ y ∷ xs, ds) o es e = absurd cc
-
   mutual
     pattern_falls : (t : TableShape) (x : Term) (ds : List Term) (o : Outline) (es : List Term) → pattern_of t k x ds ≡ Some (o, es) → weight es ≤ weight ds + suc (term_size x)
     pattern_falls t (of h cs) ds o es e = by (is_constant k (of h cs)) (λ os fs q. patterns_fall t cs ds os fs q) e
@@ -96,12 +92,12 @@ module _ (k : ℕ) where
 
         by : (b : Bool) → Go → (if b then Some (with_constant constant (of h cs) ds) else pattern_by t k h cs ds (patterns_of t k cs ds)) ≡ Some (o, es) →
             weight es ≤ weight ds + suc (term_size (of h cs))
-        by true go q = kept constant (of h cs) ds o es (some_is (with_constant constant (of h cs) ds) (o, es) q)
+        by true go q = kept constant (of h cs) ds o es (same_Some (with_constant constant (of h cs) ds) (o, es) q)
         by false go q = let l = heads h go q in omega (arith, l)
 
     patterns_fall : (t : TableShape) (xs : Terms) (ds : List Term) (os : List Outline) (es : List Term) → patterns_of t k xs ds ≡ Some (os, es) → weight es ≤ weight ds + terms_size xs
     patterns_fall t nil ds os es e =
-        let same : ds ≡ es = ap (λ p. p.1) (some_is ([], ds) (os, es) e) in
+        let same : ds ≡ es = ap (λ p. p.1) (same_Some ([], ds) (os, es) e) in
         subst (λ (z : List Term). weight z ≤ weight ds + 0) same (omega arith)
     patterns_fall t (cons x xs) ds os es e =
         let m = some_then (λ (p : Outline × List Term). option_map (in_front p.0) (patterns_of t k xs p.1)) (pattern_of t k x ds) (os, es) e in

@@ -1,5 +1,6 @@
 -- What visits no rows: columns, and conditions with values in the places of their constants. And the constants of a query
 -- expression's sketch are those that stand in it.
+use Rattle.std.proofs.lemmas.Option.{same_Some}
 use Rattle.std.proofs.Common.{◌≡◌, ◌∙◌, ◌≤◌, ℕ, suc, ◌+◌, List, [], ◌∷◌, ◌++◌, length, Bool, true, false, Option, Some, None, ap, refl, sym, subst, arith, if◌then◌else◌}
 use Rattle.std.specs.Prelude.{◌&&◌, cond, not, nat_eq, slice_get, option_map, is_some}
 use Rattle.std.specs.List.{filter}
@@ -12,7 +13,7 @@ use Rattle.fx_plan.specs.declared.plans.Sketch.{Sketch}
 use Rattle.fx_plan.specs.Outlines.{Outline, always, flag, constant, compares, is_blank, starts, contains, all_of, any_of, opposite, outline_list, value_at}
 use Rattle.fx_plan.specs.QueryExpressions.{along, behind, beside, called, called_with_one, called_with_two, column_of, compared, compared_with, comparison_by, filtered, is_constant, is_falling, negated, pattern_by, pattern_of, patterns_of, plain_column, sketch_of, sorted, sorted_by, turned as changed_over, with_constant}
 use Rattle.fx_plan.specs.Settled.{as_value, by_head, condition_settled, conditions_settled, query_settled, under}
-use Rattle.fx_plan.proofs.Placing.{column_typed, in_front, joined, plain_is, some_is, some_map, some_then}
+use Rattle.fx_plan.proofs.Placing.{column_typed, in_front, joined, plain_is, some_map, some_then}
 use Rattle.fx_semantics.specs.Around.{Around, record_of}
 use Rattle.fx_semantics.specs.Around.{catching as around_caught, inside as inside_of}
 use Rattle.fx_semantics.specs.Rows.{rows_in}
@@ -357,7 +358,7 @@ module _ (w : AskedTables) (k : ℕ) where
 
   negated_same : (p : List Outline × List Term) (o : Outline) (es : List Term) → negated p ≡ Some (o, es) → p.1 ≡ es
   negated_same ([], ds) o es e = absurd cc
-  negated_same (x ∷ [], ds) o es e = ap (λ p. p.1) (some_is (opposite x, ds) (o, es) e)
+  negated_same (x ∷ [], ds) o es e = ap (λ p. p.1) (same_Some (opposite x, ds) (o, es) e)
   negated_same (x ∷ y ∷ xs, ds) o es e = absurd cc
 
   mutual
@@ -385,12 +386,12 @@ module _ (w : AskedTables) (k : ℕ) where
 
         by : (b : Bool) → is_constant k (of h cs) ≡ b → Go → (if b then Some (with_constant constant (of h cs) ds) else pattern_by t k h cs ds (patterns_of t k cs ds)) ≡ Some (o, es) →
             IsCondition (of h cs) ds es
-        by true c go q = constant_is (of h cs) ds es c (ap (λ (p : Outline × List Term). p.1) (some_is (with_constant constant (of h cs) ds) (o, es) q))
+        by true c go q = constant_is (of h cs) ds es c (ap (λ (p : Outline × List Term). p.1) (same_Some (with_constant constant (of h cs) ds) (o, es) q))
         by false c go q = heads h c go q
 
     pub patterns_are : (t : TableShape) (xs : Terms) (ds : List Term) (os : List Outline) (es : List Term) → patterns_of t k xs ds ≡ Some (os, es) → AreConditions xs ds es
     patterns_are t nil ds os es e =
-        subst (λ (zs : List Term). AreConditions nil ds zs) (ap (λ (p : List Outline × List Term). p.1) (some_is ([], ds) (os, es) e)) (none_are ds)
+        subst (λ (zs : List Term). AreConditions nil ds zs) (ap (λ (p : List Outline × List Term). p.1) (same_Some ([], ds) (os, es) e)) (none_are ds)
     patterns_are t (cons x xs) ds os es e =
         let m = some_then (λ (p : Outline × List Term). option_map (in_front p.0) (patterns_of t k xs p.1)) (pattern_of t k x ds) (os, es) e in
         let z = some_map (in_front m.0.0) (patterns_of t k xs m.0.1) (os, es) m.2 in
@@ -476,7 +477,7 @@ module _ (w : AskedTables) where
       by (Some s) e x =
           let none = i.still a x.0 x.2 in
           let ranges = x.3.2 in
-          let same : s.table ≡ m = some_is s.table m (sym (sketch_base w.shapes (length a.rows) (of h ts) s e) ∙ i.based) in
+          let same : s.table ≡ m = same_Some s.table m (sym (sketch_base w.shapes (length a.rows) (of h ts) s e) ∙ i.based) in
           let short = filter_short (lies_in ranges.1) (rows_at w.rows s.table) in
           let at : length (rows_at w.rows s.table) ≡ length (rows_at w.rows m) = ap (λ j. length (rows_at w.rows j)) same in
           let long : x.1 ≡ length (filter (lies_in ranges.1) (rows_at w.rows s.table)) = ranges.4 in

@@ -1,27 +1,21 @@
 -- One more part, condition or column in its turn.
-use Rattle.std.proofs.Common.{◌≡◌, ℕ, ◌+◌, ◌<◌, suc, List, [], ◌∷◌, length, get_or, drop, map, Bool, true, false, Option, Some, None, refl, sym, ap, subst, ◌∙◌, arith, if◌then◌else◌}
+use Rattle.std.proofs.Common.{◌≡◌, ℕ, suc, List, [], ◌∷◌, length, map, Bool, true, false, Option, Some, None, refl, sym, ap, subst, ◌∙◌, arith}
 use Rattle.std.specs.Prelude.{unwrap_or}
 use Rattle.std.specs.List.{find}
 use Rattle.std.proofs.lemmas.List.{length-map}
-use Rattle.fx_data.specs.Values.{Data, boolean, text}
+use Rattle.fx_data.specs.Values.{Data, boolean}
 use Rattle.fx_data.specs.ValueView.{view}
 use Rattle.fx_data.specs.declared.values.Value.{Value}
 use Rattle.fx_data.specs.declared.values.Value.TheVariants.{Boolean}
 use Rattle.fx_tables.proofs.FirstErrors.{found_passes}
-use Rattle.fx_tables.specs.RowCalls.{holds}
-use Rattle.fx_eval.specs.Given.{Given, once, each, IsName, given}
-use Rattle.fx_eval.specs.TableCalls.{AreFor, AreFormulas, AreNames, value_found, verdicts_behind, with_condition}
+use Rattle.fx_eval.specs.Given.{Given, each, given}
+use Rattle.fx_eval.specs.TableCalls.{AreFor, AreFormulas, verdicts_behind, with_condition}
 use Rattle.fx_eval.specs.declared.answers.Answers.{Answers}
 use Rattle.fx_value.specs.Columns.{Row}
 use Rattle.fx_tables.specs.Unions.{fault_or, is_fault}
 use Rattle.fx_value.proofs.JoinSteps.{left}
 
 -- ---- names
-pub first_name : (g : Given) (gs : List Given) → AreNames (g ∷ gs) → IsName (Some g) × AreNames gs
-first_name (once (text n)) gs h = (tt, h)
-first_name (once d) gs h = absurd h
-first_name (each ds) gs h = absurd h
-
 some_is : (g h : Given) → Some g ≡ Some h → g ≡ h
 some_is g h e = cc
 
@@ -53,18 +47,6 @@ verdict_step all vs left rest x ds ws e g m h =
     subst R (sym m) (subst Q (some_is (given x) (each ds) g) (subst P e h))
 
 -- ---- what is found
-found_from : (conditions : List Value) (i : ℕ) (c : Value) (vs rest : List Value) (v : Value) → i < length conditions → c ≡ get_or conditions i c → vs ≡ v ∷ rest →
-    value_found (map view (drop i conditions)) (map view vs) ≡ (if holds (view c) then view v else value_found (map view (drop (i + 1) conditions)) (map view rest))
-found_from conditions i c vs rest v l e q =
-    let P : List Value → Type 0 = λ zs. value_found (map view (drop i conditions)) (map view zs) ≡ (if holds (view c) then view v else value_found (map view (drop (i + 1) conditions)) (map view rest)) in
-    let Q : List Value → Type 0 = λ zs. value_found (map view zs) (view v ∷ map view rest) ≡ (if holds (view c) then view v else value_found (map view (drop (i + 1) conditions)) (map view rest)) in
-    subst P (sym q) (subst Q (sym (left conditions i c l e)) refl)
-
-pub found_here : (conditions : List Value) (i : ℕ) (c : Value) (vs rest : List Value) (v : Value) (all : Data) → i < length conditions → c ≡ get_or conditions i c → vs ≡ v ∷ rest → holds (view c) ≡ true →
-    value_found (map view (drop i conditions)) (map view vs) ≡ all → view v ≡ all
-found_here conditions i c vs rest v all l e q t h =
-    sym (found_from conditions i c vs rest v l e q ∙ ap (λ b. if b then view v else value_found (map view (drop (i + 1) conditions)) (map view rest)) t) ∙ h
-
 pub no_error_found : (ds : List Data) (b : Bool) (v d : Data) → v ≡ fault_or ds (boolean b) → is_fault v ≡ false → d ≡ fault_or ds d
 no_error_found ds b v d e f = by (find is_fault ds) (λ w q. found_passes ds w q) e
   where

@@ -1,6 +1,6 @@
 -- Turns of loops.
-use Rattle.std.proofs.Common.{◌≡◌, ℕ, zero, suc, ◌<◌, ◌≤◌, max, false, List, [], ◌∷◌, ◌++◌, length, refl, ap, ◌∙◌, Option, Some, None, arith, leb, le-leb}
-use Rattle.std.proofs.lemmas.Bool.Decides.{nat_tests}
+use Rattle.std.proofs.Common.{◌≡◌, ℕ, zero, suc, ◌<◌, ◌≤◌, max, List, [], ◌∷◌, ◌++◌, length, refl, ap, ◌∙◌, Option, Some, None, arith, le-leb}
+use Rattle.std.proofs.lemmas.Bool.{lt-leb}
 use Rattle.fx_trees.specs.declared.expr.Op.{Op}
 use Rattle.fx_trees.specs.Tree.{Tree, NamedTree, node, Head, none, more, forest, names_of, parts_of}
 use Rattle.fx_trees.specs.Tree as tree
@@ -49,11 +49,8 @@ comes_to_none turn w s (suc k, h, e) f = e ∙ ap (λ v. turned v s (loop turn k
 pub within_ok : (n : ℕ) (t : Tree) (d : ℕ) (rest : List Item) → d ≤ n → within n t d rest ≡ Some (t, d, rest)
 within_ok n t d rest h = rw (le-leb d n h) refl
 
-not_within : (d n : ℕ) → n < d → leb d n ≡ false
-not_within d n h = grind (arith, nat_tests)
-
 pub within_none : (n : ℕ) (t : Tree) (d : ℕ) (rest : List Item) → n < d → within n t d rest ≡ None
-within_none n t d rest h = rw (not_within d n h) refl
+within_none n t d rest h = rw (lt-leb d n h) refl
 
 -- turns of the lines
 pub left_over : (n : ℕ) (l : Left) (at : ℕ) (read : Reader) (s : Seen Tree) → operator_at l s.2 ≡ None → left_turn n l at read s ≡ Some None
@@ -71,7 +68,7 @@ left_fails n l at read s o us e f = rw (e, f) refl
 
 pub left_deep : (n : ℕ) (l : Left) (at : ℕ) (read : Reader) (s u : Seen Tree) (o : Op) (us : List Item) → operator_at l s.2 ≡ Some (o, us) → read us ≡ Some u → n < suc (max s.1 u.1) → left_turn n l at read s ≡ None
 unfolding left_turn
-left_deep n l at read s u o us e f h = rw (e, f, not_within (suc (max s.1 u.1)) n h) refl
+left_deep n l at read s u o us e f h = rw (e, f, lt-leb (suc (max s.1 u.1)) n h) refl
 
 pub tail_over : (n at : ℕ) (tail : List Item → Option (Head × List Item)) (s : Seen Tree) → tail s.2 ≡ None → tail_turn n at tail s ≡ Some None
 unfolding tail_turn
@@ -84,7 +81,7 @@ tail_on n at tail s h us e b = rw (e, le-leb (suc s.1) n b) refl
 
 pub tail_deep : (n at : ℕ) (tail : List Item → Option (Head × List Item)) (s : Seen Tree) (h : Head) (us : List Item) → tail s.2 ≡ Some (h, us) → n < suc s.1 → tail_turn n at tail s ≡ None
 unfolding tail_turn
-tail_deep n at tail s h us e b = rw (e, not_within (suc s.1) n b) refl
+tail_deep n at tail s h us e b = rw (e, lt-leb (suc s.1) n b) refl
 
 pub parts_over : (s : Separator) (read : Reader) (w : Seen (List Tree)) → between s w.2 ≡ None → parts_turn s read w ≡ Some None
 unfolding parts_turn

@@ -64,10 +64,6 @@ more_covers : (o : Option ℕ) (q m : ℕ) (zs : List ℕ) → OpenCovers o q m 
 more_covers None q m zs h = h
 more_covers (Some n) q m zs h = omega arith
 
-one_more : (o : Option ℕ) (q : ℕ) (zs : List ℕ) → begins q zs ≡ true → OpenCovers (more o) q 1 zs
-one_more None q zs h = h
-one_more (Some n) q zs h = omega arith
-
 closed_covers : (q : ℕ) (zs : List ℕ) → OpenCovers (closed_run q zs) q 0 zs
 closed_covers q [] = omega arith
 closed_covers q (z ∷ zs) = by (eqb z q) refl (open_run q zs)

@@ -1,6 +1,7 @@
 -- Two answers as one, and a walk over parts that keeps the lowest rule.
 use Rattle.std.proofs.Common.{◌≡◌, ℕ, List, [], ◌∷◌, ◌++◌, Bool, true, false, Result, Ok, Err, refl, sym, ap, subst, ◌∙◌, arith, ltb-true, ltb-false, if◌then◌else◌}
 use Rattle.std.specs.Prelude.{min, nat_lt}
+use Rattle.std.proofs.lemmas.List.{append-nil}
 use Rattle.fx_typing.specs.Parts.{lowest, all_or_lowest}
 use Rattle.fx_typing.proofs.Stops.{stops}
 use Rattle.fx_typing.specs.Answers.{Answers, Wrong}
@@ -71,24 +72,13 @@ turned (Err a) (Ok y) (Err c) = refl
 turned (Err a) (Err b) (Ok ys) = refl
 turned (Err a) (Err b) (Err c) = ap Err (min_turn a b c)
 
-none_behind : {Y : Type 0} (xs : List Y) → xs ++ [] ≡ xs
-none_behind [] = refl
-none_behind (x ∷ xs) = ap (λ zs. x ∷ zs) (none_behind xs)
-
 pub at_end : {Y : Type 0} (p : Result (List Y) ℕ) → onto p (Ok []) ≡ p
-at_end (Ok xs) = ap Ok (none_behind xs)
+at_end (Ok xs) = ap Ok (append-nil xs)
 at_end (Err n) = refl
 
 -- what is kept of a walk over parts: with what is behind it, it is the whole
 abbrev pub Keeps : {X Y A : Type 0} → (X → Result Y ℕ) → (A → List Y) → Result A Wrong → List X → Result (List Y) ℕ → Type 0
 Keeps {Y = Y} f view kept rest whole = (p : Result (List Y) ℕ) × Answers view p kept × (onto p (all_or_lowest f rest) ≡ whole)
-
-pub begins : {X Y A : Type 0} (f : X → Result Y ℕ) (view : A → List Y) (none : A) (all : List X) → view none ≡ [] → Keeps f view (Ok none) all (all_or_lowest f all)
-begins f view none all e = (Ok [], ap Ok (sym e), first (all_or_lowest f all))
-  where
-    first : {Y : Type 0} (r : Result (List Y) ℕ) → onto (Ok []) r ≡ r
-    first (Ok ys) = refl
-    first (Err n) = refl
 
 pub keeps_on : {X Y A : Type 0} (f : X → Result Y ℕ) (view : A → List Y) (kept new : Result A Wrong) (x : X) (now rest : List X) (whole : Result (List Y) ℕ) →
     now ≡ x ∷ rest → ((p : Result (List Y) ℕ) → Answers view p kept → Answers view (with_last p (f x)) new) → Keeps f view kept now whole → Keeps f view new rest whole

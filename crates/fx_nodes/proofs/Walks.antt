@@ -1,5 +1,6 @@
 -- How a walk over parts goes on, and where it stops.
 use Rattle.std.proofs.Common.{◌≡◌, ℕ, List, [], ◌∷◌, ◌++◌, map, Result, Ok, Err, refl, sym, ap, ◌∙◌}
+use Rattle.std.proofs.lemmas.List.{map_push}
 use Rattle.fx_data.specs.Types.{Shape}
 use Rattle.fx_trees.specs.Term.{Term}
 use Rattle.fx_trees.specs.ColumnLists.{and_then}
@@ -15,10 +16,6 @@ pub further : {Y : Type 0} (done : List Y) (y : Y) (r : Result (List Y) ℕ) →
 further done y (Ok ys) = ap Ok (last_then done y ys)
 further done y (Err e) = refl
 
-map_last : {A Y : Type 0} (to : A → Y) (done : List A) (y : A) → map to (done ++ y ∷ []) ≡ map to done ++ to y ∷ []
-map_last to [] y = refl
-map_last to (d ∷ done) y = ap (λ zs. to d ∷ zs) (map_last to done y)
-
 -- how a walk steps, where each part is taken on its own
 abbrev pub Steps : {X Y : Type 0} → (List X → Result (List Y) ℕ) → (X → Result Y ℕ) → Type 0
 Steps {X = X} F f = (x : X) (xs : List X) → F (x ∷ xs) ≡ and_then (f x) (λ y. behind (y ∷ []) (F xs))
@@ -27,7 +24,7 @@ Steps {X = X} F f = (x : X) (xs : List X) → F (x ∷ xs) ≡ and_then (f x) (�
 pub walk : {X Y A B : Type 0} (F : List X → Result (List Y) ℕ) (f : X → Result Y ℕ) → Steps F f → (from : B → X) (to : A → Y) (done new : List A) (x : B) (y : A) (now rest : List B) (whole : Result (List Y) ℕ) → now ≡ x ∷ rest → f (from x) ≡ Ok (to y) → new ≡ done ++ y ∷ [] → behind (map to done) (F (map from now)) ≡ whole → behind (map to new) (F (map from rest)) ≡ whole
 walk F f step from to done new x y now rest whole left e push inv =
     ap (λ l. behind (map to l) (F (map from rest))) push
-    ∙ ap (λ l. behind l (F (map from rest))) (map_last to done y)
+    ∙ ap (λ l. behind l (F (map from rest))) (map_push to done y)
     ∙ further (map to done) (to y) (F (map from rest))
     ∙ ap (behind (map to done)) (sym (ap (λ l. F (map from l)) left ∙ step (from x) (map from rest) ∙ ap (λ r. and_then r (λ z. behind (z ∷ []) (F (map from rest)))) e))
     ∙ inv

@@ -1,6 +1,7 @@
 -- From each place some tokens lead to an end, and so the answers hold.
-use Rattle.std.proofs.Common.{◌≡◌, suc, Bool, true, false, List, [], ◌∷◌, ◌++◌, take, refl, ap, ◌∙◌, Result, Ok, Err, IfOk}
+use Rattle.std.proofs.Common.{suc, List, [], ◌∷◌, ◌++◌, take, refl, ap, ◌∙◌, Result, Ok, Err, IfOk}
 use Rattle.std.specs.Prelude.{option_and_then}
+use Rattle.std.proofs.lemmas.Bool.{both_ways}
 use Rattle.fx_number.specs.declared.memory.Memory.{Memory}
 use Rattle.fx_lexer.specs.declared.token.Symbol.{Symbol}
 use Rattle.fx_lexer.specs.declared.token.Symbol.TheVariants as symbol
@@ -74,19 +75,16 @@ finish w state.Strand fs = let h = behind w fs in (token m.Closing ∷ h.0, h.1)
 finish w state.Entry fs = let h = behind w fs in (a_name ∷ mark symbol.Equal ∷ a_leaf ∷ h.0, h.1)
 finish w state.EntryEqual fs = let h = behind w fs in (mark symbol.Equal ∷ a_leaf ∷ h.0, h.1)
 
-apart : (b : Bool) → b ≡ false → b ≡ true → ⊥
-apart b e f = cc
-
 -- an answer of the reader, where it accepts what has P
 judges : (P : List Item → Type 0) (w : Whole) (s : State) → ((ts : List Item) → P ts → Ends w s [] ts) → ((ts : List Item) → Ends w s [] ts → P ts) → (xs : List Item) (v : Verdict) → Ended w s xs v → Judges P xs v
 judges P w s there back xs HasTree e = back xs e
 judges P w s there back xs (StopsAt i) e =
     let h = finish w e.place.0 e.place.1 in
     record {
-      none = λ p. apart (accepted w (run w s [] xs)) e.open_end (there xs p);
+      none = λ p. both_ways (accepted w (run w s [] xs)) e.open_end (there xs p);
       within = e.within;
       before = (h.0, back (take i xs ++ h.0) (ap (accepted w) (run_append w s [] (take i xs) h.0 ∙ ap (option_and_then (λ p. run w p.0 p.1 h.0)) e.so_far) ∙ h.1));
-      never = λ k us p. apart (accepted w (run w s [] (take (suc i) xs ++ us))) (ap (accepted w) (dead w s (take (suc i) xs) us (e.stuck k))) (there (take (suc i) xs ++ us) p);
+      never = λ k us p. both_ways (accepted w (run w s [] (take (suc i) xs ++ us))) (ap (accepted w) (dead w s (take (suc i) xs) us (e.stuck k))) (there (take (suc i) xs ++ us) p);
     }
 
 answers : (A B : Verdict → Type 0) (r : Result Verdict Memory) → ((v : Verdict) → A v → B v) → IfOk r A → IfOk r B

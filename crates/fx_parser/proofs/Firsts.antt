@@ -217,9 +217,6 @@ pub record SoFar (source : List ℕ) (ts : List Item) (found : List Named) (rest
   pub onward : (es : List Entry) → AreEntriesOf 64 rest es → AreEntriesOf 64 ts (entries ++ es)
   pub refuse : AreDeeper 64 rest → AreDeeper 64 ts
 
-pub start : (source : List ℕ) (ts : List Item) (found : List Named) → found ≡ [] → SoFar source ts found ts
-start source ts found e = record { entries = []; seen = e; onward = λ es h. h; refuse = λ h. h }
-
 pub go_on : (source : List ℕ) (ts : List Item) (found more_found : List Named) (rest others : List Item) (n : Named) → SoFar source ts found rest → IsFirst source rest n others → more_found ≡ found ++ n ∷ [] → SoFar source ts more_found others
 go_on source ts found more_found rest others n s f e = record {
   entries = s.entries ++ f.entry ∷ [];

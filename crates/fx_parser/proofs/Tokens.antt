@@ -1,6 +1,6 @@
 -- The token that begins at a byte.
 use Rattle.std.proofs.Common.{◌≡◌, ℕ, zero, suc, ◌+◌, ◌<◌, ◌≤◌, Bool, true, false, List, [], ◌∷◌, length, get_or, drop, cond, eqb, refl, ap, sym, ◌∙◌, subst, arith, Option, Some, None, Result, Ok, Err, IfOk}
-use Rattle.std.specs.Prelude.{IfSome, MatchOption}
+use Rattle.std.specs.Prelude.{IfSome}
 use Rattle.std.specs.Str.{chars, IsUtf8}
 use Rattle.std.proofs.lemmas.List.{at_drop_more, at_drop_all}
 use Rattle.fx_lexer.specs.declared.token.Token.{Token as Tok}
@@ -46,8 +46,3 @@ told_all (Err x) source at ts o h l e = h
 pub told_none : {E : Type 0} (r : Result (List ℕ) E) (source : List ℕ) (at : ℕ) → ((ts : List Tok) → Lexed (chars source) ts → ⊥) → IfOk r (λ w. (us : List Tok) → Lexed (chars source) us → w ≡ unexpected_words source at us)
 told_none (Ok w) source at n = λ us k. absurd (n us k)
 told_none (Err x) source at n = tt
-
--- a stack after its innermost was taken
-pub popped : {V : Type 0} (o : Option V) (a b : ℕ) → MatchOption o ((a ≡ 0) × (b ≡ 0)) (λ _. b + 1 ≡ a) → 0 < a → b < a
-popped None a b h n = let k = h.0 in absurd (omega arith)
-popped (Some v) a b h n = omega arith

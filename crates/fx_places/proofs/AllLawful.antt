@@ -11,7 +11,8 @@ use Rattle.fx_trees.specs.declared.deeds.Deed.TheVariants as deed
 use Rattle.fx_trees.specs.Term.{Term, Terms, of, nil, cons, Top}
 use Rattle.fx_trees.specs.Term as top
 use Rattle.fx_typing.specs.Acts.{is_acting}
-use Rattle.fx_typing.specs.WellTyped.{Context, Standing, plain, inside, bound, catching, IsDone, IsRuled, IsTyped, AreTyped, context_for, last_type, parts_count, row_type, standing_at, target_source}
+use Rattle.fx_typing.specs.WellTyped.{Context, IsDone, IsRuled, IsTyped, AreTyped, context_for, last_type, parts_count, standing_at, target_source}
+use Rattle.fx_semantics.proofs.Lawful.{context_lawful, types_more}
 
 -- ---- what acts
 last_lawful : (us : List Shape) (t : Shape) → AreLawfulTypes us → last_type us ≡ Some t → IsLawfulType t
@@ -53,22 +54,6 @@ node_lawful law c (top.act d) ts us t k n l w r = deed_lawful c d ts us t k r
 node_lawful law c h ts us t k n l w r = still_node law c h ts us t k n refl l w r
 
 -- ---- whole trees
-types_more : (ts : List Shape) (t : Shape) → AreLawfulTypes ts → IsLawfulType t → AreLawfulTypes (ts ++ t ∷ [])
-types_more [] t l k = (k, tt)
-types_more (u ∷ ts) t l k = (l.0, types_more ts t l.1 k)
-
-row_lawful : (t : Shape) → IsLawfulType t → IsLawfulType (row_type t)
-row_lawful (tables cs) l = l
-row_lawful t l = tt
-
-context_lawful : (st : Standing) (c : Context) (done : List Shape) → AreLawfulTypes done → IsLawfulContext c → IsLawfulContext (context_for st c done)
-context_lawful inside c [] l k = k
-context_lawful inside c (t ∷ ts) l k = record { of_sources = k.of_sources; of_scopes = types_more c.rows (row_type t) k.of_scopes (row_lawful t l.0); of_item = k.of_item }
-context_lawful bound c [] l k = k
-context_lawful bound c (t ∷ ts) l k = record { of_sources = k.of_sources; of_scopes = types_more c.rows t k.of_scopes l.0; of_item = k.of_item }
-context_lawful catching c ts l k = record { of_sources = k.of_sources; of_scopes = k.of_scopes; of_item = k.of_item }
-context_lawful plain c ts l k = k
-
 mutual
   tree_lawful : TypingsLawful → (c : Context) (t : Term) (s : Shape) (w : IsTyped c t s) → IsLawfulContext c → HasLawfulTypes t → IsLawfulTyping c t s w
   tree_lawful law c (of h ts) s w k l =

@@ -2,6 +2,7 @@
 use Rattle.std.proofs.Common.{◌≡◌, ℕ, suc, ◌++◌, List, [], ◌∷◌, Bool, true, false, not, nat_le, nat_lt, nat_eq, ◌%◌, length, take, drop, encode_utf8_all, Option, Some, None, is_some, Result, Ok, Err, Ordering, Less, Equal, Greater, nat_cmp, refl, sym, subst, ap, ◌∙◌, if◌then◌else◌}
 use Rattle.std.specs.Cmp.Lexicographic.{slice_cmp}
 use Rattle.std.specs.Ordering.{match_ordering}
+use Rattle.std.proofs.lemmas.List.{append-nil}
 use Rattle.fx_data.specs.Types.{Shape, blanks, records, tables, no_columns}
 use Rattle.fx_data.specs.Values.{boolean, number, text}
 use Rattle.fx_places.specs.Laws.{AdmittedIsPlaced}
@@ -309,12 +310,8 @@ admit_placed p s tree.list n qs k q = as_part_placed _ (then_quiet AllPlaced Tre
 admit_placed p s tree.woven n qs k q = as_part_placed (woven_by qs) (woven_placed qs (q (λ d m. refl)))
 
 -- ---- parts, and whole formulas
-ends : {A : Type 0} (xs : List A) → xs ++ [] ≡ xs
-ends [] = refl
-ends (x ∷ xs) = ap (λ ys. x ∷ ys) (ends xs)
-
 begun : (p : Place) (s : Setting) (h : Head) (n : ℕ) (done : List Part) (ts : Forest) (qs : List Part) → judge_parts p s h n done ts ≡ Ok qs → IsBegun done qs
-begun p s h n done none qs e = let k : done ≡ qs = cc in ([], ends done ∙ k)
+begun p s h n done none qs e = let k : done ≡ qs = cc in ([], append-nil done ∙ k)
 begun p s h n done (more t ts) qs e =
     let a = onward_ok (judge p (setting_at p.names s h n done) t) (λ q. judge_parts p s h n (done ++ q ∷ []) ts) qs e in
     let b = begun p s h n (done ++ a.0 ∷ []) ts qs a.2 in

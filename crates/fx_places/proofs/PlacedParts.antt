@@ -1,5 +1,6 @@
 -- Names, dots and functions make trees that act in their place of parts that do.
-use Rattle.std.proofs.Common.{◌≡◌, ℕ, suc, List, [], ◌∷◌, Bool, true, false, ◌||◌, length, codes, Option, Some, None, Result, Ok, Err, refl}
+use Rattle.std.proofs.Common.{◌≡◌, ℕ, suc, List, [], ◌∷◌, Bool, true, false, length, codes, Option, Some, None, Result, Ok, Err, refl}
+use Rattle.std.proofs.lemmas.Bool.{or_parts}
 use Rattle.fx_data.specs.Types.{Shape, blanks, records, tables, no_columns}
 use Rattle.fx_data.specs.Values.{text}
 use Rattle.fx_places.specs.Places.{IsPlaced, ArePlaced, is_for_all, may_act}
@@ -52,21 +53,17 @@ EachPlaced [] = Unit {0}
 EachPlaced (q ∷ qs) = PartPlaced q × EachPlaced qs
 
 -- ---- what doesn't act acts nowhere
-both_false : (a b : Bool) → (a || b) ≡ false → (a ≡ false) × (b ≡ false)
-both_false true b e = absurd cc
-both_false false b e = (refl, e)
-
 no_place : (h : Top) (ts : Terms) → acts (of h ts) ≡ false → acts (of h ts) ≡ true → may_act h ≡ true
 no_place h ts q e = absurd cc
 
 mutual
   pub quiet_placed : (t : Term) → acts t ≡ false → IsPlaced t
-  quiet_placed (of h ts) q = (no_place h ts q, quiets_placed ts (both_false (is_acting h) (any_acts ts) q).1)
+  quiet_placed (of h ts) q = (no_place h ts q, quiets_placed ts (or_parts (is_acting h) (any_acts ts) q).1)
 
   quiets_placed : (ts : Terms) → any_acts ts ≡ false → ArePlaced ts
   quiets_placed nil q = tt
   quiets_placed (cons t ts) q =
-      let k = both_false (acts t) (any_acts ts) q in
+      let k = or_parts (acts t) (any_acts ts) q in
       (quiet_placed t k.0, quiets_placed ts k.1)
 
 pub all_still : (xs : List (Term × Shape)) → AllQuiet xs → AllPlaced xs

@@ -1,5 +1,5 @@
 -- What a formula is worth is carried from where it stands to where else it may stand, if what its leaves give is.
-use Rattle.std.proofs.Common.{◌≡◌, ℕ, List, [], ◌∷◌, Bool, true, false, Option, Some}
+use Rattle.std.proofs.Common.{◌≡◌, ℕ, List, [], ◌∷◌, true, false, Option, Some}
 use Rattle.std.specs.Prelude.{slice_get}
 use Rattle.fx_data.specs.declared.faults.Kind.{Kind}
 use Rattle.fx_data.specs.Values.{Data, blank, number, text, boolean, date, rec, tab, fault}
@@ -14,13 +14,12 @@ use Rattle.fx_trees.specs.declared.functions.Fun.{Fun}
 use Rattle.fx_trees.specs.declared.functions.Fun.TheVariants as fun
 use Rattle.fx_tables.specs.Ends.{first_rows, last_rows}
 use Rattle.fx_tables.specs.RowCalls.{looked_up}
-use Rattle.fx_scalar.specs.declared.lazy_forms.Decision.{Decision}
-use Rattle.fx_scalar.specs.declared.lazy_forms.Decision.TheVariants.{Met, Unmet, Error}
-use Rattle.fx_scalar.specs.LazyForms.{ByDecision, ErrorOr, PassedOr, decision_of, equality}
+use Rattle.fx_scalar.specs.LazyForms.{decision_of, equality}
 use Rattle.fx_scalar.specs.ScalarFunctions.{is_blank}
 use Rattle.fx_value.specs.Columns.{Row}
 use Rattle.fx_trees.specs.Term.{Top}
 use Rattle.fx_trees.specs.Term as top
+use Rattle.fx_semantics.proofs.Wider.{by_decision, error_or, passed_or}
 
 -- where else a formula may stand, also in one more scope and where an error is caught
 module _ (R : Around → Around → Type 0)
@@ -64,25 +63,6 @@ module _ (R : Around → Around → Type 0)
   of_all Ps k a b m S h = (h.0, values Ps k a b m h.0 h.1, h.2)
 
   -- ---- where an error is the answer, and where a condition decides
-
-  error_or : (w : Data) (P Q : Type 0) (v : Data) → (P → Q) → ErrorOr w P v → ErrorOr w Q v
-  error_or (fault k cs) P Q v f h = h
-  error_or blank P Q v f h = f h
-  error_or (number z) P Q v f h = f h
-  error_or (text cs) P Q v f h = f h
-  error_or (boolean x) P Q v f h = f h
-  error_or (date z) P Q v f h = f h
-  error_or (rec fs) P Q v f h = f h
-  error_or (tab rs) P Q v f h = f h
-
-  by_decision : (d : Decision) (P P' Q Q' : Type 0) (v : Data) → (P → P') → (Q → Q') → ByDecision d P Q v → ByDecision d P' Q' v
-  by_decision Met P P' Q Q' v f g h = f h
-  by_decision Unmet P P' Q Q' v f g h = g h
-  by_decision (Error x) P P' Q Q' v f g h = h
-
-  passed_or : (x : Bool) (P P' Q : Type 0) → (P → P') → PassedOr x P Q → PassedOr x P' Q
-  passed_or true P P' Q f h = f h
-  passed_or false P P' Q f h = h
 
   caught_by : (w : Data) (F : Meaning) → Carries F → (a b : Around) → R a b → (P Q : Type 0) (v : Data) → (P → Q) →
       IsCaughtBy w F a P v → IsCaughtBy w F b Q v

@@ -1,5 +1,5 @@
 -- The values of a row by its columns' names, and by their numbers.
-use Rattle.std.proofs.Common.{◌≡◌, ◌≢◌, ℕ, suc, ◌+◌, List, [], ◌∷◌, length, map, Bool, true, false, bytes_eq, Option, Some, None, refl, sym, ap, ◌∙◌, arith}
+use Rattle.std.proofs.Common.{◌≡◌, ℕ, suc, ◌+◌, List, [], ◌∷◌, length, Bool, true, false, bytes_eq, Option, Some, None, refl, sym, ap, ◌∙◌, arith}
 use Rattle.std.specs.Prelude.{cond, nat_lt, not, option_map, position, if◌then◌else◌}
 use Rattle.std.specs.List.{position_or_len}
 use Rattle.std.proofs.lemmas.Bool.{ltb-true, ltb-false, lt-ltb, le-ltb}
@@ -16,6 +16,7 @@ use Rattle.fx_trees.specs.Lawful.{AreDistinct, DiffersFromAll, IsLawfulTable, id
 use Rattle.fx_value.specs.Coercion.{value_in}
 use Rattle.row_queries.specs.declared.rows.Row.{Row}
 use Rattle.row_queries.specs.TableRows.{AreCellsOf, IsRowOf, id_value, record_of, value_at, values_of, with_cells}
+use Rattle.row_queries.proofs.Lacking.{AllLack, Lacks, all_lack_one, all_lack_put, names_of}
 
 -- the value under a name
 abbrev under : List ℕ → Fields → Data
@@ -40,11 +41,6 @@ position_step {A} p x xs = by (p x)
     by true = ap (λ (b : Bool). cond b (Some 0) None) (lt-ltb 0 (suc (length xs)) (omega arith))
     by false = inner (nat_lt n (length xs)) refl
 
--- no field of this name
-abbrev Lacks : List ℕ → Fields → Type 0
-Lacks m [] = Unit {0}
-Lacks m (f ∷ fs) = (m ≢ f.0) × Lacks m fs
-
 choice_swap : {A : Type 0} (a b : Bool) (x y z : A) → (a ≡ true → b ≡ true → ⊥) → (if a then x else (if b then y else z)) ≡ (if b then y else (if a then x else z))
 choice_swap true true x y z n = absurd (n refl refl)
 choice_swap true false x y z n = refl
@@ -64,29 +60,6 @@ put_under n m d (f ∷ fs) l = by (is_lt (slice_cmp nat_cmp m f.0)) (put_under n
     by false h =
         ap (λ (x : Data). if bytes_eq f.0 n then f.1 else x) h
         ∙ choice_swap (bytes_eq f.0 n) (bytes_eq m n) f.1 d (under n fs) never
-
-lacks_put : (n m : List ℕ) (d : Data) (fs : Fields) → n ≢ m → Lacks n fs → Lacks n (with_field m d fs)
-lacks_put n m d [] a l = (a, tt)
-lacks_put n m d (f ∷ fs) a l = by (is_lt (slice_cmp nat_cmp m f.0)) (lacks_put n m d fs a l.1)
-  where
-    by : (b : Bool) → Lacks n (with_field m d fs) → Lacks n (if b then (m, d) ∷ f ∷ fs else f ∷ with_field m d fs)
-    by true k = (a, l)
-    by false k = (l.0, k)
-
-abbrev names_of : List Column → List (List ℕ)
-names_of = map (λ (c : Column). c.name)
-
-abbrev AllLack : List Column → Fields → Type 0
-AllLack [] fs = Unit {0}
-AllLack (c ∷ cs) fs = Lacks c.name fs × AllLack cs fs
-
-all_lack_put : (m : List ℕ) (d : Data) (cs : List Column) (fs : Fields) → DiffersFromAll m (names_of cs) → AllLack cs fs → AllLack cs (with_field m d fs)
-all_lack_put m d [] fs a l = tt
-all_lack_put m d (c ∷ cs) fs a l = (lacks_put c.name m d fs (λ e. a.0 (sym e)) l.0, all_lack_put m d cs fs a.1 l.1)
-
-all_lack_one : (m : List ℕ) (d : Data) (cs : List Column) → DiffersFromAll m (names_of cs) → AllLack cs ((m, d) ∷ [])
-all_lack_one m d [] a = tt
-all_lack_one m d (c ∷ cs) a = ((λ e. a.0 (sym e), tt), all_lack_one m d cs a.1)
 
 abbrev place_of : List ℕ → List Column → Option ℕ
 place_of n cs = position (λ (c : Column). bytes_eq c.name n) cs

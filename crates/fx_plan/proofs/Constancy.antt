@@ -1,8 +1,10 @@
 -- A constant is worth the same whatever row stands in the scope of its condition.
+use Rattle.std.specs.Cmp.{first_so, second_so}
 use Rattle.std.proofs.Common.{◌≡◌, ℕ, zero, suc, ◌⊎◌, inl, inr, List, [], ◌∷◌, ◌+◌, ◌++◌, length, true, false, Some, refl, sym, ap, subst, ◌∙◌}
 use Rattle.std.specs.Prelude.{nat_eq, not, slice_get}
 use Rattle.std.proofs.lemmas.Bool.{both_ways, eq-eqb}
 use Rattle.std.proofs.lemmas.List.{length-append}
+use Rattle.std.proofs.lemmas.Option.{same_Some}
 use Rattle.fx_data.specs.declared.faults.Kind.{Kind}
 use Rattle.fx_data.specs.Values.{Data}
 use Rattle.fx_plan.specs.QueryExpressions.{are_constant, is_barred, is_constant}
@@ -13,7 +15,7 @@ use Rattle.fx_trees.specs.declared.sources.Source.{Source}
 use Rattle.fx_trees.specs.Term.{Term, Terms, of, nil, cons, Top}
 use Rattle.fx_trees.specs.Term as top
 use Rattle.fx_plan.proofs.Carried.{AllCarry, Bears, Carries, node_carries}
-use Rattle.fx_plan.proofs.Placing.{first_true, got_last, got_more, not_barred, rest_true, some_is}
+use Rattle.fx_plan.proofs.Placing.{got_last, got_more, not_barred}
 
 -- the same around, but for the row of scope k
 pub record Agrees (k : ℕ) (a b : Around) : Type 0 where
@@ -24,7 +26,7 @@ pub record Agrees (k : ℕ) (a b : Around) : Type 0 where
   pub caught : a.caught ≡ b.caught
 
 split_last : (xs : List Data) (d : Data) (j : ℕ) (v : Data) → slice_get (xs ++ d ∷ []) j ≡ Some v → (slice_get xs j ≡ Some v) ⊎ ((j ≡ length xs) × (d ≡ v))
-split_last [] d zero v e = inr (refl, some_is d v e)
+split_last [] d zero v e = inr (refl, same_Some d v e)
 split_last [] d (suc j) v e = absurd cc
 split_last (x ∷ xs) d zero v e = inl e
 split_last (x ∷ xs) d (suc j) v e = by (split_last xs d j v e)
@@ -63,12 +65,12 @@ mutual
   pub constant_carries : (k : ℕ) (c : Term) → is_constant k c ≡ true → Carries (Agrees k) (agrees_inside k) (agrees_catching k) (meaning c)
   constant_carries k (of h cs) e =
       node_carries (Agrees k) (agrees_inside k) (agrees_catching k) h (meanings cs) (bears k h (not_barred (is_barred k h) (are_constant k cs) e))
-      (constants_carry k cs (rest_true (not (is_barred k h)) (are_constant k cs) e))
+      (constants_carry k cs (second_so (not (is_barred k h)) (are_constant k cs) e))
 
   constants_carry : (k : ℕ) (cs : Terms) → are_constant k cs ≡ true → AllCarry (Agrees k) (agrees_inside k) (agrees_catching k) (meanings cs)
   constants_carry k nil e = tt
   constants_carry k (cons c cs) e =
-      (constant_carries k c (first_true (is_constant k c) (are_constant k cs) e), constants_carry k cs (rest_true (is_constant k c) (are_constant k cs) e))
+      (constant_carries k c (first_so (is_constant k c) (are_constant k cs) e), constants_carry k cs (second_so (is_constant k c) (are_constant k cs) e))
 
 -- another row in the scope
 other_last : (xs : List Data) (d e : Data) (j : ℕ) (v : Data) → (j ≡ length xs → ⊥) → slice_get (xs ++ d ∷ []) j ≡ Some v → slice_get (xs ++ e ∷ []) j ≡ Some v

@@ -1,9 +1,11 @@
 -- What functions are worth that are answered over all rows of a query expression.
-use Rattle.std.proofs.Common.{◌≡◌, ℕ, zero, suc, List, [], ◌∷◌, length, map, take, Bool, true, false, Option, Some, None, refl, sym, ap, subst, ◌∙◌, cond}
+use Rattle.std.proofs.Common.{◌≡◌, ℕ, suc, List, [], ◌∷◌, length, map, take, Bool, true, false, Option, Some, None, refl, sym, ap, subst, ◌∙◌, cond}
 use Rattle.std.specs.Prelude.{MatchOption, option_map, unwrap_or}
 use Rattle.std.specs.List.{AllByRecursion, filter, find, list_any, zip}
 use Rattle.std.specs.Cmp.{IsTotalOrder}
 use Rattle.std.proofs.lemmas.List.Elements.{recursion_from_All}
+use Rattle.std.proofs.lemmas.List.{take-map}
+use Rattle.std.proofs.lemmas.Option.{same_Some}
 use Rattle.fx_builtins.specs.Folds.{average_of}
 use Rattle.fx_data.specs.Values.{Data, tab, row_list}
 use Rattle.fx_data.specs.declared.faults.Fault.{Fault}
@@ -28,7 +30,7 @@ use Rattle.fx_trees.specs.Lawful.{IsLawfulTable}
 use Rattle.fx_trees.specs.Term.{Term, Terms, nil, cons}
 use Rattle.fx_value.specs.Order.{order}
 use Rattle.fx_plan.proofs.Firsts.{first_of_table}
-use Rattle.fx_plan.proofs.Placing.{column_typed, in_front, some_is, some_then}
+use Rattle.fx_plan.proofs.Placing.{column_typed, in_front, some_then}
 use Rattle.fx_plan.proofs.Sound.{filled_sound, sound_holds}
 use Rattle.fx_plan.proofs.Testing.{patterns_test, values_worth}
 use Rattle.fx_plan.proofs.Wholes.{HasConstants, IsFiltered, IsReady, cell, each_key, filter_ready, filtered_so, fit_rows, given_whole, no_key_error, none_fails, plans_are_whole, query_worth, rows_back, whole, whole_filtered, whole_fits, whole_of}
@@ -59,17 +61,12 @@ scans_are_values total a ts t q s query rows answer p h =
     let r = given_rows (given_of query h.0) _ answer h.2 g.sound in
     subst (IsValue (around a) q) (sym (as_value t answer g.whole (r.0 ∙ g.given) r.1)) g.is_whole
 
-taken_map : {X Y : Type 0} (f : X → Y) (n : ℕ) (xs : List X) → take n (map f xs) ≡ map f (take n xs)
-taken_map f zero xs = refl
-taken_map f (suc n) [] = refl
-taken_map f (suc n) (x ∷ xs) = ap (λ ys. f x ∷ ys) (taken_map f n xs)
-
 pub scans_are_first_rows : IsTotalOrder order → ScansAreFirstRows
 scans_are_first_rows total a ts t q s n query rows answer p h =
     let g = plans_are_whole total a ts t q s (Some n) query rows h.0 p h.1 in
     let r = given_rows (given_of query h.0) _ answer h.2 g.sound in
     let is : table_or_fault t answer.rows answer.fault ≡ tab (row_list (take n (map (record_of t) g.whole))) =
-    as_value t answer (take n g.whole) (r.0 ∙ g.given) r.1 ∙ ap (λ rs. tab (row_list rs)) (sym (taken_map (record_of t) n g.whole)) in
+    as_value t answer (take n g.whole) (r.0 ∙ g.given) r.1 ∙ ap (λ rs. tab (row_list rs)) (sym (take-map (record_of t) n g.whole)) in
     subst (IsValue (around a) (first_rows n q)) (sym is) (first_of_table (around a) n q (map (record_of t) g.whole) g.is_whole)
 
 -- ---- a function of the rows
@@ -185,7 +182,7 @@ module _ (total : IsTotalOrder order) (t : TableShape) (lawful : IsLawfulTable t
 one_pattern : (t : TableShape) (k : ℕ) (c : Term) (ds es : List Term) (os : List Outline) → patterns_of t k (cons c nil) ds ≡ Some (os, es) → (o : Outline) × (os ≡ o ∷ [])
 one_pattern t k c ds es os e =
     let m = some_then (λ (p : Outline × List Term). option_map (in_front p.0) (patterns_of t k nil p.1)) (pattern_of t k c ds) (os, es) e in
-    (m.0.0, sym (ap (λ (p : List Outline × List Term). p.0) (some_is (in_front m.0.0 ([], m.0.1)) (os, es) m.2)))
+    (m.0.0, sym (ap (λ (p : List Outline × List Term). p.0) (same_Some (in_front m.0.0 ([], m.0.1)) (os, es) m.2)))
 
 pub found_are_values : IsTotalOrder order → FoundAreValues
 found_are_values total a ts t q c s query rows answer p h = (

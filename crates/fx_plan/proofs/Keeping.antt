@@ -3,16 +3,17 @@ use Rattle.std.proofs.Common.{◌≡◌, ℕ, suc, List, [], ◌∷◌, ◌++◌
 use Rattle.std.specs.Prelude.{◌%◌, nat_eq, not, ◌&&◌, option_map, slice_get, is_some, if◌then◌else◌}
 use Rattle.std.proofs.lemmas.List.{length-append}
 use Rattle.std.proofs.lemmas.Bool.{eq-eqb}
+use Rattle.std.proofs.lemmas.Option.{same_Some}
 use Rattle.fx_data.specs.declared.comparisons.Cmp.{Cmp}
 use Rattle.fx_data.specs.Values.{Data, boolean}
 use Rattle.fx_plan.specs.declared.plans.Sketch.{Sketch}
-use Rattle.fx_plan.specs.Outlines.{Outline, value_at, always, flag, constant, compares, is_blank, starts, contains, all_of, any_of, opposite, outline_list}
+use Rattle.fx_plan.specs.Outlines.{Outline, value_at, always, flag, constant, compares, is_blank, starts, contains, all_of, any_of, outline_list}
 use Rattle.fx_plan.specs.QueryExpressions.{along, behind, beside, called, called_with_one, called_with_two, column_of, compared, compared_with, comparison_by, filtered, is_constant, is_falling, negated, pattern_by, pattern_of, patterns_of, plain_column, sketch_of, sorted, sorted_by, turned, with_constant}
 use Rattle.fx_scalar.specs.LazyForms.{decision_of}
 use Rattle.fx_scalar.specs.ScalarFunctions.{is_blank as is_blank_value}
 use Rattle.fx_semantics.specs.Around.{Around, Meaning, AreEach, AreValues, inside, record_of}
 use Rattle.fx_semantics.specs.Forms.{IsAll, IsAny, IsCoalesced}
-use Rattle.fx_semantics.specs.Fresh.{IsCalled, IsValue, OfAll, OfOne, meaning, meanings}
+use Rattle.fx_semantics.specs.Fresh.{IsCalled, IsValue, OfAll, meaning, meanings}
 use Rattle.fx_semantics.specs.Rows.{IsMade, IsVerdict, rows_in}
 use Rattle.fx_value.specs.Columns.{Row}
 use Rattle.fx_trees.specs.declared.functions.Form.TheVariants as form
@@ -29,8 +30,9 @@ use Rattle.fx_trees.specs.declared.schema.TableShape.{TableShape}
 use Rattle.fx_trees.specs.declared.sources.Source.TheVariants as source
 use Rattle.fx_trees.specs.Term.{Term, Terms, of, nil, cons, Top}
 use Rattle.fx_trees.specs.Term as top
+use Rattle.fx_typing.proofs.RelatedSteps.{if_true}
 use Rattle.fx_plan.proofs.Constancy.{constant_stays}
-use Rattle.fx_plan.proofs.Placing.{column_typed, got_last, got_more, joined, plain_is, some_is, some_map, some_then}
+use Rattle.fx_plan.proofs.Placing.{column_typed, got_last, got_more, joined, negated_same, plain_is, some_map, some_then}
 use Rattle.fx_plan.proofs.Placing.{in_front as put_in_front}
 use Rattle.fx_plan.proofs.Testing.{values_worth}
 use Rattle.fx_plan.specs.Settings.{around}
@@ -80,15 +82,6 @@ called_imply : (b : Around) (f : Fun) (Ps Qs : List Meaning) → Implies b Ps Qs
 called_imply b fun.Coalesce Ps Qs i v h = coalesced_imply b Ps Qs i v h
 called_imply b f Ps Qs i v h = all_values_imply b Ps Qs i _ h
 
-one_implies : (b : Around) (Ps Qs : List Meaning) → Implies b Ps Qs → (R : Data → Type 0) → OfOne Ps b R → OfOne Qs b R
-one_implies b [] [] i R h = absurd h
-one_implies b (P ∷ []) (Q ∷ []) i R h = (h.0, i.0 h.0 h.1, h.2)
-one_implies b (P ∷ P' ∷ Ps) (Q ∷ Q' ∷ Qs) i R h = absurd h
-one_implies b [] (Q ∷ Qs) i R h = absurd i
-one_implies b (P ∷ Ps) [] i R h = absurd i
-one_implies b (P ∷ []) (Q ∷ Q' ∷ Qs) i R h = absurd i.1
-one_implies b (P ∷ P' ∷ Ps) (Q ∷ []) i R h = absurd i.1
-
 each_implies : (a : Around) (P Q : Meaning) → ((d v : Data) → P (inside a d) v → Q (inside a d) v) → (rows : List Row) (ds : List Data) → AreEach P a rows ds → AreEach Q a rows ds
 each_implies a P Q i [] [] h = tt
 each_implies a P Q i (r ∷ rs) (d ∷ ds) h = (i (record_of r) d h.0, each_implies a P Q i rs ds h.1)
@@ -99,10 +92,6 @@ each_implies a P Q i (r ∷ rs) [] h = absurd h
 
 same_number : (k : ℕ) → nat_eq k k ≡ true
 same_number k = eq-eqb k k refl
-
-if_true : {A : Type 0} (b : Bool) (x y : A) → b ≡ true → (if b then x else y) ≡ x
-if_true true x y e = refl
-if_true false x y e = absurd cc
 
 if_false : {A : Type 0} (b : Bool) (x y : A) → b ≡ false → (if b then x else y) ≡ y
 if_false true x y e = absurd cc
@@ -329,11 +318,6 @@ module _ (k : ℕ) (vs : List Data) (Kept : List Term → Term → Term → Type
         let m = bare_same flag (column_of t k Boolean x) ds o es e in
         subst (λ (zs : List Term). Settles x ds zs) m.2 (column_settles t x m.0 ds (column_typed t k Boolean x m.0 m.1).0)
 
-    negated_same : (p : List Outline × List Term) (o : Outline) (es : List Term) → negated p ≡ Some (o, es) → p.1 ≡ es
-    negated_same ([], ds) o es e = absurd cc
-    negated_same (x ∷ [], ds) o es e = ap (λ p. p.1) (some_is (opposite x, ds) (o, es) e)
-    negated_same (x ∷ y ∷ xs, ds) o es e = absurd cc
-
     mutual
       pub pattern_settles : (t : TableShape) (x : Term) (ds : List Term) (o : Outline) (es : List Term) → pattern_of t k x ds ≡ Some (o, es) → Settles x ds es
       pattern_settles t (of h cs) ds o es e = by (is_constant k (of h cs)) refl (λ os fs q. patterns_settle t cs ds os fs q) e
@@ -356,12 +340,12 @@ module _ (k : ℕ) (vs : List Data) (Kept : List Term → Term → Term → Type
           heads g c go q = absurd cc
 
           by : (b : Bool) → is_constant k (of h cs) ≡ b → Go → (if b then Some (with_constant constant (of h cs) ds) else pattern_by t k h cs ds (patterns_of t k cs ds)) ≡ Some (o, es) → Settles (of h cs) ds es
-          by true c go q = constant_settles (of h cs) ds es c (ap (λ (p : Outline × List Term). p.1) (some_is (with_constant constant (of h cs) ds) (o, es) q))
+          by true c go q = constant_settles (of h cs) ds es c (ap (λ (p : Outline × List Term). p.1) (same_Some (with_constant constant (of h cs) ds) (o, es) q))
           by false c go q = heads h c go q
 
       pub patterns_settle : (t : TableShape) (xs : Terms) (ds : List Term) (os : List Outline) (es : List Term) → patterns_of t k xs ds ≡ Some (os, es) → AllSettle xs ds es
       patterns_settle t nil ds os es e =
-          subst (λ (zs : List Term). AllSettle nil ds zs) (ap (λ (p : List Outline × List Term). p.1) (some_is ([], ds) (os, es) e)) (nil_settles ds)
+          subst (λ (zs : List Term). AllSettle nil ds zs) (ap (λ (p : List Outline × List Term). p.1) (same_Some ([], ds) (os, es) e)) (nil_settles ds)
       patterns_settle t (cons x xs) ds os es e =
           let m = some_then (λ (p : Outline × List Term). option_map (put_in_front p.0) (patterns_of t k xs p.1)) (pattern_of t k x ds) (os, es) e in
           let n = some_map (put_in_front m.0.0) (patterns_of t k xs m.0.1) (os, es) m.2 in

@@ -1,6 +1,8 @@
 -- A query expression whose parts take first rows where they aren't taken whole is sketched as before, with such constants.
 use Rattle.std.proofs.Common.{◌≡◌, ℕ, suc, List, [], ◌∷◌, ◌++◌, length, map, Bool, true, false, not, Option, Some, None, refl, sym, ap, subst, ◌∙◌, arith}
 use Rattle.std.specs.Prelude.{◌&&◌, ◌||◌, ◌%◌, nat_eq, slice_get, option_map, option_and_then, is_some, if◌then◌else◌}
+use Rattle.std.proofs.lemmas.Option.{same_Some}
+use Rattle.std.proofs.Math.Bool.{and-false, and-true}
 use Rattle.fx_data.specs.declared.comparisons.Cmp.{Cmp}
 use Rattle.fx_plan.specs.declared.plans.Sketch.{Sketch}
 use Rattle.fx_plan.specs.Outlines.{Outline, always, flag, constant, compares, is_blank, starts, contains, all_of, any_of, opposite, outline_list}
@@ -20,22 +22,14 @@ use Rattle.fx_trees.specs.declared.sources.Source.TheVariants as source
 use Rattle.fx_trees.specs.Term.{Term, Terms, of, nil, cons, Top}
 use Rattle.fx_trees.specs.Term as top
 use Rattle.fx_plan.specs.Sites.{is_formula}
-use Rattle.fx_plan.proofs.Placing.{condition_behind, in_front, joined, some_is, some_map, some_then}
+use Rattle.fx_plan.proofs.Placing.{condition_behind, in_front, joined, some_map, some_then}
 use Rattle.fx_plan.specs.Limited.{LimitedSketches, first_rows, limited, limited_sketch, parts_limited, takes_first_whole}
-
-and_true : (b : Bool) → (b && true) ≡ b
-and_true true = refl
-and_true false = refl
-
-and_false : (b : Bool) → (b && false) ≡ false
-and_false true = refl
-and_false false = refl
 
 module _ (ts : List TableShape) (n : ℕ) where
   -- ---- constants stay constants
 
   constant_rows : (j : ℕ) (x : Term) → is_constant j (first_rows n x) ≡ is_constant j x
-  constant_rows j x = and_true (is_constant j x)
+  constant_rows j x = and-true (is_constant j x)
 
   constant_capped : (j : ℕ) (b : Bool) (x : Term) → is_constant j (if b then first_rows n x else x) ≡ is_constant j x
   constant_capped j true x = constant_rows j x
@@ -110,7 +104,7 @@ module _ (ts : List TableShape) (n : ℕ) where
     behind_parts h m w p i nil = refl
     behind_parts h m w p i (cons c cs) =
         ap (λ b. cons (limited ts n (deeper b k) (w && false) c) (parts_limited ts n k h m w (suc (suc i)) cs)) (p i)
-        ∙ ap (λ b. cons (limited ts n (suc k) b c) (parts_limited ts n k h m w (suc (suc i)) cs)) (and_false w) ∙ ap (cons (lim c)) (behind_parts h m w p (suc i) cs)
+        ∙ ap (λ b. cons (limited ts n (suc k) b c) (parts_limited ts n k h m w (suc (suc i)) cs)) (and-false w) ∙ ap (cons (lim c)) (behind_parts h m w p (suc i) cs)
 
     many : (ds : List Term) → length (map lim ds) ≡ length ds
     many [] = refl
@@ -178,7 +172,7 @@ module _ (ts : List TableShape) (n : ℕ) where
     negated_limited : (p : List Outline × List Term) (o : Outline) (es : List Term) → negated p ≡ Some (o, es) → negated (p.0, map lim p.1) ≡ Some (o, map lim es)
     negated_limited ([], ds) o es e = absurd cc
     negated_limited (x ∷ [], ds) o es e =
-        let is : (opposite x, ds) ≡ (o, es) = some_is (opposite x, ds) (o, es) e in
+        let is : (opposite x, ds) ≡ (o, es) = same_Some (opposite x, ds) (o, es) e in
         λ i. Some ((is i).0, map lim (is i).1)
     negated_limited (x ∷ y ∷ xs, ds) o es e = absurd cc
 
@@ -236,12 +230,12 @@ module _ (ts : List TableShape) (n : ℕ) where
               pattern_of t k (lim (of h cs)) (map lim ds) ≡ Some (o, map lim es)
           by true c go q =
               constant_pattern t (lim (of h cs)) (map lim ds) (constant_limited k (suc k) false (of h cs) ∙ c)
-              ∙ ap Some (kept_limited constant (of h cs) ds o es (some_is (with_constant constant (of h cs) ds) (o, es) q))
+              ∙ ap Some (kept_limited constant (of h cs) ds o es (same_Some (with_constant constant (of h cs) ds) (o, es) q))
           by false c go q = heads h c go q
 
       pub patterns_limited : (t : TableShape) (xs : Terms) (ds : List Term) (os : List Outline) (es : List Term) → patterns_of t k xs ds ≡ Some (os, es) → patterns_of t k (lims xs) (map lim ds) ≡ Some (os, map lim es)
       patterns_limited t nil ds os es e =
-          let q : ([], ds) ≡ (os, es) = some_is ([], ds) (os, es) e in
+          let q : ([], ds) ≡ (os, es) = same_Some ([], ds) (os, es) e in
           λ i. Some ((q i).0, map lim (q i).1)
       patterns_limited t (cons x xs) ds os es e =
           let m = some_then (λ (p : Outline × List Term). option_map (in_front p.0) (patterns_of t k xs p.1)) (pattern_of t k x ds) (os, es) e in
@@ -257,7 +251,7 @@ module _ (ts : List TableShape) (n : ℕ) where
     -- the inside of a larger query expression
     inner : (h : Top) (cs : Terms) → limited ts n k true (of h cs) ≡ of h (parts_limited ts n k h (count_of cs) (takes_first_whole ts k (of h cs)) 0 cs)
     inner h cs = ap (λ b. if b then first_rows n (of h (parts_limited ts n k h (count_of cs) (takes_first_whole ts k (of h cs)) 0 cs))
-        else of h (parts_limited ts n k h (count_of cs) (takes_first_whole ts k (of h cs)) 0 cs)) (and_false (is_query ts k (of h cs)))
+        else of h (parts_limited ts n k h (count_of cs) (takes_first_whole ts k (of h cs)) 0 cs)) (and-false (is_query ts k (of h cs)))
 
     some_query : (h : Top) (cs : Terms) (s : Sketch) → sketch_of ts k (of h cs) ≡ Some s → takes_first_whole ts k (of h cs) ≡ true
     some_query h cs s e = ap (λ (o : Option Sketch). is_some o || takes_whole ts k (of h cs)) e

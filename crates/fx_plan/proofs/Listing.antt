@@ -3,6 +3,7 @@ use Rattle.std.proofs.Common.{◌≡◌, ℕ, suc, ◌+◌, ◌<◌, ◌≤◌, 
 use Rattle.std.proofs.Math.Seq.{drop-cons}
 use Rattle.std.proofs.lemmas.List.{append-nil}
 use Rattle.std.specs.Prelude.{Some, codes, unwrap_or}
+use Rattle.std.proofs.Math.Bool.{and-false, and-true}
 use Rattle.fx_trees.specs.declared.functions.Fun.{Fun}
 use Rattle.fx_trees.specs.declared.schema.TableShape.{TableShape}
 use Rattle.fx_trees.specs.Term.{Term, Terms, of, nil, cons, all, over, parts_of}
@@ -71,14 +72,6 @@ count_is : (cs : List Term) → count_of (all cs) ≡ length cs
 count_is [] = refl
 count_is (c ∷ cs) = ap suc (count_is cs)
 
-and_true : (b : Bool) → (b && true) ≡ b
-and_true true = refl
-and_true false = refl
-
-and_false : (b : Bool) → (b && false) ≡ false
-and_false true = refl
-and_false false = refl
-
 -- a call over a table: the table, and then the parts behind it
 module _ (ts : List TableShape) (p : Position) (f : Fun) (rows : Term) (parts : List Term) where
   placed : ℕ → Bool → Bool → Position
@@ -91,8 +84,8 @@ module _ (ts : List TableShape) (p : Position) (f : Fun) (rows : Term) (parts : 
       let many : suc (count_of (all parts)) ≡ length parts + 1 = omega (arith, h) in
       let whole : Bool = takes_whole ts p.depth (of (over f) (cons rows (all parts))) in
       let query : Bool = is_query ts p.depth (of (over f) (cons rows (all parts))) in
-      ap (λ b. placed (deeper (opens (over f) (suc (count_of (all parts))) (suc n)) p.depth) b (query && false)) (and_false whole)
-      ∙ ap (λ b. placed (deeper (opens (over f) (suc (count_of (all parts))) (suc n)) p.depth) false b) (and_false query)
+      ap (λ b. placed (deeper (opens (over f) (suc (count_of (all parts))) (suc n)) p.depth) b (query && false)) (and-false whole)
+      ∙ ap (λ b. placed (deeper (opens (over f) (suc (count_of (all parts))) (suc n)) p.depth) false b) (and-false query)
       ∙ ap (λ m. placed (deeper (opens (over f) m (suc n)) p.depth) false false) many
 
   over_uses :
@@ -104,7 +97,7 @@ module _ (ts : List TableShape) (p : Position) (f : Fun) (rows : Term) (parts : 
       let whole : Bool = takes_whole ts p.depth (of (over f) (cons rows (all parts))) in
       let query : Bool = is_query ts p.depth (of (over f) (cons rows (all parts))) in
       let first : placed p.depth (whole && true) (query && true) ≡ placed p.depth whole query =
-      ap (λ b. placed p.depth b (query && true)) (and_true whole) ∙ ap (λ b. placed p.depth whole b) (and_true query) in
+      ap (λ b. placed p.depth b (query && true)) (and-true whole) ∙ ap (λ b. placed p.depth whole b) (and-true query) in
       ap (λ q. uses_in ts q rows ++ uses_among ts (part_at ts p (of (over f) (cons rows (all parts)))) 1 (all parts)) first
       ∙ ap (λ us. uses_in ts (placed p.depth whole query) rows ++ us)
       (uses_behind ts (part_at ts p (of (over f) (cons rows (all parts)))) (stand_at (Formulas f (length parts + 1)) (within (function_name f) p)) others 0 (all parts))

@@ -2,6 +2,7 @@
 use Rattle.std.proofs.Common.{◌≡◌, ℕ, zero, suc, ◌+◌, ◌<◌, List, [], ◌∷◌, length, drop, drop-cons, get_or, refl, sym, ap, ◌∙◌, arith, Bool, true, false, not, ◌&&◌, ◌||◌, Option, Some, subst}
 use Rattle.std.proofs.Common.{◌⊎◌, inl, inr}
 use Rattle.std.specs.Prelude.{IsSomeAnd, slice_get, option_map}
+use Rattle.std.proofs.lemmas.Option.{same_Some}
 use Rattle.fx_data.specs.TypeView.{shape}
 use Rattle.fx_data.specs.Types.{Shape, numbers}
 use Rattle.fx_trees.specs.declared.schema.Column.{Column}
@@ -42,9 +43,6 @@ taken_at t test cs i c k h =
 
 -- ---- what was found
 
-some_is : {A : Type 0} (a b : A) → Some a ≡ Some b → a ≡ b
-some_is a b e = cc
-
 -- on `ID`
 pub found_id : (t : TableShape) (test : Condition) (s : Span) (r : Reach) → TakesComparisons t test → IsSpan true s (comparisons 0 test) → (r.column ≡ 0) × (r.ranges ≡ span_ranges true s) → IsReach t test r
 found_id t test s r k h e =
@@ -52,7 +50,7 @@ found_id t test s r k h e =
     let there : reached_column t test ≡ Some 0 = rw some refl in
     subst (λ (x : Option ℕ). IsReachOn x t test r) (sym there) (
       e.0,
-      λ u q. subst (λ (w : Shape). AreSought w (comparisons 0 test) r.ranges) (some_is numbers u q)
+      λ u q. subst (λ (w : Shape). AreSought w (comparisons 0 test) r.ranges) (same_Some numbers u q)
           (subst (λ (rs : List KeyRange). AreSought numbers (comparisons 0 test) rs) (sym e.1) (span_sought numbers s (comparisons 0 test) h (k zero numbers refl))),
     )
 
@@ -71,7 +69,7 @@ found_at t test cs i c n s r k a none first reached h q e =
       e.0,
       λ u w.
           let type : Some (shape c.ty) ≡ Some u = sym (type_of t cs i c a) ∙ subst (λ (m : ℕ). column_type t m ≡ Some u) same w in
-          subst (λ (x : Shape). AreSought x (comparisons (i + 1) test) r.ranges) (some_is (shape c.ty) u type)
+          subst (λ (x : Shape). AreSought x (comparisons (i + 1) test) r.ranges) (same_Some (shape c.ty) u type)
           (subst (λ (rs : List KeyRange). AreSought (shape c.ty) (comparisons (i + 1) test) rs) (sym ranges) (span_sought (shape c.ty) s (comparisons (i + 1) test) h (taken_at t test cs i c k a))),
     )
 

@@ -1,10 +1,12 @@
 -- A sketch of a well typed query expression can be planned, with constants that fit.
+use Rattle.std.specs.Cmp.{first_so, second_so}
 use Rattle.std.proofs.Common.{◌≡◌, ℕ, zero, suc, ◌<◌, ◌≤◌, List, [], ◌∷◌, ◌++◌, length, Bool, true, false, Option, Some, None, refl, sym, ap, subst, ◌∙◌, arith}
-use Rattle.std.specs.Prelude.{◌&&◌, ◌||◌, ◌%◌, not, nat_eq, bytes_eq, slice_get, option_map, option_and_then, position, IfSome, is_some, Result, Ok, if◌then◌else◌}
+use Rattle.std.specs.Prelude.{◌&&◌, ◌%◌, not, nat_eq, bytes_eq, slice_get, option_map, option_and_then, position, IfSome, is_some, Result, Ok, if◌then◌else◌}
 use Rattle.std.specs.List.{AllByRecursion}
-use Rattle.std.proofs.lemmas.Bool.{eqb-true}
+use Rattle.std.proofs.lemmas.Bool.{eqb-true, or_from}
 use Rattle.std.proofs.lemmas.List.Elements.{recursion_from_All}
 use Rattle.std.proofs.lemmas.List.Quantifiers.{position-Some}
+use Rattle.std.proofs.lemmas.Option.{same_Some}
 use Rattle.fx_data.specs.declared.comparisons.Cmp.{Cmp}
 use Rattle.fx_data.specs.TypeView.{shape}
 use Rattle.fx_data.specs.Types.{Shape, numbers, texts, booleans, dates, tables}
@@ -43,20 +45,23 @@ use Rattle.fx_plan.specs.Constants.{HasType, HaveTypes, ReadsTables, SketchesCan
 
 -- ---- options
 
-pub some_is : {A : Type 0} (a b : A) → Some a ≡ Some b → a ≡ b
-some_is a b e = cc
-
 pub some_then : {A B : Type 0} (f : A → Option B) (o : Option A) (b : B) → option_and_then f o ≡ Some b → (a : A) × (o ≡ Some a) × (f a ≡ Some b)
 some_then f None b e = absurd cc
 some_then f (Some a) b e = (a, refl, e)
 
 pub some_map : {A B : Type 0} (f : A → B) (o : Option A) (b : B) → option_map f o ≡ Some b → (a : A) × (o ≡ Some a) × (f a ≡ b)
 some_map f None b e = absurd cc
-some_map f (Some a) b e = (a, refl, some_is (f a) b e)
+some_map f (Some a) b e = (a, refl, same_Some (f a) b e)
 
 pub some_if : {A : Type 0} (b : Bool) (a c : A) → (if b then Some a else None) ≡ Some c → (b ≡ true) × (a ≡ c)
-some_if true a c e = (refl, some_is a c e)
+some_if true a c e = (refl, same_Some a c e)
 some_if false a c e = absurd cc
+
+-- what is turned round keeps its constants
+pub negated_same : (p : List Outline × List Term) (o : Outline) (es : List Term) → negated p ≡ Some (o, es) → p.1 ≡ es
+negated_same ([], ds) o es e = absurd cc
+negated_same (x ∷ [], ds) o es e = ap (λ p. p.1) (same_Some (opposite x, ds) (o, es) e)
+negated_same (x ∷ y ∷ xs, ds) o es e = absurd cc
 
 -- ---- constants that are kept
 
@@ -64,31 +69,20 @@ pub not_barred : (b c : Bool) → (not b && c) ≡ true → b ≡ false
 not_barred true c e = absurd cc
 not_barred false c e = refl
 
-pub rest_true : (b c : Bool) → (b && c) ≡ true → c ≡ true
-rest_true true c e = e
-rest_true false c e = absurd cc
-
-pub first_true : (b c : Bool) → (b && c) ≡ true → b ≡ true
-first_true true c e = refl
-first_true false c e = absurd cc
-
 never_acts : (k : ℕ) (h : Top) → is_barred k h ≡ false → is_acting h ≡ false
 never_acts k top.chain e = absurd cc
 never_acts k (top.act d) e = absurd cc
 never_acts k h e = refl
 
-neither : (a b : Bool) → a ≡ false → b ≡ false → (a || b) ≡ false
-neither a b e f = rw (e, f) refl
-
 mutual
   pub constant_quiet : (k : ℕ) (c : Term) → is_constant k c ≡ true → acts c ≡ false
   constant_quiet k (of h cs) e =
-      neither (is_acting h) (any_acts cs) (never_acts k h (not_barred (is_barred k h) (are_constant k cs) e)) (constants_quiet k cs (rest_true (not (is_barred k h)) (are_constant k cs) e))
+      or_from (is_acting h) (any_acts cs) (never_acts k h (not_barred (is_barred k h) (are_constant k cs) e)) (constants_quiet k cs (second_so (not (is_barred k h)) (are_constant k cs) e))
 
   constants_quiet : (k : ℕ) (cs : Terms) → are_constant k cs ≡ true → any_acts cs ≡ false
   constants_quiet k nil e = refl
   constants_quiet k (cons c cs) e =
-      neither (acts c) (any_acts cs) (constant_quiet k c (first_true (is_constant k c) (are_constant k cs) e)) (constants_quiet k cs (rest_true (is_constant k c) (are_constant k cs) e))
+      or_from (acts c) (any_acts cs) (constant_quiet k c (first_so (is_constant k c) (are_constant k cs) e)) (constants_quiet k cs (second_so (is_constant k c) (are_constant k cs) e))
 
 -- ---- the type that stands at each place of a pattern
 
@@ -140,7 +134,7 @@ there_fits : (ds : List Data) (us : List Shape) (i : ℕ) (u : Shape) → AreFit
 there_fits [] [] i u f e = absurd cc
 there_fits [] (w ∷ us) i u f e = absurd f
 there_fits (d ∷ ds) [] i u f e = absurd f
-there_fits (d ∷ ds) (w ∷ us) zero u f e = (subst (λ (z : Shape). fits_in d z ≡ true) (some_is w u e) f.0, omega arith)
+there_fits (d ∷ ds) (w ∷ us) zero u f e = (subst (λ (z : Shape). fits_in d z ≡ true) (same_Some w u e) f.0, omega arith)
 there_fits (d ∷ ds) (w ∷ us) (suc i) u f e = let r = there_fits ds us i u f.1 e in (r.0, omega (arith, r.1))
 
 mutual
@@ -191,7 +185,7 @@ so_many c (d ∷ ds) (u ∷ us) h = ap suc (so_many c ds us h.2)
 so_many c [] (u ∷ us) h = absurd h
 so_many c (d ∷ ds) [] h = absurd h
 
-fit_many : (ds : List Data) (us : List Shape) → AreFit ds us → length ds ≡ length us
+pub fit_many : (ds : List Data) (us : List Shape) → AreFit ds us → length ds ≡ length us
 fit_many [] [] h = refl
 fit_many (d ∷ ds) (u ∷ us) h = ap suc (fit_many ds us h.1)
 fit_many [] (u ∷ us) h = absurd h
@@ -253,7 +247,7 @@ pub named_within : (t : TableShape) (n : List ℕ) (i : ℕ) → column_named t 
 named_within t n i e = by (bytes_eq n id_name) e
   where
     by : (b : Bool) → (if b then Some 0 else option_map suc (position (λ (c : Column). bytes_eq c.name n) t.columns)) ≡ Some i → i ≤ length t.columns
-    by true q = let z : 0 ≡ i = some_is 0 i q in omega (arith, z)
+    by true q = let z : 0 ≡ i = same_Some 0 i q in omega (arith, z)
     by false q = let m = some_map suc (position (λ (c : Column). bytes_eq c.name n) t.columns) i q in let l = placed_at t.columns n m.0 m.1 in let z = m.2 in omega (arith, l, z)
 
 -- a column is one of the row of this scope, by its name
@@ -449,7 +443,7 @@ negated_made : (t : TableShape) (c : Context) (us : List Shape) (p : List Outlin
     AreMade t c us p.0 p.1 → negated p ≡ Some (o, es) → IsMade t c us o es
 negated_made t c us ([], ds) o es m e = absurd cc
 negated_made t c us (x ∷ [], ds) o es m e =
-    let own : (opposite x, ds) ≡ (o, es) = some_is (opposite x, ds) (o, es) e in
+    let own : (opposite x, ds) ≡ (o, es) = same_Some (opposite x, ds) (o, es) e in
     record {
       more = m.more;
       typed = subst (λ (xs : List Term). HaveTypes c xs (us ++ m.more)) (ap (λ q. q.1) own) m.typed;
@@ -508,13 +502,13 @@ mutual
 
       by : (b : Bool) → is_constant k (of h cs) ≡ b → Go → (if b then Some (with_constant constant (of h cs) ds) else pattern_by t k h cs ds (patterns_of t k cs ds)) ≡ Some (o, es) → IsMade t c us o es
       by true q go r =
-          kept_made t c us ds constant (of h cs) booleans o es typed own (constant_quiet k (of h cs) q) (λ vs i p. p) (some_is (with_constant constant (of h cs) ds) (o, es) r)
+          kept_made t c us ds constant (of h cs) booleans o es typed own (constant_quiet k (of h cs) q) (λ vs i p. p) (same_Some (with_constant constant (of h cs) ds) (o, es) r)
       by false q go r = heads h refl go r
 
   pub patterns_made : (t : TableShape) (c : Context) (k : ℕ) (us : List Shape) (xs : Terms) (ds : List Term) (os : List Outline) (es : List Term) →
       HaveTypes c ds us → AllOf c booleans xs → patterns_of t k xs ds ≡ Some (os, es) → AreMade t c us os es
   patterns_made t c k us nil ds os es typed own e =
-      let q : ([], ds) ≡ (os, es) = some_is ([], ds) (os, es) e in
+      let q : ([], ds) ≡ (os, es) = same_Some ([], ds) (os, es) e in
       let m = bare_made t c us ds always es typed (ap (λ p. p.1) q) (λ vs. tt) in
       record { more = m.more; typed = m.typed; placed = subst (λ (p : List Outline). ArePlaced t (us ++ m.more) (outline_list p)) (ap (λ p. p.0) q) tt }
   patterns_made t c k us (cons x xs) ds os es typed own e =
@@ -609,12 +603,12 @@ conditions_inside c t n m i u common (cons x xs) done us e w l a =
 -- ---- the three cases
 
 same_table : (o : Option TableShape) (t u : TableShape) → o ≡ Some t → o ≡ Some u → t ≡ u
-same_table o t u e f = some_is t u (sym e ∙ f)
+same_table o t u e f = same_Some t u (sym e ∙ f)
 
 whole_found : (c : Context) (ts : List TableShape) (n : ℕ) (u : Shape) (s : Sketch) → ReadsTables ts c → c.sources (source.Table n) ≡ Some u → whole_table ts n ≡ Some s → IsFound c ts u s
 whole_found c ts n u s k r e =
     let m = some_map (λ (t : TableShape). record { table = n; test = always; order = None; constants = [] }) (slice_get ts n) s e in
-    subst (IsFound c ts u) m.2 (record { table = m.0; is_table = m.1; type = some_is u (tables (columns_of m.0)) (sym r ∙ k n m.0 m.1); order = tt; types = []; constants = tt; placed = tt })
+    subst (IsFound c ts u) m.2 (record { table = m.0; is_table = m.1; type = same_Some u (tables (columns_of m.0)) (sym r ∙ k n m.0 m.1); order = tt; types = []; constants = tt; placed = tt })
 
 filter_found : (c : Context) (ts : List TableShape) (k : ℕ) (cs : Terms) (u : Shape) (s z : Sketch) → (f : IsFound c ts u s) → AllOf (in_row c f.table) booleans cs →
     filtered ts k cs s ≡ Some z → IsFound c ts u z
@@ -673,7 +667,7 @@ query_found c ts q u s k h e = absurd cc
 
 pub lawful_at : (ts : List TableShape) (i : ℕ) (t : TableShape) → AllByRecursion IsLawfulTable ts → slice_get ts i ≡ Some t → IsLawfulTable t
 lawful_at [] i t h e = absurd cc
-lawful_at (x ∷ ts) zero t h e = subst IsLawfulTable (some_is x t e) h.0
+lawful_at (x ∷ ts) zero t h e = subst IsLawfulTable (same_Some x t e) h.0
 lawful_at (x ∷ ts) (suc i) t h e = lawful_at ts i t h.1 e
 
 pub sketched : SketchesCanPlan

@@ -1,7 +1,9 @@
 -- A tree whose query expressions give what is taken of them has the types that it had.
+use Rattle.std.specs.Cmp.{first_so}
 use Rattle.std.proofs.Common.{◌≡◌, ℕ, zero, suc, List, [], ◌∷◌, ◌++◌, length, Bool, true, false, not, Option, Some, None, inl, refl, sym, ap, subst, ◌∙◌, arith}
 use Rattle.std.specs.Prelude.{◌&&◌, ◌||◌, Result, Ok, Err, is_some, if◌then◌else◌}
 use Rattle.std.proofs.lemmas.List.{length-append}
+use Rattle.std.proofs.Math.Bool.{or-false}
 use Rattle.fx_data.specs.Types.{Shape, blanks, numbers, records, tables, ColumnList}
 use Rattle.fx_data.specs.Values.{Data, text}
 use Rattle.fx_plan.specs.declared.plans.Sketch.{Sketch}
@@ -183,15 +185,11 @@ second_quiet : (a b : Bool) → (a || b) ≡ false → b ≡ false
 second_quiet true b e = absurd cc
 second_quiet false b e = e
 
-or_false : (b : Bool) → (b || false) ≡ b
-or_false true = refl
-or_false false = refl
-
 module _ (ts : List TableShape) (n : ℕ) where
   -- ---- nothing begins to act
 
   acts_capped : (b : Bool) (x : Term) → acts (if b then first_rows n x else x) ≡ acts x
-  acts_capped true x = or_false (acts x)
+  acts_capped true x = or-false (acts x)
   acts_capped false x = refl
 
   mutual
@@ -282,10 +280,6 @@ module _ (ts : List TableShape) (n : ℕ) where
   some_query None e = absurd cc
   some_query (Some s) e = (s, refl)
 
-  first_true : (a b : Bool) → (a && b) ≡ true → a ≡ true
-  first_true true b e = refl
-  first_true false b e = absurd cc
-
   -- parts, as they stand
   abbrev HaveParts : Context → Top → ℕ → List Shape → Terms → List Shape → Type 0
   HaveParts c h m done cs us = (v : AreTyped c h m done cs us) × AreLawfulTypings c h m done cs us v
@@ -311,7 +305,7 @@ module _ (ts : List TableShape) (n : ℕ) where
         subst (λ (m : ℕ). HaveParts c h m [] (parts_limited ts n k h (count_of cs) first 0 cs) us) many counted in
         capped_typed c (is_query ts k (of h cs) && not w) (of h (parts_limited ts n k h (count_of cs) first 0 cs)) u ((us, placed.0, rules), (t.1.0, placed.1)) t.1.0
         (λ e.
-        let s = some_query (sketch_of ts k (of h cs)) (first_true (is_query ts k (of h cs)) (not w) e) in
+        let s = some_query (sketch_of ts k (of h cs)) (first_so (is_query ts k (of h cs)) (not w) e) in
         let f = query_found c ts (of h cs) u s.0 r t s.1 in
         (columns_of f.table, f.type))
 

@@ -1,6 +1,7 @@
 -- A settled query expression has the types of the query expression.
 use Rattle.std.proofs.Common.{◌≡◌, ℕ, suc, List, [], ◌∷◌, ◌++◌, length, Bool, true, false, Some, None, inl, refl, sym, ap, subst, ◌∙◌}
 use Rattle.std.specs.Prelude.{Ok, is_some, option_map, slice_get, if◌then◌else◌}
+use Rattle.std.proofs.lemmas.Option.{same_Some}
 use Rattle.fx_data.specs.Types.{Shape, booleans, tables}
 use Rattle.fx_data.specs.Values.{Data}
 use Rattle.fx_plan.specs.declared.plans.Sketch.{Sketch}
@@ -25,7 +26,7 @@ use Rattle.fx_trees.specs.SourceTypes.{columns_of}
 use Rattle.fx_trees.specs.Term.{Term, Terms, of, nil, cons, Top}
 use Rattle.fx_trees.specs.Term as top
 use Rattle.fx_typing.specs.WellTyped.{AllStand, AreTyped, Context, IsByRow, Standing, Stands, answered, context_for, first_type, inside, paired, parts_count, plain, row_type, standing_at, standing_of}
-use Rattle.fx_plan.proofs.Placing.{condition_behind, query_found, some_is, some_map, some_then}
+use Rattle.fx_plan.proofs.Placing.{condition_behind, query_found, some_map, some_then}
 use Rattle.fx_plan.proofs.Placing.{in_front as put_in_front}
 use Rattle.fx_plan.specs.Constants.{HasType, ReadsTables, in_row}
 use Rattle.fx_plan.proofs.Keeping.{AllKept, IsKeeping, Joins, column_part, condition_at, patterns_settle}
@@ -318,7 +319,7 @@ module _ (c : Context) (ts : List TableShape) (vs : List Data) (reads : ReadsTab
         table = t;
         type = found.type;
         inner = λ y is i x v g w.
-            let one : y ≡ t = some_is y t (sym is ∙ found.is_table) in
+            let one : y ≡ t = same_Some y t (sym is ∙ found.is_table) in
             own i x v (settled.grows i x g) (subst (λ (a : TableShape). HasType (in_row c a) x v) one w);
         constants = b.0.1;
         fit = own;

@@ -1,6 +1,7 @@
 -- A settled query expression is no larger, and doesn't act.
 use Rattle.std.proofs.Common.{◌≡◌, ℕ, suc, ◌≤◌, List, Bool, true, false, refl, arith}
 use Rattle.std.specs.Prelude.{◌||◌, if◌then◌else◌}
+use Rattle.std.proofs.lemmas.Bool.{or_from}
 use Rattle.fx_data.specs.Values.{Data}
 use Rattle.fx_plan.specs.Outlines.{value_at}
 use Rattle.fx_plan.specs.QueryExpressions.{is_constant}
@@ -18,22 +19,18 @@ second_calm : (a b : Bool) → (a || b) ≡ false → b ≡ false
 second_calm true b e = absurd cc
 second_calm false b e = e
 
-both_calm : (a b : Bool) → a ≡ false → b ≡ false → (a || b) ≡ false
-both_calm true b e f = absurd cc
-both_calm false b e f = f
-
 abbrev AreNoMore : Terms → Terms → Type 0
 AreNoMore cs xs = (terms_size xs ≤ terms_size cs) × (any_acts cs ≡ false → any_acts xs ≡ false)
 
 -- under a head
 under_head : (h : Top) (cs xs : Terms) → AreNoMore cs xs → IsNoMore (of h cs) (of h xs)
 under_head h cs xs p =
-    (let l = p.0 in omega (arith, l), λ e. both_calm (is_acting h) (any_acts xs) (first_calm (is_acting h) (any_acts cs) e) (p.1 (second_calm (is_acting h) (any_acts cs) e)))
+    (let l = p.0 in omega (arith, l), λ e. or_from (is_acting h) (any_acts xs) (first_calm (is_acting h) (any_acts cs) e) (p.1 (second_calm (is_acting h) (any_acts cs) e)))
 
 put_in_front : (c x : Term) (cs xs : Terms) → IsNoMore c x → AreNoMore cs xs → AreNoMore (cons c cs) (cons x xs)
 put_in_front c x cs xs p q = (
   let l = p.0 in let m = q.0 in omega (arith, l, m),
-  λ e. both_calm (acts x) (any_acts xs) (p.1 (first_calm (acts c) (any_acts cs) e)) (q.1 (second_calm (acts c) (any_acts cs) e)),
+  λ e. or_from (acts x) (any_acts xs) (p.1 (first_calm (acts c) (any_acts cs) e)) (q.1 (second_calm (acts c) (any_acts cs) e)),
 )
 
 same : (t : Term) → IsNoMore t t

@@ -75,7 +75,7 @@ second_false : (a b : Bool) → (a || b) ≡ false → b ≡ false
 second_false true b e = absurd cc
 second_false false b e = e
 
-no_fault_at : (ds : List Data) (i : ℕ) → list_any is_fault ds ≡ false → is_fault (value_at ds i) ≡ false
+pub no_fault_at : (ds : List Data) (i : ℕ) → list_any is_fault ds ≡ false → is_fault (value_at ds i) ≡ false
 no_fault_at [] i e = refl
 no_fault_at (d ∷ ds) zero e = first_false (is_fault d) (list_any is_fault ds) e
 no_fault_at (d ∷ ds) (suc i) e = no_fault_at ds i (second_false (is_fault d) (list_any is_fault ds) e)

@@ -9,6 +9,7 @@ use Rattle.std.specs.declared.cmp.Ordering.{Ordering}
 use Rattle.std.specs.declared.cmp.Ordering.TheVariants.{Less, Equal, Greater}
 use Rattle.std.proofs.lemmas.List.Folds.{list_all-append}
 use Rattle.std.proofs.lemmas.List.{append-nil}
+use Rattle.std.proofs.Math.Bool.{and-false, and-true, or-false}
 use Rattle.fx_data.specs.declared.comparisons.Cmp.{Cmp}
 use Rattle.fx_data.specs.declared.comparisons.Cmp.TheVariants.{Eq, Ne, Lt, Le, Gt, Ge}
 use Rattle.fx_data.specs.Types.{Shape, blanks, numbers, texts, booleans, dates}
@@ -17,28 +18,17 @@ use Rattle.fx_number.specs.Decimal.{IsInRange}
 use Rattle.fx_value.specs.Keys.{IsProper, KeysOrder, key_bytes}
 use Rattle.fx_value.specs.Operators.{holds_of, takes}
 use Rattle.fx_value.specs.Order.{AreOfOneType, IsScalar, order}
-use Rattle.fx_plan.proofs.KeyOrder.{R, after_from, before_after, from_max, le_le, le_trans, least_below, none_below, upto_min}
+use Rattle.fx_plan.proofs.KeyOrder.{from_max, least_below, none_below, upto_min}
 use Rattle.fx_plan.specs.declared.ranges.Span.{Span}
 use Rattle.fx_plan.specs.Ranges.{AllTaken, AreSought, Comparison, Compares, IsTaken, is_blank, is_empty, is_numbers, meets_all}
 use Rattle.fx_plan.specs.Spans.{IsSpan, IsSpanOf, after, blank_range, both_ranges, both_spans, both_upto, joined_spans, least, no_keys, range_by, range_by_blank, range_of, span_ranges}
 use Rattle.fx_value.specs.Fits.{fits_in}
+use Rattle.fx_value.proofs.ByteOrder.{R, after_from, before_after, le_le, le_trans}
 use Rattle.row_queries.specs.declared.ranges.KeyRange.{KeyRange}
 use Rattle.row_queries.specs.Ranges.{in_range, in_ranges, is_before_end}
 
 and_true : (a b : Bool) → a ≡ true → (a && b) ≡ b
 and_true a b h = rw h refl
-
-and_right : (b : Bool) → (b && true) ≡ b
-and_right true = refl
-and_right false = refl
-
-and_false : (a : Bool) → (a && false) ≡ false
-and_false true = refl
-and_false false = refl
-
-or_false : (b : Bool) → (b || false) ≡ b
-or_false true = refl
-or_false false = refl
 
 -- ---- keys of values other than blank
 
@@ -83,10 +73,10 @@ key_not_below (tab rs) s n = absurd s
 key_not_below (fault k cs) s n = absurd s
 
 none_there : (d : Data) → IsScalar d → is_blank d ≡ false → in_range (key_bytes d) no_keys ≡ false
-none_there d s n = ap (λ y. is_le (R least (key_bytes d)) && y) (key_not_below d s n) ∙ and_false (is_le (R least (key_bytes d)))
+none_there d s n = ap (λ y. is_le (R least (key_bytes d)) && y) (key_not_below d s n) ∙ and-false (is_le (R least (key_bytes d)))
 
 blank_below : (d : Data) → IsScalar d → is_blank d ≡ false → in_range (key_bytes d) blank_range ≡ false
-blank_below d s n = ap (λ y. is_le (R (0 ∷ []) (key_bytes d)) && y) (key_not_below d s n) ∙ and_false (is_le (R (0 ∷ []) (key_bytes d)))
+blank_below d s n = ap (λ y. is_le (R (0 ∷ []) (key_bytes d)) && y) (key_not_below d s n) ∙ and-false (is_le (R (0 ∷ []) (key_bytes d)))
 
 -- ---- one comparison with a constant other than blank
 
@@ -124,9 +114,9 @@ lies_by keys total Ne n d c t p q s b = absurd (n refl)
 lies_by keys total Lt n d c t p q s b = and_true _ _ (key_above d s b) ∙ ap is_lt (keys d c t p q)
 lies_by keys total Le n d c t p q s b = and_true _ _ (key_above d s b) ∙ before_after (key_bytes d) (key_bytes c) ∙ ap is_le (keys d c t p q)
 lies_by keys total Gt n d c t p q s b =
-    and_right _ ∙ after_from (key_bytes c) (key_bytes d) ∙ ap is_lt (keys c d (of_one_type_turned d c t) q p) ∙ ap is_lt (total.antisymm c d) ∙ turned_lt (order d c)
+    and-true _ ∙ after_from (key_bytes c) (key_bytes d) ∙ ap is_lt (keys c d (of_one_type_turned d c t) q p) ∙ ap is_lt (total.antisymm c d) ∙ turned_lt (order d c)
 lies_by keys total Ge n d c t p q s b =
-    and_right _ ∙ ap is_le (keys c d (of_one_type_turned d c t) q p) ∙ ap is_le (total.antisymm c d) ∙ turned_le (order d c)
+    and-true _ ∙ ap is_le (keys c d (of_one_type_turned d c t) q p) ∙ ap is_le (total.antisymm c d) ∙ turned_le (order d c)
 
 zero_fits : IsInRange (pos 0)
 zero_fits = (search rules, search rules)
@@ -300,11 +290,11 @@ pub one_span : (keys : KeysOrder) (total : IsTotalOrder order) → (op : Cmp) �
     IsSpan n s ((op, c) ∷ [])
 one_span keys total op n m c u q s r b z = record {
   some = refl;
-  blank = b ∙ sym (and_right (holds_of op blank c));
-  zero = λ e. z e ∙ sym (and_right (holds_of op (number (pos 0)) c));
+  blank = b ∙ sym (and-true (holds_of op blank c));
+  zero = λ e. z e ∙ sym (and-true (holds_of op (number (pos 0)) c));
   above = ap (λ (x : KeyRange). is_le (R least x.from)) r ∙ part_above op m c u;
   lies = λ t e k d s p f h.
-      ap (λ (x : KeyRange). in_range (key_bytes d) x) (r ∙ ap (λ y. range_of op y c) (sym e)) ∙ part_lies keys total op n t c q k.0 d s p f h ∙ sym (and_right (holds_of op d c));
+      ap (λ (x : KeyRange). in_range (key_bytes d) x) (r ∙ ap (λ y. range_of op y c) (sym e)) ∙ part_lies keys total op n t c q k.0 d s p f h ∙ sym (and-true (holds_of op d c));
 }
 
 -- ---- two spans
@@ -328,7 +318,7 @@ both_lie k a b = ap₂ (λ x y. x && y) (from_max a.from b.from k) (uptos a.upto
   where
     uptos : (u v : Option (List ℕ)) → is_before_end (both_upto u v) k ≡ (is_before_end u k && is_before_end v k)
     uptos None v = refl
-    uptos (Some u) None = sym (and_right _)
+    uptos (Some u) None = sym (and-true _)
     uptos (Some u) (Some v) = upto_min u v k
 
 still : (ps qs : List Comparison) → is_empty ps ≡ false → is_empty (ps ++ qs) ≡ false
@@ -366,8 +356,8 @@ blank_not_there r h = go (is_le (R r.from (0 ∷ []))) refl
     go true e = absurd (let h2 : is_le (R least (0 ∷ [])) ≡ true = le_trans R nat_list_cmp_total least r.from (0 ∷ []) h e in cc)
 
 first_there : (k : List ℕ) (t : Bool) (r : KeyRange) → in_ranges (cond t (blank_range ∷ []) [] ++ r ∷ []) k ≡ ((t && in_range k blank_range) || in_range k r)
-first_there k true r = ap (λ x. in_range k blank_range || x) (or_false (in_range k r))
-first_there k false r = or_false (in_range k r)
+first_there k true r = ap (λ x. in_range k blank_range || x) (or-false (in_range k r))
+first_there k false r = or-false (in_range k r)
 
 zero_there : (n : Bool) (s : Span) (ps : List Comparison) → IsSpan n s ps → (n && s.zero) ≡ (n && meets_all ps (number (pos 0)))
 zero_there true s ps h = h.zero refl
@@ -377,8 +367,8 @@ blank_sought : (n : Bool) (s : Span) (ps : List Comparison) → IsSpan n s ps �
 blank_sought n s ps h =
     first_there (0 ∷ []) (s.blank || (n && s.zero)) s.range
     ∙ ap (λ b. ((s.blank || (n && s.zero)) && true) || b) (blank_not_there s.range h.above)
-    ∙ or_false ((s.blank || (n && s.zero)) && true)
-    ∙ and_right (s.blank || (n && s.zero))
+    ∙ or-false ((s.blank || (n && s.zero)) && true)
+    ∙ and-true (s.blank || (n && s.zero))
     ∙ ap₂ (λ x y. x || y) h.blank (zero_there n s ps h)
 
 value_sought : (n : Bool) (t : Shape) → is_numbers t ≡ n → (s : Span) (ps : List Comparison) → IsSpan n s ps → AllTaken t ps → (d : Data) → IsScalar d → IsProper d → fits_in d t ≡ true → is_blank d ≡ false →
@@ -386,9 +376,9 @@ value_sought : (n : Bool) (t : Shape) → is_numbers t ≡ n → (s : Span) (ps 
 value_sought n t e s ps h k d u p f b =
     first_there (key_bytes d) (s.blank || (n && s.zero)) s.range
     ∙ ap (λ x. ((s.blank || (n && s.zero)) && x) || in_range (key_bytes d) s.range) (blank_below d u b)
-    ∙ ap (λ x. x || in_range (key_bytes d) s.range) (and_false (s.blank || (n && s.zero)))
+    ∙ ap (λ x. x || in_range (key_bytes d) s.range) (and-false (s.blank || (n && s.zero)))
     ∙ h.lies t e k d u p f b
-    ∙ sym (or_false (meets_all ps d))
+    ∙ sym (or-false (meets_all ps d))
 
 pub span_sought : (t : Shape) (s : Span) (ps : List Comparison) → IsSpan (is_numbers t) s ps → AllTaken t ps → AreSought t ps (span_ranges (is_numbers t) s)
 span_sought t s ps h k blank u p f = blank_sought (is_numbers t) s ps h

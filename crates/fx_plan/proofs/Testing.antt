@@ -1,16 +1,15 @@
 -- What the test of a condition's pattern comes to on a row is what the condition's value decides.
-use Rattle.std.proofs.Common.{◌≡◌, ◌↔◌, ℕ, zero, suc, List, [], ◌∷◌, ◌++◌, length, Bool, true, false, Option, Some, None, ℤ, pos, refl, sym, ap, subst, ◌∙◌, arith}
-use Rattle.std.specs.Prelude.{IsTrue, ◌||◌, not, slice_get, option_map, unwrap_or, take, if◌then◌else◌}
+use Rattle.std.proofs.Common.{◌≡◌, ◌↔◌, ℕ, zero, suc, List, [], ◌∷◌, ◌++◌, length, Bool, true, false, Option, Some, None, ℤ, pos, refl, sym, ap, subst, ◌∙◌}
+use Rattle.std.specs.Prelude.{IsTrue, not, slice_get, option_map, unwrap_or, if◌then◌else◌}
 use Rattle.std.specs.Option.{option_map_or}
 use Rattle.std.specs.Cmp.{IsTotalOrder}
 use Rattle.std.specs.Ordering.{int_cmp, is_eq, is_ge, is_gt, is_le, is_lt, ordering_reverse}
 use Rattle.std.specs.declared.cmp.Ordering.{Ordering}
 use Rattle.std.specs.declared.cmp.Ordering.TheVariants.{Less, Equal, Greater}
 use Rattle.std.proofs.lemmas.Cmp.{int_cmp_total}
-use Rattle.std.proofs.lemmas.Slice.Eq.{bytes_eq-Decides}
 use Rattle.caseless.specs.Caseless.{default_case_fold}
-use Rattle.fx_builtins.specs.Folding.{BeginsWithoutCase, HasPart, HasPartWithoutCase}
-use Rattle.fx_builtins.specs.Search.{StandsAt}
+use Rattle.std.proofs.lemmas.Option.{same_Some}
+use Rattle.fx_builtins.specs.Folding.{BeginsWithoutCase, HasPartWithoutCase}
 use Rattle.fx_data.specs.declared.comparisons.Cmp.{Cmp}
 use Rattle.fx_data.specs.declared.comparisons.Cmp.TheVariants.{Eq, Ne, Lt, Le, Gt, Ge}
 use Rattle.fx_data.specs.declared.faults.Kind.{Kind}
@@ -40,13 +39,14 @@ use Rattle.fx_value.specs.Operators.{compared_by, holds_of, sides, takes}
 use Rattle.fx_value.specs.Order.{IsScalar, order}
 use Rattle.fx_plan.proofs.Columns.{column_worth}
 use Rattle.fx_plan.proofs.Constancy.{constant_stays}
-use Rattle.fx_plan.proofs.Placing.{column_typed, got_last, got_more, in_front, joined, plain_is, some_is, some_map, some_then}
+use Rattle.fx_plan.proofs.Placing.{column_typed, got_last, got_more, in_front, joined, plain_is, some_map, some_then}
 use Rattle.fx_plan.specs.Settings.{around}
 use Rattle.fx_plan.specs.TestValues.{IsWorth, TestsAreConditions, in_scope}
 use Rattle.row_queries.specs.declared.rows.Row.{Row}
-use Rattle.row_queries.specs.RowTests.{Outcome, all_outcome, and_then, any_outcome, begins, begins_without_case, decided, decided_by, has_part, has_part_without_case, is_empty, or_else, outcome, reversed, text_in, unless_fault}
+use Rattle.row_queries.specs.RowTests.{Outcome, all_outcome, and_then, any_outcome, begins_without_case, decided, decided_by, has_part_without_case, is_empty, or_else, outcome, reversed, text_in, unless_fault}
 use Rattle.row_queries.specs.TableRows.{AreCellsOf, IsRowOf, record_of, values_of}
 use Rattle.row_queries.specs.TableRows.{value_at as value_in_row}
+use Rattle.row_queries.proofs.Texts.{begins_there, part_there, there_begins, there_part}
 
 -- ---- a comparison with its sides changed over
 
@@ -160,31 +160,6 @@ same_blank (date z) = refl
 same_blank (rec fs) = refl
 same_blank (tab rs) = refl
 same_blank (fault k cs) = refl
-
-begins_there : (cs part : List ℕ) → begins cs part ≡ true → StandsAt part cs 0
-begins_there cs part h = record { within = omega arith; same = (bytes_eq-Decides (take (length part) cs) part).0 h }
-
-there_begins : (cs part : List ℕ) → StandsAt part cs 0 → begins cs part ≡ true
-there_begins cs part s = (bytes_eq-Decides (take (length part) cs) part).1 s.same
-
-part_there : (cs part : List ℕ) → has_part cs part ≡ true → HasPart cs part
-part_there [] part h = (0, begins_there [] part h)
-part_there (c ∷ cs) part h = by (begins (c ∷ cs) part) refl (part_there cs part) h
-  where
-    by : (b : Bool) → begins (c ∷ cs) part ≡ b → (has_part cs part ≡ true → HasPart cs part) → (b || has_part cs part) ≡ true → HasPart (c ∷ cs) part
-    by true e f h = (0, begins_there (c ∷ cs) part e)
-    by false e f h = let w = f h in (suc w.0, record { within = let k = w.1.within in omega (arith, k); same = w.1.same })
-
-later : (a b : Bool) → b ≡ true → (a || b) ≡ true
-later true b h = refl
-later false b h = h
-
-there_part : (cs part : List ℕ) (place : ℕ) → StandsAt part cs place → has_part cs part ≡ true
-there_part [] part zero s = there_begins [] part s
-there_part [] part (suc k) s = absurd (let h = s.within in omega (arith, h))
-there_part (c ∷ cs) part zero s = ap (λ b. b || has_part cs part) (there_begins (c ∷ cs) part s)
-there_part (c ∷ cs) part (suc k) s =
-    later (begins (c ∷ cs) part) (has_part cs part) (there_part cs part k (record { within = let h = s.within in omega (arith, h); same = s.same }))
 
 begins_so : (x d : Data) → IsTrue (begins_without_case x d) ↔ BeginsWithoutCase (text_of x) (text_of d)
 begins_so x d =
@@ -514,14 +489,14 @@ module _ (total : IsTotalOrder order) (t : TableShape) (lawful : IsLawfulTable t
   negated_test xs ds ([], fs) o es m e = absurd cc
   negated_test xs ds (u ∷ w ∷ us, fs) o es m e = absurd cc
   negated_test (cons x nil) ds (u ∷ [], fs) o es m e =
-      let is : (opposite u, fs) ≡ (o, es) = some_is (opposite u, fs) (o, es) e in
+      let is : (opposite u, fs) ≡ (o, es) = same_Some (opposite u, fs) (o, es) e in
       subst (λ (p : Outline × List Term). IsTest (of (top.call fun.Not) (cons x nil)) ds p.0 p.1) is
       (record { grows = m.grows; test = λ w. negated_worth x u (m.test w).0 })
   negated_test nil ds (u ∷ [], fs) o es m e =
-      let is : (opposite u, fs) ≡ (o, es) = some_is (opposite u, fs) (o, es) e in
+      let is : (opposite u, fs) ≡ (o, es) = same_Some (opposite u, fs) (o, es) e in
       subst (λ (p : Outline × List Term). IsTest (of (top.call fun.Not) nil) ds p.0 p.1) is (record { grows = m.grows; test = λ w. absurd (m.test w) })
   negated_test (cons x (cons y ys)) ds (u ∷ [], fs) o es m e =
-      let is : (opposite u, fs) ≡ (o, es) = some_is (opposite u, fs) (o, es) e in
+      let is : (opposite u, fs) ≡ (o, es) = same_Some (opposite u, fs) (o, es) e in
       subst (λ (p : Outline × List Term). IsTest (of (top.call fun.Not) (cons x (cons y ys))) ds p.0 p.1) is (record { grows = m.grows; test = λ w. absurd (m.test w).1 })
 
   mutual
@@ -548,12 +523,12 @@ module _ (total : IsTotalOrder order) (t : TableShape) (lawful : IsLawfulTable t
         heads g go q = absurd cc
 
         by : (b : Bool) → is_constant k (of h cs) ≡ b → Go → (if b then Some (with_constant constant (of h cs) ds) else pattern_by t k h cs ds (patterns_of t k cs ds)) ≡ Some (o, es) → IsTest (of h cs) ds o es
-        by true q go z = kept_test ds constant (of h cs) (of h cs) o es q (λ j v. (value_at vs j, v, refl)) (some_is (with_constant constant (of h cs) ds) (o, es) z)
+        by true q go z = kept_test ds constant (of h cs) (of h cs) o es q (λ j v. (value_at vs j, v, refl)) (same_Some (with_constant constant (of h cs) ds) (o, es) z)
         by false q go z = heads h go z
 
     pub patterns_test : (xs : Terms) (ds : List Term) (os : List Outline) (es : List Term) → patterns_of t k xs ds ≡ Some (os, es) → AreTests xs ds os es
     patterns_test nil ds os es e =
-        let q : ([], ds) ≡ (os, es) = some_is ([], ds) (os, es) e in
+        let q : ([], ds) ≡ (os, es) = same_Some ([], ds) (os, es) e in
         subst (λ (p : List Outline × List Term). AreTests nil ds p.0 p.1) q (record { grows = λ i c z. z; test = λ w. tt })
     patterns_test (cons x xs) ds os es e =
         let m = some_then (λ (p : Outline × List Term). option_map (in_front p.0) (patterns_of t k xs p.1)) (pattern_of t k x ds) (os, es) e in
@@ -570,7 +545,7 @@ module _ (total : IsTotalOrder order) (t : TableShape) (lawful : IsLawfulTable t
 pub values_worth : (a : Around) (cs : List Term) (ds : List Data) → AreValues (meanings (all cs)) a ds → (i : ℕ) (c : Term) → slice_get cs i ≡ Some c → IsValue a c (value_at ds i)
 values_worth a [] ds h i c e = absurd cc
 values_worth a (x ∷ cs) [] h i c e = absurd h
-values_worth a (x ∷ cs) (d ∷ ds) h zero c e = subst (λ (y : Term). IsValue a y d) (some_is x c e) h.0
+values_worth a (x ∷ cs) (d ∷ ds) h zero c e = subst (λ (y : Term). IsValue a y d) (same_Some x c e) h.0
 values_worth a (x ∷ cs) (d ∷ ds) h (suc i) c e = values_worth a cs ds h.1 i c e
 
 pub test_worth : IsTotalOrder order → (t : TableShape) (a : Around) (x : Term) (o : Outline) (cs : List Term) (d : Data) (ds : List Data) (r : Row) →

@@ -9,6 +9,7 @@ use Rattle.std.specs.declared.cmp.Ordering.{Ordering}
 use Rattle.std.specs.declared.cmp.Ordering.TheVariants.{Less, Equal, Greater}
 use Rattle.std.proofs.lemmas.List.Elements.{All-from_recursion, filter_agree, recursion_from_All}
 use Rattle.std.proofs.lemmas.List.Sorted.{All-permutation, IsPermutation-map}
+use Rattle.std.proofs.lemmas.Option.{same_Some}
 use Rattle.fx_data.specs.TypeView.{shape}
 use Rattle.fx_data.specs.Types.{Shape, numbers}
 use Rattle.fx_data.specs.Values.{Data, blank, boolean, tab, fault, field_list, row_list}
@@ -40,8 +41,8 @@ use Rattle.fx_trees.specs.Term as top
 use Rattle.fx_value.specs.Fits.{fits_in}
 use Rattle.fx_value.specs.Keys.{IsProper, key_bytes}
 use Rattle.fx_value.specs.Order.{IsScalar, order}
-use Rattle.fx_plan.proofs.Arranged.{Holds, Rises, also_all, arranged_same, before, filter_twice, filter_whole, holds_agree, holds_all, holds_filter, holds_moved, in_order, in_order_holds, in_order_sorted, in_own_order, is_tie, kept_sorted, passed, passing, rises_of, same_rows, sorted_of}
-use Rattle.fx_plan.proofs.Placing.{any_type, in_front, some_is, some_map, some_then}
+use Rattle.fx_plan.proofs.Arranged.{Holds, Rises, also_all, arranged_same, before, filter_twice, filter_whole, holds_agree, holds_all, holds_filter, holds_moved, in_order, in_order_holds, in_order_sorted, in_own_order, kept_sorted, rises_of, same_rows, sorted_of}
+use Rattle.fx_plan.proofs.Placing.{any_type, in_front, some_map, some_then}
 use Rattle.fx_plan.proofs.Sound.{IsSound, filled_sound, none_failed, sound_holds}
 use Rattle.fx_plan.proofs.Testing.{AllWorth, Worth, column_value, patterns_test, value_scalar, values_worth}
 use Rattle.fx_plan.specs.Settings.{Setting, around}
@@ -56,6 +57,7 @@ use Rattle.row_queries.specs.Ranges.{in_ranges}
 use Rattle.row_queries.specs.RowTests.{Outcome, met, unmet, failed, all_outcome, and_then, is_met, outcome}
 use Rattle.row_queries.specs.TableRows.{AreCellsOf, AreHeldRows, AreInIdOrder, IsHeldRow, IsRowOf, record_of, table_of, values_of}
 use Rattle.row_queries.specs.TableRows.{value_at as value_in_row}
+use Rattle.row_queries.proofs.Asked.{is_tie, passed, passing}
 
 -- ---- tables and their rows
 
@@ -134,11 +136,11 @@ same_falls Descending = refl
 cell_fits : (cs : List Column) (ds : List Data) (k : ℕ) (u : Shape) → AreCellsOf cs ds → option_map (λ (c : Column). shape c.ty) (slice_get cs k) ≡ Some u → fits_in (unwrap_or (slice_get ds k) blank) u ≡ true
 cell_fits [] ds k u h e = absurd cc
 cell_fits (c ∷ cs) [] k u h e = absurd h
-cell_fits (c ∷ cs) (d ∷ ds) zero u h e = subst (λ s. fits_in d s ≡ true) (some_is (shape c.ty) u e) h.1
+cell_fits (c ∷ cs) (d ∷ ds) zero u h e = subst (λ s. fits_in d s ≡ true) (same_Some (shape c.ty) u e) h.1
 cell_fits (c ∷ cs) (d ∷ ds) (suc k) u h e = cell_fits cs ds k u h.2 e
 
 value_fits : (t : TableShape) (r : Row) (k : ℕ) (u : Shape) → IsRowOf t r → column_type t k ≡ Some u → fits_in (value_in_row (values_of r) k) u ≡ true
-value_fits t r zero u h e = let q : numbers ≡ u = some_is numbers u e in subst (λ s. fits_in (value_in_row (values_of r) zero) s ≡ true) q refl
+value_fits t r zero u h e = let q : numbers ≡ u = same_Some numbers u e in subst (λ s. fits_in (value_in_row (values_of r) zero) s ≡ true) q refl
 value_fits t r (suc k) u h e = cell_fits t.columns r.cells k u h.1 e
 
 proper_at : (ds : List Data) (k : ℕ) → AllByRecursion IsProper ds → IsProper (unwrap_or (slice_get ds k) blank)
@@ -376,7 +378,7 @@ module _ (total : IsTotalOrder order) (t : TableShape) (lawful : IsLawfulTable t
       let b = some_map (in_front s.test) (patterns_of m.0 k cs s.constants) n.0 n.1 in
       let is : With (s.test ∷ b.0.0, b.0.1) ≡ z = ap With b.2 ∙ n.2 in
       let own : slice_get ts s.table ≡ Some t = ap (λ (x : Sketch). slice_get ts x.table) is ∙ there in
-      let same : m.0 ≡ t = some_is m.0 t (sym m.1 ∙ own) in
+      let same : m.0 ≡ t = same_Some m.0 t (sym m.1 ∙ own) in
       record { outlines = b.0.0; extended = b.0.1; pattern = subst (λ (u : TableShape). patterns_of u k cs s.constants ≡ Some b.0) same b.1; is = is }
 
   -- what is known of the rows that are filtered
@@ -428,7 +430,7 @@ module _ (total : IsTotalOrder order) (t : TableShape) (lawful : IsLawfulTable t
           let n = some_map With (plain_column m.0 k f) z m.2 in
           let table : s.table ≡ z.table = ap (λ (y : Sketch). y.table) n.2 in
           let own : slice_get ts s.table ≡ Some t = ap (slice_get ts) table ∙ there in
-          let same : m.0 ≡ t = some_is m.0 t (sym m.1 ∙ own) in
+          let same : m.0 ≡ t = same_Some m.0 t (sym m.1 ∙ own) in
           let column : plain_column t k f ≡ Some n.0 = subst (λ (u : TableShape). plain_column u k f ≡ Some n.0) same n.1 in
           let kept : HasConstants s.constants = subst HasConstants (sym (ap (λ (y : Sketch). y.constants) n.2)) w in
           let before_it = inner own (subst (λ (y : ℕ). a.gives (source.Table y) (table_of t rows)) (sym table) gives) kept in
@@ -479,7 +481,7 @@ module _ (total : IsTotalOrder order) (a : Setting) (ts : List TableShape) (t : 
 
   within : query.column ≤ length t.columns
   within =
-      let same : p.can.table ≡ t = some_is p.can.table t (sym p.can.is_table ∙ ap (slice_get ts) p.plan.table ∙ p.is_table) in
+      let same : p.can.table ≡ t = same_Some p.can.table t (sym p.can.is_table ∙ ap (slice_get ts) p.plan.table ∙ p.is_table) in
       subst (λ (u : TableShape). query.column ≤ length u.columns) same p.can.has_column
 
   reach : IsReach t (filled p.constants s.test) (reach_in query)

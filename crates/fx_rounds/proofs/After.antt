@@ -3,6 +3,7 @@ use Rattle.std.proofs.Common.{◌≡◌, ◌≢◌, ℕ, zero, suc, ◌+◌, ◌
 use Rattle.std.specs.Prelude.{◌&&◌, ◌==◌}
 use Rattle.std.proofs.lemmas.List.{length-map, map-append}
 use Rattle.std.proofs.lemmas.Slice.Eq.{bytes_eq-Decides}
+use Rattle.std.proofs.lemmas.Bool.{and_parts}
 use Rattle.fx_data.specs.TypeView.{shape}
 use Rattle.fx_data.specs.Types.{Shape, blanks, numbers, texts, booleans, dates, records, tables, ColumnList, no_columns, column}
 use Rattle.fx_data.specs.declared.types.Ty.{Ty}
@@ -12,7 +13,7 @@ use Rattle.fx_trees.specs.declared.names.Collection.{Collection}
 use Rattle.fx_trees.specs.declared.names.ControlName.{ControlName}
 use Rattle.fx_trees.specs.declared.names.Names.{Names}
 use Rattle.fx_trees.specs.declared.names.Variable.{Variable}
-use Rattle.fx_typing.proofs.Same.{shape_same, both}
+use Rattle.fx_typing.proofs.Same.{shape_same}
 use Rattle.fx_typing.specs.Ways.{same_shape, same_columns}
 use Rattle.fx_rounds.specs.SameTypes.{same_shapes, same_types}
 use Rattle.fx_rounds.specs.TypesView.{AreAsMany, types_view}
@@ -39,7 +40,7 @@ shapes_same [] [] e = refl
 shapes_same [] (u ∷ us) e = absurd cc
 shapes_same (t ∷ ts) [] e = absurd cc
 shapes_same (t ∷ ts) (u ∷ us) e =
-    let p = both (same_shape t u) (same_shapes ts us) e in
+    let p = and_parts (same_shape t u) (same_shapes ts us) e in
     ap (λ x. x ∷ ts) (shape_same t u p.0) ∙ ap (λ xs. u ∷ xs) (shapes_same ts us p.1)
 
 shapes_one : (ts : List Shape) → same_shapes ts ts ≡ true
@@ -48,9 +49,9 @@ shapes_one (t ∷ ts) = ap (λ b. b && same_shapes ts ts) (shape_one t) ∙ shap
 
 types_same : (a b : rounds.Types) → same_types a b ≡ true → a ≡ b
 types_same a b e =
-    let p = both (same_shapes a.variables b.variables) _ e in
-    let q = both (same_shapes a.collections b.collections) _ p.1 in
-    let r = both (same_shapes a.formulas b.formulas) (same_shapes a.items b.items) q.1 in
+    let p = and_parts (same_shapes a.variables b.variables) _ e in
+    let q = and_parts (same_shapes a.collections b.collections) _ p.1 in
+    let r = and_parts (same_shapes a.formulas b.formulas) (same_shapes a.items b.items) q.1 in
     λ i. record {
       variables = shapes_same a.variables b.variables p.0 i;
       collections = shapes_same a.collections b.collections q.0 i;

@@ -1,5 +1,6 @@
 -- Names that are the same, whatever their types.
 use Rattle.std.proofs.Common.{◌≡◌, ℕ, zero, suc, ◌<◌, ◌^◌, ◌++◌, List, [], ◌∷◌, All, length, map, Option, Some, None, slice_get, get_or, refl, ap, sym, subst, ◌∙◌, append-nil, arith}
+use Rattle.std.proofs.lemmas.List.{nil_from_length}
 use Rattle.fx_data.specs.TypeView.{shape}
 use Rattle.fx_data.specs.declared.types.Ty.{Ty}
 use Rattle.fx_typing.specs.Rounds.{AllSame, SameNames, SameVariable, SameFormula, SameCollection, SameControl}
@@ -128,14 +129,9 @@ lawful_same n m h l = record {
       ∙ ap (λ (ps : List Property). map (λ (f : FormulaName). f.cell) m.formulas ++ map (λ (p : Property). p.cell) ps) h.properties) l.cells;
 }
 
--- where nothing is left, what is done is the whole
-none_left : {A : Type 0} (xs : List A) → length xs ≡ 0 → xs ≡ []
-none_left [] e = refl
-none_left (x ∷ xs) e = absurd (omega arith)
-
 pub done_same : {A : Type 0} (R : A → A → Type 0) (xs ys rest : List A) → length rest ≡ 0 →
     ((more : List A) → AllSame R rest more → AllSame R xs (ys ++ more)) → AllSame R xs ys
-done_same R xs ys rest e go = subst (AllSame R xs) (append-nil ys) (go [] (subst (λ r. AllSame R r []) (sym (none_left rest e)) tt))
+done_same R xs ys rest e go = subst (AllSame R xs) (append-nil ys) (go [] (subst (λ r. AllSame R r []) (sym (nil_from_length rest e)) tt))
 
 -- formulas with other types are the same
 pub formulas_same : (fs : List FormulaName) (ts : List Ty) → length ts ≡ length fs → AllSame SameFormula fs (retyped fs ts)

@@ -3,15 +3,12 @@ use denote.Ref.{Bor}
 use Rattle.std.proofs.Common.{◌≡◌, ℕ, ◌+◌, ◌<◌, ◌≤◌, List, [], ◌∷◌, ◌++◌, length, get_or, take, map, ap, sym, refl, ◌∙◌}
 use Rattle.std.proofs.lemmas.List.{take_more, map-append}
 use Rattle.std.proofs.lemmas.Option.{slice_get-map, slice_get_past, slice_get_read}
-use Rattle.std.specs.Prelude.{IsTrue, Option, Some, None, unwrap_or, option_map, MatchOption}
+use Rattle.std.specs.Prelude.{Option, Some, None, unwrap_or, option_map, MatchOption}
 use Rattle.std.specs.Slice.{IsItemAt}
 use Rattle.fx_data.specs.Values.{Data, blank}
 use Rattle.fx_data.specs.ValueView.{view}
 use Rattle.fx_data.specs.declared.values.Value.{Value}
-use Rattle.fx_trees.specs.declared.functions.Fun.{Fun}
-use Rattle.fx_trees.specs.Rows.{row_of}
 use Rattle.fx_scalar.specs.Arguments.{at, views}
-use Rattle.fx_scalar.specs.ScalarFunctions.{CanApply, comparison_of, is_value}
 
 pub at_none : (args : List Value) (i : ℕ) → length args ≤ i → at (views args) i ≡ blank
 at_none args i h = ap (λ o. unwrap_or o blank) (slice_get-map view args i ∙ ap (option_map view) (slice_get_past args i h))
@@ -31,7 +28,3 @@ mapped_more f args i v h e =
     ap (λ vs. map f (map view vs)) (take_more args i v h ∙ ap (λ x. take i args ++ x ∷ []) (sym e))
     ∙ ap (map f) (map-append view (take i args) (v ∷ []))
     ∙ map-append f (map view (take i args)) (view v ∷ [])
-
--- a function of values that doesn't compare takes any arguments
-pub can_apply : (f : Fun) (a : List Data) → IsTrue (is_value (row_of f).first) → comparison_of f ≡ None → CanApply f a
-can_apply f a h e = record { of_values = h; comparable = λ n. rw e tt }

@@ -1,6 +1,7 @@
 -- What has one answer at most, of the relations that the functions of values are made of.
+use Rattle.std.specs.Cmp.{first_so, second_so}
 use Rattle.std.proofs.Common.{◌≡◌, ◌≢◌, ◌∙◌, ℕ, ◌/◌, ◌%◌, ◌<◌, Bool, true, false, List, [], ◌∷◌, ◌++◌, length, Contains, arith, ap, subst, sym, refl, inl, inr}
-use Rattle.std.specs.Prelude.{ℤ, zero, suc, ◌+ℤ◌, replicate, unwrap_or, codes, pos, negsuc, neg_ℤ, ◌*ℤ◌, ◌≤ℤ◌, ◌⊎◌, ◌↔◌, ◌&&◌, IsTrue, Option, Some, None, Result, Ok, Err, min}
+use Rattle.std.specs.Prelude.{ℤ, zero, suc, ◌+ℤ◌, replicate, unwrap_or, codes, pos, negsuc, neg_ℤ, ◌*ℤ◌, ◌≤ℤ◌, ◌⊎◌, ◌↔◌, IsTrue, Option, Some, None, Result, Ok, Err, min}
 use Rattle.std.specs.Str.Parse.{AllDigits}
 use Rattle.std.specs.Char.{digit_value}
 use Rattle.std.proofs.lemmas.Bool.{cases_lt, eqb-true}
@@ -124,25 +125,17 @@ greatest_one zs (Some m) (Some n) h k =
     ap Some e
 
 -- ---- spelled numbers
-and_left : (a b : Bool) → (a && b) ≡ true → a ≡ true
-and_left true b h = refl
-and_left false b h = h
-
-and_right : (a b : Bool) → (a && b) ≡ true → b ≡ true
-and_right true b h = h
-and_right false b h = absurd (cc)
-
 head_spaces : (xs ys : List ℕ) → are_spaces (xs ++ ys) ≡ true → are_spaces xs ≡ true
-head_spaces xs ys h = and_left (are_spaces xs) (are_spaces ys) (sym (list_all-append _ xs ys) ∙ h)
+head_spaces xs ys h = first_so (are_spaces xs) (are_spaces ys) (sym (list_all-append _ xs ys) ∙ h)
 
 tail_spaces : (xs ys : List ℕ) → are_spaces (xs ++ ys) ≡ true → are_spaces ys ≡ true
-tail_spaces xs ys h = and_right (are_spaces xs) (are_spaces ys) (sym (list_all-append _ xs ys) ∙ h)
+tail_spaces xs ys h = second_so (are_spaces xs) (are_spaces ys) (sym (list_all-append _ xs ys) ∙ h)
 
 -- spaces are no digits
 no_digits : (ds : List ℕ) → 0 < length ds → AllDigits 10 ds → are_spaces ds ≡ true → ⊥
 no_digits [] h k e = omega arith
 no_digits (d ∷ ds) h k e =
-    let space : d ≡ 32 = eqb-true d 32 (and_left _ (are_spaces ds) e) in
+    let space : d ≡ 32 = eqb-true d 32 (first_so _ (are_spaces ds) e) in
     let digit : digit_value 32 < 10 = subst (λ c. digit_value c < 10) space k.0 in
     omega arith
 

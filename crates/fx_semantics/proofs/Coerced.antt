@@ -2,6 +2,7 @@
 use Rattle.std.proofs.Common.{◌≡◌, ℕ, List, [], ◌∷◌, Bool, true, false, Option, Some, None, refl, ap, subst}
 use Rattle.std.specs.Prelude.{bytes_eq, codes, encode_utf8_all, if◌then◌else◌}
 use Rattle.std.specs.List.{find}
+use Rattle.std.proofs.lemmas.Bool.{and_from}
 use Rattle.fx_data.specs.Types.{Shape, blanks, numbers, texts, booleans, dates, records, tables, ColumnList, no_columns, column}
 use Rattle.fx_data.specs.Values.{Data, blank, number, text, boolean, date, rec, tab, fault, no_fields, field}
 use Rattle.fx_tables.specs.RowCalls.{CanBeRowType}
@@ -11,7 +12,6 @@ use Rattle.fx_trees.specs.ColumnLists.{row_columns, value_column}
 use Rattle.fx_typing.specs.Ways.{way, widening, joined_way, same_shape, changed, refused, same}
 use Rattle.fx_typing.specs.WellTyped.{AreAll}
 use Rattle.fx_typing.proofs.Same.{shape_same}
-use Rattle.fx_value.proofs.Widenings.{both}
 use Rattle.fx_value.specs.Coercion.{IsCoerced, IsReadAs, widened, widened_fields}
 use Rattle.fx_value.specs.Fits.{fits_in, fields_fit, rows_fit}
 use Rattle.fx_value.specs.Join.{join_of}
@@ -110,13 +110,13 @@ row_fits r d l n f e = cc
 list_rows_fit : (r : Shape) → IsLawfulType r → CanBeRowType r → (ds : List Data) → AllFit r ds → find is_fault ds ≡ None → rows_fit (rows_of (row_columns r) ds) (row_columns r) ≡ true
 list_rows_fit r l n [] h e = refl
 list_rows_fit r l n (fault k cs ∷ ds) h e = cc
-list_rows_fit r l n (blank ∷ ds) h e = both _ _ (row_fits r blank l n h.0 refl) (list_rows_fit r l n ds h.1 e)
-list_rows_fit r l n (number z ∷ ds) h e = both _ _ (row_fits r (number z) l n h.0 refl) (list_rows_fit r l n ds h.1 e)
-list_rows_fit r l n (text x ∷ ds) h e = both _ _ (row_fits r (text x) l n h.0 refl) (list_rows_fit r l n ds h.1 e)
-list_rows_fit r l n (boolean b ∷ ds) h e = both _ _ (row_fits r (boolean b) l n h.0 refl) (list_rows_fit r l n ds h.1 e)
-list_rows_fit r l n (date z ∷ ds) h e = both _ _ (row_fits r (date z) l n h.0 refl) (list_rows_fit r l n ds h.1 e)
-list_rows_fit r l n (rec fs ∷ ds) h e = both _ _ (row_fits r (rec fs) l n h.0 refl) (list_rows_fit r l n ds h.1 e)
-list_rows_fit r l n (tab rs ∷ ds) h e = both _ _ (row_fits r (tab rs) l n h.0 refl) (list_rows_fit r l n ds h.1 e)
+list_rows_fit r l n (blank ∷ ds) h e = and_from _ _ (row_fits r blank l n h.0 refl) (list_rows_fit r l n ds h.1 e)
+list_rows_fit r l n (number z ∷ ds) h e = and_from _ _ (row_fits r (number z) l n h.0 refl) (list_rows_fit r l n ds h.1 e)
+list_rows_fit r l n (text x ∷ ds) h e = and_from _ _ (row_fits r (text x) l n h.0 refl) (list_rows_fit r l n ds h.1 e)
+list_rows_fit r l n (boolean b ∷ ds) h e = and_from _ _ (row_fits r (boolean b) l n h.0 refl) (list_rows_fit r l n ds h.1 e)
+list_rows_fit r l n (date z ∷ ds) h e = and_from _ _ (row_fits r (date z) l n h.0 refl) (list_rows_fit r l n ds h.1 e)
+list_rows_fit r l n (rec fs ∷ ds) h e = and_from _ _ (row_fits r (rec fs) l n h.0 refl) (list_rows_fit r l n ds h.1 e)
+list_rows_fit r l n (tab rs ∷ ds) h e = and_from _ _ (row_fits r (tab rs) l n h.0 refl) (list_rows_fit r l n ds h.1 e)
 
 pub list_fits : (r : Shape) → IsLawfulType r → CanBeRowType r → (ds : List Data) → AllFit r ds → fits_in (union_of (tables (row_columns r)) ds) (tables (row_columns r)) ≡ true
 list_fits r l n ds h = fault_or_fits ds (tab (rows_of (row_columns r) ds)) (tables (row_columns r)) (list_rows_fit r l n ds h)

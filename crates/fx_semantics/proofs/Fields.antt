@@ -2,6 +2,7 @@
 use Rattle.std.proofs.Common.{◌≡◌, ℕ, List, [], ◌∷◌, length, Bool, true, false, Some, None, refl, subst, if◌then◌else◌}
 use Rattle.std.specs.Prelude.{◌&&◌, bytes_eq}
 use Rattle.std.specs.List.{find}
+use Rattle.std.proofs.lemmas.Bool.{and_from}
 use Rattle.fx_data.specs.Types.{Shape, records, ColumnList, no_columns, column}
 use Rattle.fx_data.specs.Values.{Data, blank, number, text, boolean, date, rec, tab, fault, FieldList, no_fields, field}
 use Rattle.fx_data.proofs.Utf8Order.{and_second, and_first}
@@ -9,7 +10,7 @@ use Rattle.fx_tables.specs.Unions.{fault_or, is_fault}
 use Rattle.fx_trees.specs.ColumnLists.{field_in}
 use Rattle.fx_typing.specs.Columns as columns
 use Rattle.fx_typing.specs.WellTyped.{columns_by}
-use Rattle.fx_value.proofs.Widenings.{both, own_name, same_name}
+use Rattle.fx_value.proofs.Widenings.{own_name, same_name}
 use Rattle.fx_value.specs.Coercion.{value_in}
 use Rattle.fx_value.specs.Fits.{fits_in, fields_fit}
 use Rattle.fx_semantics.specs.Fresh.{field_of, fields_by}
@@ -26,7 +27,7 @@ pub rest_fits : (n m : List ℕ) (d : Data) (t : Shape) (fs : FieldList) (cs : C
 rest_fits n m d t fs cs h = and_second (fits_in d t) (fields_fit fs cs) (and_second (bytes_eq n m) (fits_in d t && fields_fit fs cs) h)
 
 pub all_fit : (n : List ℕ) (d : Data) (t : Shape) (fs : FieldList) (cs : ColumnList) → fits_in d t ≡ true → fields_fit fs cs ≡ true → fields_fit (field n d fs) (column n t cs) ≡ true
-all_fit n d t fs cs f g = both (bytes_eq n n) (fits_in d t && fields_fit fs cs) (own_name n) (both (fits_in d t) (fields_fit fs cs) f g)
+all_fit n d t fs cs f g = and_from (bytes_eq n n) (fits_in d t && fields_fit fs cs) (own_name n) (and_from (fits_in d t) (fields_fit fs cs) f g)
 
 -- the value under a column's name fits its type
 pub field_fits : (n : List ℕ) (fs : FieldList) (cs : ColumnList) (t : Shape) → fields_fit fs cs ≡ true → field_in n cs ≡ Some t → fits_in (value_in n fs) t ≡ true

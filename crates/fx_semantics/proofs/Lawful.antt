@@ -95,7 +95,7 @@ rises_only ns (column m t cs) r = by (is_one_of m ns) (rises_only ns cs r.1)
     by true z = (under_only m ns cs r.0, z)
     by false z = z
 
-put_lawful : (n : List ℕ) (u : Shape) (cs : ColumnList) → IsLawfulType u → AreLawfulColumns cs → AreLawfulColumns (put_column n u cs)
+pub put_lawful : (n : List ℕ) (u : Shape) (cs : ColumnList) → IsLawfulType u → AreLawfulColumns cs → AreLawfulColumns (put_column n u cs)
 put_lawful n u cs k l = lawful_by (put_column n u cs) (rises_put n u cs (rises_of cs l)) (inner_put n u cs k (inner_of cs l))
 
 without_lawful : (n : List ℕ) (cs : ColumnList) → AreLawfulColumns cs → AreLawfulColumns (lists.without n cs)
@@ -315,11 +315,11 @@ node_lawful c top.chain ts us t k n l r = absurd n
 node_lawful c (top.act d) ts us t k n l r = absurd n
 
 -- ---- whole trees
-types_more : (ts : List Shape) (t : Shape) → AreLawfulTypes ts → IsLawfulType t → AreLawfulTypes (ts ++ t ∷ [])
+pub types_more : (ts : List Shape) (t : Shape) → AreLawfulTypes ts → IsLawfulType t → AreLawfulTypes (ts ++ t ∷ [])
 types_more [] t l k = (k, tt)
 types_more (u ∷ ts) t l k = (l.0, types_more ts t l.1 k)
 
-context_lawful : (st : Standing) (c : Context) (done : List Shape) → AreLawfulTypes done → IsLawfulContext c → IsLawfulContext (context_for st c done)
+pub context_lawful : (st : Standing) (c : Context) (done : List Shape) → AreLawfulTypes done → IsLawfulContext c → IsLawfulContext (context_for st c done)
 context_lawful inside c [] l k = k
 context_lawful inside c (t ∷ ts) l k = record { of_sources = k.of_sources; of_scopes = types_more c.rows (row_type t) k.of_scopes (row_lawful t l.0); of_item = k.of_item }
 context_lawful bound c [] l k = k

@@ -4,6 +4,7 @@ use Rattle.std.specs.Prelude.{◌-◌, reverse}
 use Rattle.std.specs.List.{All}
 use Rattle.std.proofs.lemmas.List.{reverse-append}
 use Rattle.std.proofs.lemmas.List.Elements.{All-nil, All-cons}
+use Rattle.std.proofs.lemmas.Bool.{and_from}
 use Rattle.fx_data.specs.declared.faults.Fault.{Fault}
 use Rattle.fx_data.specs.declared.faults.Kind.{Kind}
 use Rattle.fx_data.specs.Types.{Shape, numbers, texts, records, tables, ColumnList}
@@ -19,7 +20,6 @@ use Rattle.fx_value.specs.Columns.{Row}
 use Rattle.fx_tables.specs.Distinct.{distinct_of, value_row}
 use Rattle.fx_trees.specs.ColumnLists.{row_columns, value_column}
 use Rattle.fx_typing.specs.WellTyped.{Context}
-use Rattle.fx_value.proofs.Widenings.{both}
 use Rattle.fx_value.specs.Fits.{fits_in, fields_fit, rows_fit}
 use Rattle.fx_semantics.specs.Around.{Meaning, AreEach, record_of}
 use Rattle.fx_semantics.specs.Rows.{fields_of, rows_of, rows_in, table_of, IsOfFound}
@@ -54,7 +54,7 @@ rows_in_fit (fault k m) cs h = tt
 
 pub table_fits : (cs : ColumnList) (rows : List Row) → RowsFit cs rows → fits_in (table_of rows) (tables cs) ≡ true
 table_fits cs [] h = refl
-table_fits cs (r ∷ rs) h = both (fields_fit (field_list r) cs) (rows_fit (row_list rs) cs) h.0 (table_fits cs rs h.1)
+table_fits cs (r ∷ rs) h = and_from (fields_fit (field_list r) cs) (rows_fit (row_list rs) cs) h.0 (table_fits cs rs h.1)
 
 pub fit_table : (cs : ColumnList) (rows : List Row) → fits_in (table_of rows) (tables cs) ≡ true → RowsFit cs rows
 fit_table cs [] h = tt

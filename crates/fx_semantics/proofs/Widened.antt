@@ -6,11 +6,12 @@ use Rattle.std.specs.Cmp.Lexicographic.{slice_cmp}
 use Rattle.std.specs.declared.cmp.Ordering.{Ordering}
 use Rattle.std.specs.declared.cmp.Ordering.TheVariants.{Less, Equal, Greater}
 use Rattle.std.proofs.lemmas.Map.Text.{is_eq-slice_cmp}
+use Rattle.std.proofs.lemmas.Bool.{and_from}
 use Rattle.fx_data.specs.Types.{Shape, numbers, texts, booleans, dates, records, tables, ColumnList, no_columns, column}
 use Rattle.fx_data.specs.Values.{Data, blank, number, text, boolean, date, rec, tab, fault, FieldList, no_fields, field, RowList, no_rows, row}
 use Rattle.fx_data.proofs.Utf8Order.{and_second, and_first}
 use Rattle.fx_trees.specs.ColumnLists.{field_in}
-use Rattle.fx_value.proofs.Widenings.{both, own_name, same_name, below_apart}
+use Rattle.fx_value.proofs.Widenings.{own_name, same_name, below_apart}
 use Rattle.fx_value.specs.Coercion.{value_in, widened, widened_fields, rows_by}
 use Rattle.fx_value.specs.Fits.{fits_in, fields_fit, rows_fit}
 use Rattle.fx_value.specs.Join.{join_of, union, with_column}
@@ -37,7 +38,7 @@ rows_widened_fit : (cs : ColumnList) → ((fs : FieldList) → FieldsCome fs cs 
     (rs : RowList) → EachRow (λ fs. FieldsCome fs cs) rs → rows_fit (rows_by (λ fs. widened_fields fs cs) rs) cs ≡ true
 rows_widened_fit cs go no_rows k = refl
 rows_widened_fit cs go (row fs rest) k =
-    both (fields_fit (widened_fields fs cs) cs) (rows_fit (rows_by (λ es. widened_fields es cs) rest) cs) (go fs k.0) (rows_widened_fit cs go rest k.1)
+    and_from (fields_fit (widened_fields fs cs) cs) (rows_fit (rows_by (λ es. widened_fields es cs) rest) cs) (go fs k.0) (rows_widened_fit cs go rest k.1)
 
 mutual
   pub widened_fits : (d : Data) (t : Shape) → Comes d t → fits_in (widened d t) t ≡ true

@@ -50,12 +50,12 @@ AllStay K g (P ∷ Ps) = Stays K g P × AllStay K g Ps
 abbrev AreOf : Sources → List Source → Type 0
 AreOf K xs = (s : Source) → IsAmong s xs → K s
 
-among_left : (s : Source) (xs ys : List Source) → IsAmong s xs → IsAmong s (xs ++ ys)
+pub among_left : (s : Source) (xs ys : List Source) → IsAmong s xs → IsAmong s (xs ++ ys)
 among_left s [] ys h = absurd h
 among_left s (x ∷ xs) ys (inl e) = inl e
 among_left s (x ∷ xs) ys (inr h) = inr (among_left s xs ys h)
 
-among_right : (s : Source) (xs ys : List Source) → IsAmong s ys → IsAmong s (xs ++ ys)
+pub among_right : (s : Source) (xs ys : List Source) → IsAmong s ys → IsAmong s (xs ++ ys)
 among_right s [] ys h = h
 among_right s (x ∷ xs) ys h = inr (among_right s xs ys h)
 

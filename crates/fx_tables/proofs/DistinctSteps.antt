@@ -110,12 +110,3 @@ own_scalar (fault k cs) h = absurd h
 pub scalar_at : (xs : List Value) (i : ℕ) (x : Value) → i < length xs → x ≡ get_or xs i x → AreKeys (map view xs) → IsScalar (view x)
 scalar_at xs i x h e keys =
     own_scalar (view x) (all_at (λ b. AreOfOneType (view x) b) xs i x h e (all_at (λ a. All (AreOfOneType a) (map view xs)) xs i x h e keys))
-
--- a test turned round
-pub not_true : (b : Bool) → not b ≡ true → b ≡ false
-not_true true e = cc
-not_true false e = refl
-
-pub not_false : (b : Bool) → not b ≡ false → b ≡ true
-not_false true e = refl
-not_false false e = cc

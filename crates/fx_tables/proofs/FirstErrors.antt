@@ -1,25 +1,13 @@
 -- Where the first error of values stands, and the answers of calls that begin with it.
-use Rattle.std.proofs.Common.{◌≡◌, ℕ, ◌+◌, ◌<◌, List, [], ◌∷◌, length, get_or, drop, map, Bool, true, false, Option, Some, None, Result, Ok, Err, IfOk, unwrap_or, refl, sym, ap, subst, ◌∙◌, cond}
+use Rattle.std.proofs.Common.{◌≡◌, List, [], ◌∷◌, Bool, true, false, Option, Some, None, Result, Ok, Err, IfOk, unwrap_or, refl, sym, ap, subst, cond}
 use Rattle.std.specs.Prelude.{MatchOption}
 use Rattle.std.specs.List.{find}
-use Rattle.std.proofs.lemmas.Option.{slice_get_read, get_or_from_slice_get}
 use Rattle.fx_number.specs.declared.memory.Memory.{Memory}
 use Rattle.fx_data.specs.Values.{Data}
 use Rattle.fx_data.specs.ValueView.{view}
 use Rattle.fx_data.specs.declared.values.Value.{Value}
-use Rattle.fx_value.proofs.JoinSteps.{left}
 use Rattle.fx_tables.specs.RowCalls.{IsFirstErrorOr}
 use Rattle.fx_tables.specs.Unions.{fault_or, is_fault}
-
-find_from : (xs : List Value) (i : ℕ) (x : Value) → i < length xs → x ≡ get_or xs i x → find is_fault (map view (drop i xs)) ≡ cond (is_fault (view x)) (Some (view x)) (find is_fault (map view (drop (i + 1) xs)))
-find_from xs i x h e = ap (λ zs. find is_fault (map view zs)) (left xs i x h e)
-
-pub found_here : (xs : List Value) (i : ℕ) (x : Value) → i < length xs → x ≡ get_or xs i x → is_fault (view x) ≡ true → find is_fault (map view (drop i xs)) ≡ find is_fault (map view xs) → (v : Value) → v ≡ get_or xs i v → find is_fault (map view xs) ≡ Some (view v)
-found_here xs i x h e t inv v q =
-    let same : v ≡ x = q ∙ get_or_from_slice_get xs i x v (slice_get_read xs (length xs) i x refl h e) in
-    sym inv ∙ find_from xs i x h e
-    ∙ ap (λ b. cond b (Some (view x)) (find is_fault (map view (drop (i + 1) xs)))) t
-    ∙ ap (λ z. Some (view z)) (sym same)
 
 -- what is found passes
 pub found_passes : (ds : List Data) (d : Data) → find is_fault ds ≡ Some d → is_fault d ≡ true

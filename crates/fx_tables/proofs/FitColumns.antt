@@ -9,6 +9,7 @@ use Rattle.std.specs.declared.cmp.Ordering.TheVariants.{Less, Equal, Greater}
 use Rattle.std.proofs.lemmas.Cmp.{nat_list_cmp_total}
 use Rattle.std.proofs.lemmas.List.Elements.{All-head, All-tail}
 use Rattle.std.proofs.lemmas.Map.Lookups.{exact_bytes}
+use Rattle.std.proofs.lemmas.Bool.{and_from}
 use Rattle.fx_data.specs.Lookup.{item_of}
 use Rattle.fx_data.specs.Rising.{IsBelow}
 use Rattle.fx_data.specs.Types.{Shape, ColumnList, no_columns, column}
@@ -17,7 +18,7 @@ use Rattle.fx_data.proofs.Utf8Order.{and_second, and_first}
 use Rattle.fx_trees.specs.SourceTypes.{put_column}
 use Rattle.fx_value.specs.Fits.{fits_in, fields_fit, rows_fit}
 use Rattle.fx_value.proofs.Unions.{Rises, Under, below}
-use Rattle.fx_value.proofs.Widenings.{both, own_name, same_name}
+use Rattle.fx_value.proofs.Widenings.{own_name, same_name}
 use Rattle.fx_value.specs.Columns.{LacksColumn, Row, only, renamed, with_column, with_field, without}
 use Rattle.fx_tables.proofs.ColumnSteps.{lacking_rest, lacks_without, lacks_rest, lacks_first, not_below_itself}
 use Rattle.fx_trees.specs.ColumnLists.{and_then, field_in, if_free, if_there, is_one_of, with_new, with_renamed, without_all}
@@ -65,7 +66,7 @@ other_fields : (x : List ℕ × Data) (r : Row) (m : List ℕ) (t : Shape) (cs :
 other_fields x r m t cs h = and_second (fits_in x.1 t) (fields_fit (field_list r) cs) (and_second (bytes_eq x.0 m) (fits_in x.1 t && fields_fit (field_list r) cs) h)
 
 one_more : (x : List ℕ × Data) (r : Row) (t : Shape) (cs : ColumnList) → fits_in x.1 t ≡ true → RowFits r cs → RowFits (x ∷ r) (column x.0 t cs)
-one_more x r t cs v h = both (bytes_eq x.0 x.0) (fits_in x.1 t && fields_fit (field_list r) cs) (own_name x.0) (both (fits_in x.1 t) (fields_fit (field_list r) cs) v h)
+one_more x r t cs v h = and_from (bytes_eq x.0 x.0) (fits_in x.1 t && fields_fit (field_list r) cs) (own_name x.0) (and_from (fits_in x.1 t) (fields_fit (field_list r) cs) v h)
 
 -- a new field among the others
 with_field_fits : (n : List ℕ) (d : Data) (u : Shape) (r : Row) (cs : ColumnList) → RowFits r cs → item_of n r ≡ None → fits_in d u ≡ true → RowFits (with_field n d r) (put_column n u cs)
@@ -209,7 +210,7 @@ other_rows_fit r rs cs h = and_second (fields_fit (field_list r) cs) (rows_fit (
 mapped_fit : (f : Row → Row) (cs ds : ColumnList) → ((r : Row) → RowFits r cs → RowFits (f r) ds) → (rows : List Row) → AllFit rows cs → AllFit (map f rows) ds
 mapped_fit f cs ds k [] h = refl
 mapped_fit f cs ds k (r ∷ rs) h =
-    both (fields_fit (field_list (f r)) ds) (rows_fit (row_list (map f rs)) ds) (k r (first_row_fits r rs cs h)) (mapped_fit f cs ds k rs (other_rows_fit r rs cs h))
+    and_from (fields_fit (field_list (f r)) ds) (rows_fit (row_list (map f rs)) ds) (k r (first_row_fits r rs cs h)) (mapped_fit f cs ds k rs (other_rows_fit r rs cs h))
 
 pub rows_only_fit : (ns : List (List ℕ)) (rows : List Row) (cs : ColumnList) → AllFit rows cs → AllFit (map (only ns) rows) (only_columns ns cs)
 rows_only_fit ns rows cs h = mapped_fit (only ns) cs (only_columns ns cs) (λ r k. only_fits ns r cs k) rows h
@@ -219,14 +220,14 @@ with_column_fits n u [] [] cs h l f = refl
 with_column_fits n u [] (v ∷ vs) cs h l f = refl
 with_column_fits n u (r ∷ rs) [] cs h l f = refl
 with_column_fits n u (r ∷ rs) (v ∷ vs) cs h l f =
-    both (fields_fit (field_list (with_field n v r)) (put_column n u cs)) (rows_fit (row_list (with_column n rs vs)) (put_column n u cs))
+    and_from (fields_fit (field_list (with_field n v r)) (put_column n u cs)) (rows_fit (row_list (with_column n rs vs)) (put_column n u cs))
     (with_field_fits n v u r cs (first_row_fits r rs cs h) (All-head (λ (z : Row). item_of n z ≡ None) r rs l) (All-head (λ d. fits_in d u ≡ true) v vs f))
     (with_column_fits n u rs vs cs (other_rows_fit r rs cs h) (All-tail (λ (z : Row). item_of n z ≡ None) r rs l) (All-tail (λ d. fits_in d u ≡ true) v vs f))
 
 rows_renamed_fit : (n m : List ℕ) (u : Shape) (rows : List Row) (cs : ColumnList) → Rises cs → LacksColumn m rows → field_in n cs ≡ Some u → AllFit rows cs → AllFit (map (renamed n m) rows) (put_column m u (without_column n cs))
 rows_renamed_fit n m u [] cs rising l e h = refl
 rows_renamed_fit n m u (r ∷ rs) cs rising l e h =
-    both (fields_fit (field_list (renamed n m r)) (put_column m u (without_column n cs))) (rows_fit (row_list (map (renamed n m) rs)) (put_column m u (without_column n cs)))
+    and_from (fields_fit (field_list (renamed n m r)) (put_column m u (without_column n cs))) (rows_fit (row_list (map (renamed n m) rs)) (put_column m u (without_column n cs)))
     (renamed_fits n m u r cs rising (first_row_fits r rs cs h) (All-head (λ (z : Row). item_of m z ≡ None) r rs l) e)
     (rows_renamed_fit n m u rs cs rising (All-tail (λ (z : Row). item_of m z ≡ None) r rs l) e (other_rows_fit r rs cs h))
 

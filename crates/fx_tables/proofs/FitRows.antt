@@ -1,24 +1,16 @@
 -- Rows that are taken of rows that fit.
-use Rattle.std.proofs.Common.{◌≡◌, ℕ, List, [], ◌∷◌, ◌++◌, take, drop, Bool, true, false, refl, sym, subst}
-use Rattle.std.specs.Prelude.{◌&&◌}
+use Rattle.std.specs.Cmp.{first_so, second_so}
+use Rattle.std.proofs.Common.{◌≡◌, ℕ, List, [], ◌∷◌, ◌++◌, take, drop, Bool, true, refl, sym, subst}
 use Rattle.std.specs.List.{All, filter, zip}
 use Rattle.std.proofs.lemmas.List.Elements.{All-nil, All-cons, All-head, All-tail, All-filter, All-map, All-take, All-drop}
 use Rattle.std.proofs.lemmas.List.Sorted.{All-permutation}
+use Rattle.std.proofs.lemmas.Bool.{and_from}
 use Rattle.fx_data.specs.Types.{Shape, blanks, numbers, texts, booleans, dates, records, tables, ColumnList}
 use Rattle.fx_data.specs.Values.{Data, tab, field_list, row_list}
 use Rattle.fx_value.specs.Fits.{fits_in, fields_fit, rows_fit}
-use Rattle.fx_value.proofs.Widenings.{both}
 use Rattle.fx_value.specs.Columns.{Row}
 use Rattle.fx_value.specs.Ordered.{IsOrderedBy}
 use Rattle.fx_tables.specs.RowCalls.{holds, kept_rows}
-
-first_of_both : (a b : Bool) → (a && b) ≡ true → a ≡ true
-first_of_both true b h = refl
-first_of_both false b h = cc
-
-second_of_both : (a b : Bool) → (a && b) ≡ true → b ≡ true
-second_of_both true b h = h
-second_of_both false b h = cc
 
 -- a row fits these columns
 abbrev pub RowFits : ColumnList → Row → Type 0
@@ -27,13 +19,13 @@ RowFits cs r = fields_fit (field_list r) cs ≡ true
 each_fits : (cs : ColumnList) (rs : List Row) → rows_fit (row_list rs) cs ≡ true → All (RowFits cs) rs
 each_fits cs [] h = All-nil (RowFits cs)
 each_fits cs (r ∷ rs) h =
-    All-cons (RowFits cs) r rs (first_of_both (fields_fit (field_list r) cs) (rows_fit (row_list rs) cs) h)
-    (each_fits cs rs (second_of_both (fields_fit (field_list r) cs) (rows_fit (row_list rs) cs) h))
+    All-cons (RowFits cs) r rs (first_so (fields_fit (field_list r) cs) (rows_fit (row_list rs) cs) h)
+    (each_fits cs rs (second_so (fields_fit (field_list r) cs) (rows_fit (row_list rs) cs) h))
 
 all_fit : (cs : ColumnList) (rs : List Row) → All (RowFits cs) rs → rows_fit (row_list rs) cs ≡ true
 all_fit cs [] h = refl
 all_fit cs (r ∷ rs) h =
-    both (fields_fit (field_list r) cs) (rows_fit (row_list rs) cs) (All-head (RowFits cs) r rs h) (all_fit cs rs (All-tail (RowFits cs) r rs h))
+    and_from (fields_fit (field_list r) cs) (rows_fit (row_list rs) cs) (All-head (RowFits cs) r rs h) (all_fit cs rs (All-tail (RowFits cs) r rs h))
 
 -- where the rows that are taken have each property that all rows have, they fit what those fit
 taken_fit : (rows taken : List Row) (t : Shape) → ((P : Row → Type 0) → All P rows → All P taken) → fits_in (tab (row_list rows)) t ≡ true → fits_in (tab (row_list taken)) t ≡ true
@@ -74,7 +66,7 @@ pub ordered_fit : (down : Bool) (keys : List Data) (rows ordered : List Row) (t 
 ordered_fit down keys rows ordered t o h = taken_fit rows ordered t (ordered_all down keys rows ordered o) h
 
 pub first_fits : (r : Row) (rs : List Row) (cs : ColumnList) → fits_in (tab (row_list (r ∷ rs))) (tables cs) ≡ true → fields_fit (field_list r) cs ≡ true
-first_fits r rs cs h = first_of_both (fields_fit (field_list r) cs) (rows_fit (row_list rs) cs) h
+first_fits r rs cs h = first_so (fields_fit (field_list r) cs) (rows_fit (row_list rs) cs) h
 
 pub first_rows_fit : (rows : List Row) (n : ℕ) (t : Shape) → fits_in (tab (row_list rows)) t ≡ true → fits_in (tab (row_list (take n rows))) t ≡ true
 first_rows_fit rows n t h = taken_fit rows (take n rows) t (λ P k. All-take P n rows k) h
@@ -89,5 +81,5 @@ last_fits rs r rows cs e h =
     from rs (subst P e h)
   where
     from : (zs : List Row) → rows_fit (row_list (zs ++ r ∷ [])) cs ≡ true → fields_fit (field_list r) cs ≡ true
-    from [] k = first_of_both (fields_fit (field_list r) cs) true k
-    from (z ∷ zs) k = from zs (second_of_both (fields_fit (field_list z) cs) (rows_fit (row_list (zs ++ r ∷ [])) cs) k)
+    from [] k = first_so (fields_fit (field_list r) cs) true k
+    from (z ∷ zs) k = from zs (second_so (fields_fit (field_list z) cs) (rows_fit (row_list (zs ++ r ∷ [])) cs) k)

@@ -11,5 +11,4 @@ pub mod FitRows
 pub mod KeptRows
 pub mod Numbers
 pub mod OneAnswers
-pub mod Separators
 pub mod ValueRows

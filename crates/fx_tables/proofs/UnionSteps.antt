@@ -1,8 +1,9 @@
 -- Values that become the rows of one table, until the first error.
-use Rattle.std.proofs.Common.{◌≡◌, ℕ, List, [], ◌∷◌, ◌++◌, map, Bool, true, false, bytes_eq, Option, Some, None, option_map, unwrap_or, refl, sym, ap, subst, ◌∙◌, cond, append-nil}
+use Rattle.std.proofs.Common.{◌≡◌, ℕ, List, [], ◌∷◌, ◌++◌, map, Bool, true, false, bytes_eq, Option, Some, None, option_map, unwrap_or, refl, sym, ap, subst, cond}
 use Rattle.std.specs.Prelude.{◌&&◌}
 use Rattle.std.specs.List.{All, find}
 use Rattle.std.proofs.lemmas.List.Elements.{All-head, All-tail}
+use Rattle.std.proofs.lemmas.Bool.{and_from}
 use Rattle.fx_data.specs.Rising.{AreRising}
 use Rattle.fx_data.specs.Types.{Shape, records, tables, ColumnList, no_columns, column, column_list}
 use Rattle.fx_data.specs.Values.{Data, blank, number, text, boolean, date, rec, tab, fault, FieldList, no_fields, field, RowList, no_rows, row, field_list, row_list}
@@ -13,7 +14,7 @@ use Rattle.fx_data.specs.declared.values.Value.TheVariants.{Blank, Number, Text,
 use Rattle.fx_value.specs.Coercion.{CanWiden, Widens, same, joined, widened_fields}
 use Rattle.fx_value.specs.Fits.{fits_in, fields_fit}
 use Rattle.fx_value.proofs.Unions.{union_of_none, rises_list}
-use Rattle.fx_value.proofs.Widenings.{both, own_name}
+use Rattle.fx_value.proofs.Widenings.{own_name}
 use Rattle.fx_value.specs.Columns.{Row}
 use Rattle.fx_tables.specs.Distinct.{value_name}
 use Rattle.fx_tables.specs.Unions.{is_fault, fault_or, fields_in, CanBeRow, rows_of}
@@ -22,7 +23,7 @@ use Rattle.fx_tables.specs.Unions.{is_fault, fault_or, fields_in, CanBeRow, rows
 scalar_fits : (cs : ColumnList) (d : Data) → (t : Shape) × (cs ≡ column value_name t no_columns) × (fits_in d t ≡ true) → fields_fit (field value_name d no_fields) cs ≡ true
 scalar_fits cs d p =
     let P : ColumnList → Type 0 = λ ds. fields_fit (field value_name d no_fields) ds ≡ true in
-    subst P (sym p.1) (both (bytes_eq value_name value_name) (fits_in d p.0 && true) (own_name value_name) (both (fits_in d p.0) true p.2 refl))
+    subst P (sym p.1) (and_from (bytes_eq value_name value_name) (fits_in d p.0 && true) (own_name value_name) (and_from (fits_in d p.0) true p.2 refl))
 
 scalar_widens : (cs : ColumnList) (d : Data) → (t : Shape) × (cs ≡ column value_name t no_columns) × (fits_in d t ≡ true) → CanWiden (rec (field value_name d no_fields)) (records cs)
 scalar_widens cs d p = record { from = records cs; fitting = scalar_fits cs d p; widens = same }
@@ -78,13 +79,6 @@ rows_of_push cs (x ∷ ws) (d ∷ ds) w v h e =
     let a : field_list x ≡ widened_fields (fields_in (view d)) cs = cc in
     let b : row_list ws ≡ rows_of cs (map view ds) = cc in
     λ i. row (a i) (rows_of_push cs ws ds w v b e i)
-
--- all rows, where none is an error
-pub all_rows : (cs : ColumnList) (ws : List Row) (ds es left : List Value) → ds ++ left ≡ es → left ≡ [] → find is_fault (map view ds) ≡ None → row_list ws ≡ rows_of cs (map view ds) → tab (row_list ws) ≡ fault_or (map view es) (tab (rows_of cs (map view es)))
-all_rows cs ws ds es left all none clear value =
-    let whole : es ≡ ds = sym all ∙ ap (λ z. ds ++ z) none ∙ append-nil ds in
-    let P : List Value → Type 0 = λ zs. tab (row_list ws) ≡ fault_or (map view zs) (tab (rows_of cs (map view zs))) in
-    subst P (sym whole) (ap tab value ∙ sym (ap (λ o. unwrap_or o (tab (rows_of cs (map view ds)))) clear))
 
 -- what holds of all holds of one in the middle
 pub at_middle : (P : Data → Type 0) (ds : List Value) (v : Value) (es : List Value) → All P (map view (ds ++ v ∷ es)) → P (view v)

@@ -4,13 +4,14 @@ use Rattle.std.specs.Prelude.{◌&&◌, codes}
 use Rattle.std.specs.Str.{chars}
 use Rattle.std.specs.List.{All, filter, find}
 use Rattle.std.proofs.lemmas.List.Elements.{All-head, All-tail}
+use Rattle.std.proofs.lemmas.Bool.{and_from}
 use Rattle.fx_data.specs.Types.{Shape, blanks, numbers, texts, booleans, dates, records, tables, no_columns, column}
 use Rattle.fx_data.specs.Values.{Data, number, text, boolean, date, rec, no_rows, row, no_fields, field, field_list, row_list}
 use Rattle.fx_data.specs.ValueView.{view}
 use Rattle.fx_data.specs.declared.values.Value.{Value}
 use Rattle.fx_data.specs.declared.values.Value.TheVariants.{Text}
 use Rattle.fx_value.specs.Fits.{fits_in, fields_fit, rows_fit}
-use Rattle.fx_value.proofs.Widenings.{both, own_name}
+use Rattle.fx_value.proofs.Widenings.{own_name}
 use Rattle.fx_tables.specs.AggregateCalls.{characters_in}
 use Rattle.fx_tables.specs.RowCalls.{CanBeRowType, is_blank, rows_by_values}
 use Rattle.fx_value.specs.Columns.{Row}
@@ -40,7 +41,7 @@ value_name_is = refl
 pub scalar_fits : (d : Data) (t : Shape) → fits_in d t ≡ true → fields_fit (field value_name d no_fields) (value_column t) ≡ true
 scalar_fits d t h =
     let P : List ℕ → Type 0 = λ n. fields_fit (field value_name d no_fields) (column n t no_columns) ≡ true in
-    subst P value_name_is (both (bytes_eq value_name value_name) (fits_in d t && true) (own_name value_name) (both (fits_in d t) true h refl))
+    subst P value_name_is (and_from (bytes_eq value_name value_name) (fits_in d t && true) (own_name value_name) (and_from (fits_in d t) true h refl))
 
 -- a value that is neither blank nor an error fits the columns of its type as a row
 value_fits : (t : Shape) (d : Data) → CanBeRowType t → fits_in d t ≡ true → is_blank d ≡ false → is_fault d ≡ false → fields_fit (fields_in d) (row_columns t) ≡ true
@@ -82,7 +83,7 @@ values_fit t (d ∷ ds) c h f =
   where
     by : (b : Bool) → (b ≡ false → fields_fit (fields_in d) (row_columns t) ≡ true) → rows_fit (rows_by_values (filter (λ e. not (is_blank e)) ds)) (row_columns t) ≡ true → rows_fit (rows_by_values (cond (not b) (d ∷ filter (λ e. not (is_blank e)) ds) (filter (λ e. not (is_blank e)) ds))) (row_columns t) ≡ true
     by true first rest = rest
-    by false first rest = both (fields_fit (fields_in d) (row_columns t)) (rows_fit (rows_by_values (filter (λ e. not (is_blank e)) ds)) (row_columns t)) (first refl) rest
+    by false first rest = and_from (fields_fit (fields_in d) (row_columns t)) (rows_fit (rows_by_values (filter (λ e. not (is_blank e)) ds)) (row_columns t)) (first refl) rest
 
 -- what is no text has no characters
 pub no_characters : (v : Value) → ((cs : List ℕ) → v ≡ Text cs → ⊥) → characters_in (view v) ≡ []

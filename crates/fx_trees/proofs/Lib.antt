@@ -1,4 +1,5 @@
 pub mod Ordered
 pub mod Doubling
+pub mod Parts
 mod Placed
 pub mod Spelled

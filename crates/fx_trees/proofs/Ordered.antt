@@ -12,7 +12,7 @@ use Rattle.fx_trees.specs.Reads.{rank_of, number_of, source_order, IsBelowAll, A
 use Rattle.fx_trees.specs.Rising.{put, put_all}
 
 -- a source as the list of its kind and its number
-abbrev key_of : Source → List ℕ
+abbrev pub key_of : Source → List ℕ
 key_of s = rank_of s ∷ number_of s ∷ []
 
 abbrev by_rank : ℕ → ℕ → Source
@@ -39,25 +39,29 @@ key_back (source.Chosen n) = refl
 key_back (source.Table n) = refl
 key_back source.Today = refl
 
+-- a source is known by its kind and its number
+pub source_is : (s t : Source) → rank_of s ≡ rank_of t → number_of s ≡ number_of t → s ≡ t
+source_is s t e f = sym (key_back s) ∙ ap (by_rank (rank_of s)) f ∙ ap (λ r. by_rank r (number_of t)) e ∙ key_back t
+
 then_equal : (o : Ordering) → ordering_then o Equal ≡ o
 then_equal Less = refl
 then_equal Equal = refl
 then_equal Greater = refl
 
-by_keys : (s t : Source) → source_order s t ≡ slice_cmp nat_cmp (key_of s) (key_of t)
+pub by_keys : (s t : Source) → source_order s t ≡ slice_cmp nat_cmp (key_of s) (key_of t)
 by_keys s t = ap (ordering_then (nat_cmp (rank_of s) (rank_of t))) (sym (then_equal (nat_cmp (number_of s) (number_of t))))
 
 -- the order tells sources apart
-order_tells : (s t : Source) → source_order s t ≡ Equal → s ≡ t
+pub order_tells : (s t : Source) → source_order s t ≡ Equal → s ≡ t
 order_tells s t e = sym (key_back s) ∙ ap of_key (exact_bytes (key_of s) (key_of t) (sym (by_keys s t) ∙ e)) ∙ key_back t
 
 order_chains : (r s t : Source) → source_order r s ≡ Less → source_order s t ≡ Less → source_order r t ≡ Less
 order_chains r s t d e = by_keys r t ∙ nat_list_cmp_total.trans (key_of r) (key_of s) (key_of t) (sym (by_keys r s) ∙ d) (sym (by_keys s t) ∙ e)
 
-order_flips : (s t : Source) → source_order s t ≡ Greater → source_order t s ≡ Less
+pub order_flips : (s t : Source) → source_order s t ≡ Greater → source_order t s ≡ Less
 order_flips s t e = by_keys t s ∙ nat_list_cmp_total.antisymm (key_of t) (key_of s) ∙ ap ordering_reverse (sym (by_keys s t) ∙ e)
 
-below_more : (s t : Source) (ts : List Source) → source_order s t ≡ Less → IsBelowAll t ts → IsBelowAll s ts
+pub below_more : (s t : Source) (ts : List Source) → source_order s t ≡ Less → IsBelowAll t ts → IsBelowAll s ts
 below_more s t [] e h = tt
 below_more s t (u ∷ us) e h = (order_chains s t u e h.0, below_more s t us e h.1)
 

@@ -1,6 +1,8 @@
 -- The law of acting calls: what is admitted of well typed parts is well typed.
 use Rattle.std.proofs.Common.{◌≡◌, ℕ, zero, suc, ◌++◌, List, [], ◌∷◌, Bool, true, false, ◌&&◌, not, nat_eq, length, Option, Some, Result, Ok, Err, refl, ap, subst, ◌∙◌, if◌then◌else◌}
 use Rattle.std.specs.Prelude.{is_some}
+use Rattle.std.proofs.Math.Bool.{or-false}
+use Rattle.std.proofs.lemmas.List.{map_push}
 use Rattle.fx_data.specs.Types.{Shape, booleans}
 use Rattle.fx_trees.specs.declared.deeds.Deed.TheVariants as deed
 use Rattle.fx_trees.specs.declared.functions.Acting.{Acting}
@@ -24,7 +26,6 @@ use Rattle.fx_typing.proofs.Filters.{in_row}
 use Rattle.fx_typing.proofs.Frame.{PartTyped, PartsTypedAt}
 use Rattle.fx_typing.proofs.Built.{within_limit}
 use Rattle.fx_typing.proofs.Operators.{then_ok}
-use Rattle.fx_typing.proofs.Places.{or_false, map_one}
 use Rattle.fx_typing.proofs.Steps.{place_at, EachTyped, each_plain, values_typed, typed_by}
 use Rattle.fx_typing.proofs.RelatedSteps.{ok_is}
 
@@ -53,8 +54,8 @@ inside_place : (p : Place) (s : Setting) (l : Plan) (a : Option (List ℕ)) (y :
     context_of p (setting_by p.names s l (target a y ∷ done)) ≡ in_row (context_of p s) (target_columns p.names y)
 inside_place p s l a y done e =
     let first : place_at p s l.standing (target a y ∷ done) ≡ place_at p s inside (target a y ∷ done) = ap (λ st. place_at p s st (target a y ∷ done)) e in
-    let rows = map_one (λ (r : Scope). r.row_type) s.scopes (first_row p.names (target a y)) in
-    first ∙ (λ i. record (context_of p s) { rows = rows i; caught = or_false s.catches i })
+    let rows = map_push (λ (r : Scope). r.row_type) s.scopes (first_row p.names (target a y)) in
+    first ∙ (λ i. record (context_of p s) { rows = rows i; caught = or-false s.catches i })
 
 each_inside : (p : Place) (s : Setting) (x : List ℕ) (k : Acting) (n : ℕ) (a : Option (List ℕ)) (y : List ℕ) (done qs : List Part) → InsidePlaced k →
     called_as p.names x ≡ Some (sig.Act k) → PartsTypedAt p s (tree.call x) n (target a y ∷ done) qs → EachTyped (in_row (context_of p s) (target_columns p.names y)) qs

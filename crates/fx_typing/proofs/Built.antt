@@ -2,6 +2,8 @@
 use Rattle.std.proofs.Common.{◌≡◌, ℕ, ◌++◌, List, [], ◌∷◌, Bool, true, false, ◌&&◌, not, nat_lt, length, bytes_eq, Result, Ok, Err, refl, ap, sym, subst, ◌∙◌, inr, if◌then◌else◌}
 use Rattle.std.specs.Prelude.{Option, Some, None}
 use Rattle.std.proofs.lemmas.Slice.Eq.{bytes_eq-Decides}
+use Rattle.std.proofs.Math.Bool.{or-false}
+use Rattle.std.proofs.lemmas.List.{map_push}
 use Rattle.fx_data.specs.Types.{Shape, blanks, records, tables, ColumnList, no_columns, column}
 use Rattle.fx_trees.specs.declared.deeds.Target.{Target}
 use Rattle.fx_trees.specs.declared.names.Names.{Names}
@@ -23,7 +25,7 @@ use Rattle.fx_typing.specs.Targets.{rows_named}
 use Rattle.fx_typing.specs.Typing.{context_of}
 use Rattle.fx_typing.proofs.Deeds.{Of, by_name_ok, by_rows_ok, has_columns}
 use Rattle.fx_typing.proofs.Frame.{AllTyped}
-use Rattle.fx_typing.proofs.Places.{PartsStand, or_false, flat_stood, map_one, stood}
+use Rattle.fx_typing.proofs.Places.{PartsStand, flat_stood, stood}
 use Rattle.fx_typing.proofs.Operators.{plainly_placed, then_ok}
 use Rattle.fx_typing.proofs.RelatedSteps.{ok_is}
 
@@ -135,8 +137,8 @@ in_record c t = record c { rows = c.rows ++ record_type t ∷ [] }
 record_stood : (p : Place) (s : Setting) (a : Option (List ℕ)) (k : Term) (t : Shape) →
     stood p s bound (piece (value a k t) ∷ []) ≡ in_record (context_of p s) t
 record_stood p s a k t =
-    let rows = map_one (λ (r : Scope). r.row_type) s.scopes (first_record (piece (value a k t))) in
-    λ i. record (context_of p s) { rows = rows i; caught = or_false s.catches i }
+    let rows = map_push (λ (r : Scope). r.row_type) s.scopes (first_record (piece (value a k t))) in
+    λ i. record (context_of p s) { rows = rows i; caught = or-false s.catches i }
 
 with_parts : (p : Place) (s : Setting) (b : Bool) (qs : List Part) (r f : Term × Shape) → values qs ≡ Ok (r ∷ f ∷ []) →
     PartsStand p s (with_placed b) [] qs → Typed (context_of p s) r × Typed (in_record (context_of p s) r.1) f

@@ -1,5 +1,7 @@
 -- Changes of rows, and what is told to the user, are well typed.
-use Rattle.std.proofs.Common.{◌≡◌, ℕ, zero, suc, ◌<◌, List, [], ◌∷◌, Bool, true, false, ◌&&◌, not, is_some, length, codes, bytes_eq, option_and_then, slice_get, Option, Some, None, Result, Ok, Err, refl, ap, sym, subst, ◌∙◌, arith, if◌then◌else◌}
+use Rattle.std.proofs.Common.{◌≡◌, ℕ, ◌<◌, List, [], ◌∷◌, Bool, true, false, ◌&&◌, not, is_some, length, codes, bytes_eq, option_and_then, Option, Some, None, Result, Ok, Err, refl, ap, sym, subst, ◌∙◌, if◌then◌else◌}
+use Rattle.std.proofs.lemmas.Option.{slice_get_within}
+use Rattle.std.proofs.lemmas.Bool.{and_parts}
 use Rattle.fx_data.specs.Types.{Shape, blanks, numbers, texts, booleans, records, tables, ColumnList, no_columns, column}
 use Rattle.fx_value.specs.Join.{join_of}
 use Rattle.fx_trees.specs.declared.deeds.Deed.TheVariants as deed
@@ -23,7 +25,6 @@ use Rattle.fx_typing.specs.Targets.{screen_named, control_named, rows_named, col
 use Rattle.fx_typing.proofs.Deeds.{Of, if_known_ok, by_rows_ok, has_columns}
 use Rattle.fx_typing.proofs.Filters.{in_row, filter_typed, filter_made}
 use Rattle.fx_typing.proofs.Frame.{AllTyped}
-use Rattle.fx_typing.proofs.Functions.{both_true}
 use Rattle.fx_typing.proofs.Names.{found, read_typed}
 use Rattle.fx_typing.proofs.Operators.{then_ok}
 use Rattle.fx_typing.proofs.Steps.{lowest_ok, coerced_typed, came, EachTyped, values_typed, typed_by}
@@ -98,7 +99,7 @@ change_typed c t cs m (records ds) y h e = by_test (joins_to (records cs) (recor
     by_test : (b : Bool) → (joins_to (records cs) (records ds) && leaves_id t ds) ≡ b →
         if◌then◌else◌ {A = Result (Term × Shape) ℕ} b (Ok (row_of_one m ds)) (Err (misfit (settable t cs) ds)) ≡ Ok y → ChangesRow c t cs y
     by_test true i k =
-        let both = both_true (joins_to (records cs) (records ds)) (leaves_id t ds) i in
+        let both = and_parts (joins_to (records cs) (records ds)) (leaves_id t ds) i in
         let joined = type_is (join_of (records cs) (records ds)) (records cs) both.0 in
         subst (ChangesRow c t cs) (ok_is _ y k) (row_of_one_typed c m ds h, (joined, leaves t ds both.1))
     by_test false i k = absurd cc
@@ -195,17 +196,11 @@ update_if_typed n c a x q qs y here h e =
     let k = subst (λ cs. EachTyped (in_row c cs) (q ∷ qs)) (columns_known n x r.0 r.1 r.2) h in
     update_to_typed c r.0 r.1 a q v.0 y (here (target_source r.0) ∙ has_columns n x r.0 r.1 r.2) (k.0, tt) (values_typed (in_row c r.1) qs v.0 v.1 k.1) r.3
 
--- `Navigate`, `Notify`, `Reset`
-get_below : {A : Type 0} (xs : List A) (k : ℕ) (x : A) → slice_get xs k ≡ Some x → k < length xs
-get_below [] k x e = absurd cc
-get_below (z ∷ xs) zero x e = omega arith
-get_below (z ∷ xs) (suc k) x e = let b = get_below xs k x e in omega (arith, b)
-
 pub navigate_typed : (n : Names) (c : Context) (x : List ℕ) (qs : List Part) (y : Term × Shape) → c.screens ≡ length n.screens → navigate_of n x qs ≡ Ok y → Typed c y
 navigate_typed n c x qs y here e =
     let s = if_known_ok (screen_named n x) (λ (s : ℕ × List ℕ). Ok (done_by (deed.Navigate s.0) [])) y e in
     let f = found (λ (s : List ℕ). bytes_eq s x) n.screens s.0 s.1 in
-    subst (Typed c) (ok_is _ y s.2) ([], refl, (subst (λ m. s.0.0 < m) (sym here) (get_below n.screens s.0.0 s.0.1 f.0), refl))
+    subst (Typed c) (ok_is _ y s.2) ([], refl, (subst (λ m. s.0.0 < m) (sym here) (slice_get_within n.screens s.0.0 s.0.1 f.0), refl))
 
 pub notify_typed : (c : Context) (xs : List (Term × Shape)) (y : Term × Shape) → AllTyped c xs → notify_of xs ≡ Ok y → Typed c y
 notify_typed c [] y h e = absurd cc

@@ -156,7 +156,7 @@ rows_are k dates = (row_columns dates, refl)
 rows_are k (records cs) = (row_columns (records cs), refl)
 
 -- what rows join to is a table
-joins_rows : (t : Shape) (ds : ColumnList) → joins_to t (tables ds) ≡ true → (cs : ColumnList) × (t ≡ tables cs)
+pub joins_rows : (t : Shape) (ds : ColumnList) → joins_to t (tables ds) ≡ true → (cs : ColumnList) × (t ≡ tables cs)
 joins_rows (tables cs) ds e = (cs, refl)
 joins_rows blanks ds e = absurd cc
 joins_rows numbers ds e = absurd cc

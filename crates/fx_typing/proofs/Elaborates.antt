@@ -1,5 +1,6 @@
 -- The definition that judges and the relation are one, by induction on trees and on what relates them.
 use Rattle.std.proofs.Common.{◌≡◌, ℕ, suc, ◌++◌, List, [], ◌∷◌, Bool, true, false, length, Option, Some, None, Result, Ok, Err, refl, ap, sym, subst, ◌∙◌, inl, inr, ◌⊎◌}
+use Rattle.std.proofs.lemmas.List.{append-nil}
 use Rattle.fx_data.specs.Types.{Shape, blanks, numbers, texts, booleans, dates, records, tables, no_columns, column}
 use Rattle.fx_trees.specs.Tree.{Tree, node, Forest, none, more, Head}
 use Rattle.fx_trees.specs.Term.{Term}
@@ -27,10 +28,6 @@ at_node_err : {A : Type 0} (at w rule : ℕ) (r : Result A ℕ) → at_node at r
 at_node_err at w rule (Ok x) e = absurd cc
 at_node_err at w rule (Err q) e = let k : (at, q) ≡ (w, rule) = cc in (ap (λ (z : ℕ × ℕ). z.0) k, ap (λ (z : ℕ × ℕ). Err z.1) k)
 
-put_back : {A : Type 0} (xs : List A) → xs ++ [] ≡ xs
-put_back [] = refl
-put_back (x ∷ xs) = ap (λ ys. x ∷ ys) (put_back xs)
-
 never_both : {A B : Type 0} (r : Result A B) (a : A) (b : B) → r ≡ Ok a → r ≡ Err b → ⊥
 never_both r a b e f = absurd cc
 
@@ -52,7 +49,7 @@ module _ (p : Place) (st : p.settled ≡ true) where
 
     relates_parts : (s : Setting) (h : Head) (n : ℕ) (done : List Part) (ts : Forest) (whole : List Part) → judge_parts p s h n done ts ≡ Ok whole →
         (qs : List Part) × (done ++ qs ≡ whole) × Behind s h n done ts qs
-    relates_parts s h n done none whole e = let k : done ≡ whole = cc in ([], put_back done ∙ k, no_more)
+    relates_parts s h n done none whole e = let k : done ≡ whole = cc in ([], append-nil done ∙ k, no_more)
     relates_parts s h n done (more t ts) whole e =
         let a = onward_ok (judge p (setting_at p.names s h n done) t) (λ q. judge_parts p s h n (done ++ q ∷ []) ts) whole e in
         let b = relates_parts s h n (done ++ a.0 ∷ []) ts whole a.2 in
@@ -70,7 +67,7 @@ module _ (p : Place) (st : p.settled ≡ true) where
 
     judged_parts : (s : Setting) (h : Head) (n i : ℕ) (first : Option Part) (ts : Forest) (qs done : List Part) → length done ≡ i → first_of done ≡ first →
         PartsElaborate p s h n i first ts qs → judge_parts p s h n done ts ≡ Ok (done ++ qs)
-    judged_parts s h n i first ts qs done l f no_more = ap Ok (sym (put_back done))
+    judged_parts s h n i first ts qs done l f no_more = ap Ok (sym (append-nil done))
     judged_parts s h n i first ts qs done l f (one_more {k = k} {ks = ks} {q = q} {qs = others} one rest) =
         let there : setting_at p.names s h n done ≡ part_setting p.names s h n i first =
         setting_is p.names s h n done ∙ (λ j. part_setting p.names s h n (l j) (f j)) in

@@ -1,6 +1,7 @@
 -- The law of the one rule, for parts that were judged where a row puts them.
-use Rattle.std.proofs.Common.{◌≡◌, ℕ, suc, ◌++◌, List, [], ◌∷◌, Bool, true, false, ◌&&◌, ◌||◌, ◌%◌, nat_eq, length, Result, Ok, Err, refl, ap, sym, subst, ◌∙◌, inl, inr, ◌⊎◌, if◌then◌else◌}
+use Rattle.std.proofs.Common.{◌≡◌, ℕ, suc, ◌++◌, List, [], ◌∷◌, Bool, true, false, ◌&&◌, ◌||◌, ◌%◌, nat_eq, length, Result, Ok, Err, refl, ap, sym, subst, ◌∙◌, inl, inr, if◌then◌else◌}
 use Rattle.std.specs.Prelude.{Option, Some, None}
+use Rattle.std.proofs.lemmas.Bool.{and_parts, or_cases}
 use Rattle.fx_data.specs.Types.{Shape, blanks, tables, no_columns}
 use Rattle.fx_trees.specs.declared.functions.Form.{Form}
 use Rattle.fx_trees.specs.declared.functions.Form.TheVariants as forms
@@ -26,14 +27,6 @@ use Rattle.fx_typing.proofs.Places.{stood, PartsStand, first_stood, is_flat_plac
 pub length_grows : {A : Type 0} (xs : List A) (x : A) → length (xs ++ x ∷ []) ≡ suc (length xs)
 length_grows [] x = refl
 length_grows (y ∷ xs) x = ap suc (length_grows xs x)
-
-pub both_true : (a b : Bool) → (a && b) ≡ true → (a ≡ true) × (b ≡ true)
-both_true true b e = (refl, e)
-both_true false b e = absurd cc
-
-either_true : (a b : Bool) → (a || b) ≡ true → (a ≡ true) ⊎ (b ≡ true)
-either_true true b e = inl refl
-either_true false b e = inr e
 
 -- rows whose parts all stand where the whole does, save for what is caught; and rows over a table
 abbrev pub is_flat_at : Takes → Bool
@@ -87,9 +80,9 @@ each_place Holds r n i a b c d k = ended_holds Holds r.ending r n i (inner_holds
 
 pub flat_place : (r : Row) (n i : ℕ) → is_flat r ≡ true → is_flat_place (standing_of (takes_at r n i)) ≡ true
 flat_place r n i e =
-    let a = both_true (is_flat_at r.first) (is_flat_at r.second && (is_flat_at r.third && is_flat_at r.fourth)) e in
-    let b = both_true (is_flat_at r.second) (is_flat_at r.third && is_flat_at r.fourth) a.1 in
-    let c = both_true (is_flat_at r.third) (is_flat_at r.fourth) b.1 in
+    let a = and_parts (is_flat_at r.first) (is_flat_at r.second && (is_flat_at r.third && is_flat_at r.fourth)) e in
+    let b = and_parts (is_flat_at r.second) (is_flat_at r.third && is_flat_at r.fourth) a.1 in
+    let c = and_parts (is_flat_at r.third) (is_flat_at r.fourth) b.1 in
     each_place (λ k. is_flat_at k ≡ true) r n i a.0 b.0 c.0 c.1 refl
 
 alike_place : (e : Ending) (r : Row) (n i : ℕ) → ends_alike e ≡ true → ended_at e r n i ≡ inner_at r i
@@ -106,7 +99,7 @@ table_only k e = absurd cc
 
 over_first : (r : Row) (n : ℕ) → is_over r ≡ true → takes_at r n 0 ≡ takes.Table
 over_first r n e =
-    let a = both_true (is_table r.first) (ends_alike r.ending) e in inner_place r n 0 a.1 ∙ table_only r.first a.0
+    let a = and_parts (is_table r.first) (ends_alike r.ending) e in inner_place r n 0 a.1 ∙ table_only r.first a.0
 
 unbound : (k : Takes) → is_bound (standing_of k) ≡ false
 unbound takes.Table = refl
@@ -240,7 +233,7 @@ row_law : (p : Place) (s : Setting) (r : Row) (h : Top) (qs : List Part) (x : Te
     Typed (context_of p s) x
 row_law p s r h qs x u law t m =
     let here = subst (λ n. PartsStand p s (by_row r n) [] qs) (sym (pieces_length qs)) t in
-    elim (either_true (is_flat r) (is_over r) u) [
+    elim (or_cases (is_flat r) (is_over r) u) [
       | inl e ↦ flat_law p s r h qs x e law here m
       | inr o ↦ over_law p s r h qs x o law here m
     ]

@@ -1,5 +1,6 @@
 -- What names mean is well typed.
 use Rattle.std.proofs.Common.{◌≡◌, ℕ, zero, suc, ◌++◌, List, [], ◌∷◌, Bool, true, false, ◌&&◌, nat_eq, ne_eqb, eq-eqb, eqb-true, pos, length, map, option_map, option_and_then, slice_get, codes, bytes_eq, encode_utf8_all, Option, Some, None, Ok, refl, ap, sym, subst, ◌∙◌, append_assoc, inl, inr, ◌⊎◌, if◌then◌else◌}
+use Rattle.std.proofs.lemmas.Bool.{and_parts}
 use Rattle.fx_data.specs.TypeView.{shape}
 use Rattle.fx_data.specs.Types.{Shape, blanks, numbers, texts, booleans, dates, records, tables, no_columns}
 use Rattle.fx_data.specs.Values.{Data, blank, text, boolean, number}
@@ -32,7 +33,7 @@ use Rattle.fx_typing.proofs.Same.{bytes_same}
 use Rattle.fx_typing.specs.Parts.{Setting}
 use Rattle.fx_typing.specs.Typing.{context_of, item_of}
 use Rattle.fx_typing.proofs.Steps.{option_map_some}
-use Rattle.fx_typing.proofs.Functions.{length_grows, both_true}
+use Rattle.fx_typing.proofs.Functions.{length_grows}
 use Rattle.fx_typing.proofs.RelatedSteps.{if_false, if_true}
 
 -- what a name means, in these surroundings: a tree of its type, or a control by its number
@@ -88,7 +89,7 @@ pub global_read : (n : Names) (x : List ℕ) (v : ℕ × Variable) → place_of 
 global_read n x v e =
     let f = found (λ (v : Variable). is_global v.screen && bytes_eq v.name x) n.variables v e in
     ap (option_and_then (λ (v : Variable). if_global v.screen (shape v.ty))) f.0
-    ∙ global_type v.1.screen (shape v.1.ty) (both_true (is_global v.1.screen) (bytes_eq v.1.name x) f.1).0
+    ∙ global_type v.1.screen (shape v.1.ty) (and_parts (is_global v.1.screen) (bytes_eq v.1.name x) f.1).0
 
 pub context_read : (n : Names) (a : Option ℕ) (x : List ℕ) (v : ℕ × Variable) →
     place_of (λ (v : Variable). is_on a v.screen && bytes_eq v.name x) 0 n.variables ≡ Some v →
@@ -96,7 +97,7 @@ pub context_read : (n : Names) (a : Option ℕ) (x : List ℕ) (v : ℕ × Varia
 context_read n a x v e =
     let f = found (λ (v : Variable). is_on a v.screen && bytes_eq v.name x) n.variables v e in
     ap (option_and_then (λ (v : Variable). if_context v.screen (shape v.ty))) f.0
-    ∙ context_type a v.1.screen (shape v.1.ty) (both_true (is_on a v.1.screen) (bytes_eq v.1.name x) f.1).0
+    ∙ context_type a v.1.screen (shape v.1.ty) (and_parts (is_on a v.1.screen) (bytes_eq v.1.name x) f.1).0
 
 pub gathered_read : (n : Names) (x : List ℕ) (v : ℕ × Collection) → place_of (λ (c : Collection). bytes_eq c.name x) 0 n.collections ≡ Some v →
     sources n (source.Gathered v.0) ≡ Some (shape v.1.ty)
@@ -171,7 +172,7 @@ pub property_source : (n : Names) (k : ℕ) (c : ControlName) (x : List ℕ) (t 
     place_of (λ (p : Property). nat_eq p.control k && bytes_eq p.name x) 0 n.properties ≡ Some p → sources n (source.Cell p.1.cell) ≡ Some t
 property_source n k c x t p law here typed e =
     let f = found (λ (p : Property). nat_eq p.control k && bytes_eq p.name x) n.properties p e in
-    let b = both_true (nat_eq p.1.control k) (bytes_eq p.1.name x) f.1 in
+    let b = and_parts (nat_eq p.1.control k) (bytes_eq p.1.name x) f.1 in
     let ns : List ℕ = map (λ (p : Property). p.cell) n.properties in
     let past = past_formulas n n.formulas ns p.0 p.1.cell law.cells
     (subst (λ l. slice_get l p.0 ≡ Some p.1.cell) (back ns) (get_mapped (λ (p : Property). p.cell) n.properties [] p.0 p.1 f.0)) in

@@ -1,5 +1,6 @@
 -- The rules of nodes: the relation admits what the definition admits.
 use Rattle.std.proofs.Common.{◌≡◌, ℕ, suc, List, [], ◌∷◌, Bool, true, false, ◌&&◌, not, codes, nat_eq, nat_le, is_some, length, take, drop, encode_utf8_all, Option, Some, None, Result, Ok, Err, refl, ap, sym, subst, ◌∙◌, if◌then◌else◌, arith}
+use Rattle.std.proofs.lemmas.Bool.{and_parts, not-false, not_from_true}
 use Rattle.fx_data.specs.Types.{Shape, blanks, dates, records, no_columns}
 use Rattle.fx_trees.specs.declared.functions.Acting.{Acting}
 use Rattle.fx_trees.specs.declared.functions.Form.{Form}
@@ -45,9 +46,8 @@ use Rattle.fx_typing.proofs.RelatedFunctions.{when_ok, stands_goes, made_ok, mad
 use Rattle.fx_typing.proofs.Meanings.{globals_ok, globals_go, means_ok, means_go}
 use Rattle.fx_typing.proofs.RelatedPlaces.{pick_is, depth_is}
 use Rattle.fx_typing.proofs.RelatedRecords.{dot_ok, behind_ok, behind_goes, list_ok, list_goes, with_ok, with_goes}
-use Rattle.fx_typing.proofs.RelatedSteps.{ok_is, then_goes, as_part_ok, unless_ok, unless_goes, if_true, if_false, if_ok, not_false, false_not, bounded_ok, bounded_goes, values_ok, values_are}
+use Rattle.fx_typing.proofs.RelatedSteps.{ok_is, then_goes, as_part_ok, unless_ok, unless_goes, if_true, if_false, if_ok, bounded_ok, bounded_goes, values_ok, values_are}
 use Rattle.fx_typing.proofs.Operators.{then_ok}
-use Rattle.fx_typing.proofs.Functions.{both_true}
 
 calls_ok : (f : Fun) (ps : List Piece) (y : Term × Shape) → made f ps ≡ Ok y → Calls f ps y
 calls_ok f ps y e = made_ok (row_of f) (head_of f) ps y e
@@ -74,7 +74,7 @@ settled_is b (Err n) e = ap (λ c. if not c && nat_eq n 11 then Ok nothing_done 
 tells : (f : Fun) (qs : List Part) (y : Term × Shape) → Calls f (pieces qs) y → mistells f qs ≡ false
 tells fun.Error (piece (value a c (records cs)) ∷ []) y (by_row {common = u} count join (first_and_others {x = x} s others) answers) =
     let told = when_ok (tells_error cs) _ c (records cs) x (stands_goes blanks u takes.ErrorRecord (value a c (records cs)) x s) in
-    ap not ((both_true (is_told (field_in (codes "Kind") cs)) (is_told_or_missing (field_in (codes "Message") cs)) told.0).1)
+    ap not ((and_parts (is_told (field_in (codes "Kind") cs)) (is_told_or_missing (field_in (codes "Message") cs)) told.0).1)
 tells f qs y c = refl
 
 -- a test of a length
@@ -122,7 +122,7 @@ module _ (p : Place) (s : Setting) where
       let v = unless_ok (not (could_act a qs)) 6 (acted_by p a qs) y u.1 in
       let x = unless_ok (is_some (large_given p.names p.screen a qs) && p.settled) 13 (acted_on_screen p a qs) y v.1 in
       let w = unless_ok (not (gives_variables p.names p.screen a qs)) 15 (until_settled p.settled (acted p.names p.screen a qs)) y x.1 in
-      Nodes.acting_call (not_false (may_act s.grant) u.0) (acts_ok p a qs y (not_false (gives_variables p.names p.screen a qs) w.0) (small_here (large_given p.names p.screen a qs) p.settled st x.0) (sym (settled_is p.settled (acted p.names p.screen a qs) st) ∙ w.1))
+      Nodes.acting_call (not-false (may_act s.grant) u.0) (acts_ok p a qs y (not-false (gives_variables p.names p.screen a qs) w.0) (small_here (large_given p.names p.screen a qs) p.settled st x.0) (sym (settled_is p.settled (acted p.names p.screen a qs) st) ∙ w.1))
 
   called_ok : p.settled ≡ true → (f : SigShape) (qs : List Part) (y : Term × Shape) → called_by p s f qs ≡ Ok y → Called p s f qs y
   called_ok st (sig.One f) qs y e =
@@ -157,10 +157,10 @@ module _ (p : Place) (s : Setting) where
   called_go st f qs y are Nodes.today = refl
   called_go st f qs y are (Nodes.defaults {x = x} {t = t} {cs = cs} i) = by_rows_goes (rows_named p.names x) (λ r. Ok (blank_record r.1)) t cs (blank_record cs) i refl
   called_go st f qs y are (Nodes.acting_call {a = a} m d) =
-      unless_goes (not (may_act s.grant)) 9 (unless (not (could_act a qs)) 6 (acted_by p a qs)) y (false_not (may_act s.grant) m)
-      (unless_goes (not (could_act a qs)) 6 (acted_by p a qs) y (false_not (could_act a qs) (acts_could p a qs y d))
+      unless_goes (not (may_act s.grant)) 9 (unless (not (could_act a qs)) 6 (acted_by p a qs)) y (not_from_true (may_act s.grant) m)
+      (unless_goes (not (could_act a qs)) 6 (acted_by p a qs) y (not_from_true (could_act a qs) (acts_could p a qs y d))
       (unless_goes (is_some (large_given p.names p.screen a qs) && p.settled) 13 (acted_on_screen p a qs) y (ap (λ o. is_some o && p.settled) (acts_small p a qs y d))
-      (unless_goes (not (gives_variables p.names p.screen a qs)) 15 (until_settled p.settled (acted p.names p.screen a qs)) y (false_not (gives_variables p.names p.screen a qs) (acts_give p a qs y d))
+      (unless_goes (not (gives_variables p.names p.screen a qs)) 15 (until_settled p.settled (acted p.names p.screen a qs)) y (not_from_true (gives_variables p.names p.screen a qs) (acts_give p a qs y d))
       (settled_is p.settled (acted p.names p.screen a qs) st ∙ acts_go p a qs y d))))
 
   call_ok : p.settled ≡ true → (x : List ℕ) (o : Option Signature) (qs : List Part) (y : Term × Shape) →
@@ -389,7 +389,7 @@ module _ (p : Place) (s : Setting) where
       let a = as_part_ok (unless (not (may_act s.grant)) 9 (and_then (values qs) chain_by)) q e in
       let u = unless_ok (not (may_act s.grant)) 9 (and_then (values qs) chain_by) a.0 a.1 in
       let b = then_ok (values qs) chain_by a.0 u.1 in
-      subst (Node p s tree.chain qs) a.2 (chain_ok qs b.0 a.0 (last_type (types_of b.0)) (not_false (may_act s.grant) u.0) (values_ok qs b.0 b.1) refl b.2)
+      subst (Node p s tree.chain qs) a.2 (chain_ok qs b.0 a.0 (last_type (types_of b.0)) (not-false (may_act s.grant) u.0) (values_ok qs b.0 b.1) refl b.2)
   node_ok st (tree.alias x) qs q e = alias_ok s.grant x qs q refl e
   node_ok st (tree.rec ns ps) qs q e =
       let a = record_parts (values qs) refl e in record_ok s.grant ns ps qs a.0 q refl (values_ok qs a.0 a.1) a.2
@@ -432,7 +432,7 @@ module _ (p : Place) (s : Setting) where
   node_goes st h qs q n may (Nodes.all_of {y = y} c) = ap as_part (forms_go form.All (pieces qs) y c)
   node_goes st h qs q n may (Nodes.any_of {y = y} c) = ap as_part (forms_go form.Any (pieces qs) y c)
   node_goes st h qs q n may (Nodes.a_chain {xs = xs} {t = t} m v i) =
-      ap as_part (unless_goes (not (may_act s.grant)) 9 (and_then (values qs) chain_by) (of chain (all (firsts xs)), t) (false_not (may_act s.grant) m)
+      ap as_part (unless_goes (not (may_act s.grant)) 9 (and_then (values qs) chain_by) (of chain (all (firsts xs)), t) (not_from_true (may_act s.grant) m)
       (then_goes (values qs) chain_by xs (of chain (all (firsts xs)), t) (values_are qs xs v) (ap (chain_as xs) i)))
   node_goes st h qs q n may (Nodes.rows_with_name {x = x} {a = a} {c = c} {t = t} i) = alias_goes s.grant x a c t i
   node_goes st h qs q n may (Nodes.target_with_name {x = x} {y = y} i) = ap (λ g. alias_by g x (target None y ∷ [])) i

@@ -1,6 +1,7 @@
 -- What operators and joined texts make of well typed operands is well typed.
 use Rattle.std.proofs.Common.{◌≡◌, ℕ, List, [], ◌∷◌, Bool, true, false, ◌&&◌, length, Result, Ok, Err, refl, sym, subst, inl}
 use Rattle.std.specs.Prelude.{Option, Some, None, option_map}
+use Rattle.std.proofs.lemmas.Bool.{and_parts}
 use Rattle.fx_data.specs.Types.{Shape, blanks, numbers, texts, dates}
 use Rattle.fx_data.specs.Values.{text}
 use Rattle.fx_trees.specs.declared.functions.Form.{Form}
@@ -25,7 +26,7 @@ use Rattle.fx_typing.specs.Parts.{Part, Setting, plainly, as_part, pieces, value
 use Rattle.fx_typing.specs.Typing.{context_of, admit, paired_by, woven_by}
 use Rattle.fx_typing.proofs.Frame.{PartsTypedAt}
 use Rattle.fx_typing.proofs.Places.{PartsStand, parts_stand, same_standing}
-use Rattle.fx_typing.proofs.Functions.{each_place, both_true, by_row, function_law, form_law}
+use Rattle.fx_typing.proofs.Functions.{each_place, by_row, function_law, form_law}
 
 -- a part that is a typed tree without a name of its rows
 abbrev pub AsTree : Context → Part → Type 0
@@ -56,9 +57,9 @@ plain_only st e = absurd cc
 
 pub plain_place : (r : Row) (n i : ℕ) → is_plain r ≡ true → standing_of (takes_at r n i) ≡ plain
 plain_place r n i e =
-    let a = both_true (is_plain_at r.first) (is_plain_at r.second && (is_plain_at r.third && is_plain_at r.fourth)) e in
-    let b = both_true (is_plain_at r.second) (is_plain_at r.third && is_plain_at r.fourth) a.1 in
-    let c = both_true (is_plain_at r.third) (is_plain_at r.fourth) b.1 in
+    let a = and_parts (is_plain_at r.first) (is_plain_at r.second && (is_plain_at r.third && is_plain_at r.fourth)) e in
+    let b = and_parts (is_plain_at r.second) (is_plain_at r.third && is_plain_at r.fourth) a.1 in
+    let c = and_parts (is_plain_at r.third) (is_plain_at r.fourth) b.1 in
     plain_only (standing_of (takes_at r n i)) (each_place (λ k. is_plain_at k ≡ true) r n i a.0 b.0 c.0 c.1 refl)
 
 abbrev pub plainly_placed : List Part → Standing

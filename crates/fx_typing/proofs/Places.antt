@@ -1,5 +1,7 @@
 -- Where the parts of a node stand when they are judged, and that the typed tree has them stand there.
-use Rattle.std.proofs.Common.{◌≡◌, ℕ, suc, ◌++◌, List, [], ◌∷◌, Bool, true, false, ◌||◌, map, length, refl, ap, subst, ◌∙◌}
+use Rattle.std.proofs.Common.{◌≡◌, ℕ, suc, ◌++◌, List, [], ◌∷◌, Bool, true, false, map, length, refl, ap, subst, ◌∙◌}
+use Rattle.std.proofs.Math.Bool.{or-false, or-true}
+use Rattle.std.proofs.lemmas.List.{map_push}
 use Rattle.fx_data.specs.Types.{Shape, texts}
 use Rattle.fx_trees.specs.Tree.{Head}
 use Rattle.fx_typing.specs.Local.{Piece, value, label}
@@ -34,21 +36,12 @@ same_standing p s st to done [] e t = tt
 same_standing p s st to done (q ∷ qs) e t =
     (subst (λ x. PartTyped (stood p s x done) q) (e done) t.0, same_standing p s st to (done ++ q ∷ []) qs e t.1)
 
--- an error is caught around, or it isn't
-pub or_false : (b : Bool) → (b || false) ≡ b
-or_false true = refl
-or_false false = refl
-
-pub or_true : (b : Bool) → (b || true) ≡ true
-or_true true = refl
-or_true false = refl
-
 -- the first part stands where the whole does, whatever stands there
 pub first_stood : (p : Place) (s : Setting) (st : Standing) → stood p s st [] ≡ context_for st (context_of p s) []
-first_stood p s plain = λ i. record (context_of p s) { caught = or_false s.catches i }
-first_stood p s inside = λ i. record (context_of p s) { caught = or_false s.catches i }
-first_stood p s bound = λ i. record (context_of p s) { caught = or_false s.catches i }
-first_stood p s catching = λ i. record (context_of p s) { caught = or_true s.catches i }
+first_stood p s plain = λ i. record (context_of p s) { caught = or-false s.catches i }
+first_stood p s inside = λ i. record (context_of p s) { caught = or-false s.catches i }
+first_stood p s bound = λ i. record (context_of p s) { caught = or-false s.catches i }
+first_stood p s catching = λ i. record (context_of p s) { caught = or-true s.catches i }
 
 -- a place in no scope of its own
 abbrev pub is_flat_place : Standing → Bool
@@ -58,8 +51,8 @@ is_flat_place st = false
 
 pub flat_stood : (p : Place) (s : Setting) (st : Standing) (done : List Part) → is_flat_place st ≡ true →
     stood p s st done ≡ context_for st (context_of p s) []
-flat_stood p s plain done e = λ i. record (context_of p s) { caught = or_false s.catches i }
-flat_stood p s catching done e = λ i. record (context_of p s) { caught = or_true s.catches i }
+flat_stood p s plain done e = λ i. record (context_of p s) { caught = or-false s.catches i }
+flat_stood p s catching done e = λ i. record (context_of p s) { caught = or-true s.catches i }
 flat_stood p s st done e = absurd cc
 
 pub flat_context : (st : Standing) (c : Context) (us : List Shape) → is_flat_place st ≡ true → context_for st c [] ≡ context_for st c us
@@ -80,19 +73,15 @@ pub first_row_type : (p : Place) (k : Piece) → (first_row p.names (piece k)).r
 first_row_type p (value a k t) = refl
 first_row_type p (label x) = refl
 
-pub map_one : {A B : Type 0} (f : A → B) (xs : List A) (x : A) → map f (xs ++ x ∷ []) ≡ map f xs ++ f x ∷ []
-map_one f [] x = refl
-map_one f (y ∷ xs) x = ap (λ ys. f y ∷ ys) (map_one f xs x)
-
 pub row_stood : (p : Place) (s : Setting) (st : Standing) (k : Piece) (done : List Part) → is_bound st ≡ false →
     stood p s st (piece k ∷ done) ≡ context_for st (context_of p s) (piece_shape k ∷ [])
-row_stood p s plain k done e = λ i. record (context_of p s) { caught = or_false s.catches i }
+row_stood p s plain k done e = λ i. record (context_of p s) { caught = or-false s.catches i }
 row_stood p s inside k done e =
-    let rows = map_one (λ (r : Scope). r.row_type) s.scopes (first_row p.names (piece k))
+    let rows = map_push (λ (r : Scope). r.row_type) s.scopes (first_row p.names (piece k))
     ∙ ap (λ t. map (λ (r : Scope). r.row_type) s.scopes ++ t ∷ []) (first_row_type p k) in
-    λ i. record (context_of p s) { rows = rows i; caught = or_false s.catches i }
+    λ i. record (context_of p s) { rows = rows i; caught = or-false s.catches i }
 row_stood p s bound k done e = absurd cc
-row_stood p s catching k done e = λ i. record (context_of p s) { caught = or_true s.catches i }
+row_stood p s catching k done e = λ i. record (context_of p s) { caught = or-true s.catches i }
 
 -- rows of one type are one scope
 pub row_context : (st : Standing) (c : Context) (u t : Shape) (us ts : List Shape) → is_bound st ≡ false → row_type u ≡ row_type t →

@@ -1,5 +1,6 @@
 -- Names, dots and functions make nothing that acts of parts in which nothing acts.
-use Rattle.std.proofs.Common.{◌≡◌, ℕ, zero, suc, List, [], ◌∷◌, Bool, true, false, not, ◌&&◌, ◌||◌, nat_lt, nat_eq, length, take, codes, bytes_eq, encode_utf8_all, option_map, slice_get, Option, Some, None, Result, Ok, Err, refl, if◌then◌else◌}
+use Rattle.std.proofs.Common.{◌≡◌, ℕ, zero, suc, List, [], ◌∷◌, Bool, true, false, not, ◌&&◌, nat_lt, nat_eq, length, take, codes, bytes_eq, encode_utf8_all, option_map, slice_get, Option, Some, None, Result, Ok, Err, refl, if◌then◌else◌}
+use Rattle.std.proofs.lemmas.Bool.{or_from}
 use Rattle.fx_data.specs.Types.{Shape, blanks, records, tables, no_columns}
 use Rattle.fx_trees.specs.declared.functions.Form.{Form}
 use Rattle.fx_trees.specs.declared.functions.Fun.{Fun}
@@ -100,16 +101,12 @@ pub as_part_quiet : (r : Result (Term × Shape) ℕ) → Made TreeQuiet r → Ma
 as_part_quiet (Ok x) h = h
 as_part_quiet (Err e) h = tt
 
-neither : (a b : Bool) → a ≡ false → b ≡ false → (a || b) ≡ false
-neither false b e k = k
-neither true b e k = absurd cc
-
 any_quiet : (xs : List (Term × Shape)) → AllQuiet xs → any_acts (all (firsts xs)) ≡ false
 any_quiet [] h = refl
-any_quiet (x ∷ xs) h = neither (acts x.0) (any_acts (all (firsts xs))) h.0 (any_quiet xs h.1)
+any_quiet (x ∷ xs) h = or_from (acts x.0) (any_acts (all (firsts xs))) h.0 (any_quiet xs h.1)
 
 pub tree_quiet : (h : Top) (xs : List (Term × Shape)) → is_acting h ≡ false → AllQuiet xs → acts (of h (all (firsts xs))) ≡ false
-tree_quiet h xs e k = neither (is_acting h) (any_acts (all (firsts xs))) e (any_quiet xs k)
+tree_quiet h xs e k = or_from (is_acting h) (any_acts (all (firsts xs))) e (any_quiet xs k)
 
 pub one_quiet : (h : Top) (c : Term) → is_acting h ≡ false → acts c ≡ false → acts (of h (cons c nil)) ≡ false
 one_quiet h c e k = tree_quiet h ((c, blanks) ∷ []) e (k, tt)

@@ -1,5 +1,6 @@
 -- Acting calls: the relation admits what the definition admits.
 use Rattle.std.proofs.Common.{is_some, ◌≡◌, ℕ, suc, List, [], ◌∷◌, Bool, true, false, ◌&&◌, length, nat_eq, ne_eqb, arith, if◌then◌else◌, codes, Option, Some, None, Result, Ok, Err, refl, ap, sym, subst, ◌∙◌}
+use Rattle.std.proofs.lemmas.Bool.{and_from, and_parts}
 use Rattle.fx_data.specs.TypeView.{shape}
 use Rattle.fx_data.specs.Types.{Shape, blanks, numbers, texts, booleans, dates, records, tables, ColumnList}
 use Rattle.fx_trees.specs.declared.deeds.Deed.{Deed}
@@ -36,10 +37,9 @@ use Rattle.fx_typing.specs.Functions.{StandFrom, none_stand, one_stands, first_a
 use Rattle.fx_typing.specs.Records
 use Rattle.fx_typing.specs.Records.{Values}
 use Rattle.fx_typing.proofs.RelatedFunctions.{becomes_ok, becomes_goes, stands_goes, made_ok, made_goes}
-use Rattle.fx_typing.proofs.RelatedSteps.{ok_is, then_goes, put_first_ok, lowest_ok, if_true, if_ok, true_both, values_ok, values_are}
+use Rattle.fx_typing.proofs.RelatedSteps.{ok_is, then_goes, put_first_ok, lowest_ok, if_true, if_ok, values_ok, values_are}
 use Rattle.fx_typing.proofs.Filters.{condition_at, Filtering}
 use Rattle.fx_typing.proofs.Operators.{then_ok}
-use Rattle.fx_typing.proofs.Functions.{both_true}
 
 -- ---- values that variables are given
 given_ok : (t : Shape) (x y : Term × Shape) → given t x ≡ Ok y → Given t x y
@@ -119,7 +119,7 @@ named_goes cs t x y no_row_of_collection = refl
 change_ok : (cs : ColumnList) (t : Target) (x y : Term × Shape) → change_of t cs x ≡ Ok y → Change cs t x y
 change_ok cs t (c, records ds) y e =
     let a = if_ok (joins_to (records cs) (records ds) && leaves_id t ds) (Ok (row_of_one c ds)) (misfit (settable t cs) ds) y e in
-    let b = both_true (joins_to (records cs) (records ds)) (leaves_id t ds) a.0 in
+    let b = and_parts (joins_to (records cs) (records ds)) (leaves_id t ds) a.0 in
     subst (Change cs t (c, records ds)) (ok_is (row_of_one c ds) y a.1) (some_columns b.0 b.1)
 change_ok cs t (c, blanks) y e = subst (Change cs t (c, blanks)) (ok_is _ y e) no_change
 change_ok cs t x y e = absurd cc
@@ -127,7 +127,7 @@ change_ok cs t x y e = absurd cc
 change_goes : (cs : ColumnList) (t : Target) (x y : Term × Shape) → Change cs t x y → change_of t cs x ≡ Ok y
 change_goes cs t x y (some_columns {c = c} {ds = ds} i j) =
     if_true (joins_to (records cs) (records ds) && leaves_id t ds) (Ok (row_of_one c ds)) (Err (misfit (settable t cs) ds))
-    (true_both (joins_to (records cs) (records ds)) (leaves_id t ds) i j)
+    (and_from (joins_to (records cs) (records ds)) (leaves_id t ds) i j)
 change_goes cs t x y no_change = refl
 
 module _ {A B : Type 0} (f : A → Result B ℕ) (R : A → B → Type 0) where
@@ -202,7 +202,7 @@ limits_within None h = absurd h
 on_screen : (n : Names) (s : Option ℕ) (ms : List (List ℕ)) → all_on_screen n s ms ≡ true → large_on_screen n s ms ≡ None → Acting.AreOnScreen n s ms
 on_screen n s [] e f = tt
 on_screen n s (m ∷ ms) e f =
-    let a = both_true (is_some (screen_variable n s m)) (all_on_screen n s ms) e in
+    let a = and_parts (is_some (screen_variable n s m)) (all_on_screen n s ms) e in
     let b = else_none (large_variable (screen_variable n s m)) (large_on_screen n s ms) f in
     (within_limits (screen_variable n s m) a.0 b.0, on_screen n s ms a.1 b.1)
 
@@ -211,7 +211,7 @@ from_screen n s [] h = (refl, refl)
 from_screen n s (m ∷ ms) h =
     let a = limits_within (screen_variable n s m) h.0 in
     let b = from_screen n s ms h.1 in
-    (true_both (is_some (screen_variable n s m)) (all_on_screen n s ms) a.0 b.0, ap (λ o. or_else o (large_on_screen n s ms)) a.1 ∙ b.1)
+    (and_from (is_some (screen_variable n s m)) (all_on_screen n s ms) a.0 b.0, ap (λ o. or_else o (large_on_screen n s ms)) a.1 ∙ b.1)
 
 -- ---- one by one
 module _ (p : Place) where
@@ -426,8 +426,8 @@ all_rows (x ∷ xs) = is_row x.1 && all_rows xs
 rows_could : (qs : List Part) (xs : List (Term × Shape)) → Values qs xs → all_rows xs ≡ true → all_could could_be_row qs ≡ true
 rows_could qs xs Records.no_values e = refl
 rows_could qs xs (Records.one_value {a = a} {c = c} {t = t} {qs = more} {xs = others} v) e =
-    let b = both_true (is_row t) (all_rows others) e in
-    true_both (could_be_row (piece (value a c t))) (all_could could_be_row more) (row_could a c t ∙ b.0) (rows_could more others v b.1)
+    let b = and_parts (is_row t) (all_rows others) e in
+    and_from (could_be_row (piece (value a c t))) (all_could could_be_row more) (row_could a c t ∙ b.0) (rows_could more others v b.1)
 
 named_is_row : (cs : ColumnList) (t : Target) (x y : Term × Shape) → NamedRow cs t x y → is_row x.1 ≡ true
 named_is_row cs t x y (by_number i) = refl
@@ -443,7 +443,7 @@ change_is_row cs t x y no_change = refl
 each_is_row : (R : Term × Shape → Term × Shape → Type 0) → ((x y : Term × Shape) → R x y → is_row x.1 ≡ true) → (xs ys : List (Term × Shape)) → Each R xs ys →
     all_rows xs ≡ true
 each_is_row R one xs ys none_each = refl
-each_is_row R one xs ys (one_each {x = x} {y = y} {xs = others} {ys = after} r more) = true_both (is_row x.1) (all_rows others) (one x y r) (each_is_row R one others after more)
+each_is_row R one xs ys (one_each {x = x} {y = y} {xs = others} {ys = after} r more) = and_from (is_row x.1) (all_rows others) (one x y r) (each_is_row R one others after more)
 
 way_is_open : (w : Way) (c : Term) (t : Shape) (x : Term × Shape) → by_way w c t ≡ Ok x → is_open w ≡ true
 way_is_open same c t x e = refl
@@ -469,7 +469,7 @@ conditions_could n i first common (q ∷ qs) ps xs e (one_stands {p = p} {ps = m
     let same_rest : pieces qs ≡ more = cc in
     let stood : stand (takes.Formula Boolean) first common (piece_of q) ≡ Ok x =
     ap (λ k. stand k first common (piece_of q)) (sym (condition_at n i)) ∙ ap (stand (takes_at Filtering n (suc i)) first common) same_piece ∙ stands_goes first common (takes_at Filtering n (suc i)) p x s in
-    true_both (could_be_condition q) (all_could could_be_condition qs) (condition_could first common q x stood)
+    and_from (could_be_condition q) (all_could could_be_condition qs) (condition_could first common q x stood)
     (conditions_could n (suc i) first common qs more others same_rest f)
 
 filter_could : (t : Target) (cs : ColumnList) (a : Option (List ℕ)) (qs : List Part) (f : Term × Shape) → Acting.Filtered t cs a qs f → all_could could_be_condition qs ≡ true
@@ -478,13 +478,13 @@ filter_could t cs a qs f (by_row {common = u} count join (first_and_others {x = 
 
 pub acts_could : (p : Place) (a : Acting) (qs : List Part) (y : Term × Shape) → Acts p a qs y → could_act a qs ≡ true
 acts_could p a qs z (Acting.patch {qs = more} {t = t} {cs = cs} {base = base} {b = b} {vs = vs} {ys = ys} h i r e) =
-    rows_could more (base ∷ vs) h (true_both (is_row base.1) (all_rows vs) (named_is_row cs t base b r) (each_is_row (Change cs t) (change_is_row cs t) vs ys e))
+    rows_could more (base ∷ vs) h (and_from (is_row base.1) (all_rows vs) (named_is_row cs t base b r) (each_is_row (Change cs t) (change_is_row cs t) vs ys e))
 acts_could p a qs z (Acting.remove {qs = more} {t = t} {cs = cs} {vs = vs} {ys = ys} h i e) =
     rows_could more vs h (each_is_row (NamedRow cs t) (named_is_row cs t) vs ys e)
 acts_could p a qs z (Acting.remove_if {a = b} {qs = more} {t = t} {cs = cs} {f = f} i e) = filter_could t cs b more f e
 acts_could p a qs z (Acting.update_if {a = b} {q = q} {qs = more} {t = t} {cs = cs} {f = f} {v = v} {y = y} h i e c) =
-    true_both (could_be_condition q) (all_could could_be_row more) ((both_true (could_be_condition q) true (filter_could t cs b (q ∷ []) f e)).0)
-    (rows_could more (v ∷ []) h (true_both (is_row v.1) true (change_is_row cs t v y c) refl))
+    and_from (could_be_condition q) (all_could could_be_row more) ((and_parts (could_be_condition q) true (filter_could t cs b (q ∷ []) f e)).0)
+    (rows_could more (v ∷ []) h (and_from (is_row v.1) true (change_is_row cs t v y c) refl))
 acts_could p a qs z (Acting.set h i b w) = refl
 acts_could p a qs z (Acting.update_context i all g) = refl
 acts_could p a qs z (Acting.collect h i b g) = refl

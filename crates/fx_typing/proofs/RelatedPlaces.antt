@@ -1,5 +1,6 @@
 -- Where the definition that judges puts the parts of a node is where they stand.
 use Rattle.std.proofs.Common.{◌≡◌, ℕ, suc, ◌++◌, List, [], ◌∷◌, Bool, ◌||◌, ◌&&◌, nat_lt, length, Option, Some, None, refl, ap, ◌∙◌}
+use Rattle.std.proofs.Math.Bool.{or-false, or-true}
 use Rattle.fx_data.specs.Types.{blanks, numbers, texts, booleans, dates, records, tables}
 use Rattle.fx_trees.specs.declared.functions.Fun.{Fun}
 use Rattle.fx_trees.specs.declared.signatures.SigShape.{SigShape}
@@ -15,7 +16,6 @@ use Rattle.fx_typing.specs.Parts.{Grant, Part, piece, meant, target, assigned, S
 use Rattle.fx_typing.specs.Plans.{pick, planned, plan_by_row, plan_call, called_as, plan_at, first_row, first_record, setting_by, setting_at, depth_of, is_inside, opens_rows}
 use Rattle.fx_typing.specs.Typing.{is_too_deep}
 use Rattle.fx_typing.specs.Places.{first_of, chosen_by, called_part, part_plan, stood, part_setting, opens_scope, is_fourth_scope}
-use Rattle.fx_typing.proofs.Places.{or_false, or_true}
 
 pub length_one : (done : List Part) (q : Part) → length (done ++ q ∷ []) ≡ suc (length done)
 length_one [] q = refl
@@ -62,12 +62,12 @@ plan_is m g (tree.rec ns ps) n done = refl
 plan_is m g h n done = refl
 
 stood_is : (m : Names) (s : Setting) (st : Standing) (g : Grant) (done : List Part) → setting_by m s (planned st g) done ≡ stood m s st g (first_of done)
-stood_is m s plain g done = λ i. record { scopes = s.scopes; catches = or_false s.catches i; grant = g }
-stood_is m s inside g [] = λ i. record { scopes = s.scopes; catches = or_false s.catches i; grant = g }
-stood_is m s inside g (q ∷ qs) = λ i. record { scopes = s.scopes ++ first_row m q ∷ []; catches = or_false s.catches i; grant = g }
-stood_is m s bound g [] = λ i. record { scopes = s.scopes; catches = or_false s.catches i; grant = g }
-stood_is m s bound g (q ∷ qs) = λ i. record { scopes = s.scopes ++ first_record q ∷ []; catches = or_false s.catches i; grant = g }
-stood_is m s catching g done = λ i. record { scopes = s.scopes; catches = or_true s.catches i; grant = g }
+stood_is m s plain g done = λ i. record { scopes = s.scopes; catches = or-false s.catches i; grant = g }
+stood_is m s inside g [] = λ i. record { scopes = s.scopes; catches = or-false s.catches i; grant = g }
+stood_is m s inside g (q ∷ qs) = λ i. record { scopes = s.scopes ++ first_row m q ∷ []; catches = or-false s.catches i; grant = g }
+stood_is m s bound g [] = λ i. record { scopes = s.scopes; catches = or-false s.catches i; grant = g }
+stood_is m s bound g (q ∷ qs) = λ i. record { scopes = s.scopes ++ first_record q ∷ []; catches = or-false s.catches i; grant = g }
+stood_is m s catching g done = λ i. record { scopes = s.scopes; catches = or-true s.catches i; grant = g }
 
 pub setting_is : (m : Names) (s : Setting) (h : Head) (n : ℕ) (done : List Part) → setting_at m s h n done ≡ part_setting m s h n (length done) (first_of done)
 setting_is m s h n done =

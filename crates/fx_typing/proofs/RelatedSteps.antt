@@ -1,5 +1,6 @@
 -- Steps through the definition that judges, forth and back.
 use Rattle.std.proofs.Common.{◌≡◌, ℕ, List, [], ◌∷◌, Bool, true, false, ◌&&◌, not, nat_lt, Option, Some, Result, Ok, Err, refl, ap, subst, ◌∙◌, if◌then◌else◌}
+use Rattle.std.proofs.lemmas.Bool.{not-false, not_from_true}
 use Rattle.fx_data.specs.Types.{Shape}
 use Rattle.fx_trees.specs.Term.{Term}
 use Rattle.fx_trees.specs.ColumnLists.{and_then}
@@ -64,26 +65,16 @@ pub if_ok : {A : Type 0} (b : Bool) (r : Result A ℕ) (k : ℕ) (x : A) → (if
 if_ok true r k x e = (refl, e)
 if_ok false r k x e = absurd cc
 
-pub not_false : (b : Bool) → not b ≡ false → b ≡ true
-not_false true e = refl
-not_false false e = absurd cc
-
-pub false_not : (b : Bool) → b ≡ true → not b ≡ false
-false_not b e = ap not e
-
-pub true_both : (a b : Bool) → a ≡ true → b ≡ true → (a && b) ≡ true
-true_both a b e f = ap (λ z. z && b) e ∙ f
-
 -- the limits of types
 pub bounded_ok : (r : Result (Term × Shape) ℕ) (x : Term × Shape) → bounded r ≡ Ok x → (r ≡ Ok x) × (is_bounded x.1 ≡ true)
 bounded_ok (Ok y) x e =
     let u = unless_ok (not (is_bounded y.1)) 13 (Ok y) x e in
     let y_is : y ≡ x = ok_is y x u.1 in
-    (u.1, subst (λ (z : Term × Shape). is_bounded z.1 ≡ true) y_is (not_false (is_bounded y.1) u.0))
+    (u.1, subst (λ (z : Term × Shape). is_bounded z.1 ≡ true) y_is (not-false (is_bounded y.1) u.0))
 bounded_ok (Err n) x e = absurd cc
 
 pub bounded_goes : (r : Result (Term × Shape) ℕ) (x : Term × Shape) → r ≡ Ok x → is_bounded x.1 ≡ true → bounded r ≡ Ok x
-bounded_goes r x e f = ap bounded e ∙ unless_goes (not (is_bounded x.1)) 13 (Ok x) x (false_not (is_bounded x.1) f) refl
+bounded_goes r x e f = ap bounded e ∙ unless_goes (not (is_bounded x.1)) 13 (Ok x) x (not_from_true (is_bounded x.1) f) refl
 
 -- parts that are all values
 pub values_ok : (qs : List Part) (xs : List (Term × Shape)) → values qs ≡ Ok xs → Values qs xs

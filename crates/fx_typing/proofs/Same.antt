@@ -2,14 +2,11 @@
 use Rattle.std.proofs.Common.{◌≡◌, ℕ, List, Bool, true, false, ◌&&◌, refl, ap, bytes_eq, if◌then◌else◌}
 use Rattle.std.specs.Prelude.{Option, Some, None}
 use Rattle.std.proofs.lemmas.Slice.Eq.{bytes_eq-Decides}
+use Rattle.std.proofs.lemmas.Bool.{and_parts}
 use Rattle.fx_data.specs.Types.{Shape, blanks, numbers, texts, booleans, dates, records, tables, ColumnList, no_columns, column}
 use Rattle.fx_value.specs.Join.{join_of}
 use Rattle.fx_typing.specs.Ways.{same_shape, same_columns, same, changed, refused, joined_way, widening, way, is_scalar, is_comparable}
 use Rattle.fx_typing.specs.Local.{exact_way, branch_way}
-
-pub both : (a b : Bool) → (a && b) ≡ true → (a ≡ true) × (b ≡ true)
-both true b e = (refl, e)
-both false b e = absurd cc
 
 pub bytes_same : (xs ys : List ℕ) → bytes_eq xs ys ≡ true → xs ≡ ys
 bytes_same xs ys e = (bytes_eq-Decides xs ys).0 e
@@ -28,8 +25,8 @@ mutual
   pub columns_same : (cs ds : ColumnList) → same_columns cs ds ≡ true → cs ≡ ds
   columns_same no_columns no_columns e = refl
   columns_same (column n t cs) (column m u ds) e =
-      let p = both (bytes_eq n m) (same_shape t u && same_columns cs ds) e in
-      let q = both (same_shape t u) (same_columns cs ds) p.1 in
+      let p = and_parts (bytes_eq n m) (same_shape t u && same_columns cs ds) e in
+      let q = and_parts (same_shape t u) (same_columns cs ds) p.1 in
       λ i. column (bytes_same n m p.0 i) (shape_same t u q.0 i) (columns_same cs ds q.1 i)
   columns_same cs ds e = absurd cc
 

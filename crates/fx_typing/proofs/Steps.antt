@@ -1,5 +1,6 @@
 -- Steps that the law takes for many heads.
 use Rattle.std.proofs.Common.{◌≡◌, ℕ, ◌++◌, List, [], ◌∷◌, ◌||◌, length, map, option_map, Option, Some, None, Result, Ok, Err, refl, ap, sym, subst, ◌∙◌}
+use Rattle.std.proofs.Math.Bool.{or-false}
 use Rattle.fx_data.specs.Types.{Shape}
 use Rattle.fx_trees.specs.Tree.{Head}
 use Rattle.fx_trees.specs.Term.{Term, of, all, Top}
@@ -13,7 +14,6 @@ use Rattle.fx_typing.specs.Builds.{types_of}
 use Rattle.fx_typing.specs.Parts.{Part, piece, meant, target, assigned, Setting, put_value, values, lowest}
 use Rattle.fx_typing.specs.Plans.{Plan, scopes_for, is_catching, setting_by, plan_at}
 use Rattle.fx_typing.specs.Typing.{context_of}
-use Rattle.fx_typing.proofs.Places.{or_false}
 use Rattle.fx_typing.proofs.Frame.{AllTyped, PartTyped, PartsTypedAt}
 use Rattle.fx_typing.proofs.RelatedSteps.{ok_is}
 
@@ -58,7 +58,7 @@ place_at p s st done = record (context_of p s) { rows = map (λ (r : Scope). r.r
 pub plain_place : (p : Place) (s : Setting) (pl : Plan) (done : List Part) → pl.standing ≡ plain → context_of p (setting_by p.names s pl done) ≡ context_of p s
 plain_place p s pl done e =
     let first : place_at p s pl.standing done ≡ place_at p s plain done = ap (λ st. place_at p s st done) e in
-    let second : place_at p s plain done ≡ context_of p s = ap (λ b. record (context_of p s) { caught = b }) (or_false s.catches) in
+    let second : place_at p s plain done ≡ context_of p s = ap (λ b. record (context_of p s) { caught = b }) (or-false s.catches) in
     first ∙ second
 
 pub each_plain : (p : Place) (s : Setting) (h : Head) (n : ℕ) (done qs : List Part) → ((d : List Part) → (plan_at p.names s.grant h n d).standing ≡ plain) →

@@ -4,7 +4,6 @@ use Rattle.fx_data.specs.Types.{Shape, blanks, numbers, texts, booleans, dates, 
 use Rattle.fx_data.specs.TypeView.{shape}
 use Rattle.fx_data.specs.Values.{Data, blank, number, text, boolean, date, fault, rec, tab}
 use Rattle.fx_data.specs.ValueView.{view}
-use Rattle.fx_data.specs.declared.faults.Fault.{Fault as FaultData}
 use Rattle.fx_data.specs.declared.types.Ty.{Ty}
 use Rattle.fx_data.specs.declared.types.Ty.TheVariants.{Blank as BlankTy, Number as NumberTy, Text as TextTy, Boolean as BooleanTy, Date as DateTy, Rec as RecTy, Tab as TabTy}
 use Rattle.fx_data.specs.declared.values.Value.{Value}
@@ -97,16 +96,6 @@ comes d t can = comes_by d can.from t can.fitting (pair_of can.from t can.coerci
 -- coerced to t, and fitting it
 abbrev pub Comes : Data → Shape → Data → Type 0
 Comes d t w = IsCoerced d t w × (fits_in w t ≡ true)
-
-pub to_blank : (v : Value) → ((x : FaultData) → v ≡ Fault x → ⊥) → Comes (view v) blanks blank
-to_blank Blank h = (refl, refl)
-to_blank (Number n) h = (refl, refl)
-to_blank (Text w) h = (refl, refl)
-to_blank (Boolean b) h = (refl, refl)
-to_blank (Date d) h = (refl, refl)
-to_blank (Rec fs) h = (refl, refl)
-to_blank (Tab rs) h = (refl, refl)
-to_blank (Fault f) h = absurd (h f refl)
 
 pub stays_number : (v : Value) → ((x : Bool) → v ≡ Boolean x → ⊥) → ((x : List ℕ) → v ≡ Text x → ⊥) → CanCoerce (view v) numbers → Comes (view v) numbers (view v)
 stays_number Blank b w can = (refl, refl)

@@ -3,7 +3,7 @@ use Rattle.std.proofs.Common.{◌≡◌, ℕ, suc, ◌+◌, ◌≤◌, length, g
 use Rattle.std.specs.Ordering.{nat_cmp}
 use Rattle.std.specs.Cmp.Lexicographic.{slice_cmp}
 use Rattle.std.specs.declared.cmp.Ordering.TheVariants.{Equal, Greater}
-use Rattle.fx_data.specs.Types.{Shape, ColumnList, column, column_list, shape_size, columns_size}
+use Rattle.fx_data.specs.Types.{Shape, ColumnList, column, column_list, columns_size}
 use Rattle.fx_value.specs.Join.{join_of, union}
 use Rattle.fx_data.specs.Rising.{IsBelow, AreRising}
 use Rattle.fx_data.specs.TypeView.{shape, columns_view}
@@ -79,10 +79,6 @@ module _ {a b : List (List ℕ × Shape)} {joined : List (List ℕ × Ty)} (xs y
 
   pub at_greater : slice_cmp nat_cmp x.0 y.0 ≡ Greater → IsJoined a b (joined ++ y ∷ []) (drop i xs) (drop (j + 1) ys)
   at_greater c = rw (left xs i x h e) (joined_greater x y _ _ c started)
-
-  -- the type of a column that both have is smaller than the columns
-  pub at_smaller : shape_size (shape x.1) < columns_size (column_list a)
-  at_smaller = omega (arith, started.smaller)
 
   pub at_equal : (t : Ty) → slice_cmp nat_cmp x.0 y.0 ≡ Equal → Some (shape t) ≡ join_of (shape x.1) (shape y.1) → IsJoined a b (joined ++ (x.0, t) ∷ []) (drop (i + 1) xs) (drop (j + 1) ys)
   at_equal t c g = joined_equal x y t _ _ c g started

@@ -1,5 +1,6 @@
 mod KeyLemmas
 mod Orders
+pub mod ByteOrder
 pub mod Coercions
 pub mod FitsLemmas
 pub mod JoinSteps

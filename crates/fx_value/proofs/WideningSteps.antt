@@ -7,6 +7,7 @@ use Rattle.std.specs.declared.cmp.Ordering.TheVariants.{Less}
 use Rattle.std.specs.Cmp.{tied_itself}
 use Rattle.std.proofs.lemmas.Cmp.{nat_list_cmp_total}
 use Rattle.std.proofs.lemmas.List.{take_more, take_all, drop_all, length-set}
+use Rattle.std.proofs.lemmas.Bool.{and_from}
 use Rattle.fx_data.specs.Rising.{IsBelow, IsBelowAll, AreRising}
 use Rattle.fx_data.specs.Types.{ColumnList, column_list}
 use Rattle.fx_data.specs.TypeView.{shape, columns_view}
@@ -18,7 +19,7 @@ use Rattle.fx_data.proofs.Utf8Order.{and_second, and_first}
 use Rattle.fx_value.specs.Coercion.{value_in, widened, widened_fields, rows_by}
 use Rattle.fx_value.specs.Fits.{fits_in, fields_fit, rows_fit}
 use Rattle.fx_value.proofs.JoinSteps.{left}
-use Rattle.fx_value.proofs.Widenings.{both, own_name, same_name}
+use Rattle.fx_value.proofs.Widenings.{own_name, same_name}
 
 apart : (n m : List ℕ) → n ≢ m → bytes_eq n m ≡ false
 apart n m d = by (bytes_eq n m) refl
@@ -79,14 +80,14 @@ value_push (x ∷ ws) (d ∷ cs) c w fs h e =
     λ i. field (a i) (b i) (value_push ws cs c w fs r e i)
 
 fit_push : (ws : List (List ℕ × Value)) (cs : List (List ℕ × Ty)) (c : List ℕ × Ty) (w : Value) → fields_fit (field_list (fields_view ws)) (column_list (columns_view cs)) ≡ true → fits_in (view w) (shape c.1) ≡ true → fields_fit (field_list (fields_view (ws ++ (c.0, w) ∷ []))) (column_list (columns_view (cs ++ c ∷ []))) ≡ true
-fit_push [] [] c w h f = both (bytes_eq c.0 c.0) (fits_in (view w) (shape c.1) && true) (own_name c.0) (both (fits_in (view w) (shape c.1)) true f refl)
+fit_push [] [] c w h f = and_from (bytes_eq c.0 c.0) (fits_in (view w) (shape c.1) && true) (own_name c.0) (and_from (fits_in (view w) (shape c.1)) true f refl)
 fit_push [] (d ∷ cs) c w h f = cc
 fit_push (x ∷ ws) [] c w h f = cc
 fit_push (x ∷ ws) (d ∷ cs) c w h f =
     let rest = fields_fit (field_list (fields_view ws)) (column_list (columns_view cs)) in
     let name = and_first (bytes_eq x.0 d.0) (fits_in (view x.1) (shape d.1) && rest) h in
     let more = and_second (bytes_eq x.0 d.0) (fits_in (view x.1) (shape d.1) && rest) h in
-    both (bytes_eq x.0 d.0) _ name (both (fits_in (view x.1) (shape d.1)) _ (and_first (fits_in (view x.1) (shape d.1)) rest more) (fit_push ws cs c w (and_second (fits_in (view x.1) (shape d.1)) rest more) f))
+    and_from (bytes_eq x.0 d.0) _ name (and_from (fits_in (view x.1) (shape d.1)) _ (and_first (fits_in (view x.1) (shape d.1)) rest more) (fit_push ws cs c w (and_second (fits_in (view x.1) (shape d.1)) rest more) f))
 
 -- one column more is done
 taken : (cs : List (List ℕ × Ty)) (i : ℕ) (c : List ℕ × Ty) → i < length cs → c ≡ get_or cs i c → take (i + 1) cs ≡ take i cs ++ c ∷ []
@@ -110,9 +111,9 @@ rows_push f (x ∷ ws) (y ∷ rs) w r h e =
     λ i. row (a i) (rows_push f ws rs w r b e i)
 
 pub rows_fit_push : (cs : ColumnList) (ws : List (List (List ℕ × Data))) (w : List (List ℕ × Data)) → rows_fit (row_list ws) cs ≡ true → fields_fit (field_list w) cs ≡ true → rows_fit (row_list (ws ++ w ∷ [])) cs ≡ true
-rows_fit_push cs [] w h f = both (fields_fit (field_list w) cs) true f refl
+rows_fit_push cs [] w h f = and_from (fields_fit (field_list w) cs) true f refl
 rows_fit_push cs (x ∷ ws) w h f =
-    both (fields_fit (field_list x) cs) _ (and_first (fields_fit (field_list x) cs) (rows_fit (row_list ws) cs) h) (rows_fit_push cs ws w (and_second (fields_fit (field_list x) cs) (rows_fit (row_list ws) cs) h) f)
+    and_from (fields_fit (field_list x) cs) _ (and_first (fields_fit (field_list x) cs) (rows_fit (row_list ws) cs) h) (rows_fit_push cs ws w (and_second (fields_fit (field_list x) cs) (rows_fit (row_list ws) cs) h) f)
 
 -- what is taken out is missing under its name alone
 set_elsewhere : (xs : List (List ℕ × Value)) (i : ℕ) (x : List ℕ × Value) (w : Value) → i < length xs → x ≡ get_or xs i x → (m : List ℕ) → m ≢ x.0 → value_in m (field_list (fields_view (slice_set xs i (x.0, w)))) ≡ value_in m (field_list (fields_view xs))

@@ -22,10 +22,6 @@ use Rattle.fx_value.specs.Fits.{fits_in, fields_fit, rows_fit}
 use Rattle.fx_value.specs.Join.{join_of, union, with_column}
 use Rattle.fx_value.proofs.Unions.{Under, Rises, under_list, rises_union, under_further, by_then, blanks_join}
 
-pub both : (a b : Bool) → a ≡ true → b ≡ true → (a && b) ≡ true
-both true b h k = k
-both false b h k = h
-
 pub same_name : (n m : List ℕ) → bytes_eq n m ≡ true → n ≡ m
 same_name n m h = (bytes_eq-Decides n m).0 h
 

@@ -1,9 +1,10 @@
 -- Parts, limited one after another.
-use Rattle.std.proofs.Common.{◌≡◌, ℕ, suc, ◌+◌, ◌<◌, Bool, true, false, not, ◌&&◌, List, [], ◌∷◌, ◌++◌, length, get_or, drop, refl, sym, ap, ◌∙◌, subst, arith, append_assoc, if◌then◌else◌}
+use Rattle.std.proofs.Common.{◌≡◌, ℕ, suc, ◌+◌, ◌<◌, Bool, false, List, [], ◌∷◌, ◌++◌, length, get_or, drop, refl, sym, ap, ◌∙◌, subst, arith, append_assoc}
 use Rattle.std.proofs.Math.Seq.{drop-cons}
+use Rattle.std.proofs.Math.Bool.{and-false, and-true}
 use Rattle.fx_plan.specs.declared.site_list.Scoped.{Scoped}
 use Rattle.fx_plan.specs.declared.site_list.Scoped.TheVariants.{Nothing, Others, Formulas}
-use Rattle.fx_plan.specs.Sites.{count_of, deeper, is_formula, is_query, is_update, opens}
+use Rattle.fx_plan.specs.Sites.{count_of, deeper, is_formula, is_update, opens}
 use Rattle.fx_data.specs.Types.{Shape}
 use Rattle.fx_trees.specs.declared.deeds.Deed.{Deed}
 use Rattle.fx_trees.specs.declared.functions.Form.{Form}
@@ -12,21 +13,8 @@ use Rattle.fx_trees.specs.Rows.{row_of, takes_at}
 use Rattle.fx_trees.specs.declared.schema.TableShape.{TableShape}
 use Rattle.fx_trees.specs.Term.{Term, Terms, of, nil, cons, all, names_of, parts_of, Top}
 use Rattle.fx_trees.specs.Term as top
-use Rattle.fx_plan.specs.Limited.{first_rows, limited, parts_limited, takes_first_whole}
+use Rattle.fx_plan.specs.Limited.{limited, parts_limited, takes_first_whole}
 use Rattle.query_limits.specs.Limits.{depth_at, each_limited, fields_limited, with_limited_parts}
-
--- a tree: its first rows, or itself with its parts limited
-pub limited_is : (ts : List TableShape) (n k : ℕ) (whole : Bool) (t : Term) →
-    limited ts n k whole t ≡ (if is_query ts k t && not whole then first_rows n (with_limited_parts ts n k t) else with_limited_parts ts n k t)
-limited_is ts n k whole (of h cs) = refl
-
-and_true : (b : Bool) → (b && true) ≡ b
-and_true true = refl
-and_true false = refl
-
-and_false : (b : Bool) → (b && false) ≡ false
-and_false true = refl
-and_false false = refl
 
 module _ (ts : List TableShape) (n k : ℕ) (h : Top) (m : ℕ) (depth : ℕ → ℕ) where
   -- the parts behind the first
@@ -34,7 +22,7 @@ module _ (ts : List TableShape) (n k : ℕ) (h : Top) (m : ℕ) (depth : ℕ →
       parts_limited ts n k h m whole (suc i) (all cs) ≡ all (each_limited ts n depth i cs)
   parts_behind whole same i [] = refl
   parts_behind whole same i (c ∷ cs) =
-      ap (λ b. cons (limited ts n (deeper (opens h m (suc i)) k) b c) (parts_limited ts n k h m whole (suc (suc i)) (all cs))) (and_false whole)
+      ap (λ b. cons (limited ts n (deeper (opens h m (suc i)) k) b c) (parts_limited ts n k h m whole (suc (suc i)) (all cs))) (and-false whole)
       ∙ ap (λ j. cons (limited ts n j false c) (parts_limited ts n k h m whole (suc (suc i)) (all cs))) (same i)
       ∙ ap (λ rest. cons (limited ts n (depth i) false c) rest) (parts_behind whole same (suc i) cs)
 
@@ -67,11 +55,6 @@ module _ (ts : List TableShape) (n k : ℕ) where
   pub leaf_limited : (t : Term) (h : Top) → of h nil ≡ t → t ≡ with_limited_parts ts n k t
   leaf_limited t h e = subst (λ (z : Term). z ≡ with_limited_parts ts n k z) e refl
 
-  pub within_limited : (p f x y : Term) (j : ℕ) → x ≡ limited ts n k false p → j ≡ deeper true k → y ≡ limited ts n j false f →
-      of top.within (cons x (cons y nil)) ≡ with_limited_parts ts n k (of top.within (cons p (cons f nil)))
-  within_limited p f x y j a b c =
-      ap (λ z. of top.within (cons z (cons y nil))) a ∙ ap (λ z. of top.within (cons (limited ts n k false p) (cons z nil))) (c ∙ ap (λ i. limited ts n i false f) b)
-
   pub over_limited : (f : Fun) (q : Term) (cs : List Term) (x : Term) (xs : List Term) (first : Bool) (scoped : Scoped) →
       x ≡ limited ts n k first q → first ≡ takes_first_whole ts k (of (top.over f) (cons q (all cs))) → xs ≡ each_limited ts n (depth_at scoped k) 0 cs → scoped ≡ Formulas f (length cs + 1) →
       of (top.over f) (cons x (all xs)) ≡ with_limited_parts ts n k (of (top.over f) (cons q (all cs)))
@@ -85,7 +68,7 @@ module _ (ts : List TableShape) (n k : ℕ) where
       ∙ sym (parts_behind ts n k (top.over f) (suc (count_of (all cs))) (depth_at (Formulas f (length cs + 1)) k) whole
       (λ i. ap (λ m. deeper (is_formula (takes_at (row_of f) m (suc i))) k) many) 0 cs) in
       ap (λ z. of (top.over f) (cons z (all xs))) table ∙ ap (λ z. of (top.over f) (cons (limited ts n k whole q) z)) behind
-      ∙ ap (λ z. of (top.over f) (cons (limited ts n k z q) (parts_limited ts n k (top.over f) (suc (count_of (all cs))) whole 1 (all cs)))) (sym (and_true whole))
+      ∙ ap (λ z. of (top.over f) (cons (limited ts n k z q) (parts_limited ts n k (top.over f) (suc (count_of (all cs))) whole 1 (all cs)))) (sym (and-true whole))
 
   pub rec_limited : (fs gs : List (List ℕ × Term)) → gs ≡ fields_limited ts n k fs →
       of (top.rec (names_of gs)) (parts_of gs) ≡ with_limited_parts ts n k (of (top.rec (names_of fs)) (parts_of fs))
@@ -122,14 +105,3 @@ module _ (ts : List TableShape) (n : ℕ) where
       let rest : List Term = each_limited ts n depth (suc i) (drop (suc i) cs) in
       subst (λ j. next ++ each_limited ts n depth j (drop j cs) ≡ whole) (sym more)
       (ap (λ z. z ++ rest) g ∙ append_assoc now (x ∷ []) rest ∙ ap (λ z. now ++ (z ∷ rest)) f ∙ ap (λ z. now ++ each_limited ts n depth i z) (sym split) ∙ h)
-
-  pub next_field : (k i : ℕ) (now next whole : List (List ℕ × Term)) (fs : List (List ℕ × Term)) (f : List ℕ × Term) (name : List ℕ) (x : Term) → i < length fs → f ≡ get_or fs i f →
-      name ≡ f.0 → x ≡ limited ts n k false f.1 → next ≡ now ++ (name, x) ∷ [] → now ++ fields_limited ts n k (drop i fs) ≡ whole →
-      next ++ fields_limited ts n k (drop (i + 1) fs) ≡ whole
-  next_field k i now next whole fs f name x l e a b g h =
-      let more : i + 1 ≡ suc i = omega arith in
-      let split : drop i fs ≡ f ∷ drop (suc i) fs = drop-cons fs i f l ∙ ap (λ z. z ∷ drop (suc i) fs) (sym e) in
-      let rest : List (List ℕ × Term) = fields_limited ts n k (drop (suc i) fs) in
-      let pair : (name, x) ≡ (f.0, limited ts n k false f.1) = λ j. (a j, b j) in
-      subst (λ j. next ++ fields_limited ts n k (drop j fs) ≡ whole) (sym more)
-      (ap (λ z. z ++ rest) g ∙ append_assoc now ((name, x) ∷ []) rest ∙ ap (λ z. now ++ (z ∷ rest)) pair ∙ ap (λ z. now ++ fields_limited ts n k z) (sym split) ∙ h)

@@ -12,7 +12,7 @@ use Rattle.fx_trees.specs.declared.schema.Schema.{Schema}
 use Rattle.row_keeper.specs.Tables.{Tables, rows_told}
 use Rattle.row_queries.specs.declared.rows.Row.{Row}
 
-stays : (lost : Type 0) (x : Option Tables) → Goes lost Stays x x
+pub stays : (lost : Type 0) (x : Option Tables) → Goes lost Stays x x
 stays lost None = refl
 stays lost (Some t) = refl
 

@@ -81,7 +81,7 @@ replicate_at zero k x = refl
 replicate_at (suc n) zero x = refl
 replicate_at (suc n) (suc k) x = replicate_at n k x
 
-blank_at : (n k : ℕ) → cell_value (replicate n blank) k ≡ blank
+pub blank_at : (n k : ℕ) → cell_value (replicate n blank) k ≡ blank
 blank_at zero k = refl
 blank_at (suc n) zero = refl
 blank_at (suc n) (suc k) = blank_at n k

@@ -15,6 +15,7 @@ use Rattle.recalc.specs.Reading.{Kept, cell_value, fixed_over, loans_of, told_by
 use Rattle.row_keeper.specs.Tables.{Tables, rows_told}
 use Rattle.row_queries.specs.declared.rows.Row.{Row}
 use Rattle.session_state.specs.Sessions.{SessionState}
+use Rattle.recalc.proofs.Asked.{stays}
 
 -- what an environment of a keeper tells, by the keeper's tables
 abbrev Tells : Type 0
@@ -38,12 +39,7 @@ stays_told lost f g p q None (Some b) h = absurd cc
 stays_told lost f g p q (Some a) None h = h
 stays_told lost f g p q (Some a) (Some b) h = sym (q b) ∙ ap (λ (t : Told Kept). t.beside.0) h ∙ p a
 
--- and so do the tables as its transaction began
-stays : (lost : Type 0) (x : Option Tables) → Goes lost Stays x x
-stays lost None = refl
-stays lost (Some a) = refl
-
-falls : (lost : Type 0) (b d : Option Tables) → d ≡ None → lost → Goes lost Stays b d
+pub falls : (lost : Type 0) (b d : Option Tables) → d ≡ None → lost → Goes lost Stays b d
 falls lost None d e h = e
 falls lost (Some p) d e h = subst (λ (z : Option Tables). Goes lost Stays (Some p) z) (sym e) h
 

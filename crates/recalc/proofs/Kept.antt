@@ -35,6 +35,7 @@ use Rattle.fx_value.specs.Fits.{fits_in}
 use Rattle.recalc.specs.Reading.{cell_value}
 use Rattle.recalc.specs.Values.{CellsFit}
 use Rattle.session_state.specs.Sessions.{SessionState}
+use Rattle.recalc.proofs.Emptying.{blank_at}
 
 -- the cells of these numbers have their values, over what is heard of the rows of tables, and all others are blank so far
 pub record AreKept (a : App) (s : SessionState) (told : ToldRows) (day : Data) (done : List ℕ) (values : ℕ → Data) : Type 0 where
@@ -47,11 +48,6 @@ abbrev pub Hears : ToldRows → ToldRows → Type 0
 Hears told later = (tables : ToldRows) → IsHeard later tables → IsHeard told tables
 
 -- ---- blanks
-blank_at : (n k : ℕ) → cell_value (replicate n blank) k ≡ blank
-blank_at zero k = refl
-blank_at (suc n) zero = refl
-blank_at (suc n) (suc k) = blank_at n k
-
 pub none_kept : (a : App) (s : SessionState) (told : ToldRows) (day : Data) (n : ℕ) → AreKept a s told day [] (cell_value (replicate n blank))
 none_kept a s told day n = record {
   fits = λ k c there. subst (λ d. fits_in d (shape c.ty) ≡ true) (sym (blank_at n k)) refl;
@@ -70,7 +66,7 @@ gives_agrees p values others (source.Chosen k) v h e = e ∙ told_agrees blank p
 gives_agrees p values others (source.Table k) v h e = e
 gives_agrees p values others source.Today v h e = e
 
-where_map : {P P' : Type 0} (Q : Type 0) (b : Bool) → (P → P') → IsWhere b P Q → IsWhere b P' Q
+pub where_map : {P P' : Type 0} (Q : Type 0) (b : Bool) → (P → P') → IsWhere b P Q → IsWhere b P' Q
 where_map Q true f h = f h
 where_map Q false f h = h
 

@@ -1,6 +1,6 @@
 -- A formula visits one number of rows at most, where all that is read is told.
 use Rattle.std.proofs.Common.{◌≡◌, ◌∙◌, ◌<◌, ℕ, List, Bool, true, false, Option, None, Some, length, subst, sym}
-use Rattle.std.proofs.lemmas.Option.{slice_get_within}
+use Rattle.std.proofs.lemmas.Option.{same_Some, slice_get_within}
 use Rattle.std.specs.List.{Contains, slice_get}
 use Rattle.app_semantics.proofs.FreshAt.{fits_at}
 use Rattle.app_semantics.proofs.Freshness.{AllFit, given_in, given_told, got, read_behind, today_is}
@@ -12,7 +12,6 @@ use Rattle.fx_eval.proofs.Single.{one_visits}
 use Rattle.fx_eval.proofs.Widening.{visits_stay}
 use Rattle.fx_eval.specs.Laws.{AreHeld}
 use Rattle.fx_eval.specs.Visits.{AskedTables, Visits}
-use Rattle.fx_plan.proofs.Placing.{some_is}
 use Rattle.fx_plan.specs.Limited.{limited}
 use Rattle.fx_semantics.specs.Sources.{Gives as GivesTold}
 use Rattle.fx_semantics.specs.Unique.{OneValue}
@@ -88,7 +87,7 @@ formula_one one law a s rows m values others item k c n l sound holds known held
 
 pub one_cell_visits : OneValue → OneFreshAt → OneCellVisits
 one_cell_visits one law a s rows m k n l sound holds known held h j =
-    let same : h.1 ≡ j.1 = some_is h.1 j.1 (sym h.2 ∙ j.2) in
+    let same : h.1 ≡ j.1 = same_Some h.1 j.1 (sym h.2 ∙ j.2) in
     let fresh : AreFreshFor (present a s (Some rows) m) j.0 h.1 = subst (λ (c : CellInfo). AreFreshFor (present a s (Some rows) m) j.0 c) (sym same) j.3 in
     let visits : FormulaVisits a s rows m j.0 None h.1 l = subst (λ (c : CellInfo). FormulaVisits a s rows m j.0 None c l) (sym same) j.4 in
     formula_one one law a s rows m h.0 j.0 None k h.1 n l sound holds known held h.2 h.3 fresh h.4 visits
@@ -96,6 +95,6 @@ one_cell_visits one law a s rows m k n l sound holds known held h j =
 pub one_item_visits : OneValue → OneFreshAt → OneItemVisits
 one_item_visits one law a s rows m values others item None n l sound holds known held fresh also h j = h ∙ sym j
 one_item_visits one law a s rows m values others item (Some k) n l sound holds known held fresh also h j =
-    let same : h.0 ≡ j.0 = some_is h.0 j.0 (sym h.1 ∙ j.1) in
+    let same : h.0 ≡ j.0 = same_Some h.0 j.0 (sym h.1 ∙ j.1) in
     let visits : FormulaVisits a s rows m others (Some item) h.0 l = subst (λ (c : CellInfo). FormulaVisits a s rows m others (Some item) c l) (sym same) j.2 in
     formula_one one law a s rows m values others (Some item) k h.0 n l sound holds known held h.1 (λ d leans. fresh h.0 d h.1 leans) (λ d leans. also h.0 d h.1 leans) h.2 visits

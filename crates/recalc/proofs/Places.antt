@@ -1,32 +1,17 @@
 -- Places of sources, and lists in which one item is set.
-use Rattle.std.proofs.Common.{◌≡◌, ℕ, ◌+◌, ◌*◌, ◌<◌, ◌≤◌, List, length, true, false, Option, Some, None, IsSome, refl, sym, ap, ◌∙◌, arith, if◌then◌else◌}
-use Rattle.std.specs.Prelude.{nat_eq, option_map, slice_get, unwrap_or}
+use Rattle.std.proofs.Common.{◌≡◌, ℕ, ◌+◌, ◌*◌, ◌<◌, ◌≤◌, List, length, true, false, Option, Some, None, IsSome, refl, sym, ap, ◌∙◌, arith}
+use Rattle.std.specs.Prelude.{option_map, slice_get, unwrap_or}
 use Rattle.fx_trees.specs.Reads.{number_of, rank_of}
 use Rattle.fx_trees.specs.declared.names.Names.{Names}
 use Rattle.fx_trees.specs.declared.sources.Source.{Source}
 use Rattle.fx_trees.specs.declared.sources.Source.TheVariants as source
+use Rattle.fx_trees.proofs.Ordered.{source_is}
 use Rattle.recalc.specs.app_cells.declared.app.CellInfo.{CellInfo}
 use Rattle.recalc.specs.app_semantics.Needed.{is_alone, stands_alone}
 use Rattle.recalc.specs.Kept.{IsSourceOf, place_of}
 use Rattle.recalc.specs.declared.stamps.Stamp.{Stamp}
 
 -- ---- sources by their places
-source_by : ℕ → ℕ → Source
-source_by r n =
-    if nat_eq r 0 then source.Cell n else (if nat_eq r 1 then source.Global n else (if nat_eq r 2 then source.Context n else (if nat_eq r 3 then source.Gathered n
-    else (if nat_eq r 4 then source.Input n else (if nat_eq r 5 then source.Chosen n else (if nat_eq r 6 then source.Table n else source.Today))))))
-
-source_back : (x : Source) → source_by (rank_of x) (number_of x) ≡ x
-unfolding source_by
-source_back (source.Cell k) = refl
-source_back (source.Global k) = refl
-source_back (source.Context k) = refl
-source_back (source.Gathered k) = refl
-source_back (source.Input k) = refl
-source_back (source.Chosen k) = refl
-source_back (source.Table k) = refl
-source_back source.Today = refl
-
 rank_low : (x : Source) → rank_of x < 8
 rank_low (source.Cell k) = omega arith
 rank_low (source.Global k) = omega arith
@@ -44,7 +29,7 @@ one_place x y e =
     let also = rank_low y in
     let number : number_of x ≡ number_of y = omega (arith, e, low, also) in
     let rank : rank_of x ≡ rank_of y = omega (arith, e, low, also, number) in
-    sym (source_back x) ∙ ap (source_by (rank_of x)) number ∙ ap (λ r. source_by r (number_of y)) rank ∙ source_back y
+    source_is x y rank number
 
 -- so many places are enough for the sources that there are
 pub enough : (n : Names) (most : ℕ) → length n.variables ≤ most → length n.collections ≤ most → length n.controls ≤ most → length n.schema.tables ≤ most →

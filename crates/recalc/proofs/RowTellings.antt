@@ -41,7 +41,7 @@ over_held n s reads told (source.Table k) f h o = absurd o
 over_held n s reads told source.Today f h o = absurd o
 
 -- a table that has a type is there
-some_shape : (o : Option TableShape) → IsSome (option_map (λ (t : TableShape). tables (columns_of t)) o) → IsSome o
+pub some_shape : (o : Option TableShape) → IsSome (option_map (λ (t : TableShape). tables (columns_of t)) o) → IsSome o
 some_shape (Some t) h = refl
 some_shape None h = absurd cc
 

@@ -1,9 +1,10 @@
 -- What a formula reads, as an environment tells it.
-use Rattle.std.proofs.Common.{◌≡◌, ℕ, List, [], ◌∷◌, Bool, true, false, Option, Some, None, refl, sym, subst, ap, ◌∙◌, ◌<◌, arith, inl, inr, if◌then◌else◌, length}
+use Rattle.std.proofs.Common.{◌≡◌, ℕ, List, [], ◌∷◌, Bool, true, false, Option, Some, None, refl, sym, subst, ap, ◌∙◌, ◌<◌, arith, inl, inr, length}
 use Rattle.std.specs.List.{slice_get}
 use Rattle.std.specs.Prelude.{IsSome, ◌&&◌, ◌||◌, nat_eq, not, option_map}
+use Rattle.std.proofs.lemmas.Bool.{and_parts}
 use Rattle.app_semantics.specs.app_cells.declared.app.CellInfo.{CellInfo}
-use Rattle.app_semantics.proofs.CellTypes.{both_true, equal}
+use Rattle.app_semantics.proofs.CellTypes.{equal}
 use Rattle.app_semantics.proofs.Freshness.{IsNoTable, told_given}
 use Rattle.app_semantics.proofs.Given.{given_fits}
 use Rattle.app_semantics.proofs.Taken.{limited_lawful, limited_reads}
@@ -35,6 +36,7 @@ use Rattle.fx_trees.specs.declared.sources.Source.{Source}
 use Rattle.fx_typing.specs.Typing.{item_of}
 use Rattle.fx_typing.specs.WellTyped.{Context, IsTyped}
 use Rattle.fx_value.specs.Fits.{fits_in}
+use Rattle.fx_trees.proofs.Ordered.{source_is}
 use Rattle.fx_eval.proofs.of_fx_plan.Retyped.{types_limited}
 use Rattle.fx_eval.specs.fx_plan.Constants.{ReadsTables}
 use Rattle.fx_eval.specs.fx_plan.Limited.{IsTakenValue, limited}
@@ -45,28 +47,12 @@ use Rattle.session_state.specs.Changes.{IsOwn}
 use Rattle.session_state.specs.Sessions.{Holds, SessionState}
 
 -- ---- sources by their kind and number
-source_by : ℕ → ℕ → Source
-source_by r n =
-    if nat_eq r 0 then source.Cell n else (if nat_eq r 1 then source.Global n else (if nat_eq r 2 then source.Context n else (if nat_eq r 3 then source.Gathered n
-    else (if nat_eq r 4 then source.Input n else (if nat_eq r 5 then source.Chosen n else (if nat_eq r 6 then source.Table n else source.Today))))))
-
-source_back : (x : Source) → source_by (rank_of x) (number_of x) ≡ x
-unfolding source_by
-source_back (source.Cell k) = refl
-source_back (source.Global k) = refl
-source_back (source.Context k) = refl
-source_back (source.Gathered k) = refl
-source_back (source.Input k) = refl
-source_back (source.Chosen k) = refl
-source_back (source.Table k) = refl
-source_back source.Today = refl
-
 same_source : (x y : Source) → is_source x y ≡ true → y ≡ x
 same_source x y e =
-    let parts = both_true (nat_eq (rank_of x) (rank_of y)) (nat_eq (number_of x) (number_of y)) e in
+    let parts = and_parts (nat_eq (rank_of x) (rank_of y)) (nat_eq (number_of x) (number_of y)) e in
     let rank : rank_of x ≡ rank_of y = equal (rank_of x) (rank_of y) parts.0 in
     let number : number_of x ≡ number_of y = equal (number_of x) (number_of y) parts.1 in
-    sym (source_back y) ∙ ap (source_by (rank_of y)) (sym number) ∙ ap (λ r. source_by r (number_of x)) (sym rank) ∙ source_back x
+    source_is y x (sym rank) (sym number)
 
 itself : (k : ℕ) → nat_eq k k ≡ true
 itself k = grind arith

@@ -1,16 +1,10 @@
 -- The last request of a caller comes again.
-use Rattle.std.proofs.Common.{◌≡◌, ℕ, ◌==◌, ◌+◌, ◌≤◌, Bool, true, false, if◌then◌else◌, bytes_eq, List, [], ◌∷◌, Option, Some, None, Result, Err, Ok, refl, ap, ◌∙◌, subst, eq-eqb, arith, sym}
-use Rattle.std.specs.Prelude.{slice_get, zero, suc}
+use Rattle.std.proofs.Common.{◌≡◌, ℕ, ◌==◌, ◌+◌, Bool, true, false, if◌then◌else◌, bytes_eq, List, Option, Some, None, Result, Err, Ok, refl, ap, ◌∙◌, eq-eqb, arith}
 use Rattle.serde_json.specs.Data as json
 use Rattle.session_state.specs.Once.{Kept, turn_of}
-use Rattle.session_state.specs.Sessions.{SessionState}
-use Rattle.session_state.specs.declared.turn.Turn.{Turn}
 use Rattle.session_state.specs.declared.turn.Turn.TheVariants.{New, Again, Reused, OutOfStep}
 use Rattle.request_checks.specs.Bodies.{json_of}
-use Rattle.request_checks.specs.Checked.{KeepsReply, SessionsKeepReplies}
 use Rattle.request_checks.specs.Checks.{IsLastAsked, checks, number_reply, numbered, shaped, then_numbered, turn_reply, unless_said, worded}
-use Rattle.request_checks.specs.Replies.{IsAccepted, KeepReplies}
-use Rattle.request_checks.specs.declared.directory.Named.{Named}
 use Rattle.request_checks.proofs.Directories.{itself}
 
 -- the number of the last request, with its body
@@ -37,39 +31,6 @@ comes_again T asked number k last =
     ∙ ap (λ o. then_numbered number (Ok k) k.body (shaped o)) last.shape
     ∙ ap (λ n. unless_said (number_reply k n k.body) last.it) last.last
     ∙ ap (λ t. unless_said (turn_reply t k.reply) last.it) (again k)
-
--- a request that comes again has the number of the last
-again_last : (a b c : Bool) (last : ℕ) → (if a then New else (if b then (if c then Again else Reused) else OutOfStep last)) ≡ Again → b ≡ true
-again_last true b c last e = absurd cc
-again_last false true c last e = refl
-again_last false false c last e = absurd cc
-
-pub last_number : (k : Kept) (seq : ℕ) (body : List ℕ) → turn_of k seq body ≡ Again → seq ≡ k.last
-last_number k seq body e = let same : (seq == k.last) ≡ true = again_last (seq == k.last + 1) (seq == k.last) (bytes_eq body k.body) k.last e in grind (arith, same)
-
--- so its reply is one
-pub kept_again : (k : Kept) (seq : ℕ) (body : List ℕ) (t : Turn) → 1 ≤ seq → KeepsReply k → t ≡ turn_of k seq body → t ≡ Again → IsAccepted k.reply
-kept_again k seq body t counted keeps is e =
-    let same : seq ≡ k.last = last_number k seq body (sym is ∙ e) in
-    keeps (omega (arith, same, counted))
-
--- the reply of a desk at a place
-pub kept_at : (xs : List (Named Kept)) (k : ℕ) (x : Named Kept) → KeepReplies xs → slice_get xs k ≡ Some x → IsAccepted x.it.reply
-kept_at [] k x h e = absurd cc
-kept_at (y ∷ ys) zero x h e = subst (λ (n : Named Kept). IsAccepted n.it.reply) (same e) h.0
-  where
-    same : Some y ≡ Some x → y ≡ x
-    same e = cc
-kept_at (y ∷ ys) (suc k) x h e = kept_at ys k x h.1 e
-
--- the reply of a session at a place
-pub session_keeps : (xs : List (Named SessionState)) (k : ℕ) (x : Named SessionState) → SessionsKeepReplies xs → slice_get xs k ≡ Some x → KeepsReply x.it.kept
-session_keeps [] k x h e = absurd cc
-session_keeps (y ∷ ys) zero x h e = subst (λ (n : Named SessionState). KeepsReply n.it.kept) (same e) h.0
-  where
-    same : Some y ≡ Some x → y ≡ x
-    same e = cc
-session_keeps (y ∷ ys) (suc k) x h e = session_keeps ys k x h.1 e
 
 -- ---- what passed the checks is what the body asks for
 

@@ -1,4 +1,5 @@
 -- The texts of days.
+use Rattle.std.specs.Cmp.{first_so, second_so}
 use Rattle.std.proofs.Common.{◌≡◌, ℕ, ◌+◌, ◌*◌, ◌/◌, ◌%◌, ◌-◌, ◌<◌, ◌&&◌, Bool, true, false, List, take, drop, Some, None, refl, ap, ap₂, sym, ◌∙◌, arith, bytes_eq, if◌then◌else◌, Result, Ok, Err}
 use Rattle.std.specs.Prelude.{◌↔◌, ℤ, pos, neg_ℤ, ◌≤ℤ◌, int_le}
 use Rattle.std.specs.Result.{result_ok}
@@ -38,14 +39,6 @@ le_true a b e = grind (arith, ints, e)
 true_le : (a b : ℤ) → a ≤ℤ b → int_le a b ≡ true
 true_le a b h = grind (arith, ints, h)
 
-first : (a b : Bool) → (a && b) ≡ true → a ≡ true
-first true b e = refl
-first false b e = absurd cc
-
-second : (a b : Bool) → (a && b) ≡ true → b ≡ true
-second true b e = e
-second false b e = absurd cc
-
 is_spelled : (z : ℤ) (s : List ℕ) → IsDay z → s ≡ date_text z → spelled_day s ≡ Some z
 is_spelled z s h e =
     ap (λ y. day_if y s) (ap day_at e ∙ day_is z h)
@@ -61,10 +54,10 @@ none_spelled s none = by (day_at s)
       where
         at : (b : Bool) → (int_le (neg_ℤ (pos 25567)) z && int_le z (pos 2932896) && bytes_eq s (date_text z)) ≡ b → (if b then Some z else None) ≡ None
         at true e = absurd (none z (
-          le_true (neg_ℤ (pos 25567)) z (first (int_le (neg_ℤ (pos 25567)) z) (int_le z (pos 2932896)) (first (int_le (neg_ℤ (pos 25567)) z && int_le z (pos 2932896)) (bytes_eq s (date_text z)) e)),
-          le_true z (pos 2932896) (second (int_le (neg_ℤ (pos 25567)) z) (int_le z (pos 2932896)) (first (int_le (neg_ℤ (pos 25567)) z && int_le z (pos 2932896)) (bytes_eq s (date_text z)) e)),
+          le_true (neg_ℤ (pos 25567)) z (first_so (int_le (neg_ℤ (pos 25567)) z) (int_le z (pos 2932896)) (first_so (int_le (neg_ℤ (pos 25567)) z && int_le z (pos 2932896)) (bytes_eq s (date_text z)) e)),
+          le_true z (pos 2932896) (second_so (int_le (neg_ℤ (pos 25567)) z) (int_le z (pos 2932896)) (first_so (int_le (neg_ℤ (pos 25567)) z && int_le z (pos 2932896)) (bytes_eq s (date_text z)) e)),
         )
-            (same_bytes s (date_text z) (second (int_le (neg_ℤ (pos 25567)) z && int_le z (pos 2932896)) (bytes_eq s (date_text z)) e)))
+            (same_bytes s (date_text z) (second_so (int_le (neg_ℤ (pos 25567)) z && int_le z (pos 2932896)) (bytes_eq s (date_text z)) e)))
         at false e = refl
 
 -- the day that a text spells, if it spells one

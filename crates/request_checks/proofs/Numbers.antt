@@ -2,6 +2,7 @@
 use Rattle.std.proofs.Common.{◌≡◌, ◌&&◌, Bool, true, false, Option, Some, None, refl, ap, ap₂, sym, ◌∙◌, arith, if◌then◌else◌}
 use Rattle.std.specs.Prelude.{◌↔◌, ℤ, pos, neg_ℤ, ◌≤ℤ◌, int_le, option_and_then}
 use Rattle.std.proofs.lemmas.Int.{ints}
+use Rattle.std.proofs.lemmas.Bool.{and_parts}
 use Rattle.fx_number.specs.Decimal.{IsInRange, greatest}
 use Rattle.request_checks.specs.GivenValues.{in_range}
 
@@ -11,10 +12,6 @@ le_true a b e = grind (arith, ints, e)
 true_le : (a b : ℤ) → a ≤ℤ b → int_le a b ≡ true
 true_le a b h = grind (arith, ints, h)
 
-both : (a b : Bool) → (a && b) ≡ true → (a ≡ true) × (b ≡ true)
-both true b e = (refl, e)
-both false b e = absurd cc
-
 pub range_some : (z : ℤ) → IsInRange z → in_range z ≡ Some z
 range_some z h = ap₂ (λ a b. if a && b then Some z else None) (true_le (neg_ℤ (pos greatest)) z h.0) (true_le z (pos greatest) h.1)
 
@@ -22,7 +19,7 @@ pub range_none : (z : ℤ) → (IsInRange z → ⊥) → in_range z ≡ None
 range_none z h = by (int_le (neg_ℤ (pos greatest)) z && int_le z (pos greatest)) refl
   where
     by : (b : Bool) → (int_le (neg_ℤ (pos greatest)) z && int_le z (pos greatest)) ≡ b → (if b then Some z else None) ≡ None
-    by true e = let k = both (int_le (neg_ℤ (pos greatest)) z) (int_le z (pos greatest)) e in absurd (h (le_true (neg_ℤ (pos greatest)) z k.0, le_true z (pos greatest) k.1))
+    by true e = let k = and_parts (int_le (neg_ℤ (pos greatest)) z) (int_le z (pos greatest)) e in absurd (h (le_true (neg_ℤ (pos greatest)) z k.0, le_true z (pos greatest) k.1))
     by false e = refl
 
 -- what is spelled, in range

@@ -21,9 +21,6 @@ of_row (c ∷ cs) id cells q = by (id == q.1) refl (c == q.0.0) refl (of_row cs 
     same : bytes_eq (key_at id cells c) q.0.1 ≡ bytes_eq (key_at id cells c) q.0.1
     same = refl
 
-    ones : Bool → Bool → Bool
-    ones a b = ((b && bytes_eq (key_at id cells c) q.0.1) && a) || is_one_of (entries_of cs id cells) q
-
     right : (x : Bool) → (x && false) ≡ false
     right true = refl
     right false = refl

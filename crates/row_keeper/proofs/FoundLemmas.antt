@@ -10,7 +10,7 @@ use Rattle.std.specs.BTreeMap.{is_at}
 use Rattle.std.specs.Ordering.{nat_cmp, is_eq, ordering_reverse}
 use Rattle.std.specs.declared.cmp.Ordering.{Ordering}
 use Rattle.std.specs.declared.cmp.Ordering.TheVariants.{Less, Equal, Greater}
-use Rattle.std.proofs.lemmas.Bool.{eqb-true, eq-eqb}
+use Rattle.std.proofs.lemmas.Bool.{eqb-true, eq-eqb, and_parts}
 use Rattle.std.proofs.lemmas.Cmp.{nat_cmp_total, tied_itself}
 use Rattle.std.proofs.lemmas.List.{append-nil, append_assoc}
 use Rattle.std.proofs.lemmas.List.Kept.{IsStrictlySortedBy-filter}
@@ -111,10 +111,6 @@ abbrev lies_in : ℕ → KeyRange → ℕ → Option (List Data) → Bool
 lies_in column r i None = false
 lies_in column r i (Some cells) = in_range (key_at i cells column) r
 
-pub both_true : (a b : Bool) → (a && b) ≡ true → (a ≡ true) × (b ≡ true)
-both_true true b h = (refl, h)
-both_true false b h = absurd cc
-
 pub bytes_same : (xs ys : List ℕ) → bytes_eq xs ys ≡ true → xs ≡ ys
 bytes_same xs ys h = exact_bytes xs ys (equal (slice_cmp nat_cmp xs ys) (is_eq-slice_cmp xs ys ∙ h))
   where
@@ -134,8 +130,8 @@ hit_is covered column rows es has agrees sorted r i = same_truth (hits column r 
     to : hits column r es i ≡ true → lies_in column r i (now_at rows i) ≡ true
     to h =
         let f = from_hit column r es i sorted h in
-        let g = both_true (f.0.0 == column) (in_range f.0.1 r) f.1.1 in
-        to_of (now_at rows i) f.0 (eqb-true f.0.0 column g.0) (both_true (covers covered f.0.0) _ (sym (agrees.0 (f.0, i)) ∙ f.1.0)).1 g.1
+        let g = and_parts (f.0.0 == column) (in_range f.0.1 r) f.1.1 in
+        to_of (now_at rows i) f.0 (eqb-true f.0.0 column g.0) (and_parts (covers covered f.0.0) _ (sym (agrees.0 (f.0, i)) ∙ f.1.0)).1 g.1
 
     back_of : (o : Option (List Data)) → now_at rows i ≡ o → lies_in column r i o ≡ true → hits column r es i ≡ true
     back_of None e h = absurd cc

@@ -1,20 +1,18 @@
 -- The entries in a range.
-use Rattle.std.proofs.Common.{◌≡◌, ℕ, ◌+◌, ◌==◌, List, [], ◌∷◌, filter, refl, sym, ap, ap₂, ◌∙◌, arith, Bool, true, false, not, cond, ◌&&◌, ◌||◌, Option, None, Some}
+use Rattle.std.proofs.Common.{◌≡◌, ℕ, ◌+◌, ◌==◌, List, [], ◌∷◌, filter, refl, sym, ap, ap₂, ◌∙◌, arith, Bool, true, false, not, ◌&&◌, ◌||◌, Option, None, Some}
 use Rattle.std.proofs.lemmas.Bool.Decides.{nat_tests}
 use Rattle.std.specs.Cmp.{unsigned_ties}
-use Rattle.std.specs.Cmp.Lexicographic.{slice_cmp, nat_list_cmp_total}
-use Rattle.std.specs.Ordering.{nat_cmp, ordering_then, ordering_reverse, is_le, is_lt, is_eq, is_gt}
+use Rattle.std.specs.Cmp.Lexicographic.{nat_list_cmp_total}
+use Rattle.std.specs.Ordering.{nat_cmp, ordering_then, ordering_reverse, is_le, is_lt, is_eq}
 use Rattle.std.specs.BTreeMap.Range.{entries_between}
 use Rattle.std.specs.declared.ops.Bound.TheVariants.{Included, Excluded}
 use Rattle.std.specs.declared.cmp.Ordering.{Ordering}
 use Rattle.std.specs.declared.cmp.Ordering.TheVariants.{Less, Equal, Greater}
-use Rattle.std.proofs.lemmas.Cmp.{upto}
+use Rattle.std.proofs.lemmas.List.Elements.{filter_agree}
+use Rattle.fx_value.proofs.ByteOrder.{R, le_trans, lt_is}
 use Rattle.row_queries.specs.declared.ranges.KeyRange.{KeyRange}
 use Rattle.row_queries.specs.Ranges.{in_range, is_before_end}
 use Rattle.row_keeper.specs.Entries.{Entry, Entries, entry_cmp, among, end_key, hits, lies_at}
-
-abbrev pub R : List ℕ → List ℕ → Ordering
-R = slice_cmp nat_cmp
 
 zero_first : (i : ℕ) → is_le (nat_cmp 0 i) ≡ true
 zero_first i = grind (arith, nat_tests)
@@ -23,14 +21,6 @@ from_low : (o : Ordering) (i : ℕ) → is_le (ordering_then o (nat_cmp 0 i)) �
 from_low Less i = refl
 from_low Equal i = zero_first i
 from_low Greater i = refl
-
-lt_reversed : (o : Ordering) → is_lt (ordering_reverse o) ≡ not (is_le o)
-lt_reversed Less = refl
-lt_reversed Equal = refl
-lt_reversed Greater = refl
-
-pub lt_is : (a b : List ℕ) → is_lt (R a b) ≡ not (is_le (R b a))
-lt_is a b = ap is_lt (nat_list_cmp_total.antisymm a b) ∙ lt_reversed (R b a)
 
 -- a column's place among two
 ties_of : (a b : ℕ) → (a == b) ≡ is_eq (nat_cmp a b)
@@ -62,7 +52,7 @@ between_key column from to e =
   where
     by : (o : Ordering) → nat_cmp column e.0.0 ≡ o → (is_le (ordering_then o (R from e.0.1)) && not (is_le (ordering_then o (R to e.0.1)))) ≡ ((e.0.0 == column) && in_range e.0.1 (record { from = from; upto = Some to }))
     by Less h = ap (λ b. b && in_range e.0.1 (record { from = from; upto = Some to })) (sym (same_column Less Less column e.0.0 h))
-    by Equal h = ap (λ b. is_le (R from e.0.1) && b) (sym (lt_is e.0.1 to)) ∙ ap (λ b. b && in_range e.0.1 (record { from = from; upto = Some to })) (sym (same_column Equal Less column e.0.0 h))
+    by Equal h = ap (λ b. is_le (R from e.0.1) && b) (sym (lt_is R nat_list_cmp_total e.0.1 to)) ∙ ap (λ b. b && in_range e.0.1 (record { from = from; upto = Some to })) (sym (same_column Equal Less column e.0.0 h))
     by Greater h = ap (λ b. b && in_range e.0.1 (record { from = from; upto = Some to })) (sym (same_column Greater Less column e.0.0 h))
 
 between_rest : (column : ℕ) (from : List ℕ) (e : Entry) → kept_between column from (column + 1, []) e ≡ ((e.0.0 == column) && in_range e.0.1 (record { from = from; upto = None }))
@@ -93,34 +83,17 @@ between_rest column from e =
     by Equal h = ap (λ o. is_le (R from e.0.1) && not (is_le (ordering_then o (R [] e.0.1)))) (here h) ∙ ap (λ b. b && in_range e.0.1 (record { from = from; upto = None })) (sym (same_column Equal Less column e.0.0 h))
     by Greater h = ap (λ b. b && in_range e.0.1 (record { from = from; upto = None })) (sym (same_column Greater Less column e.0.0 h))
 
-pub filter_same : {X : Type 0} (p q : X → Bool) → ((x : X) → p x ≡ q x) → (xs : List X) → filter p xs ≡ filter q xs
-filter_same p q h [] = refl
-filter_same p q h (x ∷ xs) = ap₂ (λ b l. cond b (x ∷ l) l) (h x) (filter_same p q h xs)
-
 kept_is : (column : ℕ) (r : KeyRange) (u : Option (List ℕ)) → r.upto ≡ u → (e : Entry) → kept_between column r.from (end_key column u) e ≡ ((e.0.0 == column) && in_range e.0.1 r)
 kept_is column r None f e = between_rest column r.from e ∙ ap (λ u. (e.0.0 == column) && (is_le (R r.from e.0.1) && is_before_end u e.0.1)) (sym f)
 kept_is column r (Some to) f e = between_key column r.from to e ∙ ap (λ u. (e.0.0 == column) && (is_le (R r.from e.0.1) && is_before_end u e.0.1)) (sym f)
 
 -- the entries between are those of the column in the range
 pub between : (column : ℕ) (r : KeyRange) (es : Entries) → entries_between entry_cmp (Included ((column, r.from), 0)) (Excluded (end_key column r.upto, 0)) es ≡ filter (lies_at column r) es
-between column r es = filter_same _ _ (λ x. kept_is column r r.upto refl x.0) es
+between column r es = filter_agree _ _ (λ x. kept_is column r r.upto refl x.0) es
 
 pub none_kept : {X : Type 0} (p : X → Bool) → ((x : X) → p x ≡ false) → (xs : List X) → filter p xs ≡ []
 none_kept p h [] = refl
 none_kept p h (x ∷ xs) = rw (h x) (none_kept p h xs)
-
-le_gt : (o : Ordering) → is_le o ≡ true → is_gt o ≡ false
-le_gt Less h = refl
-le_gt Equal h = refl
-le_gt Greater h = absurd cc
-
-gt_le : (o : Ordering) → is_gt o ≡ false → is_le o ≡ true
-gt_le Less h = refl
-gt_le Equal h = refl
-gt_le Greater h = absurd cc
-
-pub le_trans : (a b c : List ℕ) → is_le (R a b) ≡ true → is_le (R b c) ≡ true → is_le (R a c) ≡ true
-le_trans a b c h k = gt_le _ (upto nat_list_cmp_total a b c (le_gt _ h) (le_gt _ k))
 
 -- a range that ends where it begins, or before, has no entry
 pub nothing_between : (column : ℕ) (r : KeyRange) → is_lt (entry_cmp ((column, r.from), 0) (end_key column r.upto, 0)) ≡ false → (es : Entries) → filter (lies_at column r) es ≡ []
@@ -154,8 +127,8 @@ nothing_between column r h es = none_kept _ (λ x. none x.0) es
         go true f true e = absurd (clash (is_le (R to r.from)) refl)
           where
             clash : (b : Bool) → is_le (R to r.from) ≡ b → ⊥
-            clash false q = absurd (let z : is_lt (R r.from to) ≡ true = lt_is r.from to ∙ ap not q in let b : is_lt (R r.from to) ≡ false = below in cc)
-            clash true q = absurd (let z : is_le (R to k) ≡ true = le_trans to r.from k q f in let w : is_lt (R k to) ≡ false = lt_is k to ∙ ap not z in cc)
+            clash false q = absurd (let z : is_lt (R r.from to) ≡ true = lt_is R nat_list_cmp_total r.from to ∙ ap not q in let b : is_lt (R r.from to) ≡ false = below in cc)
+            clash true q = absurd (let z : is_le (R to k) ≡ true = le_trans R nat_list_cmp_total to r.from k q f in let w : is_lt (R k to) ≡ false = lt_is R nat_list_cmp_total k to ∙ ap not z in cc)
 
     none : (e : Entry) → ((e.0.0 == column) && in_range e.0.1 r) ≡ false
     none e = ap (λ b. (e.0.0 == column) && b) (ends r.upto h e.0.1) ∙ right (e.0.0 == column)

@@ -1,27 +1,31 @@
 -- Rows by rising numbers, of which a query asks in that order.
-use Rattle.std.proofs.Common.{◌≡◌, ℕ, zero, suc, ◌<◌, ◌==◌, Bool, true, false, cond, List, [], ◌∷◌, ◌++◌, filter, Option, Some, None, refl, ap, ap₂, sym, ◌∙◌, subst, arith, add-one}
-use Rattle.std.specs.Prelude.{slice_index_or}
+use Rattle.std.proofs.Common.{◌≡◌, ℕ, zero, suc, ◌<◌, ◌==◌, Bool, true, false, cond, List, [], ◌∷◌, ◌++◌, filter, Option, Some, None, refl, ap, ap₂, sym, ◌∙◌, subst, arith, add-one, map, ◌||◌, ◌&&◌, ◌*◌}
+use Rattle.std.specs.Prelude.{pos, slice_index_or}
 use Rattle.std.specs.List.{find}
 use Rattle.std.specs.List.Sorted.{IsSorted}
-use Rattle.std.specs.Ordering.{is_eq, is_le, is_lt, nat_cmp}
+use Rattle.std.specs.Ordering.{int_cmp, is_eq, is_le, is_lt, nat_cmp}
 use Rattle.std.specs.Cmp.Lexicographic.{slice_cmp}
 use Rattle.std.specs.declared.cmp.Ordering.{Ordering}
 use Rattle.std.specs.declared.cmp.Ordering.TheVariants.{Less, Equal, Greater}
 use Rattle.std.proofs.lemmas.Bool.Decides.{nat_tests}
 use Rattle.std.proofs.lemmas.List.Sorted.{IsPermutation-refl}
+use Rattle.std.proofs.lemmas.List.Elements.{filter_agree}
+use Rattle.fx_value.specs.Keys.{key_bytes}
 use Rattle.row_queries.specs.Laws.{AskedOnce}
-use Rattle.row_queries.specs.Queries.{AreAsked, lies, row_order}
-use Rattle.row_queries.specs.TableRows.{AreInIdOrder, IsBelowAll}
+use Rattle.row_queries.specs.Queries.{AreAsked, IsScanned, first_fault, given_of, lies, outcome_on, row_order, rows_or_fault}
+use Rattle.row_queries.specs.TableRows.{AreInIdOrder, IsBelowAll, id_value, rows_at}
 use Rattle.row_queries.specs.declared.queries.Query.{Query}
 use Rattle.row_queries.specs.declared.rows.Row.{Row}
-use Rattle.row_keeper.specs.Tables.{has_id}
+use Rattle.row_queries.specs.Ranges.{in_ranges}
+use Rattle.row_queries.specs.RowTests.{decided, is_met}
+use Rattle.row_queries.specs.declared.rows.RowList.{RowList}
+use Rattle.row_keeper.specs.Tables.{TableState, has_id, rows_of, state_at}
+use Rattle.row_keeper.specs.Numbered.{one_row}
+use Rattle.row_keeper.specs.Rules.{only_key}
 use Rattle.row_keeper.proofs.RowLists.{order_less}
+use Rattle.row_keeper.proofs.PageLemmas.{numbers_go}
 
 -- ---- lists
-
-pub filter_same : {X : Type 0} (p q : X → Bool) → ((x : X) → p x ≡ q x) → (xs : List X) → filter p xs ≡ filter q xs
-filter_same p q h [] = refl
-filter_same p q h (x ∷ xs) = ap₂ (λ b l. cond b (x ∷ l) l) (h x) (filter_same p q h xs)
 
 -- what a test lets through goes through a wider one
 pub filter_wider : (p q : Row → Bool) → ((r : Row) → p r ≡ true → q r ≡ true) → (rows : List Row) → filter p (filter q rows) ≡ filter p rows
@@ -112,3 +116,47 @@ from_itself (x ∷ xs) = rw (equal x) (from_itself xs)
   where
     equal : (x : ℕ) → nat_cmp x x ≡ Equal
     equal x = grind (arith, nat_tests)
+
+-- ---- the query of the row of a number
+
+met_one : (table id : ℕ) (r : Row) → is_met (outcome_on (one_row table id) r) ≡ has_id id r
+met_one table id r = met (is_eq (int_cmp (pos (r.id * 10000)) (pos (id * 10000)))) ∙ ap is_eq (numbers_go r.id id) ∙ is_same r.id id
+  where
+    met : (b : Bool) → is_met (decided b) ≡ b
+    met true = refl
+    met false = refl
+
+clear_one : (table id : ℕ) (rows : List Row) → first_fault (map (outcome_on (one_row table id)) rows) ≡ None
+clear_one table id [] = refl
+clear_one table id (r ∷ rows) = by (is_eq (int_cmp (pos (r.id * 10000)) (pos (id * 10000)))) (clear_one table id rows)
+  where
+    by : (b : Bool) → first_fault (map (outcome_on (one_row table id)) rows) ≡ None → first_fault (decided b ∷ map (outcome_on (one_row table id)) rows) ≡ None
+    by true ih = ih
+    by false ih = ih
+
+in_only : (key : List ℕ) → in_ranges (only_key key ∷ []) key ≡ true
+in_only key = ap₂ (λ a b. (a && b) || false) (from_itself key) (above_itself key 0)
+
+lies_one : (table id : ℕ) (r : Row) → has_id id r ≡ true → lies (one_row table id) r ≡ true
+lies_one table id r e = subst (λ n. in_ranges (only_key (key_bytes (id_value id)) ∷ []) (key_bytes (id_value n)) ≡ true) (sym (same r.id id e)) (in_only (key_bytes (id_value id)))
+  where
+    same : (a b : ℕ) → (a == b) ≡ true → a ≡ b
+    same a b e = grind (arith, e)
+
+-- so a scan gives the one row of the number, if it is there
+pub given_one : AskedOnce → (table id : ℕ) (rows : List Row) (answer : RowList) → AreInIdOrder rows → IsScanned (one_row table id) rows answer → answer ≡ record { rows = one (find (has_id id) rows); fault = None }
+given_one law table id rows answer h (asked, is, answered) =
+    answered
+    ∙ ap (rows_or_fault (given_of (one_row table id) asked)) (clear_one table id asked)
+    ∙ ap (λ (z : List Row). rows_or_fault z None)
+    (filter_agree (λ r. is_met (outcome_on (one_row table id) r)) (has_id id) (met_one table id) asked
+    ∙ ap (filter (has_id id)) (asked_is law (one_row table id) refl rows asked h is)
+    ∙ filter_wider (has_id id) (lies (one_row table id)) (lies_one table id) rows
+    ∙ at_most_one id rows h)
+
+-- ---- the rows of a table
+
+pub rows_are : (ss : List TableState) (k : ℕ) → rows_at (rows_of ss) k ≡ (state_at ss k).rows
+rows_are [] k = refl
+rows_are (s ∷ ss) zero = refl
+rows_are (s ∷ ss) (suc k) = rows_are ss k

@@ -2,7 +2,7 @@
 use Rattle.std.proofs.Common.{◌≡◌, ℕ, zero, suc, ◌==◌, ◌<◌, ◌≤◌, ◌^◌, ◌*◌, pos, List, [], ◌∷◌, ◌++◌, filter, length, map, take, refl, sym, ap, ap₂, ◌∙◌, arith, Bool, true, false, not, cond, ◌&&◌, ◌||◌, Option, None, Some, subst}
 use Rattle.std.specs.Prelude.{option_to_list}
 use Rattle.std.specs.Cmp.{unsigned_ties}
-use Rattle.std.specs.Cmp.Lexicographic.{slice_cmp}
+use Rattle.std.specs.Cmp.Lexicographic.{nat_list_cmp_total, slice_cmp}
 use Rattle.std.specs.List.{list_any, AllByRecursion}
 use Rattle.std.specs.List.Sorted.{IsStrictlySortedBy}
 use Rattle.std.specs.Map.{lookup, keys_of}
@@ -12,7 +12,7 @@ use Rattle.std.specs.Ordering.{nat_cmp, int_cmp, ordering_then, is_eq, is_le, is
 use Rattle.std.specs.declared.cmp.Ordering.{Ordering}
 use Rattle.std.specs.declared.cmp.Ordering.TheVariants.{Less, Equal, Greater}
 use Rattle.std.proofs.lemmas.Int.{ints}
-use Rattle.std.proofs.lemmas.Bool.{eqb-true}
+use Rattle.std.proofs.lemmas.Bool.{and_parts, eqb-true}
 use Rattle.std.proofs.lemmas.Bool.Decides.{nat_tests}
 use Rattle.std.proofs.lemmas.Cmp.{tied_itself}
 use Rattle.std.proofs.lemmas.List.{append-nil, append_assoc, take_all}
@@ -21,6 +21,7 @@ use Rattle.std.proofs.lemmas.Map.Keys.{sorted_head, sorted_tail}
 use Rattle.fx_data.specs.Values.{Data}
 use Rattle.fx_number.specs.Decimal.{IsInRange}
 use Rattle.fx_value.specs.Keys.{KeysOrder, key_bytes}
+use Rattle.fx_value.proofs.ByteOrder.{le_trans, lt_is}
 use Rattle.row_queries.specs.Ranges.{AreRising, EndsBeforeAll, in_range, is_before_end}
 use Rattle.row_queries.specs.TableRows.{id_value}
 use Rattle.row_queries.specs.declared.ranges.KeyRange.{KeyRange}
@@ -31,8 +32,7 @@ use Rattle.row_keeper.specs.Covered.{Agrees, NoneAbove, covers, has_entry}
 use Rattle.row_keeper.specs.Entries.{Entry, Entries, among, entry_cmp, hits_in, ids_in, ids_of, lies_at, now_in}
 use Rattle.row_keeper.specs.Found.{row_under, rows_of_ids}
 use Rattle.row_keeper.specs.Slots.{now_at}
-use Rattle.row_keeper.proofs.FoundLemmas.{both_true, bytes_same, less_not_at}
-use Rattle.row_keeper.proofs.HitLemmas.{le_trans, lt_is}
+use Rattle.row_keeper.proofs.FoundLemmas.{bytes_same, less_not_at}
 use Rattle.row_keeper.proofs.MarkLemmas.{entry_total}
 
 -- ---- the numbers are those that are hit
@@ -94,7 +94,7 @@ own_marks (e ∷ rest) sorted = (
 keyed_one : (covered : List ℕ) (rows : List (ℕ × Slot)) (es : Entries) (last : ℕ) → Agrees covered rows es → NoneAbove last (now_at rows) → last < 2 ^ 32 → (e : Entry × Mark) → lookup (is_at (entry_cmp e.0)) es ≡ Some e.1 → IsKeyed rows e
 keyed_one covered rows es last agrees above few e own is zeroth =
     let now : now_in es e.0 ≡ true = ap is_now_of own ∙ is in
-    let has : has_entry e.0 (now_at rows e.0.1) ≡ true = (both_true (covers covered e.0.0.0) (has_entry e.0 (now_at rows e.0.1)) (sym (agrees.0 e.0) ∙ now)).1 in
+    let has : has_entry e.0 (now_at rows e.0.1) ≡ true = (and_parts (covers covered e.0.0.0) (has_entry e.0 (now_at rows e.0.1)) (sym (agrees.0 e.0) ∙ now)).1 in
     go (now_at rows e.0.1) refl has
   where
     is_now_of : Option Mark → Bool
@@ -162,7 +162,7 @@ abbrev IsIn : List (ℕ × Slot) → KeyRange → ℕ → Type 0
 IsIn rows r i = (in_range (K i) r ≡ true) × (i < 2 ^ 32) × (is_some (now_at rows i) ≡ true)
 
 lies_zero : (r : KeyRange) (e : Entry × Mark) → lies_at 0 r e ≡ true → (e.0.0.0 ≡ 0) × (in_range e.0.0.1 r ≡ true)
-lies_zero r e h = let b = both_true (e.0.0.0 == 0) (in_range e.0.0.1 r) h in (eqb-true e.0.0.0 0 b.0, b.1)
+lies_zero r e h = let b = and_parts (e.0.0.0 == 0) (in_range e.0.0.1 r) h in (eqb-true e.0.0.0 0 b.0, b.1)
 
 abbrev kept : KeyRange → Entries → List ℕ
 kept r es = ids_of (filter (lies_at 0 r) es)
@@ -240,7 +240,7 @@ module _ (law : KeysOrder) (rows : List (ℕ × Slot)) where
   later : (u : List ℕ) (rs : List KeyRange) (es : Entries) → AllByRecursion (IsKeyed rows) es → EndsBeforeAll (Some u) rs → AllByRecursion (IsFrom u) (ids_in 0 rs es)
   later u [] es keys h = tt
   later u (r ∷ rs) es keys h = all_append (IsFrom u) (kept r es) (ids_in 0 rs es)
-      (all_weaker (IsIn rows r) (IsFrom u) (λ j k. (le_trans u r.from (K j) h.0 (both_true (is_le (slice_cmp nat_cmp r.from (K j))) (is_before_end r.upto (K j)) k.0).0, k.1)) (kept r es) (in_kept r es keys))
+      (all_weaker (IsIn rows r) (IsFrom u) (λ j k. (le_trans (slice_cmp nat_cmp) nat_list_cmp_total u r.from (K j) h.0 (and_parts (is_le (slice_cmp nat_cmp r.from (K j))) (is_before_end r.upto (K j)) k.0).0, k.1)) (kept r es) (in_kept r es keys))
       (later u rs es keys h.1)
 
   less_from : (o : Ordering) → is_lt o ≡ true → o ≡ Less
@@ -249,17 +249,17 @@ module _ (law : KeysOrder) (rows : List (ℕ × Slot)) where
   less_from Greater h = absurd cc
 
   lt_le : (a b c : List ℕ) → is_lt (slice_cmp nat_cmp a b) ≡ true → is_le (slice_cmp nat_cmp b c) ≡ true → is_lt (slice_cmp nat_cmp a c) ≡ true
-  lt_le a b c h k = lt_is a c ∙ go (is_le (slice_cmp nat_cmp c a)) refl
+  lt_le a b c h k = lt_is (slice_cmp nat_cmp) nat_list_cmp_total a c ∙ go (is_le (slice_cmp nat_cmp c a)) refl
     where
       go : (t : Bool) → is_le (slice_cmp nat_cmp c a) ≡ t → not t ≡ true
       go false f = refl
-      go true f = absurd (let g : is_le (slice_cmp nat_cmp b a) ≡ true = le_trans b c a k f in let z : true ≡ false = sym h ∙ lt_is a b ∙ ap not g in cc)
+      go true f = absurd (let g : is_le (slice_cmp nat_cmp b a) ≡ true = le_trans (slice_cmp nat_cmp) nat_list_cmp_total b c a k f in let z : true ≡ false = sym h ∙ lt_is (slice_cmp nat_cmp) nat_list_cmp_total a b ∙ ap not g in cc)
 
   cross : (r : KeyRange) (rs : List KeyRange) (es : Entries) → AllByRecursion (IsKeyed rows) es → EndsBeforeAll r.upto rs → AllByRecursion (λ i. AllByRecursion (λ j. nat_cmp i j ≡ Less) (ids_in 0 rs es)) (kept r es)
   cross r rs es keys h = all_weaker (IsIn rows r) (λ i. AllByRecursion (λ j. nat_cmp i j ≡ Less) (ids_in 0 rs es)) one (kept r es) (in_kept r es keys)
     where
       one : (i : ℕ) → IsIn rows r i → AllByRecursion (λ j. nat_cmp i j ≡ Less) (ids_in 0 rs es)
-      one i k = by r.upto h (both_true (is_le (slice_cmp nat_cmp r.from (K i))) (is_before_end r.upto (K i)) k.0).1
+      one i k = by r.upto h (and_parts (is_le (slice_cmp nat_cmp r.from (K i))) (is_before_end r.upto (K i)) k.0).1
         where
           by : (upto : Option (List ℕ)) → EndsBeforeAll upto rs → is_before_end upto (K i) ≡ true → AllByRecursion (λ j. nat_cmp i j ≡ Less) (ids_in 0 rs es)
           by None e f = last rs e

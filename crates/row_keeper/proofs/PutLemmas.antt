@@ -1,39 +1,15 @@
 -- The rules of rows: where none is broken there is room, and each names its column.
-use Rattle.std.proofs.Common.{◌≡◌, ◌⊎◌, inl, inr, ℕ, ◌+◌, ◌-◌, ◌^◌, ◌==◌, ◌<◌, ◌≤◌, List, [], ◌∷◌, length, refl, sym, ap, ◌∙◌, arith, Bool, true, false, cond, ◌||◌, min, Option, None, Some, subst}
+use Rattle.std.proofs.Common.{◌≡◌, ◌⊎◌, inl, inr, ℕ, ◌+◌, ◌-◌, ◌^◌, ◌==◌, ◌<◌, ◌≤◌, List, [], ◌∷◌, length, refl, arith, Bool, true, false, cond, ◌||◌, Option, None, Some, subst}
 use Rattle.std.specs.Prelude.{nat_le, nat_lt, is_none, ◌&&◌}
 use Rattle.std.proofs.lemmas.Bool.Decides.{nat_tests}
 use Rattle.fx_data.specs.Values.{Data}
 use Rattle.fx_trees.specs.declared.schema.Column.{Column}
 use Rattle.row_keeper.specs.Changes.{NamesItsColumn}
-use Rattle.row_keeper.specs.OneTable.{PutsNew, PutsOver}
 use Rattle.row_keeper.specs.RowRules.{cells_weight, first_broken, first_of_two, in_column, is_full, lacks, others, repeats, rule_in, where_broken}
-use Rattle.row_keeper.specs.TableView.{TableView}
 use Rattle.row_keeper.specs.Tables.{TableState}
-use Rattle.row_keeper.specs.declared.rows.Put.{Put}
-use Rattle.row_keeper.specs.declared.rows.Put.TheVariants.{Id, NoRow, Refused}
 use Rattle.row_keeper.specs.declared.rows.RowRefusal.{RowRefusal}
 use Rattle.row_keeper.specs.declared.rows.RowRule.{RowRule}
 use Rattle.row_keeper.specs.declared.rows.RowRule.TheVariants.{Required, Unique, Size, Full}
-
--- ---- a count of all rows that stands at its type's end tells as much as the real one
-few_same : (all : ℕ) → nat_le 500000 (min all (2 ^ 64 - 1)) ≡ nat_le 500000 all
-few_same all = grind (arith, nat_tests)
-
-pub rule_same : (columns : List Column) (s : TableState) (all : ℕ) (id : Option ℕ) (cells : List Data) → rule_in columns s (min all (2 ^ 64 - 1)) id cells ≡ rule_in columns s all id cells
-rule_same columns s all id cells =
-    ap (λ b. first_of_two (in_column Required (first_broken lacks 1 columns cells)) (first_of_two (in_column Unique (first_broken (repeats (others id s.rows)) 1 columns cells))
-    (first_of_two (where_broken Size (nat_lt 2048 (cells_weight cells))) (where_broken Full (is_none id && (nat_le 200000 (length s.rows) || (b || (s.last == 4294967295))))))))
-    (few_same all)
-
-pub new_same : (all : ℕ) (cells : List Data) (put : Put) (a b : TableView) → PutsNew (min all (2 ^ 64 - 1)) cells put a b → PutsNew all cells put a b
-new_same all cells (Id id) a b h = (sym (rule_same a.columns a.now all None cells) ∙ h.0, h.1, h.2)
-new_same all cells NoRow a b h = h
-new_same all cells (Refused r) a b h = (sym (rule_same a.columns a.now all None cells) ∙ h.0, h.1)
-
-pub over_same : (all id : ℕ) (cells : List Data) (put : Put) (a b : TableView) → PutsOver (min all (2 ^ 64 - 1)) id cells put a b → PutsOver all id cells put a b
-over_same all id cells (Id n) a b h = (h.0, h.1, sym (rule_same a.columns a.now all (Some id) cells) ∙ h.2, h.3)
-over_same all id cells NoRow a b h = h
-over_same all id cells (Refused r) a b h = (h.0, sym (rule_same a.columns a.now all (Some id) cells) ∙ h.1, h.2)
 
 -- ---- where no rule is broken there is room
 second_none : (a b : Option RowRefusal) → first_of_two a b ≡ None → b ≡ None

@@ -30,9 +30,6 @@ same_id a b h = eqb-true a b h
 itself : (n : ℕ) → (n == n) ≡ true
 itself n = eq-eqb n n refl
 
-differ : (a b : ℕ) → a < b → (a == b) ≡ false
-differ a b h = grind (arith, nat_tests)
-
 differ_back : (a b : ℕ) → b < a → (a == b) ≡ false
 differ_back a b h = grind (arith, nat_tests)
 

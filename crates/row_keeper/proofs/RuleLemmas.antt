@@ -1,15 +1,12 @@
 -- What an index says of rules on columns.
-use Rattle.std.proofs.Common.{◌≡◌, ℕ, zero, suc, ◌+◌, ◌==◌, ◌<◌, ◌≤◌, List, [], ◌∷◌, ◌++◌, filter, length, drop, get_or, refl, sym, ap, ap₂, ◌∙◌, arith, Bool, true, false, not, cond, ◌&&◌, ◌||◌, Option, None, Some, subst}
+use Rattle.std.proofs.Common.{◌≡◌, ℕ, zero, suc, ◌+◌, ◌==◌, ◌<◌, List, [], ◌∷◌, ◌++◌, filter, length, drop, get_or, refl, sym, ap, ap₂, ◌∙◌, arith, Bool, true, false, not, cond, ◌&&◌, ◌||◌, Option, None, Some, subst}
 use Rattle.std.specs.List.{AllByRecursion, list_any}
 use Rattle.std.specs.Prelude.{map, slice_get, sum_by, take}
 use Rattle.std.proofs.lemmas.List.{take_more}
 use Rattle.std.proofs.lemmas.List.Sums.{sum_by-cons}
-use Rattle.std.proofs.lemmas.Bool.{eq-eqb}
-use Rattle.std.specs.Ordering.{nat_cmp, ordering_then, ordering_reverse, is_le, is_lt, is_eq}
-use Rattle.std.specs.Cmp.Lexicographic.{slice_cmp, nat_list_cmp_total}
-use Rattle.std.specs.declared.cmp.Ordering.{Ordering}
-use Rattle.std.specs.declared.cmp.Ordering.TheVariants.{Less, Equal, Greater}
-use Rattle.std.proofs.lemmas.Bool.Decides.{nat_tests}
+use Rattle.std.proofs.lemmas.Bool.{eq-eqb, or_right}
+use Rattle.std.specs.Ordering.{is_le, is_eq}
+use Rattle.std.specs.Cmp.Lexicographic.{nat_list_cmp_total}
 use Rattle.fx_data.specs.TypeView.{shape}
 use Rattle.fx_data.specs.Types.{Shape, blanks, numbers, texts, booleans, dates, records, tables}
 use Rattle.fx_data.specs.Values.{Data, blank, number, text, boolean, date, rec, tab, fault}
@@ -17,6 +14,7 @@ use Rattle.fx_trees.specs.declared.schema.Column.{Column}
 use Rattle.fx_value.specs.Keys.{IsProper, KeysOrder, key_bytes}
 use Rattle.fx_value.specs.Order.{AreOfOneType, IsScalar}
 use Rattle.fx_value.specs.Fits.{fits_in}
+use Rattle.fx_value.proofs.ByteOrder.{R, before_after, both_reversed}
 use Rattle.row_queries.specs.Ranges.{in_range}
 use Rattle.row_queries.specs.TableRows.{AreCellsOf, value_at}
 use Rattle.row_queries.specs.declared.rows.Row.{Row}
@@ -26,33 +24,9 @@ use Rattle.row_keeper.specs.Rules.{FitsColumn, is_other, only_key}
 use Rattle.row_keeper.specs.Sound.{IsSoundRow, lies_among}
 use Rattle.row_keeper.specs.Tables.{has_id}
 
-abbrev R : List ℕ → List ℕ → Ordering
-R = slice_cmp nat_cmp
-
 -- ---- one key alone
-then_le : (o p q : Ordering) → is_le p ≡ is_lt q → is_le (ordering_then o p) ≡ is_lt (ordering_then o q)
-then_le Less p q h = refl
-then_le Equal p q h = h
-then_le Greater p q h = refl
-
-greater : (x y : ℕ) → y < x → nat_cmp x y ≡ Greater
-greater x y h = grind (arith, nat_tests)
-
-before_after : (b a : List ℕ) → is_lt (R b (a ++ 0 ∷ [])) ≡ is_le (R b a)
-before_after [] [] = refl
-before_after (zero ∷ []) [] = refl
-before_after (zero ∷ y ∷ ys) [] = refl
-before_after (suc y ∷ ys) [] = ap (λ o. is_lt (ordering_then o (R ys []))) (greater (suc y) 0 (omega arith))
-before_after [] (x ∷ xs) = refl
-before_after (y ∷ ys) (x ∷ xs) = sym (then_le (nat_cmp y x) _ _ (sym (before_after ys xs)))
-
-both_ways : (o : Ordering) → (is_le (ordering_reverse o) && is_le o) ≡ is_eq o
-both_ways Less = refl
-both_ways Equal = refl
-both_ways Greater = refl
-
 one_key : (key k : List ℕ) → in_range k (only_key key) ≡ is_eq (R k key)
-one_key key k = ap₂ (λ x y. x && y) (ap is_le (nat_list_cmp_total.antisymm key k)) (before_after k key) ∙ both_ways (R k key)
+one_key key k = ap₂ (λ x y. x && y) (ap is_le (nat_list_cmp_total.antisymm key k)) (before_after k key) ∙ both_reversed (R k key)
 
 -- ---- values of one column are of one type
 number_shape : (z : _) (t : Shape) → fits_in (number z) t ≡ true → t ≡ numbers
@@ -190,10 +164,6 @@ repeated law columns place d id fits proper (r ∷ rows) h = by id (lies_is law 
         more true g false f ih = ap (λ t. not t || list_any (is_other (Some n)) found) f ∙ sym (ap (λ b. b || list_any (has_value (suc place) d) tail) g)
 
 -- ---- an indexed or unique column is covered
-pub or_true : (a b : Bool) → b ≡ true → (a || b) ≡ true
-or_true true b h = refl
-or_true false b h = h
-
 pub indexed_covered : (columns : List Column) (place k : ℕ) (c : Column) → slice_get columns place ≡ Some c → (c.indexed || c.unique) ≡ true → covers (indexed_from k columns) (k + place) ≡ true
 indexed_covered [] place k c e u = absurd cc
 indexed_covered (x ∷ xs) zero k c e u =
@@ -203,11 +173,11 @@ indexed_covered (x ∷ xs) zero k c e u =
 indexed_covered (x ∷ xs) (suc place) k c e u = by (x.indexed || x.unique) (subst (λ n. covers (indexed_from (k + 1) xs) n ≡ true) (let q : k + 1 + place ≡ k + suc place = omega arith in q) (indexed_covered xs place (k + 1) c e u))
   where
     by : (b : Bool) → covers (indexed_from (k + 1) xs) (k + suc place) ≡ true → covers (cond b (k ∷ indexed_from (k + 1) xs) (indexed_from (k + 1) xs)) (k + suc place) ≡ true
-    by true h = or_true (k == (k + suc place)) (covers (indexed_from (k + 1) xs) (k + suc place)) h
+    by true h = or_right (k == (k + suc place)) (covers (indexed_from (k + 1) xs) (k + suc place)) h
     by false h = h
 
 pub covered_at : (columns : List Column) (place : ℕ) (c : Column) → slice_get columns place ≡ Some c → c.unique ≡ true → covers (covered_of columns) (place + 1) ≡ true
-covered_at columns place c e u = or_true (0 == (place + 1)) (covers (indexed_from 1 columns) (place + 1)) (subst (λ n. covers (indexed_from 1 columns) n ≡ true) (let q : 1 + place ≡ place + 1 = omega arith in q) (indexed_covered columns place 1 c e (or_true c.indexed c.unique u)))
+covered_at columns place c e u = or_right (0 == (place + 1)) (covers (indexed_from 1 columns) (place + 1)) (subst (λ n. covers (indexed_from 1 columns) n ≡ true) (let q : 1 + place ≡ place + 1 = omega arith in q) (indexed_covered columns place 1 c e (or_right c.indexed c.unique u)))
 
 pub repeated_at : KeysOrder → (columns : List Column) (place : ℕ) (d : Data) (id : Option ℕ) → FitsColumn columns place d → IsProper d → (rows : List Row) → AllByRecursion (IsSoundRow columns) rows
     → list_any (is_other id) (filter (lies_among (place + 1) (only_key (key_bytes d) ∷ [])) rows) ≡ list_any (has_value (place + 1) d) (others id rows)
@@ -238,12 +208,6 @@ next_of : {X : Type 0} (xs : List X) (i : ℕ) (x : X) → slice_get xs i ≡ So
 next_of [] i x h = absurd cc
 next_of (y ∷ ys) zero x h = let e : y ≡ x = cc in let z : drop (0 + 1) (y ∷ ys) ≡ ys = refl in ap (λ w. w ∷ ys) e
 next_of (y ∷ ys) (suc i) x h = next_of ys i x h ∙ ap (λ n. x ∷ drop n (y ∷ ys)) (let e : suc (i + 1) ≡ suc i + 1 = omega arith in e)
-
-none_left : {X : Type 0} (xs : List X) (i : ℕ) → length xs ≤ i → drop i xs ≡ []
-none_left [] zero h = refl
-none_left [] (suc i) h = refl
-none_left (x ∷ xs) zero h = absurd (omega (arith, h))
-none_left (x ∷ xs) (suc i) h = none_left xs i (omega (arith, h))
 
 pub broken_step : (b : Column → ℕ → Data → Bool) (columns : List Column) (cells : List Data) (place : ℕ) (c : Column) (d : Data) → slice_get columns place ≡ Some c → slice_get cells place ≡ Some d
     → first_broken b (place + 1) (drop place columns) (drop place cells) ≡ cond (b c (place + 1) d) (Some (place + 1)) (first_broken b (place + 1 + 1) (drop (place + 1) columns) (drop (place + 1) cells))

@@ -1,6 +1,6 @@
 -- The tables of a store against its schema, and what calls make of them.
 use Rattle.std.proofs.Common.{◌≡◌, ◌⊎◌, inl, inr, ⊎_elim, ℕ, zero, suc, ◌+◌, ◌==◌, ◌<◌, ◌≤◌, List, [], ◌∷◌, map, length, take, refl, sym, ap, ap₂, ◌∙◌, arith, Bool, true, false, cond, ◌||◌, Option, None, Some, Result, Ok, Err, subst}
-use Rattle.std.specs.Prelude.{slice_index_or, IsSome, IsSomeAnd, IfOk, OnErr, set, slice_get, unwrap_or}
+use Rattle.std.specs.Prelude.{slice_index_or, IsSomeAnd, IfOk, OnErr, set, slice_get, unwrap_or}
 use Rattle.std.specs.List.{AllByRecursion, filter, list_any}
 use Rattle.std.specs.List.Sorted.{IsPermutation, IsSorted}
 use Rattle.std.specs.Ordering.{is_lt, nat_cmp}
@@ -10,6 +10,7 @@ use Rattle.std.proofs.lemmas.List.Elements.{All-filter, All-from_recursion, All-
 use Rattle.std.proofs.lemmas.List.Sorted.{All-permutation, IsPermutation-refl, length_permutation}
 use Rattle.std.proofs.lemmas.Option.{get_or_from_slice_get}
 use Rattle.std.proofs.Math.Seq.{map-set_same}
+use Rattle.std.proofs.lemmas.Bool.{or_right}
 use Rattle.fx_data.specs.Values.{Data}
 use Rattle.fx_trees.specs.Lawful.{IsColumnType, IsLawfulSchema, IsLawfulTable}
 use Rattle.fx_trees.specs.declared.schema.Column.{Column}
@@ -34,7 +35,7 @@ use Rattle.row_keeper.specs.declared.rows.Put.{Put}
 use Rattle.row_keeper.specs.declared.rows.Put.TheVariants.{Id, NoRow, Refused}
 use Rattle.row_keeper.proofs.PutLemmas.{names}
 use Rattle.row_keeper.proofs.RowLists.{order_less}
-use Rattle.row_keeper.proofs.RuleLemmas.{indexed_covered, or_true}
+use Rattle.row_keeper.proofs.RuleLemmas.{indexed_covered}
 
 -- ---- what stands at a place
 pub at_map : {X Y : Type 0} (f : X → Y) (xs : List X) (i : ℕ) (x : X) → slice_get xs i ≡ Some x → slice_get (map f xs) i ≡ Some (f x)
@@ -61,13 +62,6 @@ fit_there P [] (s ∷ ss) i e h = absurd cc
 fit_there P (t ∷ ts) [] i e h = absurd cc
 fit_there P (t ∷ ts) (s ∷ ss) zero e h = let q : s.columns ≡ t.columns = cc in subst P q h
 fit_there P (t ∷ ts) (s ∷ ss) (suc i) e h = fit_there P ts ss i (let q : columns_kept ts ≡ columns_shaped ss = cc in q) h
-
-pub some_there : (tables : List TableView) (shapes : List TableShape) (i : ℕ) → columns_kept tables ≡ columns_shaped shapes → IsSome (slice_get shapes i) → IsSome (slice_get tables i)
-some_there [] [] i e h = h
-some_there [] (s ∷ ss) i e h = absurd cc
-some_there (t ∷ ts) [] i e h = absurd cc
-some_there (t ∷ ts) (s ∷ ss) zero e h = h
-some_there (t ∷ ts) (s ∷ ss) (suc i) e h = some_there ts ss i (let q : columns_kept ts ≡ columns_shaped ss = cc in q) h
 
 pub within : (tables : List TableView) (shapes : List TableShape) (i : ℕ) (s : TableShape) → columns_kept tables ≡ columns_shaped shapes → slice_get shapes i ≡ Some s → i < length tables
 within [] [] i s e h = absurd cc
@@ -317,12 +311,12 @@ covered t (suc k) h = go (slice_get t.columns k) refl h
   where
     either : (c : Column) → (c.indexed ≡ true) ⊎ (c.unique ≡ true) → (c.indexed || c.unique) ≡ true
     either c (inl a) = ap (λ b. b || c.unique) a
-    either c (inr b) = or_true c.indexed c.unique b
+    either c (inr b) = or_right c.indexed c.unique b
 
     go : (o : Option Column) → slice_get t.columns k ≡ o → IsSomeAnd o (λ (c : Column). (c.indexed ≡ true) ⊎ (c.unique ≡ true)) → covers (covered_of t.columns) (suc k) ≡ true
     go None e i = absurd i
     go (Some c) e i =
-        or_true (0 == suc k) (covers (indexed_from 1 t.columns) (suc k))
+        or_right (0 == suc k) (covers (indexed_from 1 t.columns) (suc k))
         (subst (λ n. covers (indexed_from 1 t.columns) n ≡ true) (let q : 1 + k ≡ suc k = omega arith in q) (indexed_covered t.columns k 1 c e (either c i)))
 
 module _ (shapes : List TableShape) (q : Query) (is : IsQuery shapes q) (tables : List TableView) (t : TableView) (same : columns_kept tables ≡ columns_shaped shapes) (there : slice_get tables q.table ≡ Some t) where

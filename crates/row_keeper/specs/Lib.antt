@@ -5,6 +5,7 @@ pub mod Entries
 pub mod Found
 pub mod InMemory
 pub mod Kept
+pub mod Numbered
 pub mod OneTable
 pub mod Pages
 pub mod RowRules

@@ -38,23 +38,23 @@ second_equal Greater p e = cc
 same_number : (m n : ℕ) → nat_cmp m n ≡ Equal → m ≡ n
 same_number m n e = grind (arith, nat_tests, e)
 
-is_tie : {R : Row → Row → Ordering} → IsTotalOrder R → (x y : Row) → ties (λ a b. is_lt (R a b)) x y ≡ true → R x y ≡ Equal
-is_tie {R} o x y e = by (R x y) refl (ap (λ r. not (is_lt (R x y)) && not (is_lt r)) (sym (o.antisymm y x)) ∙ e)
+pub is_tie : {K : Type 0} {R : K → K → Ordering} → IsTotalOrder R → (x y : K) → (not (is_lt (R x y)) && not (is_lt (R y x))) ≡ true → R x y ≡ Equal
+is_tie {K} {R} o x y e = by (R x y) refl (ap (λ r. not (is_lt (R x y)) && not (is_lt r)) (sym (o.antisymm y x)) ∙ e)
   where
     by : (r : Ordering) → R x y ≡ r → (not (is_lt r) && not (is_lt (ordering_reverse r))) ≡ true → R x y ≡ Equal
     by Less q e = cc
     by Equal q e = q
     by Greater q e = cc
 
-tied_number : IsTotalOrder order → (o : Option (ℕ × Bool)) (x y : Row) → ties (λ a b. is_lt (row_order o a b)) x y ≡ true → x.id ≡ y.id
+pub tied_number : IsTotalOrder order → (o : Option (ℕ × Bool)) (x y : Row) → ties (λ a b. is_lt (row_order o a b)) x y ≡ true → x.id ≡ y.id
 tied_number t o x y e = same_number x.id y.id (second_equal (by_column o x y) (nat_cmp x.id y.id) (is_tie (row_total t o) x y e))
 
 -- ---- each row is the one of its number
-numbered : ℕ → List Row → Option Row
+pub numbered : ℕ → List Row → Option Row
 numbered id [] = None
 numbered id (r ∷ rs) = if nat_eq r.id id then Some r else numbered id rs
 
-abbrev IsOwn : List Row → Row → Type 0
+abbrev pub IsOwn : List Row → Row → Type 0
 IsOwn rows r = numbered r.id rows ≡ Some r
 
 above : (r s : Row) → r.id < s.id → nat_eq r.id s.id ≡ false
@@ -69,22 +69,22 @@ own_behind r rows [] b h = tt
 own_behind r rows (s ∷ ss) b h =
     (ap (λ t. if t then Some r else numbered s.id rows) (above r s b.0) ∙ h.0, own_behind r rows ss b.1 h.1)
 
-own_rows : (rows : List Row) → AreInIdOrder rows → AllByRecursion (IsOwn rows) rows
+pub own_rows : (rows : List Row) → AreInIdOrder rows → AllByRecursion (IsOwn rows) rows
 unfolding numbered
 own_rows [] h = tt
 own_rows (r ∷ rows) h = (ap (λ t. if t then Some r else numbered r.id rows) (itself r.id), own_behind r rows rows h.0 (own_rows rows h.1))
 
 module _ {X : Type 0} where
-  kept : (P : X → Type 0) (p : X → Bool) (xs : List X) → AllByRecursion P xs → AllByRecursion P (filter p xs)
-  kept P p [] h = tt
-  kept P p (x ∷ xs) h = by (p x) (kept P p xs h.1)
+  pub passing : (P : X → Type 0) (p : X → Bool) (xs : List X) → AllByRecursion P xs → AllByRecursion P (filter p xs)
+  passing P p [] h = tt
+  passing P p (x ∷ xs) h = by (p x) (passing P p xs h.1)
     where
       by : (b : Bool) → AllByRecursion P (filter p xs) → AllByRecursion P (cond b (x ∷ filter p xs) (filter p xs))
       by true k = (h.0, k)
       by false k = k
 
   -- with what the test says besides
-  passed : (P Q : X → Type 0) (p : X → Bool) → ((x : X) → p x ≡ true → P x → Q x) → (xs : List X) → AllByRecursion P xs → AllByRecursion Q (filter p xs)
+  pub passed : (P Q : X → Type 0) (p : X → Bool) → ((x : X) → p x ≡ true → P x → Q x) → (xs : List X) → AllByRecursion P xs → AllByRecursion Q (filter p xs)
   passed P Q p f [] h = tt
   passed P Q p f (x ∷ xs) h = by (p x) refl (passed P Q p f xs h.1)
     where
@@ -92,10 +92,10 @@ module _ {X : Type 0} where
       by true e k = (f x e h.0, k)
       by false e k = k
 
-  abbrev one_of : (X → Bool) → X → ℕ
+  abbrev pub one_of : (X → Bool) → X → ℕ
   one_of p x = if p x then 1 else 0
 
-  counted : (p : X → Bool) (xs : List X) → length (filter p xs) ≡ sum_by (one_of p) xs
+  pub counted : (p : X → Bool) (xs : List X) → length (filter p xs) ≡ sum_by (one_of p) xs
   counted p [] = refl
   counted p (x ∷ xs) = by (p x) (counted p xs) ∙ sym (sum_by-cons (one_of p) x xs)
     where
@@ -104,7 +104,7 @@ module _ {X : Type 0} where
       by false e = omega (arith, e)
 
   -- lists as long as each other whose elements are all one
-  all_one : (o : Option X) (xs ys : List X) → length xs ≡ length ys → AllByRecursion (λ x. o ≡ Some x) xs → AllByRecursion (λ y. o ≡ Some y) ys → xs ≡ ys
+  pub all_one : (o : Option X) (xs ys : List X) → length xs ≡ length ys → AllByRecursion (λ x. o ≡ Some x) xs → AllByRecursion (λ y. o ≡ Some y) ys → xs ≡ ys
   all_one o [] [] e h k = refl
   all_one o [] (y ∷ ys) e h k = absurd (omega (arith, e))
   all_one o (x ∷ xs) [] e h k = absurd (omega (arith, e))
@@ -120,7 +120,7 @@ own_there rows chosen asked p h = recursion_from_All (IsOwn rows) asked (All-per
 pub one_list : IsTotalOrder order → AskedOnce
 one_list t q rows a b h x y =
     let F = filter (lies q) rows in
-    let own : AllByRecursion (IsOwn rows) F = kept (IsOwn rows) (lies q) rows (own_rows rows h) in
+    let own : AllByRecursion (IsOwn rows) F = passing (IsOwn rows) (lies q) rows (own_rows rows h) in
     let total = row_total t q.order in
     sorted_once lt (ranks_by total (λ (r : Row). r)) a b x.sorted y.sorted (λ z.
     all_one (numbered z.id rows) (filter (ties lt z) a) (filter (ties lt z) b)

@@ -1,5 +1,6 @@
 -- Rows that fit a lawful table are records of its type.
-use Rattle.std.proofs.Common.{◌≡◌, ◌≢◌, ℕ, List, [], ◌∷◌, map, Bool, true, false, bytes_eq, refl, sym, subst, if◌then◌else◌}
+use Rattle.std.specs.Cmp.{first_so, second_so}
+use Rattle.std.proofs.Common.{◌≡◌, ℕ, List, [], ◌∷◌, map, true, bytes_eq, refl, sym, subst, if◌then◌else◌}
 use Rattle.std.specs.Prelude.{◌&&◌}
 use Rattle.std.specs.List.{AllByRecursion}
 use Rattle.std.specs.Cmp.Lexicographic.{slice_cmp}
@@ -9,12 +10,13 @@ use Rattle.std.specs.declared.cmp.Ordering.TheVariants.{Less, Equal, Greater}
 use Rattle.std.proofs.lemmas.List.Elements.{recursion_from_All}
 use Rattle.std.proofs.lemmas.Map.Lookups.{exact_bytes}
 use Rattle.std.proofs.lemmas.Slice.Eq.{bytes_eq-Decides}
+use Rattle.std.proofs.lemmas.Bool.{and_from}
 use Rattle.fx_data.specs.TypeView.{shape}
 use Rattle.fx_data.specs.Types.{Shape, ColumnList, no_columns, column, numbers}
 use Rattle.fx_data.specs.Values.{Data, field_list, row_list}
 use Rattle.fx_trees.specs.declared.schema.Column.{Column}
 use Rattle.fx_trees.specs.declared.schema.TableShape.{TableShape}
-use Rattle.fx_trees.specs.Lawful.{AreDistinct, DiffersFromAll, id_name}
+use Rattle.fx_trees.specs.Lawful.{AreDistinct, id_name}
 use Rattle.fx_trees.specs.SourceTypes.{columns_of, put_column, put_columns}
 use Rattle.fx_value.specs.Columns.{with_field}
 use Rattle.fx_value.specs.Columns.{Row as Fields}
@@ -23,34 +25,19 @@ use Rattle.fx_value.proofs.Widenings.{own_name}
 use Rattle.row_queries.specs.Laws.{RowsFit}
 use Rattle.row_queries.specs.TableRows.{AreCellsOf, IsRowOf, id_value, record_of, with_cells}
 use Rattle.row_queries.specs.declared.rows.Row.{Row}
-
-both : (a b : Bool) → a ≡ true → b ≡ true → (a && b) ≡ true
-both a b e f = rw (e, f) refl
-
-first_of : (a b : Bool) → (a && b) ≡ true → a ≡ true
-first_of true b h = refl
-first_of false b h = h
-
-second_of : (a b : Bool) → (a && b) ≡ true → b ≡ true
-second_of true b h = h
-second_of false b h = cc
-
--- no column of this name
-abbrev Lacks : List ℕ → ColumnList → Type 0
-Lacks n no_columns = Unit {0}
-Lacks n (column m t ks) = (n ≢ m) × Lacks n ks
+use Rattle.row_queries.proofs.Lacking.{AllLackTypes, LacksType, all_lack_id, all_lack_types, names_of}
 
 -- a field and a column of its type, each in its place
-put_fits : (n : List ℕ) (d : Data) (u : Shape) (fs : Fields) (ks : ColumnList) → fits_in d u ≡ true → Lacks n ks → fields_fit (field_list fs) ks ≡ true →
+put_fits : (n : List ℕ) (d : Data) (u : Shape) (fs : Fields) (ks : ColumnList) → fits_in d u ≡ true → LacksType n ks → fields_fit (field_list fs) ks ≡ true →
     fields_fit (field_list (with_field n d fs)) (put_column n u ks) ≡ true
-put_fits n d u [] no_columns fit l h = both (bytes_eq n n) (fits_in d u && true) (own_name n) (both (fits_in d u) true fit refl)
+put_fits n d u [] no_columns fit l h = and_from (bytes_eq n n) (fits_in d u && true) (own_name n) (and_from (fits_in d u) true fit refl)
 put_fits n d u [] (column m t ks) fit l h = cc
 put_fits n d u (f ∷ fs) no_columns fit l h = cc
 put_fits n d u (f ∷ fs) (column m t ks) fit l h =
-    let name : bytes_eq f.0 m ≡ true = first_of (bytes_eq f.0 m) (fits_in f.1 t && fields_fit (field_list fs) ks) h in
-    let rest : (fits_in f.1 t && fields_fit (field_list fs) ks) ≡ true = second_of (bytes_eq f.0 m) (fits_in f.1 t && fields_fit (field_list fs) ks) h in
-    let own : fits_in f.1 t ≡ true = first_of (fits_in f.1 t) (fields_fit (field_list fs) ks) rest in
-    let others : fields_fit (field_list fs) ks ≡ true = second_of (fits_in f.1 t) (fields_fit (field_list fs) ks) rest in
+    let name : bytes_eq f.0 m ≡ true = first_so (bytes_eq f.0 m) (fits_in f.1 t && fields_fit (field_list fs) ks) h in
+    let rest : (fits_in f.1 t && fields_fit (field_list fs) ks) ≡ true = second_so (bytes_eq f.0 m) (fits_in f.1 t && fields_fit (field_list fs) ks) h in
+    let own : fits_in f.1 t ≡ true = first_so (fits_in f.1 t) (fields_fit (field_list fs) ks) rest in
+    let others : fields_fit (field_list fs) ks ≡ true = second_so (fits_in f.1 t) (fields_fit (field_list fs) ks) rest in
     let same : f.0 ≡ m = (bytes_eq-Decides f.0 m).0 name in
     subst (λ (x : List ℕ). Placed (slice_cmp nat_cmp n x) (slice_cmp nat_cmp n m)) (sym same)
     (by (slice_cmp nat_cmp n m) refl name own (put_fits n d u fs ks fit l.1 others))
@@ -63,52 +50,27 @@ put_fits n d u (f ∷ fs) (column m t ks) fit l h =
     by : (o : Ordering) → slice_cmp nat_cmp n m ≡ o → bytes_eq f.0 m ≡ true → fits_in f.1 t ≡ true → fields_fit (field_list (with_field n d fs)) (put_column n u ks) ≡ true →
         fields_fit (field_list (if is_lt o then (n, d) ∷ f ∷ fs else f ∷ with_field n d fs))
         (match_ordering o (column n u (column m t ks)) (column m u ks) (column m t (put_column n u ks))) ≡ true
-    by Less e name own more = both (bytes_eq n n) _ (own_name n) (both (fits_in d u) _ fit h)
+    by Less e name own more = and_from (bytes_eq n n) _ (own_name n) (and_from (fits_in d u) _ fit h)
     by Equal e name own more = absurd (l.0 (exact_bytes n m e))
-    by Greater e name own more = both (bytes_eq f.0 m) _ name (both (fits_in f.1 t) _ own more)
+    by Greater e name own more = and_from (bytes_eq f.0 m) _ name (and_from (fits_in f.1 t) _ own more)
 
-lacks_put : (n m : List ℕ) (u : Shape) (ks : ColumnList) → n ≢ m → Lacks n ks → Lacks n (put_column m u ks)
-lacks_put n m u no_columns a l = (a, tt)
-lacks_put n m u (column k t ks) a l = by (slice_cmp nat_cmp m k) (lacks_put n m u ks a l.1)
-  where
-    by : (o : Ordering) → Lacks n (put_column m u ks) → Lacks n (match_ordering o (column m u (column k t ks)) (column k u ks) (column k t (put_column m u ks)))
-    by Less more = (a, l)
-    by Equal more = l
-    by Greater more = (l.0, more)
-
-abbrev names_of : List Column → List (List ℕ)
-names_of = map (λ (c : Column). c.name)
-
--- no column of the name of one of these
-abbrev AllLack : List Column → ColumnList → Type 0
-AllLack [] ks = Unit {0}
-AllLack (c ∷ cs) ks = Lacks c.name ks × AllLack cs ks
-
-all_lack_put : (m : List ℕ) (u : Shape) (cs : List Column) (ks : ColumnList) → DiffersFromAll m (names_of cs) → AllLack cs ks → AllLack cs (put_column m u ks)
-all_lack_put m u [] ks a l = tt
-all_lack_put m u (c ∷ cs) ks a l = (lacks_put c.name m u ks (λ e. a.0 (sym e)) l.0, all_lack_put m u cs ks a.1 l.1)
-
-all_lack_one : (m : List ℕ) (u : Shape) (cs : List Column) → DiffersFromAll m (names_of cs) → AllLack cs (column m u no_columns)
-all_lack_one m u [] a = tt
-all_lack_one m u (c ∷ cs) a = ((λ e. a.0 (sym e), tt), all_lack_one m u cs a.1)
-
-cells_fit : (cs : List Column) (ds : List Data) (fs : Fields) (ks : ColumnList) → AreCellsOf cs ds → AreDistinct (names_of cs) → AllLack cs ks → fields_fit (field_list fs) ks ≡ true →
+cells_fit : (cs : List Column) (ds : List Data) (fs : Fields) (ks : ColumnList) → AreCellsOf cs ds → AreDistinct (names_of cs) → AllLackTypes cs ks → fields_fit (field_list fs) ks ≡ true →
     fields_fit (field_list (with_cells cs ds fs)) (put_columns cs ks) ≡ true
 cells_fit [] [] fs ks a x l h = h
 cells_fit (c ∷ cs) (d ∷ ds) fs ks a x l h =
-    cells_fit cs ds (with_field c.name d fs) (put_column c.name (shape c.ty) ks) a.2 x.1 (all_lack_put c.name (shape c.ty) cs ks x.0 l.1)
+    cells_fit cs ds (with_field c.name d fs) (put_column c.name (shape c.ty) ks) a.2 x.1 (all_lack_types c.name (shape c.ty) cs ks x.0 l.1)
     (put_fits c.name d (shape c.ty) fs ks a.1 l.0 h)
 cells_fit [] (d ∷ ds) fs ks a x l h = absurd a
 cells_fit (c ∷ cs) [] fs ks a x l h = absurd a
 
 row_fits : (t : TableShape) (r : Row) → AreDistinct (id_name ∷ names_of t.columns) → IsRowOf t r → fields_fit (field_list (record_of t r)) (columns_of t) ≡ true
 row_fits t r x h =
-    cells_fit t.columns r.cells ((id_name, id_value r.id) ∷ []) (column id_name numbers no_columns) h.1 x.1 (all_lack_one id_name numbers t.columns x.0)
-    (both (bytes_eq id_name id_name) true (own_name id_name) refl)
+    cells_fit t.columns r.cells ((id_name, id_value r.id) ∷ []) (column id_name numbers no_columns) h.1 x.1 (all_lack_id id_name numbers t.columns x.0)
+    (and_from (bytes_eq id_name id_name) true (own_name id_name) refl)
 
 rows_fit_all : (t : TableShape) (rows : List Row) → AreDistinct (id_name ∷ names_of t.columns) → AllByRecursion (IsRowOf t) rows → rows_fit (row_list (map (record_of t) rows)) (columns_of t) ≡ true
 rows_fit_all t [] x h = refl
-rows_fit_all t (r ∷ rows) x h = both (fields_fit (field_list (record_of t r)) (columns_of t)) _ (row_fits t r x h.0) (rows_fit_all t rows x h.1)
+rows_fit_all t (r ∷ rows) x h = and_from (fields_fit (field_list (record_of t r)) (columns_of t)) _ (row_fits t r x h.0) (rows_fit_all t rows x h.1)
 
 pub all_fit : RowsFit
 all_fit t rows l h = rows_fit_all t rows l.2 (recursion_from_All (IsRowOf t) rows h)

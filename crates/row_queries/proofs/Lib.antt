@@ -1,5 +1,6 @@
 pub mod Asked
 pub mod Fitting
 pub mod Judging
+pub mod Lacking
 pub mod Texts
 pub mod Worked

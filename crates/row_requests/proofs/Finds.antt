@@ -1,8 +1,8 @@
 -- The rows that are found.
-use Rattle.std.proofs.Common.{◌≡◌, ℕ, zero, suc, ◌+◌, ◌*◌, ◌<◌, ◌≤◌, ◌^◌, ◌==◌, ◌&&◌, ◌||◌, Bool, true, false, cond, List, [], ◌∷◌, ◌++◌, map, filter, take, length, Option, Some, None, refl, ap, ap₂, sym, ◌∙◌, subst, arith}
-use Rattle.std.specs.Prelude.{IfSome, IsSomeAnd, MatchOption, nat_lt, option_to_list, pos}
+use Rattle.std.proofs.Common.{◌≡◌, ℕ, ◌+◌, ◌<◌, ◌≤◌, ◌^◌, ◌&&◌, ◌||◌, Bool, true, false, cond, List, [], ◌∷◌, ◌++◌, map, filter, take, length, Option, Some, None, refl, ap, ap₂, sym, ◌∙◌, subst, arith}
+use Rattle.std.specs.Prelude.{IfSome, IsSomeAnd, MatchOption, nat_lt, option_to_list}
 use Rattle.std.specs.List.{All, AllByRecursion}
-use Rattle.std.specs.Ordering.{int_cmp, is_eq, is_le, is_lt, nat_cmp, ordering_then}
+use Rattle.std.specs.Ordering.{is_le, is_lt, nat_cmp}
 use Rattle.std.specs.Cmp.Lexicographic.{slice_cmp}
 use Rattle.std.specs.declared.cmp.Ordering.{Ordering}
 use Rattle.std.specs.declared.cmp.Ordering.TheVariants.{Less, Equal, Greater}
@@ -10,21 +10,22 @@ use Rattle.std.proofs.lemmas.Bool.Decides.{nat_tests}
 use Rattle.std.proofs.lemmas.List.Elements.{recursion_from_All}
 use Rattle.fx_trees.specs.declared.schema.TableShape.{TableShape}
 use Rattle.fx_value.specs.Keys.{KeysOrder, key_bytes}
+use Rattle.fx_value.proofs.ByteOrder.{after_from}
 use Rattle.row_queries.specs.Laws.{AskedOnce}
 use Rattle.row_queries.specs.Queries.{IsScanned, first_fault, given_of, lies, outcome_on, rows_or_fault}
-use Rattle.row_queries.specs.Ranges.{in_ranges}
-use Rattle.row_queries.specs.RowTests.{decided, is_met}
-use Rattle.row_queries.specs.TableRows.{AreInIdOrder, IsRowOf, id_value, rows_at}
+use Rattle.row_queries.specs.RowTests.{is_met}
+use Rattle.row_queries.specs.TableRows.{AreInIdOrder, IsRowOf, id_value}
 use Rattle.row_queries.specs.Visits.{VisitsItsRanges, VisitsTold}
 use Rattle.row_queries.specs.declared.rows.Row.{Row}
 use Rattle.row_queries.specs.declared.rows.RowList.{RowList}
 use Rattle.row_keeper.specs.Changes.{Scans}
-use Rattle.row_keeper.specs.Tables.{TableState, Tables, has_id, rows_of, rows_told, state_at}
-use Rattle.row_keeper.proofs.PageLemmas.{keys_go, numbers_go}
-use Rattle.row_keeper.proofs.NumberedRows.{above_itself, asked_is, at_most_one, filter_same, filter_wider, from_itself, is_same, one}
+use Rattle.row_keeper.specs.Tables.{Tables, rows_told, state_at}
+use Rattle.row_keeper.specs.Numbered.{one_row}
+use Rattle.row_keeper.proofs.PageLemmas.{keys_go}
+use Rattle.row_keeper.proofs.NumberedRows.{asked_is, given_one, one, rows_are}
 use Rattle.row_requests.specs.Changes.{row_of}
 use Rattle.row_requests.specs.Page.{past}
-use Rattle.row_requests.specs.Queries.{AreNumbered, FindsRow, FindsRows, VisitsPast, after_key, next_rows, one_row, only}
+use Rattle.row_requests.specs.Queries.{AreNumbered, FindsRow, FindsRows, VisitsPast, after_key, next_rows}
 
 -- ---- lists
 
@@ -42,48 +43,13 @@ is_below a b = by (nat_cmp a b) refl
     by Equal e = grind (arith, nat_tests, e)
     by Greater e = grind (arith, nat_tests, e)
 
-met_one : (table id : ℕ) (r : Row) → is_met (outcome_on (one_row table id) r) ≡ has_id id r
-met_one table id r = met (is_eq (int_cmp (pos (r.id * 10000)) (pos (id * 10000)))) ∙ ap is_eq (numbers_go r.id id) ∙ is_same r.id id
-  where
-    met : (b : Bool) → is_met (decided b) ≡ b
-    met true = refl
-    met false = refl
-
 -- ---- ranges
-
-in_only : (key : List ℕ) → in_ranges (only key ∷ []) key ≡ true
-in_only key = ap₂ (λ a b. (a && b) || false) (from_itself key) (above_itself key 0)
-
-lies_one : (table id : ℕ) (r : Row) → has_id id r ≡ true → lies (one_row table id) r ≡ true
-lies_one table id r e = subst (λ n. in_ranges (only (key_bytes (id_value id)) ∷ []) (key_bytes (id_value n)) ≡ true) (sym (same r.id id e)) (in_only (key_bytes (id_value id)))
-  where
-    same : (a b : ℕ) → (a == b) ≡ true → a ≡ b
-    same a b e = grind (arith, e)
-
--- the keys from the first bytes after a key on are those after it
-from_after : (xs ys : List ℕ) → is_le (slice_cmp nat_cmp (after_key xs) ys) ≡ is_lt (slice_cmp nat_cmp xs ys)
-from_after [] [] = refl
-from_after [] (y ∷ ys) = by (nat_cmp 0 y) refl ys
-  where
-    by : (o : Ordering) → nat_cmp 0 y ≡ o → (ys : List ℕ) → is_le (ordering_then o (slice_cmp nat_cmp [] ys)) ≡ true
-    by Less e ys = refl
-    by Equal e [] = refl
-    by Equal e (z ∷ zs) = refl
-    by Greater e ys = absurd (let l : y < 0 = grind (arith, nat_tests, e) in omega (arith, l))
-from_after (x ∷ xs) [] = refl
-from_after (x ∷ xs) (y ∷ ys) = by (nat_cmp x y) (from_after xs ys)
-  where
-    by : (o : Ordering) → is_le (slice_cmp nat_cmp (after_key xs) ys) ≡ is_lt (slice_cmp nat_cmp xs ys)
-        → is_le (ordering_then o (slice_cmp nat_cmp (after_key xs) ys)) ≡ is_lt (ordering_then o (slice_cmp nat_cmp xs ys))
-    by Less ih = refl
-    by Equal ih = ih
-    by Greater ih = refl
 
 -- a number has a key in the range exactly where it is greater
 lies_next : KeysOrder → (table after : ℕ) → after < 2 ^ 32 → (r : Row) → r.id < 2 ^ 32 → lies (next_rows table after) r ≡ nat_lt after r.id
 lies_next law table after most r bounded =
     alone (is_le (slice_cmp nat_cmp (after_key (key_bytes (id_value after))) (key_bytes (id_value r.id))))
-    ∙ from_after (key_bytes (id_value after)) (key_bytes (id_value r.id))
+    ∙ after_from (key_bytes (id_value after)) (key_bytes (id_value r.id))
     ∙ ap is_lt (keys_go law after r.id most bounded)
     ∙ is_below after r.id
   where
@@ -97,33 +63,11 @@ lie_next law table after most (r ∷ rows) h = ap₂ (λ b l. cond b (r ∷ l) l
 
 -- ---- no error in a test of numbers
 
-clear_one : (table id : ℕ) (rows : List Row) → first_fault (map (outcome_on (one_row table id)) rows) ≡ None
-clear_one table id [] = refl
-clear_one table id (r ∷ rows) = by (is_eq (int_cmp (pos (r.id * 10000)) (pos (id * 10000)))) (clear_one table id rows)
-  where
-    by : (b : Bool) → first_fault (map (outcome_on (one_row table id)) rows) ≡ None → first_fault (decided b ∷ map (outcome_on (one_row table id)) rows) ≡ None
-    by true ih = ih
-    by false ih = ih
-
 clear_next : (table after : ℕ) (rows : List Row) → first_fault (map (outcome_on (next_rows table after)) rows) ≡ None
 clear_next table after [] = refl
 clear_next table after (r ∷ rows) = clear_next table after rows
 
 -- ---- what a scan gives
-
-rows_are : (ss : List TableState) (k : ℕ) → rows_at (rows_of ss) k ≡ (state_at ss k).rows
-rows_are [] k = refl
-rows_are (s ∷ ss) zero = refl
-rows_are (s ∷ ss) (suc k) = rows_are ss k
-
-given_one : AskedOnce → (table id : ℕ) (rows : List Row) (answer : RowList) → AreInIdOrder rows → IsScanned (one_row table id) rows answer → answer.rows ≡ one (row_of id rows)
-given_one law table id rows answer h (asked, is, answered) =
-    ap (λ (a : RowList). a.rows) answered
-    ∙ ap (λ o. (rows_or_fault (given_of (one_row table id) asked) o).rows) (clear_one table id asked)
-    ∙ filter_same (λ r. is_met (outcome_on (one_row table id) r)) (has_id id) (met_one table id) asked
-    ∙ ap (filter (has_id id)) (asked_is law (one_row table id) refl rows asked h is)
-    ∙ filter_wider (has_id id) (lies (one_row table id)) (lies_one table id) rows
-    ∙ at_most_one id rows h
 
 given_next : AskedOnce → KeysOrder → (table after : ℕ) → after < 2 ^ 32 → (rows : List Row) (answer : RowList) → AreInIdOrder rows → All (λ (r : Row). r.id < 2 ^ 32) rows → IsScanned (next_rows table after) rows answer → answer.rows ≡ take 101 (past after rows)
 given_next law keys table after most rows answer h bounded (asked, is, answered) =
@@ -151,7 +95,7 @@ pub finds_row : AskedOnce → (table id : ℕ) (answer : RowList) (found : Optio
     → (a b : Tables) → Scans (one_row table id) answer a b → FindsRow table id found a b
 finds_row law table id answer found left n m p q popped count a b h = (
   λ ordered. last_of_one found answer.rows left (row_of id (state_at a.states table).rows) n m p q popped count
-      (given_one law table id (state_at a.states table).rows answer ordered (subst (λ rs. IsScanned (one_row table id) rs answer) (rows_are a.states table) h.0)),
+      (ap (λ (x : RowList). x.rows) (given_one law table id (state_at a.states table).rows answer ordered (subst (λ rs. IsScanned (one_row table id) rs answer) (rows_are a.states table) h.0))),
   h.1,
 )
 

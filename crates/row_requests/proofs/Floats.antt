@@ -1,5 +1,5 @@
 -- No float stands in what is written here.
-use Rattle.std.proofs.Common.{◌≡◌, ℕ, ℤ, pos, negsuc, Bool, true, false, List, [], ◌∷◌, map, refl, cond, unsigned_abs, ◌%◌, ◌||◌}
+use Rattle.std.proofs.Common.{◌≡◌, ℕ, Bool, true, false, List, [], ◌∷◌, map, refl, unsigned_abs, ◌%◌, ◌||◌}
 use Rattle.std.specs.Prelude.{◌==◌, codes, encode_utf8_all}
 use Rattle.std.specs.Cmp.Lexicographic.{slice_cmp}
 use Rattle.std.specs.Ordering.{match_ordering, nat_cmp}
@@ -10,24 +10,18 @@ use Rattle.serde_json.specs.Data as json
 use Rattle.serde_json.specs.Data.{Members, member, no_members, put, unsigned}
 use Rattle.serde_json.specs.View.{items_of}
 use Rattle.serde_json.specs.Written.{has_float, items_have_float, members_have_float}
-use Rattle.serde_json.specs.Find.{of_integer, is_float}
+use Rattle.serde_json.specs.Find.{of_integer}
+use Rattle.std.proofs.lemmas.Bool.{or_from}
 use Rattle.fx_data.specs.Values.{Data, blank, number, text, boolean, date, rec, tab, fault}
 use Rattle.fx_trees.specs.declared.schema.Column.{Column}
 use Rattle.fx_value.specs.Order.{IsScalar}
 use Rattle.row_queries.specs.TableRows.{AreCellsOf}
 use Rattle.row_queries.specs.declared.rows.Row.{Row}
 use Rattle.view_text.specs.JsonText.{tagged, value_data, whole_of}
+use Rattle.view_text.proofs.Floats.{either_has_none, integer_has_none}
 use Rattle.row_requests.specs.DeskRows.{accepted_data, id_data}
 use Rattle.row_requests.specs.Page.{page_data, row_data, with_values}
 use Rattle.row_requests.specs.PageRows.{AreShown}
-
-integer_has_none : (z : ℤ) → is_float (of_integer z) ≡ false
-integer_has_none (pos n) = refl
-integer_has_none (negsuc n) = refl
-
-either_has_none : (b : Bool) (c d : json.Data) → has_float c ≡ false → has_float d ≡ false → has_float (cond b c d) ≡ false
-either_has_none true c d h k = h
-either_has_none false c d h k = k
 
 scalar_has_none : (d : Data) → IsScalar d → has_float (value_data d) ≡ false
 scalar_has_none blank h = refl
@@ -39,10 +33,6 @@ scalar_has_none (rec fs) h = absurd h
 scalar_has_none (tab rs) h = absurd h
 scalar_has_none (fault k cs) h = absurd h
 
-both_false : (a b : Bool) → a ≡ false → b ≡ false → (a || b) ≡ false
-both_false true b h k = absurd cc
-both_false false b h k = k
-
 first_false : (a b : Bool) → (a || b) ≡ false → a ≡ false
 first_false true b h = h
 first_false false b h = refl
@@ -52,14 +42,14 @@ second_false true b h = absurd cc
 second_false false b h = h
 
 put_has_none : (k : List ℕ) (d : json.Data) (ms : Members) → has_float d ≡ false → members_have_float ms ≡ false → members_have_float (put k d ms) ≡ false
-put_has_none k d no_members h e = both_false (has_float d) false h refl
+put_has_none k d no_members h e = or_from (has_float d) false h refl
 put_has_none k d (member l x ms) h e = by (slice_cmp nat_cmp k l) (put_has_none k d ms h (second_false (has_float x) (members_have_float ms) e))
   where
     by : (o : Ordering) → members_have_float (put k d ms) ≡ false
         → members_have_float (match_ordering o (member k d (member l x ms)) (member l d ms) (member l x (put k d ms))) ≡ false
-    by Less rest = both_false (has_float d) (members_have_float (member l x ms)) h e
-    by Equal rest = both_false (has_float d) (members_have_float ms) h (second_false (has_float x) (members_have_float ms) e)
-    by Greater rest = both_false (has_float x) (members_have_float (put k d ms)) (first_false (has_float x) (members_have_float ms) e) rest
+    by Less rest = or_from (has_float d) (members_have_float (member l x ms)) h e
+    by Equal rest = or_from (has_float d) (members_have_float ms) h (second_false (has_float x) (members_have_float ms) e)
+    by Greater rest = or_from (has_float x) (members_have_float (put k d ms)) (first_false (has_float x) (members_have_float ms) e) rest
 
 values_have_none : (columns : List Column) (cells : List Data) (ms : Members) → AreCellsOf columns cells → members_have_float ms ≡ false → members_have_float (with_values columns cells ms) ≡ false
 values_have_none [] [] ms h e = e
@@ -71,15 +61,15 @@ values_have_none (c ∷ cs) (d ∷ ds) ms h e =
 rows_have_none : (columns : List Column) (rows : List Row) → AreShown columns rows → items_have_float (items_of (map (row_data columns) rows)) ≡ false
 rows_have_none columns [] h = refl
 rows_have_none columns (r ∷ rows) h =
-    both_false (has_float (row_data columns r)) (items_have_float (items_of (map (row_data columns) rows)))
+    or_from (has_float (row_data columns r)) (items_have_float (items_of (map (row_data columns) rows)))
     (values_have_none columns r.cells (member (codes "ID") (json.number (unsigned r.id)) no_members) h.0 refl) (rows_have_none columns rows h.1)
 
 pub page_has_none : (columns : List Column) (rows : List Row) (more : Bool) → AreShown columns rows → has_float (page_data columns rows more) ≡ false
-page_has_none columns rows more h = both_false (items_have_float (items_of (map (row_data columns) rows))) false (rows_have_none columns rows h) refl
+page_has_none columns rows more h = or_from (items_have_float (items_of (map (row_data columns) rows))) false (rows_have_none columns rows h) refl
 
 ids_have_none : (ids : List ℕ) → items_have_float (items_of (map id_data ids)) ≡ false
 ids_have_none [] = refl
 ids_have_none (id ∷ ids) = ids_have_none ids
 
 pub accepted_has_none : (seq : ℕ) (ids : List ℕ) → has_float (accepted_data seq ids) ≡ false
-accepted_has_none seq ids = both_false (items_have_float (items_of (map id_data ids))) false (ids_have_none ids) refl
+accepted_has_none seq ids = or_from (items_have_float (items_of (map id_data ids))) false (ids_have_none ids) refl

@@ -1,10 +1,10 @@
 -- What is given for rows.
-use Rattle.std.proofs.Common.{◌≡◌, ℕ, zero, suc, ◌+◌, ◌<◌, Bool, true, false, cond, List, [], ◌∷◌, ◌++◌, map, take, length, Option, Some, None, refl, ap, ap₂, sym, ◌∙◌, subst, arith, bytes_eq, add-one}
-use Rattle.std.specs.Prelude.{◌≢◌, IfSome, option_and_then, option_map, slice_get, unwrap_or}
+use Rattle.std.proofs.Common.{◌≡◌, ℕ, zero, suc, ◌+◌, Bool, true, false, cond, List, [], ◌∷◌, ◌++◌, map, take, length, Option, Some, None, refl, ap, ap₂, sym, ◌∙◌, subst, bytes_eq, add-one}
+use Rattle.std.specs.Prelude.{IfSome, option_and_then, option_map, slice_get, unwrap_or}
 use Rattle.std.specs.List.{AllByRecursion, find}
 use Rattle.fx_data.specs.TypeView.{shape}
 use Rattle.fx_data.specs.ValueView.{view}
-use Rattle.fx_data.specs.Values.{Data, blank}
+use Rattle.fx_data.specs.Values.{Data}
 use Rattle.fx_data.specs.declared.values.Value.{Value}
 use Rattle.fx_trees.specs.declared.schema.Column.{Column}
 use Rattle.fx_trees.specs.Lawful.{AreDistinct, DiffersFromAll, id_name}
@@ -15,7 +15,7 @@ use Rattle.view_text.specs.declared.refused.Refusal.{Refusal}
 use Rattle.row_requests.specs.Changes.{blanks, broken, cells_with, column_named, given_at, has_type, judged, or_else, rule_of_given}
 use Rattle.row_requests.specs.GivenRows.{AreScalars}
 use Rattle.row_requests.specs.declared.rule.Rule.TheVariants.{ColumnType}
-use Rattle.request_checks.proofs.Directories.{itself, same_bytes}
+use Rattle.request_checks.proofs.Directories.{apart, itself, same_bytes}
 
 -- ---- blanks fit
 
@@ -61,13 +61,6 @@ given_fits at whole (g ∷ gs) j all name c d named e =
 -- each of these columns is found by its name
 abbrev AreFound : List Column → List Column → Type 0
 AreFound whole cs = AllByRecursion (λ (c : Column). column_named c.name whole ≡ Some c) cs
-
-apart : (a b : List ℕ) → a ≢ b → bytes_eq a b ≡ false
-apart a b differ = by (bytes_eq a b) refl
-  where
-    by : (t : Bool) → bytes_eq a b ≡ t → t ≡ false
-    by true e = absurd (differ (same_bytes a b e))
-    by false e = refl
 
 behind_other : (c : Column) (whole cs : List Column) → DiffersFromAll c.name (map (λ (x : Column). x.name) cs) → AreFound whole cs → AreFound (c ∷ whole) cs
 behind_other c whole [] differs found = tt
@@ -121,15 +114,6 @@ same_length [] [] h = refl
 same_length [] (d ∷ ds) h = absurd h
 same_length (c ∷ cs) [] h = absurd h
 same_length (c ∷ cs) (d ∷ ds) h = ap suc (same_length cs ds h.2)
-
-pub blanks_length : (columns : List Column) → length (blanks columns) ≡ length columns
-blanks_length [] = refl
-blanks_length (c ∷ cs) = ap suc (blanks_length cs)
-
-pub blanks_more : (cs : List Column) (k : ℕ) → k < length cs → blanks (take (k + 1) cs) ≡ blanks (take k cs) ++ blank ∷ []
-blanks_more [] k h = absurd (omega (arith, h))
-blanks_more (c ∷ cs) zero h = refl
-blanks_more (c ∷ cs) (suc k) h = ap (λ n. blanks (take n (c ∷ cs))) (add-one (suc k)) ∙ ap (λ l. blank ∷ l) (ap (λ n. blanks (take n cs)) (sym (add-one k)) ∙ blanks_more cs k (omega (arith, h)))
 
 pub slice_view : (vs : List Value) (k : ℕ) (v : Value) → slice_get vs k ≡ Some v → slice_get (map view vs) k ≡ Some (view v)
 slice_view [] k v e = absurd cc

@@ -1,5 +1,4 @@
 pub mod Again
-pub mod Desks
 pub mod Finds
 pub mod Floats
 pub mod Given

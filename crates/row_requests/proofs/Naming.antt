@@ -8,6 +8,7 @@ use Rattle.std.proofs.lemmas.List.{get_or-set_other, take_more}
 use Rattle.std.proofs.lemmas.List.Elements.{filter_map-append}
 use Rattle.std.proofs.lemmas.Option.{unwrap_or-slice_get}
 use Rattle.fx_base.specs.Silence.{Goes}
+use Rattle.fx_base.proofs.Silences.{goes_weaker}
 use Rattle.fx_trees.specs.Reads.{IsAmong}
 use Rattle.fx_trees.specs.declared.schema.TableShape.{TableShape}
 use Rattle.fx_trees.specs.declared.sources.Source.{Source}
@@ -21,7 +22,6 @@ use Rattle.row_requests.specs.DeskRows.{Acts, Outcome}
 use Rattle.row_requests.specs.Written.{AreTablesBut, table_named, tables_named}
 use Rattle.row_requests.specs.declared.bodies.Change.{Change}
 use Rattle.row_requests.specs.declared.bodies.Change.TheVariants.{Add, Remove, Replace}
-use Rattle.row_requests.proofs.Rows.{goes_as}
 
 -- ---- one change
 
@@ -101,25 +101,11 @@ accepted_but : (shapes : List TableShape) (cs : List Change) (o : Outcome) → i
 accepted_but shapes cs (Ok ids) e a b h = perform_but shapes 0 cs a (ids, b) h
 accepted_but shapes cs (Err r) e a b h = absurd cc
 
-refused_but : (shapes : List TableShape) (cs : List Change) (o : Outcome) → is_ok o ≡ false → (a b : Tables) → Acts shapes cs o a b → AreTablesBut [] a b
-refused_but shapes cs (Ok ids) e a b h = absurd cc
-refused_but shapes cs (Err r) e a b h = λ k far. ap (λ (t : Tables). state_at t.states k) h.1
-
 -- what is accepted writes the tables that it names
 pub writes_named : (lost : Type 0) (shapes : List TableShape) (cs : List Change) (o : Outcome) (wrote : List Source) (x y : Option Tables) → is_ok o ≡ true → wrote ≡ tables_named shapes cs
     → Goes lost (Acts shapes cs o) x y → Goes lost (AreTablesBut wrote) x y
 writes_named lost shapes cs o wrote x y ok is h =
-    subst (λ ws. Goes lost (AreTablesBut ws) x y) (sym is) (goes_as lost (Acts shapes cs o) (AreTablesBut (tables_named shapes cs)) (accepted_but shapes cs o ok) x y h)
-
--- what is refused writes none
-pub writes_none : (lost : Type 0) (shapes : List TableShape) (cs : List Change) (o : Outcome) (wrote : List Source) (x y : Option Tables) → is_ok o ≡ false → wrote ≡ []
-    → Goes lost (Acts shapes cs o) x y → Goes lost (AreTablesBut wrote) x y
-writes_none lost shapes cs o wrote x y refused is h =
-    subst (λ ws. Goes lost (AreTablesBut ws) x y) (sym is) (goes_as lost (Acts shapes cs o) (AreTablesBut []) (refused_but shapes cs o refused) x y h)
-
--- where there was no call, tables stay
-pub writes_nothing : (wrote : List Source) (a b : Tables) → b ≡ a → AreTablesBut wrote a b
-writes_nothing wrote a b same k far = ap (λ (t : Tables). state_at t.states k) same
+    subst (λ ws. Goes lost (AreTablesBut ws) x y) (sym is) (goes_weaker lost (Acts shapes cs o) (AreTablesBut (tables_named shapes cs)) (accepted_but shapes cs o ok) x y h)
 
 -- ---- the tables of changes, one after another
 
@@ -135,8 +121,3 @@ named_more shapes changes i c items next o below is so_far one more =
     ∙ ap (λ (l : List Source). tables_named shapes (take i changes) ++ l) (sym (alone o) ∙ ap (λ (p : Option Source). cons_option p []) (one ∙ ap (table_named shapes) is))
     ∙ sym (filter_map-append (table_named shapes) (take i changes) (get_or changes i c ∷ []))
     ∙ sym (ap (tables_named shapes) (take_more changes i c below))
-
--- none is among none
-pub among_none : (s : Source) (xs : List Source) → xs ≡ [] → IsAmong s xs → ⊥
-among_none s [] e h = h
-among_none s (x ∷ xs) e h = let no : x ∷ xs ≡ [] = e in absurd cc

@@ -6,7 +6,6 @@ use Rattle.std.proofs.lemmas.Bool.{cases_lt}
 use Rattle.std.proofs.lemmas.List.{length-take, take-take, take_all}
 use Rattle.app_wire.specs.ReplyBytes.{reply}
 use Rattle.fx_base.specs.Silence.{Goes}
-use Rattle.fx_base.specs.Telling.{Stays}
 use Rattle.fx_trees.specs.declared.schema.Column.{Column}
 use Rattle.row_queries.specs.TableRows.{AreCellsOf}
 use Rattle.row_queries.specs.declared.rows.Row.{Row}
@@ -36,11 +35,6 @@ shows lost k after found columns said e (Some a) (Some b) h g = (
   e ∙ ap (page_reply columns) (g.0 h) ∙ page_of_some columns (past after (state_at a.states k).rows),
   g.1,
 )
-
-pub stays : (lost : Type 0) (k after : ℕ) (found : List Row) (x y : Option Tables) → Goes lost (FindsRows k after found) x y → Goes lost Stays x y
-stays lost k after found None y g = g
-stays lost k after found (Some a) None g = g
-stays lost k after found (Some a) (Some b) g = g.1
 
 pub visits : (k after before now : ℕ) (x : Option Tables) → IfSome x (λ (t : Tables). AreNumbered (state_at t.states k)) → VisitsPast k after x before now → VisitsTable (Some k) after x before now
 visits k after before now None numbered h = tt

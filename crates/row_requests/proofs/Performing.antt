@@ -11,7 +11,6 @@ use Rattle.row_requests.specs.Steps.{ChangesOne, Performs}
 use Rattle.row_requests.specs.declared.bodies.Change.{Change}
 use Rattle.row_requests.specs.declared.changes.Changed.{Changed}
 use Rattle.row_requests.specs.declared.changes.Changed.TheVariants.{Id, Refused}
-use Rattle.row_requests.proofs.Rows.{goes_as}
 
 -- rows' numbers before others
 abbrev pub all_before : List ℕ → Result (List ℕ × Tables) Refusal → Result (List ℕ × Tables) Refusal
@@ -21,13 +20,6 @@ all_before ids (Err r) = Err r
 -- so far, with these numbers
 abbrev pub Leads : List TableShape → List Change → ℕ → List ℕ → Tables → Tables → Type 0
 Leads shapes changes at ids a b = perform shapes 0 changes a ≡ all_before ids (perform shapes at (drop at changes) b)
-
-pub begins : (shapes : List TableShape) (changes : List Change) (a : Tables) → Leads shapes changes 0 [] a a
-begins shapes changes a = by (perform shapes 0 changes a)
-  where
-    by : (p : Result (List ℕ × Tables) Refusal) → p ≡ all_before [] p
-    by (Ok x) = refl
-    by (Err r) = refl
 
 joins : (ids : List ℕ) (id : ℕ) (p : Result (List ℕ × Tables) Refusal) → all_before ids (before id p) ≡ all_before (ids ++ id ∷ []) p
 joins ids id (Ok x) = ap (λ (is : List ℕ). Ok (is, x.1)) (sym (append_assoc ids (id ∷ []) x.0))
@@ -77,7 +69,3 @@ step_off shapes changes at i ids d r changed l m n x y z place is below came lat
     (λ a b c so one. breaks shapes changes i ids d r a b c below so
     (subst (λ e. ChangesOne shapes i e (Refused r) b c) is (subst (λ k. ChangesOne shapes k d (Refused r) b c) place (subst (λ e. ChangesOne shapes at d e b c) came one))))
     l m n later later' x y z g h
-
-pub step_end : (shapes : List TableShape) (changes : List Change) (i : ℕ) (ids : List ℕ) (lost : Type 0) (x y : Option Tables) → i ≡ length changes
-    → Goes lost (Leads shapes changes i ids) x y → Goes lost (Performs shapes changes (Ok ids)) x y
-step_end shapes changes i ids lost x y all h = goes_as lost (Leads shapes changes i ids) (Performs shapes changes (Ok ids)) (λ a b so. ends shapes changes i ids a b all so) x y h

@@ -3,19 +3,19 @@ use Rattle.std.proofs.Common.{◌≡◌, ℕ, ◌+◌, Bool, true, false, cond, 
 use Rattle.std.specs.Prelude.{IfSome, option_map}
 use Rattle.std.specs.List.{list_any}
 use Rattle.fx_base.specs.Silence.{Goes, IsLater, IsLost, Marks}
-use Rattle.fx_base.proofs.Silences.{goes_two}
+use Rattle.fx_base.proofs.Silences.{goes_two, goes_weaker}
 use Rattle.fx_data.specs.Values.{Data}
 use Rattle.fx_trees.specs.declared.schema.Column.{Column}
 use Rattle.fx_trees.specs.declared.schema.TableShape.{TableShape}
 use Rattle.row_queries.specs.TableRows.{AreInIdOrder}
 use Rattle.row_queries.specs.declared.rows.Row.{Row}
-use Rattle.row_keeper.specs.Changes.{Inserts, Removes, Replaces}
+use Rattle.row_keeper.specs.Changes.{Inserts, Replaces}
 use Rattle.row_keeper.specs.RowRules.{rule_of}
 use Rattle.row_keeper.specs.Tables.{Tables, has_id, state_at, with_cells, with_row, with_state}
 use Rattle.row_keeper.specs.declared.rows.Put.{Put}
 use Rattle.row_keeper.specs.declared.rows.Put.TheVariants as put
 use Rattle.view_text.specs.declared.refused.Refusal.{Refusal}
-use Rattle.row_requests.specs.Changes.{add_row, blanks, cells_with, change_in_table, change_row, judged, kept_refusal, place_of, remove_row, row_of, table_of, unless}
+use Rattle.row_requests.specs.Changes.{add_row, blanks, cells_with, change_in_table, change_row, judged, kept_refusal, place_of, row_of, table_of, unless}
 use Rattle.row_requests.specs.Queries.{FindsRow}
 use Rattle.request_checks.specs.Replies.{plain}
 use Rattle.row_requests.specs.Steps.{ChangesOne, Comes, came}
@@ -24,11 +24,6 @@ use Rattle.row_requests.specs.declared.changes.Changed.{Changed}
 use Rattle.row_requests.specs.declared.changes.Changed.TheVariants.{Id, Refused}
 
 -- ---- what is told
-
-pub goes_as : {A : Type 0} (lost : Type 0) (P R : A → A → Type 0) → ((a b : A) → P a b → R a b) → (x y : Option A) → Goes lost P x y → Goes lost R x y
-goes_as lost P R see None y h = h
-goes_as lost P R see (Some a) None h = h
-goes_as lost P R see (Some a) (Some b) h = see a b h
 
 -- no call
 pub nowhere : {A : Type 0} (lost : Type 0) (P : A → A → Type 0) → ((a : A) → P a a) → (x : Option A) → Goes lost P x x
@@ -115,12 +110,6 @@ replacing at columns k id gs r cells p j e l m n later later' x y z =
     goes_two (Found k id (Some r)) (Replaces columns k id cells p) (λ a b. Comes (change_row at columns k id gs a (row_of id (state_at a.states k).rows)) (came at columns p) a b)
     (replaced at columns k id gs r cells p j e) l m n later later' x y z
 
-pub removed : (k id : ℕ) (a b : Tables) → Removes k id true a b → Comes (remove_row k id a (list_any (has_id id) (state_at a.states k).rows)) (Id id) a b
-removed k id a b h = ap (remove_row k id a) h.0 ∙ ap (λ (t : Tables). Ok (id, t)) (sym h.1)
-
-pub unremoved : (k id : ℕ) (a b : Tables) → Removes k id false a b → Comes (remove_row k id a (list_any (has_id id) (state_at a.states k).rows)) (Refused (plain 22)) a b
-unremoved k id a b h = (ap (remove_row k id a) h.0, h.1)
-
 -- ---- the same of what is told
 
 pub unfound_goes : (columns : List Column) (at k id : ℕ) (gs : List (List ℕ × Option Data)) (lost : Type 0) (x y : Option Tables) (o : Option Row) (r : Changed) → o ≡ None → r ≡ Refused (plain 22)
@@ -128,7 +117,7 @@ pub unfound_goes : (columns : List Column) (at k id : ℕ) (gs : List (List ℕ 
     → Goes lost (λ a b. Comes (change_row at columns k id gs a (row_of id (state_at a.states k).rows)) r a b) x y
 unfound_goes columns at k id gs lost x y o r e f ordered h =
     subst (λ (q : Changed). Goes lost (λ a b. Comes (change_row at columns k id gs a (row_of id (state_at a.states k).rows)) q a b) x y) (sym f)
-    (goes_as lost (Found k id None) (λ a b. Comes (change_row at columns k id gs a (row_of id (state_at a.states k).rows)) (Refused (plain 22)) a b) (unfound at columns k id gs) x y
+    (goes_weaker lost (Found k id None) (λ a b. Comes (change_row at columns k id gs a (row_of id (state_at a.states k).rows)) (Refused (plain 22)) a b) (unfound at columns k id gs) x y
     (goes_with lost (λ (t : Tables). AreInIdOrder (state_at t.states k).rows) (FindsRow k id None) x y ordered (subst (λ q. Goes lost (FindsRow k id q) x y) e h)))
 
 found_goes : (k id : ℕ) (lost : Type 0) (x y : Option Tables) (o : Option Row) (row : Row) → o ≡ Some row
@@ -140,7 +129,7 @@ pub unjudged_goes : (columns : List Column) (at k id : ℕ) (gs : List (List ℕ
     → IfSome x (λ (t : Tables). AreInIdOrder (state_at t.states k).rows) → Goes lost (FindsRow k id o) x y
     → Goes lost (λ a b. Comes (change_row at columns k id gs a (row_of id (state_at a.states k).rows)) (Refused refusal) a b) x y
 unjudged_goes columns at k id gs lost x y o row refusal e j ordered h =
-    goes_as lost (Found k id (Some row)) (λ a b. Comes (change_row at columns k id gs a (row_of id (state_at a.states k).rows)) (Refused refusal) a b) (unjudged at columns k id gs row refusal j) x y
+    goes_weaker lost (Found k id (Some row)) (λ a b. Comes (change_row at columns k id gs a (row_of id (state_at a.states k).rows)) (Refused refusal) a b) (unjudged at columns k id gs row refusal j) x y
     (found_goes k id lost x y o row e ordered h)
 
 pub replaced_goes : (columns : List Column) (at k id : ℕ) (gs : List (List ℕ × Option Data)) (l m n : Marks) (x y z : Option Tables) (o : Option Row) (row : Row) (cells : List Data) (p : Put) (r : Changed)
@@ -156,7 +145,7 @@ pub inserted_goes : (columns : List Column) (at k : ℕ) (gs : List (List ℕ ×
     → Goes lost (λ a b. Comes (add_row at columns k gs a) r a b) x y
 inserted_goes columns at k gs lost x y cells p r j is f h =
     subst (λ (c : Changed). Goes lost (λ a b. Comes (add_row at columns k gs a) c a b) x y) (sym f)
-    (goes_as lost (Inserts columns k cells p) (λ a b. Comes (add_row at columns k gs a) (came at columns p) a b) (inserted at columns k gs cells p j is) x y h)
+    (goes_weaker lost (Inserts columns k cells p) (λ a b. Comes (add_row at columns k gs a) (came at columns p) a b) (inserted at columns k gs cells p j is) x y h)
 
 -- in the table of a name
 pub placed_goes : (shapes : List TableShape) (at : ℕ) (c : Change) (o : Option ℕ) (r : Changed) (lost : Type 0) (x y : Option Tables) → o ≡ place_of (table_of c) shapes

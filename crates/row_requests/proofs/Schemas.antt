@@ -1,6 +1,6 @@
 -- The tables of a schema by their places.
 use Rattle.std.proofs.Common.{◌≡◌, ℕ, zero, suc, ◌<◌, ◌^◌, ◌≤◌, Bool, List, [], ◌∷◌, map, length, Option, Some, None, refl, arith, sym, subst}
-use Rattle.std.specs.Prelude.{IfSome, IsSome, IsSomeAnd, slice_get}
+use Rattle.std.specs.Prelude.{IfSome, IsSomeAnd, slice_get}
 use Rattle.std.specs.List.{AllByRecursion}
 use Rattle.std.proofs.lemmas.List.Elements.{recursion_from_All}
 use Rattle.fx_base.specs.Silence.{Goes}
@@ -17,11 +17,6 @@ use Rattle.row_keeper.specs.declared.rows.Put.{Put}
 use Rattle.row_requests.specs.Queries.{AreNumbered, FindsRow}
 use Rattle.row_requests.specs.Sound.{AreSound}
 use Rattle.row_requests.proofs.Soundness.{sound_inserts, sound_removes, sound_replaces, state_is}
-
-pub is_there : {X : Type 0} (xs : List X) (k : ℕ) → k < length xs → IsSome (slice_get xs k)
-is_there [] k h = absurd (omega (arith, h))
-is_there (x ∷ xs) zero h = refl
-is_there (x ∷ xs) (suc k) h = is_there xs k (omega (arith, h))
 
 -- the table at a place
 record Stands (ts : List TableShape) (k : ℕ) : Type 0 where

@@ -1,9 +1,8 @@
 -- What is asked of a keeper.
 use Rattle.std.specs.Prelude.{◌≡◌, ℕ, ◌+◌, ◌^◌, ◌<◌, ◌≤◌, List, [], ◌∷◌, ◌++◌, length, take, Option, Some, None, IfSome}
 use Rattle.std.specs.List.{All}
-use Rattle.fx_data.specs.declared.comparisons.Cmp.TheVariants.{Eq}
 use Rattle.fx_value.specs.Keys.{key_bytes}
-use Rattle.row_queries.specs.Conditions.{always, compares}
+use Rattle.row_queries.specs.Conditions.{always}
 use Rattle.row_queries.specs.TableRows.{AreInIdOrder, id_value}
 use Rattle.row_queries.specs.declared.queries.Query.{Query}
 use Rattle.row_queries.specs.declared.ranges.KeyRange.{KeyRange}
@@ -16,17 +15,9 @@ use Rattle.row_requests.specs.Page.{past}
 abbrev pub after_key : List ℕ → List ℕ
 after_key key = key ++ 0 ∷ []
 
--- the range of one key alone, and that of all keys after it
-abbrev pub only : List ℕ → KeyRange
-only key = record { from = key; upto = Some (after_key key) }
-
+-- the range of the keys after one
 abbrev pub beyond : List ℕ → KeyRange
 beyond key = record { from = after_key key; upto = None }
-
--- the row of a number
-abbrev pub one_row : ℕ → ℕ → Query
-one_row table id =
-    record { table = table; column = 0; ranges = only (key_bytes (id_value id)) ∷ []; test = compares Eq 0 (id_value id); order = None; take = None }
 
 -- the rows of greater numbers, one more than a page shows
 abbrev pub next_rows : ℕ → ℕ → Query

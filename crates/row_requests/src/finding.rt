@@ -8,8 +8,10 @@ ghost use Rattle.fx_value.specs.Keys.{key_bytes};
 ghost use Rattle.fx_value.specs.Order.{IsScalar};
 ghost use Rattle.row_queries.specs.TableRows.{IsRowOf, id_value as id_value_of};
 ghost use Rattle.row_keeper.specs.Causes.{HasCause};
+ghost use Rattle.row_keeper.specs.Numbered.{one_row as one_row_query};
+ghost use Rattle.row_keeper.specs.Rules.{only_key};
 ghost use Rattle.row_keeper.specs.Tables.{shapes_of};
-ghost use Rattle.row_requests.specs.Queries.{FindsRow, FindsRows, VisitsPast, after_key, beyond as beyond_key, next_rows as next_rows_query, one_row as one_row_query, only as only_key};
+ghost use Rattle.row_requests.specs.Queries.{FindsRow, FindsRows, VisitsPast, after_key, beyond as beyond_key, next_rows as next_rows_query};
 
 use fx_base::{InOrder, Memory};
 use fx_data::{Cmp, Value};

@@ -29,7 +29,7 @@ use Rattle.fx_trees.specs.declared.schema.TableShape.{TableShape}
 use Rattle.fx_trees.specs.declared.sources.Source.{Source}
 use Rattle.fx_trees.specs.declared.sources.Source.TheVariants as source
 use Rattle.recalc.proofs.of_app_semantics.Freshness.{given_told, today_is}
-use Rattle.recalc.proofs.of_app_semantics.Typings.{among_either, among_left, among_right}
+use Rattle.recalc.proofs.of_app_semantics.Typings.{among_either}
 use Rattle.recalc.specs.Asking.{IsHeardOf, ToldRows}
 use Rattle.recalc.specs.app_cells.Reach.{is_cell}
 use Rattle.recalc.specs.app_cells.declared.app.App.{App}
@@ -56,6 +56,8 @@ use Rattle.session_state.specs.Changes.{FitsChange, made}
 use Rattle.session_state.specs.Sessions.{SessionState, held}
 use Rattle.session_state.specs.declared.change.Change.{Change}
 use Rattle.session_state.specs.declared.change.Change.TheVariants.{Global, Context, Gather, Empty, Input, Choose, Screen, Notice}
+use Rattle.fx_semantics.proofs.Wider.{among_left, among_right}
+use Rattle.row_keeper.proofs.NumberedRows.{rows_are}
 use Rattle.session_requests.specs.Caching.{AreSessionsBut, AreSources, IsTouchedIf}
 use Rattle.session_requests.specs.Worlds.{when, written_by}
 
@@ -290,11 +292,6 @@ sessions_give a s r tables m ws h = record { told = λ rows e. (rows, e); gives 
     by source.Today t values v typed far g = g
 
 -- ---- tables
-pub rows_are : (ss : List TableState) (k : ℕ) → (state_at ss k).rows ≡ rows_at (rows_of ss) k
-rows_are [] k = refl
-rows_are (s ∷ ss) zero = refl
-rows_are (s ∷ ss) (suc k) = rows_are ss k
-
 state_apart : (ss : List TableState) (k j : ℕ) (x : TableState) → j ≢ k → state_at (set ss k x) j ≡ state_at ss j
 state_apart ss k j x h = unwrap_or-slice_get (set ss k x) j no_rows ∙ get_or-set_other ss k j x no_rows h ∙ sym (unwrap_or-slice_get ss j no_rows)
 
@@ -328,7 +325,7 @@ tables_give a s t u m ws h = record { told = λ rows e. (rows_of t.states, refl)
     by : (x : Source) (values : ℕ → Data) (v : Data) → (IsAmong x ws → ⊥) → Gives (present a s (Some (rows_of t.states)) m) values x v → Gives (present a s (Some (rows_of u.states)) m) values x v
     by (source.Table k) values v far g =
         table_given (slice_get a.names.schema.tables k) (rows_of t.states) (rows_of u.states) k v
-        (sym (rows_are u.states k) ∙ ap (λ (z : TableState). z.rows) (h k far) ∙ rows_are t.states k) g
+        (rows_are u.states k ∙ ap (λ (z : TableState). z.rows) (h k far) ∙ sym (rows_are t.states k)) g
     by (source.Cell k) values v far g = g
     by (source.Global k) values v far g = g
     by (source.Context k) values v far g = g

@@ -87,9 +87,3 @@ pub session_goes : (lost : Type 0) (c : Change) (done : Bool) (day : Data) (g : 
     Goes lost (IsChanged c done) (state_told (option_map (told_in day g s values ws) y)) (state_told (option_map (told_in day g r others (ws ++ option_to_list (when done o))) y))
 session_goes lost c done day g s r values others ws o None e answer h = refl
 session_goes lost c done day g s r values others ws o (Some t) e answer h = (answer, changed_by c done g t s r ws o e h)
-
--- a session and tables that stay
-pub session_stays : (lost : Type 0) (day : Data) (g : Grounds) (s r : SessionState) (values others : List Data) (ws : List Source) (y : Option Tables) → r ≡ s →
-    Goes lost Stays (state_told (option_map (told_in day g s values ws) y)) (state_told (option_map (told_in day g r others ws) y))
-session_stays lost day g s r values others ws None e = refl
-session_stays lost day g s r values others ws (Some t) e = ap (λ (z : SessionState). state_on g t z ws) e

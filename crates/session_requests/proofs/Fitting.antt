@@ -1,6 +1,6 @@
 -- Sessions go on fitting an app, and keep replies.
 use Rattle.std.proofs.Common.{◌≡◌, ℕ, zero, suc, ◌<◌, List, [], ◌∷◌, ◌++◌, Option, Some, None, length, refl, ap, sym, subst}
-use Rattle.std.specs.Prelude.{IfSome, option_map, slice_get, slice_set, unwrap_or}
+use Rattle.std.specs.Prelude.{IfSome, slice_set, unwrap_or}
 use Rattle.std.specs.List.{AllByRecursion, position}
 use Rattle.fx_data.specs.Values.{Data, blank, number, text, boolean, date, rec, tab, fault, FieldList, no_fields, field, field_list, RowList, no_rows, row, row_list}
 use Rattle.fx_data.specs.declared.values.Value.TheVariants as value
@@ -10,7 +10,7 @@ use Rattle.session_requests.proofs.RequestFitting.{fits_with}
 use Rattle.fx_trees.specs.declared.sources.Source.{Source}
 use Rattle.fx_trees.specs.declared.sources.Source.TheVariants as source
 use Rattle.request_checks.specs.Checked.{KeepsReply, SessionsKeepReplies}
-use Rattle.request_checks.specs.Directory.{find, is_named, it_at, put, put_at}
+use Rattle.request_checks.specs.Directory.{is_named, put, put_at}
 use Rattle.request_checks.specs.declared.directory.Named.{Named}
 use Rattle.session_state.specs.Changes.{FitsNames, FitsSource}
 use Rattle.session_state.specs.Sessions.{SessionState}
@@ -87,24 +87,3 @@ put_fits n name s sessions all f = all_put (λ (x : Named SessionState). FitsNam
 
 pub put_keeps : (name : List ℕ) (s : SessionState) (sessions : List (Named SessionState)) → SessionsKeepReplies sessions → KeepsReply s.kept → SessionsKeepReplies (put name s sessions)
 put_keeps name s sessions all f = all_put (λ (x : Named SessionState). KeepsReply x.it.kept) (position (is_named name) sessions) (record { name = name; it = s }) sessions all f
-
--- the session of a name is one of them
-fits_at_place : (n : Names) (xs : List (Named SessionState)) (k : ℕ) (x : Named SessionState) → SessionsFit n xs → slice_get xs k ≡ Some x → FitsNames n x.it
-fits_at_place n [] k x h e = absurd cc
-fits_at_place n (y ∷ ys) zero x h e = subst (λ (m : Named SessionState). FitsNames n m.it) (same e) h.0
-  where
-    same : Some y ≡ Some x → y ≡ x
-    same e = cc
-fits_at_place n (y ∷ ys) (suc k) x h e = fits_at_place n ys k x h.1 e
-
--- the session that is found fits
-pub found_fits : (n : Names) (name : List ℕ) (sessions : List (Named SessionState)) (s : SessionState) → SessionsFit n sessions → find name sessions ≡ Some s → FitsNames n s
-found_fits n name sessions s all e = by (position (is_named name) sessions) e
-  where
-    at_place : (k : ℕ) (o : Option (Named SessionState)) → slice_get sessions k ≡ o → option_map (λ (x : Named SessionState). x.it) o ≡ Some s → FitsNames n s
-    at_place k None f h = absurd cc
-    at_place k (Some x) f h = let same : x.it ≡ s = cc in subst (λ (z : SessionState). FitsNames n z) same (fits_at_place n sessions k x all f)
-
-    by : (o : Option ℕ) → it_at o sessions ≡ Some s → FitsNames n s
-    by None h = absurd cc
-    by (Some k) h = at_place k (slice_get sessions k) refl h

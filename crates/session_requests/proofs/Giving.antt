@@ -15,7 +15,7 @@ use Rattle.fx_trees.specs.declared.sources.Source.{Source}
 use Rattle.fx_trees.specs.declared.sources.Source.TheVariants as source
 use Rattle.recalc.specs.app_cells.declared.app.App.{App}
 use Rattle.recalc.specs.app_semantics.Sound.{IsSound}
-use Rattle.recalc.specs.Kept.{IsInOrder, IsSourceOf, Kept, place_of}
+use Rattle.recalc.specs.Kept.{IsSourceOf, Kept}
 use Rattle.row_keeper.specs.Tables.{Tables}
 use Rattle.session_state.specs.Changes.{FitsSource}
 use Rattle.session_state.specs.Sessions.{SessionState, held}
@@ -72,11 +72,6 @@ item_source n (Some i) h x l = one_source n (source.Chosen i.gallery) h x l
 
 pub target_source : (n : Names) (t : Target) (ws : List Source) → IfSome t.item (λ (i : Item). i.gallery < length n.controls) → ws ≡ chosen_by t.item → AreSources n ws
 target_source n t ws h e = subst (AreSources n) (sym e) (item_source n t.item h)
-
--- it has a place in the cache
-pub given_place : (a : App) (c : Kept) (o : Option Source) → IsInOrder a c → AreSources a.names (option_to_list o) → IfSome o (λ x. place_of x < length c.versions)
-given_place a c None order own = tt
-given_place a c (Some x) order own = order.places x (own x (inl refl))
 
 -- and once the cache is told of it, that stands of the session in which it is
 pub given_told : (a : App) (o : Option Source) (s r : SessionState) (told : Option Tables) (m : ℕ) (old new : Kept) → IsSound a → AreSources a.names (option_to_list o) → AreSessionsBut a.names (option_to_list o) s r → IsTouchedIf a o old new →

@@ -1,6 +1,7 @@
 -- What the checks of inputs let through fits.
 use Rattle.std.proofs.Common.{◌≡◌, ℕ, Bool, true, false, Option, Some, None, Result, Ok, Err, refl, ap, sym, ◌∙◌, subst, if◌then◌else◌}
-use Rattle.std.specs.Prelude.{ℤ, ◌&&◌, not, is_some, option_and_then, slice_get, unwrap_or}
+use Rattle.std.specs.Prelude.{ℤ, not, is_some, option_and_then, slice_get, unwrap_or}
+use Rattle.std.proofs.lemmas.Bool.{and_parts}
 use Rattle.fx_data.specs.Types.{Shape, texts, numbers, booleans, dates}
 use Rattle.fx_data.specs.Values.{Data, blank, number, text, boolean, date, rec, tab, fault}
 use Rattle.fx_data.specs.declared.controls.Control.{Control}
@@ -99,10 +100,6 @@ has_type : (o : Option Shape) → is_some o ≡ true → (t : Shape) × (o ≡ S
 has_type None e = absurd cc
 has_type (Some t) e = (t, refl)
 
-both_true : (a b : Bool) → (a && b) ≡ true → (a ≡ true) × (b ≡ true)
-both_true true b e = (refl, e)
-both_true false b e = absurd cc
-
 at_fits : (n : Names) (s : SessionState) (values : ℕ → Data) (i : Input) (k : ℕ) (o : Option ControlName) (g : Given) → slice_get n.controls k ≡ o → input_at n s values i k o ≡ Ok g → FitsSource n (source.Input g.0) (unwrap_or g.1 blank)
 at_fits n s values i k None g there e = absurd cc
 at_fits n s values i k (Some c) g there e =
@@ -110,7 +107,7 @@ at_fits n s values i k (Some c) g there e =
     let a = or_ok Given (takes_input c) 16 (or_refused (is_shown n s values k c) 17 rest) g e in
     let b = or_ok Given (is_shown n s values k c) 17 rest g a.1 in
     let d = given_ok k (input_by c.kind (least_of n values k) (greatest_of n values k) i.value) g b.1 in
-    let t = has_type (input_type c.kind) (both_true (is_some (input_type c.kind)) (not (is_some c.gallery)) a.0).0 in
+    let t = has_type (input_type c.kind) (and_parts (is_some (input_type c.kind)) (not (is_some c.gallery)) a.0).0 in
     (t.0, ap (λ (j : ℕ). sources n (source.Input j)) d.0 ∙ ap (option_and_then (λ (c : ControlName). input_type c.kind)) there ∙ t.1, input_fits c.kind (least_of n values k) (greatest_of n values k) i.value g.1 t.0 d.1 t.1)
 
 named_fits : (n : Names) (s : SessionState) (values : ℕ → Data) (i : Input) (o : Option ℕ) (g : Given) → input_named n s values i o ≡ Ok g → FitsSource n (source.Input g.0) (unwrap_or g.1 blank)
@@ -140,7 +137,7 @@ at_taker n s values i k (Some c) g there e =
     let a = or_ok Given (takes_input c) 16 (or_refused (is_shown n s values k c) 17 rest) g e in
     let b = or_ok Given (is_shown n s values k c) 17 rest g a.1 in
     let d = given_ok k (input_by c.kind (least_of n values k) (greatest_of n values k) i.value) g b.1 in
-    subst (IsTaker n) (sym d.0) (record { control = c; there = there; alone = is_alone c.gallery (both_true (is_some (input_type c.kind)) (not (is_some c.gallery)) a.0).1 })
+    subst (IsTaker n) (sym d.0) (record { control = c; there = there; alone = is_alone c.gallery (and_parts (is_some (input_type c.kind)) (not (is_some c.gallery)) a.0).1 })
 
 named_taker : (n : Names) (s : SessionState) (values : ℕ → Data) (i : Input) (o : Option ℕ) (g : Given) → input_named n s values i o ≡ Ok g → IsTaker n g.0
 named_taker n s values i None g e = absurd cc

@@ -3,7 +3,7 @@ use Rattle.std.proofs.Common.{◌≡◌, ◌⊎◌, ℕ, Bool, true, false, List
 use Rattle.std.proofs.lemmas.Bool.{cases_eq}
 use Rattle.std.specs.List.{Contains, slice_get}
 use Rattle.std.specs.Prelude.{◌==◌, ◌&&◌, codes, pos, option_and_then, option_map, unwrap_or}
-use Rattle.recalc.proofs.Kept.{gives_agrees}
+use Rattle.recalc.proofs.Kept.{gives_agrees, where_map}
 use Rattle.recalc.proofs.of_app_semantics.Freshness.{read_behind}
 use Rattle.recalc.proofs.of_fx_semantics.Wider.{stays}
 use Rattle.recalc.specs.app_cells.Leaning.{LeansOn, cell_of_property, default_cell, items_cell}
@@ -11,7 +11,7 @@ use Rattle.recalc.specs.app_cells.Spots.{item_or}
 use Rattle.recalc.specs.app_cells.declared.app.App.{App}
 use Rattle.recalc.specs.app_cells.declared.app.CellInfo.{CellInfo}
 use Rattle.recalc.specs.app_semantics.Chosen.{row_at}
-use Rattle.recalc.specs.app_semantics.Fresh.{AreKnown, CanRead, IsByItself, IsValueOf, IsWhere, is_told, standing}
+use Rattle.recalc.specs.app_semantics.Fresh.{AreKnown, CanRead, IsByItself, IsValueOf, is_told, standing}
 use Rattle.recalc.specs.app_semantics.Holding.{HoldsFitting}
 use Rattle.recalc.specs.app_semantics.Laws.{OneFreshAt}
 use Rattle.recalc.specs.app_semantics.Needed.{IsFreshAt, Needs, further, is_alone, itself, stands_alone, stands_by}
@@ -271,10 +271,6 @@ seen_same a values others e t is named h = by t.item refl
         (items_same a values others i.gallery (λ d p. h d (t.control, named, inr (inl (subst (λ (j : ℕ). IsPropertyAt a j (codes "Items") d) (sym own) p)))))
 
 -- ---- whether a control is visible for an item
-
-where_map : {P P' : Type 0} (Q : Type 0) (b : Bool) → (P → P') → IsWhere b P Q → IsWhere b P' Q
-where_map Q true f h = f h
-where_map Q false f h = h
 
 value_over : (p : Present) (values others : ℕ → Data) (item : Data) (c : CellInfo) (v : Data) → ((d : ℕ) → LeansOn p.app.names c d → values d ≡ others d) → IsValueOf p values (Some item) c v → IsValueOf p others (Some item) c v
 value_over p values others item c v h y =

@@ -1,5 +1,5 @@
 -- What a session sends has one outcome.
-use Rattle.std.proofs.Common.{◌≡◌, ℕ, zero, suc, Bool, true, false, List, [], ◌∷◌, Option, Some, None, Result, Ok, Err, refl, ap, sym, ◌∙◌, subst}
+use Rattle.std.proofs.Common.{◌≡◌, ℕ, Bool, true, false, List, Option, Some, None, Result, Ok, Err, refl, ap, sym, ◌∙◌, subst}
 use Rattle.std.specs.Prelude.{codes}
 use Rattle.std.specs.List.{All}
 use Rattle.recalc.specs.app_cells.declared.app.App.{App}
@@ -16,8 +16,8 @@ use Rattle.fx_value.specs.Columns.{Row}
 use Rattle.fx_base.specs.Silence.{Goes, IsLost}
 use Rattle.fx_base.specs.Telling.{Stays}
 use Rattle.fx_trees.specs.declared.schema.Schema.{Schema}
-use Rattle.row_keeper.specs.Tables.{AreStatesOf, TableState, Tables, rows_of, rows_told, state_at}
-use Rattle.row_queries.specs.TableRows.{IsRowOf, rows_at}
+use Rattle.row_keeper.specs.Tables.{AreStatesOf, Tables, rows_told}
+use Rattle.row_queries.specs.TableRows.{IsRowOf}
 use Rattle.row_queries.specs.declared.rows.Row.{Row as TableRow}
 use Rattle.row_requests.specs.Sound.{AreSound}
 use Rattle.row_requests.proofs.Soundness.{state_is}
@@ -33,6 +33,7 @@ use Rattle.std.proofs.Math.Bool.{Bool-set}
 use Rattle.std.proofs.Math.Logic.{∥∥₁_elim}
 use Rattle.std.proofs.Props.{props}
 use Rattle.std.specs.Coded.{Coded-set}
+use Rattle.row_keeper.proofs.NumberedRows.{rows_are}
 use Rattle.session_requests.specs.Caching.{AreFreshAt}
 use Rattle.session_requests.specs.EventLaws.{OneRunning}
 use Rattle.session_requests.proofs.Items.{target_is}
@@ -132,13 +133,8 @@ all_fit p looked values x = ∥∥₁_elim x (hlevel (Bool-set, props)) (λ f. f
 
 -- ---- tables that are told
 
-rows_are : (ss : List TableState) (k : ℕ) → (state_at ss k).rows ≡ rows_at (rows_of ss) k
-rows_are [] k = refl
-rows_are (s ∷ ss) zero = refl
-rows_are (s ∷ ss) (suc k) = rows_are ss k
-
 hold : (schema : Schema) (t : Tables) → AreStatesOf schema.tables t.states → HoldRows schema (rows_told (Some t))
-hold schema t are k shape e = subst (λ (rows : List TableRow). All (IsRowOf shape) rows) (rows_are t.states k) (state_is schema.tables t.states k shape are e).fit
+hold schema t are k shape e = subst (λ (rows : List TableRow). All (IsRowOf shape) rows) (sym (rows_are t.states k)) (state_is schema.tables t.states k shape are e).fit
 
 known_of : (app : App) (t : Tables) → AreSound app.names.schema (Some t) → AreKnown app (rows_told (Some t))
 known_of app t sound = record { told = λ k c f. refl; fit = hold app.names.schema t sound }

@@ -1,8 +1,8 @@
 -- What acts at a trigger acts by its place, and sees the item of the trigger's gallery.
 use Rattle.std.proofs.Common.{◌≡◌, ℕ, Bool, true, false, cond, List, length, get_or, slice_get, Option, Some, None, codes, encode_utf8_all, bytes_eq, nat_lt, refl, ap, sym, subst, ◌∙◌}
-use Rattle.std.specs.Prelude.{◌&&◌, ◌==◌}
+use Rattle.std.specs.Prelude.{◌==◌}
 use Rattle.std.specs.List.{position, position_or_len}
-use Rattle.std.proofs.lemmas.Bool.{eqb-true, ltb-true}
+use Rattle.std.proofs.lemmas.Bool.{and_parts, eqb-true, ltb-true}
 use Rattle.std.proofs.lemmas.Slice.Eq.{bytes_eq-Decides}
 use Rattle.std.proofs.lemmas.List.Sums.{passes_at_first}
 use Rattle.std.proofs.lemmas.Option.{get_or_from_slice_get}
@@ -69,17 +69,13 @@ item_by_name : (k : ℕ) (o : Option ControlName) (p name : List ℕ) → encode
 item_by_name k (Some c) p name e = ap (λ n. item_or c.gallery (acts_for_gallery c.kind n) k) e
 item_by_name k None p name e = refl
 
-both : (a b : Bool) → (a && b) ≡ true → (a ≡ true) × (b ≡ true)
-both true b e = (refl, e)
-both false b e = absurd cc
-
 -- ---- the place of a trigger
 abbrev ActsFor : App → Option ℕ → Spot → Type 0
 ActsFor a gallery s = (acts (frame_in a) s ≡ true) × (item_of (frame_in a) s ≡ gallery)
 
 property_acts : (a : App) (k : ℕ) (name : List ℕ) (s : Spot) → NeverPure name → encode_utf8_all name ≡ name → is_property k name s ≡ true → IsSpot (frame_in a) s → ActsFor a (gallery_of a k name) s
 property_acts a k name (spot.Property c p) law own e h =
-    let w = both (c == k) (bytes_eq (encode_utf8_all p) name) e in
+    let w = and_parts (c == k) (bytes_eq (encode_utf8_all p) name) e in
     let same : c ≡ k = eqb-true c k w.0 in
     let named : encode_utf8_all p ≡ name = (bytes_eq-Decides (encode_utf8_all p) name).0 w.1 in (
       acts_by_name (slice_get a.names.controls c) p name named law h,

@@ -12,8 +12,6 @@ use Rattle.recalc.specs.app_semantics.Present.{Present}
 use Rattle.recalc.specs.Reading.{cell_value}
 use Rattle.recalc.specs.Values.{Values, value_of}
 use Rattle.row_keeper.specs.Tables.{Tables}
-use Rattle.row_requests.specs.Sound.{AreSound}
-use Rattle.fx_trees.specs.declared.schema.Schema.{Schema}
 use Rattle.session_state.specs.Changes.{FitsNames, FitsSource}
 use Rattle.session_state.specs.Sessions.{SessionState}
 use Rattle.view_text.specs.declared.refused.Refusal.{Refusal}
@@ -145,9 +143,3 @@ event_ends lost app moment name body seq s r values v t item told told' sessions
 -- what is told stays told, where no more was lost
 pub stays_lost : (k l m : Marks) → IsLater l m → (x y : Option Tables) → Goes (IsLost k l) Stays x y → Goes (IsLost k m) Stays x y
 stays_lost k l m later x y h = lost_so (IsLost k l) (IsLost k m) Stays (lost_more k l m later) x y h
-
--- tables that stay are sound
-pub still_sound : (schema : Schema) (lost : Type 0) (x y : Option Tables) → Goes lost Stays x y → AreSound schema x → AreSound schema y
-still_sound schema lost x None h f = tt
-still_sound schema lost None (Some t) h f = absurd cc
-still_sound schema lost (Some s) (Some t) h f = subst (λ (o : Tables). AreSound schema (Some o)) (sym h) f

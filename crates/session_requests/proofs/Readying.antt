@@ -31,7 +31,7 @@ use Rattle.row_queries.specs.declared.rows.Row.{Row}
 use Rattle.row_requests.specs.Sound.{AreSound}
 use Rattle.session_state.specs.Changes.{FitsNames}
 use Rattle.session_state.specs.Sessions.{SessionState}
-use Rattle.session_requests.specs.Grounds.{Grounds, IsFit, IsFreshBehind, gives, grounds, state_on}
+use Rattle.session_requests.specs.Grounds.{Grounds, IsFit, IsFreshBehind, gives, state_on}
 use Rattle.session_requests.specs.WorldLaws.{state_told}
 use Rattle.session_requests.specs.Worlds.{told_in}
 
@@ -39,28 +39,6 @@ use Rattle.session_requests.specs.Worlds.{told_in}
 -- what is heard is told
 pub not_heard : (d : Option Tables) → d ≡ None → IsSome d → ⊥
 not_heard d e h = let no = subst (λ (z : Option Tables). IsSome z) e h in absurd cc
-
--- what is told stays, where the tables stay and those with which the transaction began
-pub told_stays : (lost : Type 0) (day : Data) (a : App) (moment : ℕ) (s : SessionState) (values : List Data) (ws : List Source) (b d x y : Option Tables) → (IsSome y → IsSome d) →
-    Goes lost Stays x y → Goes lost Stays b d →
-    Goes lost Stays (option_map (told_in day (grounds a moment b) s values ws) x) (option_map (told_in day (grounds a moment d) s values ws) y)
-told_stays lost day a moment s values ws b d None y heard h k = ap (option_map (told_in day (grounds a moment d) s values ws)) h
-told_stays lost day a moment s values ws b d (Some t) None heard h k = h
-told_stays lost day a moment s values ws None d (Some t) (Some u) heard h k = absurd (not_heard d k (heard refl))
-told_stays lost day a moment s values ws (Some p) None (Some t) (Some u) heard h k = absurd (not_heard None refl (heard refl))
-told_stays lost day a moment s values ws (Some p) (Some q) (Some t) (Some u) heard h k =
-    ap (λ (z : Tables). told_in day (grounds a moment (Some z)) s values ws u) k ∙ ap (told_in day (grounds a moment (Some p)) s values ws) h
-
--- the state does, whatever is kept of cells
-pub state_stays : (lost : Type 0) (day : Data) (a : App) (moment : ℕ) (s : SessionState) (values others : List Data) (ws : List Source) (b d x y : Option Tables) → (IsSome y → IsSome d) →
-    Goes lost Stays x y → Goes lost Stays b d →
-    Goes lost Stays (state_told (option_map (told_in day (grounds a moment b) s values ws) x)) (state_told (option_map (told_in day (grounds a moment d) s others ws) y))
-state_stays lost day a moment s values others ws b d None y heard h k = ap (λ (z : Option Tables). state_told (option_map (told_in day (grounds a moment d) s others ws) z)) h
-state_stays lost day a moment s values others ws b d (Some t) None heard h k = h
-state_stays lost day a moment s values others ws None d (Some t) (Some u) heard h k = absurd (not_heard d k (heard refl))
-state_stays lost day a moment s values others ws (Some p) None (Some t) (Some u) heard h k = absurd (not_heard None refl (heard refl))
-state_stays lost day a moment s values others ws (Some p) (Some q) (Some t) (Some u) heard h k =
-    ap (λ (z : Tables). state_on (grounds a moment (Some z)) u s ws) k ∙ ap (λ (z : Tables). state_on (grounds a moment (Some p)) z s ws) h
 
 -- tables that fit do so still
 pub sound_stays : (lost : Type 0) (s : Schema) (x y : Option Tables) → Goes lost Stays x y → AreSound s x → AreSound s y

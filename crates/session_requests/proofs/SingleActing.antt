@@ -33,8 +33,8 @@ use Rattle.row_queries.specs.declared.rows.Row.{Row}
 use Rattle.row_requests.proofs.Soundness.{state_is}
 use Rattle.row_requests.specs.Sound.{AreSound}
 use Rattle.session_state.specs.Sessions.{SessionState, held}
+use Rattle.row_keeper.proofs.NumberedRows.{rows_are}
 use Rattle.session_requests.proofs.Beginnings.{performs}
-use Rattle.session_requests.proofs.Caches.{rows_are}
 use Rattle.session_requests.specs.Performing.{Acts, outermost}
 use Rattle.session_requests.specs.Grounds.{Grounds, IsFit, IsFreshBehind, gives, ground_of, grounds, present_in, state_on}
 use Rattle.session_requests.specs.OneActing.{OneActing}
@@ -43,7 +43,7 @@ use Rattle.session_requests.specs.OneActing.{OneActing}
 
 -- the rows of tables that are sound fit
 rows_hold : (schema : Schema) (t : Tables) → AreSound schema (Some t) → HoldRows schema (Some (rows_of t.states))
-rows_hold schema t are k shape e = subst (λ (rows : List Row). All (IsRowOf shape) rows) (rows_are t.states k) (state_is schema.tables t.states k shape are e).fit
+rows_hold schema t are k shape e = subst (λ (rows : List Row). All (IsRowOf shape) rows) (sym (rows_are t.states k)) (state_is schema.tables t.states k shape are e).fit
 
 -- ---- sources
 

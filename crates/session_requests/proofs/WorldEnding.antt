@@ -26,7 +26,6 @@ use Rattle.fx_typing.specs.Typing.{item_of}
 use Rattle.recalc.specs.app_semantics.Sound.{context_at}
 use Rattle.recalc.specs.app_cells.declared.app.App.{App}
 use Rattle.recalc.specs.app_cells.declared.app.CellInfo.{CellInfo}
-use Rattle.recalc.proofs.of_app_semantics.Typings.{among_left, among_right}
 use Rattle.recalc.specs.Stops.{end_of}
 use Rattle.recalc.specs.Kept.{IsInOrder, Kept}
 use Rattle.recalc.specs.Outcomes.{IsRightOver}
@@ -35,6 +34,9 @@ use Rattle.row_keeper.specs.declared.keeper.KeeperEnd.{KeeperEnd}
 use Rattle.row_keeper.specs.declared.keeper.KeeperEnd.TheVariants as end
 use Rattle.row_requests.specs.Written.{AreTablesBut}
 use Rattle.session_state.specs.Sessions.{SessionState}
+use Rattle.fx_semantics.proofs.Wider.{among_left, among_right}
+use Rattle.recalc.proofs.Evaluated.{falls}
+use Rattle.recalc.proofs.Asked.{stays}
 use Rattle.session_requests.proofs.Caches.{day_of}
 use Rattle.session_requests.specs.Caching.{AreLater, IsCached}
 use Rattle.session_requests.specs.Performing.{Acts, IsActing, Leaves, outermost}
@@ -58,14 +60,6 @@ can_act a c item h fit = record {
 -- the state before and after, by what is told
 abbrev pub told_state : Data → Grounds → SessionState → List Data → List Source → Option Tables → Option (State Grounds)
 told_state day g s values ws y = state_told (option_map (told_in day g s values ws) y)
-
-stays : (lost : Type 0) (x : Option Tables) → Goes lost Stays x x
-stays lost None = refl
-stays lost (Some a) = refl
-
-falls : (lost : Type 0) (b d : Option Tables) → d ≡ None → lost → Goes lost Stays b d
-falls lost None d e h = e
-falls lost (Some p) d e h = subst (λ (z : Option Tables). Goes lost Stays (Some p) z) (sym e) h
 
 silent : (day : Data) (g : Grounds) (s : SessionState) (values : List Data) (ws : List Source) (y : Option Tables) → told_state day g s values ws y ≡ None → y ≡ None
 silent day g s values ws None e = refl
@@ -197,10 +191,6 @@ failed_by s r e h = ended s (err_is (end_of s) end.Failed r e h)
 
 pub no_error : {T E : Type 0} (x : T) (e : E) → Ok x ≡ Err e → ⊥
 no_error x e h = absurd cc
-
--- what holds of a loan's end holds afterwards
-pub carried : {A : Type 0} (P : A → Type 0) (now last : A) → last ≡ now → P now → P last
-carried P now last e h = subst P (sym e) h
 
 pub carried_all : {A B C : Type 0} (P : A → B → C → Type 0) (now last : A) (here end : B) (there done : C) → last ≡ now → end ≡ here → done ≡ there → P now here there → P last end done
 carried_all P now last here end there done e k l h = subst (λ x. P x end done) (sym e) (subst (λ y. P now y done) (sym k) (subst (P now here) (sym l) h))

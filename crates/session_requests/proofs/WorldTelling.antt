@@ -1,15 +1,12 @@
 -- What a session tells over the rows of a keeper.
-use Rattle.std.proofs.Common.{◌≡◌, ℕ, Bool, true, List, Option, None, Some, refl, sym, subst, ap, ◌∙◌}
+use Rattle.std.proofs.Common.{◌≡◌, ℕ, true, List, Option, None, Some, refl, sym, subst, ap, ◌∙◌}
 use Rattle.std.specs.Prelude.{IsSome, option_map}
-use Rattle.std.specs.List.{slice_get}
 use Rattle.std.proofs.Math.Bool.{Bool-set}
 use Rattle.std.proofs.Math.Logic.{∥∥₁_elim}
 use Rattle.std.proofs.lemmas.List.Elements.{recursion_from_All}
 use Rattle.fx_data.specs.Types.{Shape, tables}
 use Rattle.fx_data.specs.Values.{Data}
-use Rattle.fx_deeds.specs.State.{State}
-use Rattle.fx_env.specs.Queries.{AreValuesOf, KeepsTables}
-use Rattle.fx_env.specs.Telling.{Told, tables_told, values_told}
+use Rattle.fx_env.specs.Telling.{values_told}
 use Rattle.fx_eval.proofs.of_fx_plan.Placing.{lawful_at}
 use Rattle.fx_scalar.specs.ScalarFunctions.{IsToday}
 use Rattle.fx_semantics.specs.Sources.{FitsIn, Gives as GivesTold, IsTold}
@@ -36,9 +33,8 @@ use Rattle.row_queries.specs.TableRows.{table_of}
 use Rattle.row_queries.specs.declared.rows.Row.{Row}
 use Rattle.session_state.specs.Changes.{FitsNames, IsOwn}
 use Rattle.session_state.specs.Sessions.{Holds, SessionState}
-use Rattle.session_requests.specs.Anchors.{Anchor}
-use Rattle.session_requests.specs.Grounds.{Grounds, grounds}
-use Rattle.session_requests.specs.Worlds.{FitsAll, IsNoTable, fixed_in, told_in}
+use Rattle.session_requests.specs.Grounds.{Grounds}
+use Rattle.session_requests.specs.Worlds.{FitsAll, IsNoTable, told_in}
 
 -- ---- what sources are worth fits
 pub holding : (n : Names) (s : SessionState) → FitsNames n s → HoldsFitting n s
@@ -57,33 +53,6 @@ own_held n s x f h own = by (sources n x) refl h
     by : (o : Option Shape) → sources n x ≡ o → IsSome o → Holds s x
     by (Some t) e h = f.sources_held x t own e
     by None e h = absurd cc
-
-some_shape : (o : Option TableShape) → IsSome (option_map (λ (t : TableShape). tables (columns_of t)) o) → IsSome o
-some_shape (Some t) h = refl
-some_shape None h = absurd cc
-
-pub table_there : (n : Names) (x : Source) (k : ℕ) → IsSome (sources n x) → x ≡ source.Table k → IsSome (slice_get n.schema.tables k)
-table_there n x k h e = some_shape (slice_get n.schema.tables k) (subst (λ y. IsSome (sources n y)) e h)
-
--- the rows that are told are the keeper's
-pub tables_in : (day : Data) (g : Grounds) (s : SessionState) (values : List Data) (ws : List Source) (y : Option Tables) → tables_told (option_map (told_in day g s values ws) y) ≡ rows_told y
-tables_in day g s values ws None = refl
-tables_in day g s values ws (Some t) = refl
-
--- each table may be read, and its value is that of its rows
-pub keeps_tables : (h : Anchor) (day : Data) (began : Option Tables) (s : SessionState) (values : List Data) (ws : List Source) (i c j p : ℕ) (loan : Option ℕ) (mode : Bool) (y : Option Tables) →
-    IsLawfulSchema h.app.names.schema → KeepsTables (fixed_in h i c j p loan mode) (option_map (told_in day (grounds h.app h.moment began) s values ws) y)
-keeps_tables h day began s values ws i c j p loan mode y lawful = record {
-  lawful = lawful;
-  read = λ k t e. ap (λ (o : Option TableShape). option_map (λ (x : TableShape). tables (columns_of x)) o) e;
-  values = λ w e. by y w e;
-}
-  where
-    by : (y : Option Tables) (w : Told (State Grounds)) → option_map (told_in day (grounds h.app h.moment began) s values ws) y ≡ Some w → AreValuesOf h.app.names.schema.tables w.values w.tables
-    by None w e = absurd cc
-    by (Some a) w e =
-        let same : told_in day (grounds h.app h.moment began) s values ws a ≡ w = cc in
-        subst (λ (x : Told (State Grounds)). AreValuesOf h.app.names.schema.tables x.values x.tables) same (λ k t there. ap (λ (o : Option TableShape). table_told o (Some (rows_of a.states)) k) there)
 
 -- what a table gives
 pub table_given : RowsFit → (day : Data) (g : Grounds) (s : SessionState) (values : List Data) (ws : List Source) (y : Option Tables) (k : ℕ) (x : Source) (v : Data) →

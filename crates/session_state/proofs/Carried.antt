@@ -4,6 +4,8 @@ use Rattle.std.specs.Prelude.{option_and_then, option_map, slice_get}
 use Rattle.std.specs.List.{range_with_len}
 use Rattle.std.proofs.lemmas.List.FromFn.{get_or-map-range_with_len, length-map-range_with_len}
 use Rattle.std.proofs.lemmas.List.Quantifiers.{position-Some}
+use Rattle.std.proofs.lemmas.Bool.{and_parts}
+use Rattle.std.proofs.lemmas.Option.{get_or_from_slice_get}
 use Rattle.fx_data.specs.TypeView.{shape}
 use Rattle.fx_data.specs.Types.{Shape}
 use Rattle.fx_data.specs.Values.{Data, blank, tab, no_rows}
@@ -16,7 +18,7 @@ use Rattle.fx_trees.specs.declared.names.Names.{Names}
 use Rattle.fx_trees.specs.declared.names.Variable.{Variable}
 use Rattle.fx_trees.specs.declared.sources.Source.{Source}
 use Rattle.fx_trees.specs.declared.sources.Source.TheVariants as source
-use Rattle.fx_typing.proofs.Same.{both, shape_same}
+use Rattle.fx_typing.proofs.Same.{shape_same}
 use Rattle.session_state.specs.Carrying.{AreAlike, carried, carried_values, value_or, is_same_screen, is_same_variable, variable_was, collection_was, place_of_variable, place_of_collection}
 use Rattle.session_state.specs.Changes.{FitsNames, HoldsTables, IsOwn}
 use Rattle.session_state.specs.Sessions.{Holds, SessionState, held}
@@ -42,18 +44,13 @@ held_within n f k lt = let e = length-map-range_with_len f 0 n in omega arith
 
 -- ---- the variable that a place was
 
-slice_get_or : {A : Type 0} (xs : List A) (i : ℕ) (x d : A) → slice_get xs i ≡ Some x → get_or xs i d ≡ x
-slice_get_or [] i x d e = absurd cc
-slice_get_or (y ∷ ys) zero x d e = let is : y ≡ x = let h : Some y ≡ Some x = e in cc in is
-slice_get_or (y ∷ ys) (suc i) x d e = slice_get_or ys i x d e
-
 same_variable : (n m : Names) (a b : Variable) (i : ℕ) → place_of_variable n m b ≡ Some i → slice_get n.variables i ≡ Some a → is_same_variable n m a b ≡ true
 same_variable n m a b i found at =
     let passes = (position-Some (λ v. is_same_variable n m v b) n.variables i a found).1 in
-    ap (λ (v : Variable). is_same_variable n m v b) (sym (slice_get_or n.variables i a a at)) ∙ passes
+    ap (λ (v : Variable). is_same_variable n m v b) (sym (get_or_from_slice_get n.variables i a a at)) ∙ passes
 
 same_screen : (n m : Names) (a b : Variable) → is_same_variable n m a b ≡ true → is_same_screen n m a.screen b.screen ≡ true
-same_screen n m a b e = (both _ _ e).1
+same_screen n m a b e = (and_parts _ _ e).1
 
 one_global : (n m : Names) (o p : Option ℕ) (s t : Shape) → is_same_screen n m o p ≡ true → if_global p t ≡ Some s → if_global o t ≡ Some s
 one_global n m None None s t e f = f

@@ -24,11 +24,11 @@ use Rattle.view_text.specs.declared.refused.Refusal.{Refusal}
 use Rattle.view_text.specs.declared.refused.Detail.{Detail}
 use Rattle.view_text.specs.declared.refused.Detail.TheVariants as detail
 
-integer_has_none : (z : ℤ) → is_float (of_integer z) ≡ false
+pub integer_has_none : (z : ℤ) → is_float (of_integer z) ≡ false
 integer_has_none (pos n) = refl
 integer_has_none (negsuc n) = refl
 
-either_has_none : (b : Bool) (c d : json.Data) → has_float c ≡ false → has_float d ≡ false → has_float (cond b c d) ≡ false
+pub either_has_none : (b : Bool) (c d : json.Data) → has_float c ≡ false → has_float d ≡ false → has_float (cond b c d) ≡ false
 either_has_none true c d h k = h
 either_has_none false c d h k = k
 

@@ -1,3 +1,3 @@
-mod Floats
+pub mod Floats
 mod JsonLemmas
 mod Quotes

@@ -1,5 +1,5 @@
 use Rattle.std.proofs.Common.{◌≡◌, ◌∷◌, [], ◌∙◌, List, map, true, ap, sym, subst, refl, arith, inl, inr}
-use Rattle.std.proofs.lemmas.List.{map-append}
+use Rattle.std.proofs.lemmas.List.{map-append, nil_from_length}
 use Rattle.std.proofs.lemmas.Result.{IfOk-weaker}
 use Rattle.std.specs.Prelude.{IfOk}
 use Rattle.fx_base.proofs.Silences.{rose_before}
@@ -25,7 +25,6 @@ use Rattle.fx_trees.specs.TermView.{branch}
 use Rattle.fx_value.specs.Fits.{fits_in}
 use Rattle.fx_trees.specs.declared.deeds.Deed.TheVariants as deed
 use Rattle.fx_deeds.proofs.Passing.{passed_nowhere, passed_on}
-use Rattle.fx_deeds.proofs.Steps.{none_left}
 use Rattle.fx_deeds.proofs.Allowing.{only_nowhere, only_on, only_over, only_staying, only_wider}
 use Rattle.fx_deeds.specs.Doable.{AnswersAs, CanDo, CanUpdate}
 use Rattle.fx_deeds.specs.Done.{IsDeed, IsUpdate}
@@ -106,7 +105,7 @@ chain-returns-in_err-perform-clause-passed g t c =
 
 pub chain-unreachable-requires : goal.chain-unreachable-requires
 chain-unreachable-requires g t c =
-    subst (EndsIn (g.W.Env.fixed c.args.world.now).types c.args.scope.now c.requires.0) (none_left _ c.in_default.ensures.cases) (c.loop-part.invariant.fits c.requires.0 c.requires.1)
+    subst (EndsIn (g.W.Env.fixed c.args.world.now).types c.args.scope.now c.requires.0) (nil_from_length _ c.in_default.ensures.cases) (c.loop-part.invariant.fits c.requires.0 c.requires.1)
 
 pub node-chain-requires : goal.node-chain-requires
 node-chain-requires g t c κs within =
@@ -216,7 +215,7 @@ node-list-requires g t c =
 
 pub for_all-unreachable-requires : goal.for_all-unreachable-requires
 for_all-unreachable-requires g t c =
-    formula_there (g.W.Env.fixed c.args.world.now).types c.args.scope.now c.args.table.now c.args.parts.now c.requires.0 c.requires.1 (none_left _ c.in_default.ensures.cases)
+    formula_there (g.W.Env.fixed c.args.world.now).types c.args.scope.now c.args.table.now c.args.parts.now c.requires.0 c.requires.1 (nil_from_length _ c.in_default.ensures.cases)
 
 pub for_all-perform-requires : goal.for_all-perform-requires
 for_all-perform-requires g t c κs within = (
@@ -405,7 +404,7 @@ perform-returns-else-acts-clause-fits g t c =
 
 pub switch-unreachable-requires : goal.switch-unreachable-requires
 switch-unreachable-requires g t c =
-    left.switch_there (g.W.Env.fixed c.args.world.now).types c.args.scope.now c.requires.0 c.args.parts.now (none_left _ c.in_default.ensures.cases) c.requires.1
+    left.switch_there (g.W.Env.fixed c.args.world.now).types c.args.scope.now c.requires.0 c.args.parts.now (nil_from_length _ c.in_default.ensures.cases) c.requires.1
 
 pub switch-perform-requires : goal.switch-perform-requires
 switch-perform-requires g t c κs within =
@@ -464,12 +463,12 @@ branches-returns-in_default-split_first-clause-passed g t c =
 pub branches-returns-in_default-split_first-clause-done : goal.branches-returns-in_default-split_first-clause-done
 branches-returns-in_default-split_first-clause-done g t c =
     IfOk-weaker c.perform.result _ _
-    (λ v k. steps.branch_ends g.W.World.gives _ _ _ _ _ _ _ _ _ _ (steps.branches_of decision_of (ground g.W.World.gives (g.W.Env.fixed c.args.world.now)) c.args.scope.now c.args.parts.now) c.in-Some.part.now c.in-Some.others.now c.loop-part.rest.now (view v) c.loop-part.invariant.passed.fixed c.loop-part.invariant.scope c.loop-part.invariant.passed.later c.perform.ensures.passed.later c.in-Some.ensures.cases.0 decision_of (none_left _ c.in_default-split_first.ensures.cases) c.loop-part.invariant.done k)
+    (λ v k. steps.branch_ends g.W.World.gives _ _ _ _ _ _ _ _ _ _ (steps.branches_of decision_of (ground g.W.World.gives (g.W.Env.fixed c.args.world.now)) c.args.scope.now c.args.parts.now) c.in-Some.part.now c.in-Some.others.now c.loop-part.rest.now (view v) c.loop-part.invariant.passed.fixed c.loop-part.invariant.scope c.loop-part.invariant.passed.later c.perform.ensures.passed.later c.in-Some.ensures.cases.0 decision_of (nil_from_length _ c.in_default-split_first.ensures.cases) c.loop-part.invariant.done k)
     c.perform.ensures.done
 
 pub branches-returns-in_default-split_first-clause-fits : goal.branches-returns-in_default-split_first-clause-fits
 branches-returns-in_default-split_first-clause-fits g t c =
-    λ u r. c.perform.ensures.fits u (steps.moved (λ f h. IsActable f.types h c.in-Some.part.now u) _ _ _ _ c.loop-part.invariant.passed.fixed c.loop-part.invariant.scope (left.branch_last (g.W.Env.fixed c.args.world.now).types c.args.scope.now u c.in-Some.part.now c.in-Some.others.now c.loop-part.rest.now c.in-Some.ensures.cases.0 (none_left _ c.in_default-split_first.ensures.cases) (c.loop-part.invariant.fits u r)))
+    λ u r. c.perform.ensures.fits u (steps.moved (λ f h. IsActable f.types h c.in-Some.part.now u) _ _ _ _ c.loop-part.invariant.passed.fixed c.loop-part.invariant.scope (left.branch_last (g.W.Env.fixed c.args.world.now).types c.args.scope.now u c.in-Some.part.now c.in-Some.others.now c.loop-part.rest.now c.in-Some.ensures.cases.0 (nil_from_length _ c.in_default-split_first.ensures.cases) (c.loop-part.invariant.fits u r)))
 
 pub branches-returns-in_err-value-clause-passed : goal.branches-returns-in_err-value-clause-passed
 branches-returns-in_err-value-clause-passed g t c =
@@ -522,7 +521,7 @@ branches-returns-in-Error-clause-done g t c =
 
 pub branches-returns-clause-done : goal.branches-returns-clause-done
 branches-returns-clause-done g t c =
-    steps.branch_none decision_of (ground g.W.World.gives (g.W.Env.fixed c.args.world.now)) c.args.scope.now (IsLost (g.W.Env.marks c.args.world.now) (g.W.Env.marks c.loop-part.world)) (g.W.World.state c.args.world.now) (g.W.World.state c.loop-part.world) (steps.branches_of decision_of (ground g.W.World.gives (g.W.Env.fixed c.args.world.now)) c.args.scope.now c.args.parts.now) c.loop-part.rest.now (none_left _ c.in_default.ensures.cases) c.loop-part.invariant.done
+    steps.branch_none decision_of (ground g.W.World.gives (g.W.Env.fixed c.args.world.now)) c.args.scope.now (IsLost (g.W.Env.marks c.args.world.now) (g.W.Env.marks c.loop-part.world)) (g.W.World.state c.args.world.now) (g.W.World.state c.loop-part.world) (steps.branches_of decision_of (ground g.W.World.gives (g.W.Env.fixed c.args.world.now)) c.args.scope.now c.args.parts.now) c.loop-part.rest.now (nil_from_length _ c.in_default.ensures.cases) c.loop-part.invariant.done
 
 pub matches-perform-requires : goal.matches-perform-requires
 matches-perform-requires g t c κs within =
@@ -545,12 +544,12 @@ matches-returns-in_default-split_first-clause-passed g t c =
 pub matches-returns-in_default-split_first-clause-done : goal.matches-returns-in_default-split_first-clause-done
 matches-returns-in_default-split_first-clause-done g t c =
     IfOk-weaker c.perform.result _ _
-    (λ v k. steps.branch_ends g.W.World.gives _ _ _ _ _ _ _ _ _ _ (steps.branches_of (matching (view c.args.wanted)) (ground g.W.World.gives (g.W.Env.fixed c.args.world.now)) c.args.scope.now c.args.parts.now) c.in-Some.part.now c.in-Some.others.now c.loop-part.rest.now (view v) c.loop-part.invariant.passed.fixed c.loop-part.invariant.scope c.loop-part.invariant.passed.later c.perform.ensures.passed.later c.in-Some.ensures.cases.0 (matching (view c.args.wanted)) (none_left _ c.in_default-split_first.ensures.cases) c.loop-part.invariant.done k)
+    (λ v k. steps.branch_ends g.W.World.gives _ _ _ _ _ _ _ _ _ _ (steps.branches_of (matching (view c.args.wanted)) (ground g.W.World.gives (g.W.Env.fixed c.args.world.now)) c.args.scope.now c.args.parts.now) c.in-Some.part.now c.in-Some.others.now c.loop-part.rest.now (view v) c.loop-part.invariant.passed.fixed c.loop-part.invariant.scope c.loop-part.invariant.passed.later c.perform.ensures.passed.later c.in-Some.ensures.cases.0 (matching (view c.args.wanted)) (nil_from_length _ c.in_default-split_first.ensures.cases) c.loop-part.invariant.done k)
     c.perform.ensures.done
 
 pub matches-returns-in_default-split_first-clause-fits : goal.matches-returns-in_default-split_first-clause-fits
 matches-returns-in_default-split_first-clause-fits g t c =
-    λ u r. c.perform.ensures.fits u (steps.moved (λ f h. IsActable f.types h c.in-Some.part.now u) _ _ _ _ c.loop-part.invariant.passed.fixed c.loop-part.invariant.scope (left.match_last (g.W.Env.fixed c.args.world.now).types c.args.scope.now (view c.args.wanted) u c.in-Some.part.now c.in-Some.others.now c.loop-part.rest.now c.in-Some.ensures.cases.0 (none_left _ c.in_default-split_first.ensures.cases) (c.loop-part.invariant.fits u r)))
+    λ u r. c.perform.ensures.fits u (steps.moved (λ f h. IsActable f.types h c.in-Some.part.now u) _ _ _ _ c.loop-part.invariant.passed.fixed c.loop-part.invariant.scope (left.match_last (g.W.Env.fixed c.args.world.now).types c.args.scope.now (view c.args.wanted) u c.in-Some.part.now c.in-Some.others.now c.loop-part.rest.now c.in-Some.ensures.cases.0 (nil_from_length _ c.in_default-split_first.ensures.cases) (c.loop-part.invariant.fits u r)))
 
 pub matches-returns-in_err-value-clause-passed : goal.matches-returns-in_err-value-clause-passed
 matches-returns-in_err-value-clause-passed g t c =
@@ -604,7 +603,7 @@ matches-returns-in-Error-clause-done g t c =
 
 pub matches-returns-clause-done : goal.matches-returns-clause-done
 matches-returns-clause-done g t c =
-    steps.branch_none (matching (view c.args.wanted)) (ground g.W.World.gives (g.W.Env.fixed c.args.world.now)) c.args.scope.now (IsLost (g.W.Env.marks c.args.world.now) (g.W.Env.marks c.loop-part.world)) (g.W.World.state c.args.world.now) (g.W.World.state c.loop-part.world) (steps.branches_of (matching (view c.args.wanted)) (ground g.W.World.gives (g.W.Env.fixed c.args.world.now)) c.args.scope.now c.args.parts.now) c.loop-part.rest.now (none_left _ c.in_default.ensures.cases) c.loop-part.invariant.done
+    steps.branch_none (matching (view c.args.wanted)) (ground g.W.World.gives (g.W.Env.fixed c.args.world.now)) c.args.scope.now (IsLost (g.W.Env.marks c.args.world.now) (g.W.Env.marks c.loop-part.world)) (g.W.World.state c.args.world.now) (g.W.World.state c.loop-part.world) (steps.branches_of (matching (view c.args.wanted)) (ground g.W.World.gives (g.W.Env.fixed c.args.world.now)) c.args.scope.now c.args.parts.now) c.loop-part.rest.now (nil_from_length _ c.in_default.ensures.cases) c.loop-part.invariant.done
 
 pub matches-decide_match-requires : goal.matches-decide_match-requires
 matches-decide_match-requires g t c =
@@ -633,7 +632,7 @@ recover-returns-in_default-split_first-clause-passed g t c =
 pub recover-returns-in_default-split_first-clause-done : goal.recover-returns-in_default-split_first-clause-done
 recover-returns-in_default-split_first-clause-done g t c =
     IfOk-weaker c.perform.result _ _
-    (λ v k. steps.recovery_ends g.W.World.gives _ _ _ _ _ _ _ _ _ _ (steps.recovery_of (ground g.W.World.gives (g.W.Env.fixed c.args.world.now)) c.args.scope.now (none_left_of form.IfError) c.args.parts.now) c.in-Some.part.now c.in-Some.others.now c.loop-part.rest.now (view v) c.loop-part.invariant.passed.fixed c.loop-part.invariant.scope c.loop-part.invariant.passed.later c.perform.ensures.passed.later c.in-Some.ensures.cases.0 (view c.loop-part.last) (none_left _ c.in_default-split_first.ensures.cases) c.loop-part.invariant.done k)
+    (λ v k. steps.recovery_ends g.W.World.gives _ _ _ _ _ _ _ _ _ _ (steps.recovery_of (ground g.W.World.gives (g.W.Env.fixed c.args.world.now)) c.args.scope.now (none_left_of form.IfError) c.args.parts.now) c.in-Some.part.now c.in-Some.others.now c.loop-part.rest.now (view v) c.loop-part.invariant.passed.fixed c.loop-part.invariant.scope c.loop-part.invariant.passed.later c.perform.ensures.passed.later c.in-Some.ensures.cases.0 (view c.loop-part.last) (nil_from_length _ c.in_default-split_first.ensures.cases) c.loop-part.invariant.done k)
     c.perform.ensures.done
 
 pub recover-returns-in_default-split_first-clause-fits : goal.recover-returns-in_default-split_first-clause-fits
@@ -684,7 +683,7 @@ recover-loop-part-preserved g t c =
 
 pub recover-returns-clause-done : goal.recover-returns-clause-done
 recover-returns-clause-done g t c =
-    steps.recovery_none (view c.loop-part.last) (ground g.W.World.gives (g.W.Env.fixed c.args.world.now)) c.args.scope.now (IsLost (g.W.Env.marks c.args.world.now) (g.W.Env.marks c.loop-part.world)) (g.W.World.state c.args.world.now) (g.W.World.state c.loop-part.world) (steps.recovery_of (ground g.W.World.gives (g.W.Env.fixed c.args.world.now)) c.args.scope.now (none_left_of form.IfError) c.args.parts.now) c.loop-part.rest.now (none_left _ c.in_default.ensures.cases) c.loop-part.invariant.done
+    steps.recovery_none (view c.loop-part.last) (ground g.W.World.gives (g.W.Env.fixed c.args.world.now)) c.args.scope.now (IsLost (g.W.Env.marks c.args.world.now) (g.W.Env.marks c.loop-part.world)) (g.W.World.state c.args.world.now) (g.W.World.state c.loop-part.world) (steps.recovery_of (ground g.W.World.gives (g.W.Env.fixed c.args.world.now)) c.args.scope.now (none_left_of form.IfError) c.args.parts.now) c.loop-part.rest.now (nil_from_length _ c.in_default.ensures.cases) c.loop-part.invariant.done
 
 pub each-in_scope-requires : goal.each-in_scope-requires
 each-in_scope-requires g t c κs within = (
@@ -712,7 +711,7 @@ each-loop-row-preserved g t c =
 
 pub each-returns-clause-done : goal.each-returns-clause-done
 each-returns-clause-done g t c =
-    steps.each_ends (IsLost (g.W.Env.marks c.args.world.now) (g.W.Env.marks c.loop-row.world)) (g.W.World.state c.args.world.now) (g.W.World.state c.loop-row.world) (ground g.W.World.gives (g.W.Env.fixed c.args.world.now)) c.args.scope.now c.args.formula.now (steps.each_of (ground g.W.World.gives (g.W.Env.fixed c.args.world.now)) c.args.scope.now c.args.formula.now c.args.rows.now) (map view c.loop-row.values.items) c.loop-row.rest.now (none_left _ c.in_default.ensures.cases) c.loop-row.invariant.done
+    steps.each_ends (IsLost (g.W.Env.marks c.args.world.now) (g.W.Env.marks c.loop-row.world)) (g.W.World.state c.args.world.now) (g.W.World.state c.loop-row.world) (ground g.W.World.gives (g.W.Env.fixed c.args.world.now)) c.args.scope.now c.args.formula.now (steps.each_of (ground g.W.World.gives (g.W.Env.fixed c.args.world.now)) c.args.scope.now c.args.formula.now c.args.rows.now) (map view c.loop-row.values.items) c.loop-row.rest.now (nil_from_length _ c.in_default.ensures.cases) c.loop-row.invariant.done
 
 pub each-returns-clause-fits : goal.each-returns-clause-fits
 each-returns-clause-fits g t c =
@@ -747,11 +746,11 @@ part_values-loop-part-preserved g t c =
 
 pub part_values-returns-clause-done : goal.part_values-returns-clause-done
 part_values-returns-clause-done g t c =
-    steps.performed_ends (IsLost (g.W.Env.marks c.args.world.now) (g.W.Env.marks c.loop-part.world)) (g.W.World.state c.args.world.now) (g.W.World.state c.loop-part.world) (ground g.W.World.gives (g.W.Env.fixed c.args.world.now)) c.args.scope.now (steps.parts_of (ground g.W.World.gives (g.W.Env.fixed c.args.world.now)) c.args.scope.now c.args.parts.now) (map view c.loop-part.values.items) c.loop-part.rest.now (none_left _ c.in_default.ensures.cases) c.loop-part.invariant.done
+    steps.performed_ends (IsLost (g.W.Env.marks c.args.world.now) (g.W.Env.marks c.loop-part.world)) (g.W.World.state c.args.world.now) (g.W.World.state c.loop-part.world) (ground g.W.World.gives (g.W.Env.fixed c.args.world.now)) c.args.scope.now (steps.parts_of (ground g.W.World.gives (g.W.Env.fixed c.args.world.now)) c.args.scope.now c.args.parts.now) (map view c.loop-part.values.items) c.loop-part.rest.now (nil_from_length _ c.in_default.ensures.cases) c.loop-part.invariant.done
 
 pub part_values-returns-clause-fits : goal.part_values-returns-clause-fits
 part_values-returns-clause-fits g t c =
-    λ us r. left.left_ends (g.W.Env.fixed c.args.world.now).types c.args.scope.now us (map view c.loop-part.values.items) c.loop-part.rest.now (none_left _ c.in_default.ensures.cases) (c.loop-part.invariant.fits us r)
+    λ us r. left.left_ends (g.W.Env.fixed c.args.world.now).types c.args.scope.now us (map view c.loop-part.values.items) c.loop-part.rest.now (nil_from_length _ c.in_default.ensures.cases) (c.loop-part.invariant.fits us r)
 
 pub part_values-loop-part-init : goal.part_values-loop-part-init
 part_values-loop-part-init g t c =

@@ -1,8 +1,8 @@
 use Rattle.std.proofs.Common.{ap}
+use Rattle.std.proofs.lemmas.List.{nil_from_length}
 use Rattle.fx_data.specs.declared.values.Value.TheVariants.{Rec}
 use Rattle.fx_semantics.specs.Around.{record_of}
 use Rattle.fx_deeds.proofs.Lefting.{left_ends, left_start, left_stays, left_takes, still_records}
-use Rattle.fx_deeds.proofs.Steps.{none_left}
 use Rattle.fx_deeds.proofs.filtering.rows_left.Goals as goal
 
 pub loop-row-init : goal.loop-row-init
@@ -23,4 +23,4 @@ loop-row-preserved c = record {
 }
 
 pub returns : goal.returns
-returns c = left_ends c.args.rows.now _ _ c.args.kept.now c.loop-row.wanted.now (none_left _ c.in_default.ensures.cases) c.loop-row.invariant.left
+returns c = left_ends c.args.rows.now _ _ c.args.kept.now c.loop-row.wanted.now (nil_from_length _ c.in_default.ensures.cases) c.loop-row.invariant.left

@@ -1,6 +1,6 @@
+use Rattle.std.proofs.lemmas.List.{nil_from_length}
 use Rattle.fx_data.specs.ValueView.{view}
 use Rattle.fx_deeds.proofs.RowSteps.{change_goes, changed_rises}
-use Rattle.fx_deeds.proofs.Steps.{none_left}
 use Rattle.fx_deeds.proofs.row_changes.changed_row.Goals as goal
 
 pub loop-column-preserved : goal.loop-column-preserved
@@ -11,4 +11,4 @@ loop-column-preserved c =
 
 pub from_rising-requires : goal.from_rising-requires
 from_rising-requires c =
-    changed_rises c.args.columns.now c.args.changes.now c.args.row.now c.loop-column.items.items c.loop-column.rest.now c.loop-column.invariant (none_left _ c.in_default.ensures.cases) c.as_slice-rest.ensures.rising
+    changed_rises c.args.columns.now c.args.changes.now c.args.row.now c.loop-column.items.items c.loop-column.rest.now c.loop-column.invariant (nil_from_length _ c.in_default.ensures.cases) c.as_slice-rest.ensures.rising

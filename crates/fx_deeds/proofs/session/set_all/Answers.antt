@@ -1,6 +1,7 @@
+use Rattle.std.proofs.lemmas.List.{nil_from_length}
 use Rattle.fx_base.specs.Silence.{IsLost}
 use Rattle.fx_deeds.proofs.Passing.{passed_on}
-use Rattle.fx_deeds.proofs.Steps.{can_rest, none_left, set_ends, set_goes, set_refused, setting}
+use Rattle.fx_deeds.proofs.Steps.{can_rest, set_ends, set_goes, set_refused, setting}
 use Rattle.fx_deeds.proofs.Allowing.{first_among, only_over, others_among}
 use Rattle.fx_deeds.specs.Writable.{IsOneOf}
 use Rattle.fx_deeds.proofs.session.set_all.Goals as goal
@@ -26,7 +27,7 @@ loop-value-preserved g c = record {
 pub returns-clause-done : goal.returns-clause-done
 returns-clause-done g c =
     set_ends (IsLost (g.W.Env.marks c.args.world.now) (g.W.Env.marks c.loop-value.world)) (g.W.Env.fixed c.args.world.now).types (g.W.World.state c.args.world.now) (g.W.World.state c.loop-value.world)
-    (setting c.args.variables.now c.args.values.now) c.loop-value.names.now c.loop-value.rest.now (none_left _ c.in_default.ensures.cases) c.loop-value.invariant.can c.loop-value.invariant.done
+    (setting c.args.variables.now c.args.values.now) c.loop-value.names.now c.loop-value.rest.now (nil_from_length _ c.in_default.ensures.cases) c.loop-value.invariant.can c.loop-value.invariant.done
 
 pub returns-in_err-change-clause-only : goal.returns-in_err-change-clause-only
 returns-in_err-change-clause-only g c =

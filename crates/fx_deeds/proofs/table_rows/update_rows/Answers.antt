@@ -1,11 +1,11 @@
 use Rattle.std.proofs.Common.{◌∷◌, [], map, inl, inr, subst, sym}
+use Rattle.std.proofs.lemmas.List.{nil_from_length}
 use Rattle.fx_base.specs.Silence.{IsLost}
 use Rattle.fx_data.specs.ValueView.{view}
 use Rattle.fx_env.specs.Scopes.{Fixed}
 use Rattle.fx_trees.specs.declared.sources.Source.TheVariants as source
 use Rattle.fx_deeds.proofs.Passing.{passed_on}
 use Rattle.fx_deeds.proofs.Patching.{update_ends, update_goes, update_stops, updating}
-use Rattle.fx_deeds.proofs.Steps.{none_left}
 use Rattle.fx_deeds.proofs.Allowing.{only_on}
 use Rattle.fx_deeds.specs.Finding.{CanChangeEach, IsShape}
 use Rattle.fx_deeds.specs.Writable.{IsOneOf}
@@ -40,12 +40,12 @@ loop-row-preserved g c = record {
 pub returns-in_default-split_first-clause-done : goal.returns-in_default-split_first-clause-done
 returns-in_default-split_first-clause-done g c =
     update_ends (IsLost (g.W.Env.marks c.args.world.now) (g.W.Env.marks c.loop-row.world)) (g.W.World.state c.args.world.now) (g.W.World.state c.loop-row.world) (updating c.args.shape.now c.args.table c.args.rows.now c.args.changes.now)
-    c.args.shape.now c.args.table c.loop-row.rest.now c.loop-row.left.now (inr (none_left _ c.in_default-split_first.ensures.cases)) c.loop-row.invariant.done
+    c.args.shape.now c.args.table c.loop-row.rest.now c.loop-row.left.now (inr (nil_from_length _ c.in_default-split_first.ensures.cases)) c.loop-row.invariant.done
 
 pub returns-clause-done : goal.returns-clause-done
 returns-clause-done g c =
     update_ends (IsLost (g.W.Env.marks c.args.world.now) (g.W.Env.marks c.loop-row.world)) (g.W.World.state c.args.world.now) (g.W.World.state c.loop-row.world) (updating c.args.shape.now c.args.table c.args.rows.now c.args.changes.now)
-    c.args.shape.now c.args.table c.loop-row.rest.now c.loop-row.left.now (inl (none_left _ c.in_default.ensures.cases)) c.loop-row.invariant.done
+    c.args.shape.now c.args.table c.loop-row.rest.now c.loop-row.left.now (inl (nil_from_length _ c.in_default.ensures.cases)) c.loop-row.invariant.done
 
 pub returns-in-Some-2-clause-passed : goal.returns-in-Some-2-clause-passed
 returns-in-Some-2-clause-passed g c = passed_on _ _ _ c.loop-row.invariant.passed c.update_row.ensures.passed

@@ -1,5 +1,5 @@
+use Rattle.std.proofs.lemmas.List.{nil_from_length}
 use Rattle.fx_data.specs.Types.{column_list}
-use Rattle.fx_deeds.proofs.Steps.{none_left}
 use Rattle.fx_deeds.proofs.Updating.{with_ends, with_fits, with_stays, with_takes}
 use Rattle.fx_deeds.proofs.updates.rows_with.Goals as goal
 
@@ -16,7 +16,7 @@ loop-row-preserved c =
 
 pub returns-clause-with : goal.returns-clause-with
 returns-clause-with c =
-    with_ends (column_list c.args.columns.now) c.args.rows.now c.loop-row.made c.loop-row.rest.now c.args.kept.now c.args.changes.now c.loop-row.wanted.now c.loop-row.left.now (none_left _ c.in_default.ensures.cases) c.loop-row.invariant
+    with_ends (column_list c.args.columns.now) c.args.rows.now c.loop-row.made c.loop-row.rest.now c.args.kept.now c.args.changes.now c.loop-row.wanted.now c.loop-row.left.now (nil_from_length _ c.in_default.ensures.cases) c.loop-row.invariant
 
 pub returns-clause-fits : goal.returns-clause-fits
 returns-clause-fits c =

@@ -11,7 +11,7 @@ use Rattle.fx_eval.proofs.Queried.{answered_went, asked_worth, constants_smaller
 use Rattle.fx_eval.proofs.Ready.{formula_ready, ready_fits}
 use Rattle.fx_eval.proofs.Rows.{asked_there, each_step, given_step, inside_at, make_there, over_there, part_asked, table_can}
 use Rattle.fx_eval.proofs.SettledTrees.{settled_smaller, settled_there, settled_worth}
-use Rattle.fx_eval.proofs.Sizes.{condition_falls, field_is_smaller, fields_fall, formula_falls, one_falls, part_is_smaller, parts_fall, rest_falls, table_falls}
+use Rattle.fx_eval.proofs.Sizes.{condition_falls, field_is_smaller, fields_fall, formula_falls, one_falls, parts_fall, rest_falls, table_falls}
 use Rattle.fx_eval.proofs.Standings.{all_ready, any_ready, coalesce_ready, fields_ready, if_ready, recover_ready, switch_ready}
 use Rattle.fx_eval.proofs.EvalSteps.{beyond_then, branch_then, end_step, fallback_then, next_falls, next_step, some_there, then_step, turn_step}
 use Rattle.fx_eval.proofs.Values.{field_fine, filled_step, part_fine, values_step}
@@ -36,6 +36,7 @@ use Rattle.fx_trees.specs.TermView.{branch}
 use Rattle.fx_typing.specs.WellTyped.{inside, plain}
 use Rattle.fx_eval.specs.Given.{IsGiven, given}
 use Rattle.fx_value.specs.Fits.{fits_in}
+use Rattle.fx_trees.proofs.Parts.{part_is_smaller}
 use Rattle.fx_eval.proofs.evaluate.+tree.Goals as goal
 
 pub tree-returns-clause-fits : goal.tree-returns-clause-fits

@@ -1,5 +1,5 @@
 use Rattle.std.proofs.Common.{arith}
-use Rattle.fx_operators.proofs.Parts.{part_is_smaller, field_is_smaller}
+use Rattle.fx_trees.proofs.Parts.{part_is_smaller, field_is_smaller}
 use Rattle.fx_operators.proofs.acting.+acts.Goals as goal
 
 pub any_acts-acts-requires : goal.any_acts-acts-requires

@@ -19,13 +19,14 @@ use Rattle.row_keeper.specs.Tables.{Tables}
 use Rattle.row_requests.specs.Sound.{AreSound}
 use Rattle.session_state.specs.Changes.{FitsNames}
 use Rattle.session_state.specs.Sessions.{SessionState}
+use Rattle.recalc.proofs.Evaluated.{carried}
 use Rattle.session_requests.specs.Anchors.{anchor}
 use Rattle.session_requests.specs.Caching.{AreLater, AreSessionsBut, AreSources, IsCached}
 use Rattle.session_requests.specs.Performing.{Acts, Leaves, outermost}
 use Rattle.session_requests.specs.Writable.{AreAll}
 use Rattle.session_requests.specs.Grounds.{grounds}
 use Rattle.session_requests.proofs.Anchoring.{cache_same, count_same, keeper_same, loan_same, session_same, stands_same, wrote_same}
-use Rattle.session_requests.proofs.WorldEnding.{acts_from, began_goes, cached_from, can_act, carried, carried_all, carried_both, failed_by, later_from, leaves_from, no_error, only_from}
+use Rattle.session_requests.proofs.WorldEnding.{acts_from, began_goes, cached_from, can_act, carried_all, carried_both, failed_by, later_from, leaves_from, no_error, only_from}
 use Rattle.session_requests.proofs.performing.perform_over.Goals as goal
 
 pub act-requires : goal.act-requires

@@ -1,1 +1,0 @@
--- One more text among texts with a separator between each two.
