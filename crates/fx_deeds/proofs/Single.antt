@@ -100,7 +100,7 @@ makes_one c taken s v w h k =
     λ i. ((h.2 ∙ ap (λ o. taken_or o.0 taken) e ∙ sym k.2) i, (e i).1)
 
 -- a change that gives a value, by what the value is seen as
-abbrev Seen : {A : Type 0} → (Data → SessionState → SessionState) → List Source → Data → Bool → State A → State A → Type 0
+abbrev pub Seen : {A : Type 0} → (Data → SessionState → SessionState) → List Source → Data → Bool → State A → State A → Type 0
 Seen f ws d true s t = (true ≡ not (not (may_weigh (weight s.session) (weight (f d s.session))) || false)) × (t ≡ record s { session = f d s.session; wrote = s.wrote ++ ws })
 Seen f ws d false s t = (false ≡ not (not (may_weigh (weight s.session) (weight (f d s.session))) || false)) × (t ≡ s)
 
@@ -110,10 +110,10 @@ seen_one f ws d s false false t u h k = λ i. (false, (h.1 ∙ sym k.1) i)
 seen_one f ws d s true false t u h k = let wrong : true ≡ false = h.0 ∙ sym k.0 in absurd cc
 seen_one f ws d s false true t u h k = let wrong : false ≡ true = h.0 ∙ sym k.0 in absurd cc
 
-abbrev Sees : Type 0 → (Value → Change) → (Data → SessionState → SessionState) → List Source → Type 0
+abbrev pub Sees : Type 0 → (Value → Change) → (Data → SessionState → SessionState) → List Source → Type 0
 Sees A change f ws = (v : Value) (b : Bool) (s t : State A) → IsChanged (change v) b s t → Seen f ws (view v) b s t
 
-given_one : {A : Type 0} (change : Value → Change) (f : Data → SessionState → SessionState) (ws : List Source) → Sees A change f ws → (d : Data) (s : State A) →
+pub given_one : {A : Type 0} (change : Value → Change) (f : Data → SessionState → SessionState) (ws : List Source) → Sees A change f ws → (d : Data) (s : State A) →
     AtMostOne (λ (o : Bool × State A). IsGiven change d o.0 s o.1)
 given_one change f ws sees d s v w h k =
     seen_one f ws d s v.0 w.0 v.1 w.1 (subst (λ z. Seen f ws z v.0 s v.1) h.1 (sees h.0 v.0 s v.1 h.2)) (subst (λ z. Seen f ws z w.0 s w.1) k.1 (sees k.0 w.0 s w.1 k.2))
@@ -124,21 +124,21 @@ gives_one change f ws sees d taken s v w h k =
     let e : Same h.2.0 v.1 k.2.0 w.1 = given_one change f ws sees d s (h.2.0, v.1) (k.2.0, w.1) (h.0, h.1, h.2.1) (k.0, k.1, k.2.1) in
     λ i. ((h.2.2 ∙ ap (λ o. taken_or o.0 taken) e ∙ sym k.2.2) i, (e i).1)
 
-abbrev with_variable : ℕ → Data → SessionState → SessionState
+abbrev pub with_variable : ℕ → Data → SessionState → SessionState
 with_variable k d s = record s { variables = slice_set s.variables k d }
 
-abbrev with_collection : ℕ → Data → SessionState → SessionState
+abbrev pub with_collection : ℕ → Data → SessionState → SessionState
 with_collection k d s = record s { collections = slice_set s.collections k d }
 
 sees_global : {A : Type 0} (k : ℕ) → Sees A (change.Global k) (with_variable k) (source.Global k ∷ [])
 sees_global k v true s t h = h
 sees_global k v false s t h = h
 
-sees_context : {A : Type 0} (k : ℕ) → Sees A (change.Context k) (with_variable k) (source.Context k ∷ [])
+pub sees_context : {A : Type 0} (k : ℕ) → Sees A (change.Context k) (with_variable k) (source.Context k ∷ [])
 sees_context k v true s t h = h
 sees_context k v false s t h = h
 
-sees_gather : {A : Type 0} (k : ℕ) → Sees A (change.Gather k) (with_collection k) (source.Gathered k ∷ [])
+pub sees_gather : {A : Type 0} (k : ℕ) → Sees A (change.Gather k) (with_collection k) (source.Gathered k ∷ [])
 sees_gather k v true s t h = h
 sees_gather k v false s t h = h
 
@@ -201,12 +201,12 @@ made_one columns k cells s v w h j =
     let e : Same v.0 h.0 w.0 j.0 = inserts_one columns k cells s.tables v.0 w.0 h.0 j.0 h.1 j.1 in
     λ i. ((e i).0, (h.2 ∙ ap (λ o. by_put o.0 k o.1 s) e ∙ sym j.2) i)
 
-put_over_one : {A : Type 0} (columns : List Column) (k id : ℕ) (cells : List Data) (s : State A) → AtMostOne (λ (o : Put × State A). IsRowChanged columns k id cells o.0 s o.1)
+pub put_over_one : {A : Type 0} (columns : List Column) (k id : ℕ) (cells : List Data) (s : State A) → AtMostOne (λ (o : Put × State A). IsRowChanged columns k id cells o.0 s o.1)
 put_over_one columns k id cells s v w h j =
     let e : Same v.0 h.0 w.0 j.0 = replaces_one columns k id cells s.tables v.0 w.0 h.0 j.0 h.1 j.1 in
     λ i. ((e i).0, (h.2 ∙ ap (λ o. by_put o.0 k o.1 s) e ∙ sym j.2) i)
 
-taken_out_one : {A : Type 0} (k id : ℕ) (s : State A) → AtMostOne (λ (o : Bool × State A). IsRowRemoved k id o.0 s o.1)
+pub taken_out_one : {A : Type 0} (k id : ℕ) (s : State A) → AtMostOne (λ (o : Bool × State A). IsRowRemoved k id o.0 s o.1)
 taken_out_one k id s v w h j =
     let e : Same v.0 h.0 w.0 j.0 = removes_one k id s.tables v.0 w.0 h.0 j.0 h.1 j.1 in
     λ i. ((e i).0, (h.2 ∙ ap (λ o. by_found o.0 k o.1 s) e ∙ sym j.2) i)
@@ -312,10 +312,10 @@ parts_one r (q ∷ b) a (p ∷ d) c e h k =
     let f = parts_one r b a d c (tail_of q p (b ++ r ∷ a) (d ++ r ∷ c) e) h.1 k.1 in
     λ i. (head_of q p (b ++ r ∷ a) (d ++ r ∷ c) e i ∷ (f i).0, (f i).1)
 
-first_one : (r : Row) (rows : List Row) → AtMostOne (λ (o : List Row × List Row). IsFirst r rows o.0 o.1)
+pub first_one : (r : Row) (rows : List Row) → AtMostOne (λ (o : List Row × List Row). IsFirst r rows o.0 o.1)
 first_one r rows v w h k = parts_one r v.0 v.1 w.0 w.1 (sym h.parted ∙ k.parted) h.first k.first
 
-first_or_lacks : (r : Row) (rows before after : List Row) → IsFirst r rows before after → Lacks r rows → ⊥
+pub first_or_lacks : (r : Row) (rows before after : List Row) → IsFirst r rows before after → Lacks r rows → ⊥
 first_or_lacks r rows before after h k = lacks_not r before after (subst (Lacks r) h.parted k)
 
 puts_for_one : {A : Type 0} (k : ℕ) (r q : Row) (s : State A) → AtMostOne (λ (o : Outcome A). PutsFor k r q s o.0 o.1)

@@ -12,3 +12,4 @@ pub mod Fitting
 pub mod Lefts
 pub mod Found
 pub mod Finding
+pub mod CutOff

@@ -1,0 +1,203 @@
+-- A deed goes on from where it was cut off.
+use Rattle.std.proofs.Common.{◌≡◌, ℕ, zero, suc, refl, ap, List, [], ◌∷◌, ◌++◌, Bool, true, false, map, Option, Some, None, Result, Ok, Err, sym, subst, ◌∙◌, inl, inr}
+use Rattle.std.specs.Prelude.{IsSomeAnd, MatchOption, MatchResult, slice_get, take}
+use Rattle.std.specs.List.{find}
+use Rattle.fx_data.specs.Types.{ColumnList}
+use Rattle.fx_data.specs.Values.{Data, blank, number, text, boolean, date, rec, tab, fault}
+use Rattle.fx_semantics.specs.Around.{record_of}
+use Rattle.fx_semantics.specs.Rows.{rows_in, table_of}
+use Rattle.fx_value.specs.Columns.{Row}
+use Rattle.fx_tables.specs.Unions.{is_fault}
+use Rattle.fx_trees.specs.declared.deeds.Deed.{Deed}
+use Rattle.fx_trees.specs.declared.deeds.Deed.TheVariants as deed
+use Rattle.fx_trees.specs.declared.deeds.Target.{Target}
+use Rattle.fx_trees.specs.declared.deeds.Target.TheVariants as target
+use Rattle.fx_trees.specs.declared.schema.TableShape.{TableShape}
+use Rattle.fx_trees.specs.declared.sources.Source.{Source}
+use Rattle.fx_trees.specs.declared.sources.Source.TheVariants as source
+use Rattle.row_keeper.specs.declared.rows.Put.{Put}
+use Rattle.row_keeper.specs.declared.rows.Put.TheVariants.{Id, NoRow, Refused}
+use Rattle.session_state.specs.declared.change.Change.TheVariants as change
+use Rattle.fx_deeds.proofs.Passing.{within_nowhere, within_on}
+use Rattle.fx_deeds.proofs.Single.{Outcome, Same, deed_once, first_one, first_or_lacks, given_one, put_over_one, sees_context, sees_gather, taken_out_one, update_one, with_collection, with_variable}
+use Rattle.fx_deeds.proofs.Writes as writes
+use Rattle.fx_deeds.specs.Changed.{IsRowChanged, IsRowRemoved}
+use Rattle.fx_deeds.specs.Collections.{AreTaken, IsFirst, Lacks, rows_held}
+use Rattle.fx_deeds.specs.CutOff.{CutDeed, CutUpdate, IsBegun, IsUpdateBegun, UpTo}
+use Rattle.fx_deeds.specs.Deeds.{Answers, AreRemoved, AreSet, AreUpdated, ByDone, ByFound, ByPut, IsGiven, OfTable, OrError, OrErrorAmong, Removes, Updates, id_of, named_id, row_at}
+use Rattle.fx_deeds.specs.Done.{IsDeed, IsUpdate, errors_in}
+use Rattle.fx_deeds.specs.RowValues.{changed_cells, columns_in, row_named}
+use Rattle.fx_deeds.specs.State.{Frame, State}
+use Rattle.fx_deeds.specs.Within.{Within}
+
+-- what was left as it was goes on as all does
+from_start : {A : Type 0} (s u v : State A) → u ≡ s → Within s v → Within u v
+from_start s u v e w = subst (λ z. Within z v) (sym e) w
+
+-- the same state
+same_end : {A : Type 0} (u v : State A) → u ≡ v → Within u v
+same_end u v e = subst (λ z. Within u z) e (within_nowhere u)
+
+-- both have answered and left all
+both_answer : {A : Type 0} (d e x y : Data) (s u v : State A) → (x ≡ d) × (u ≡ s) → (y ≡ e) × (v ≡ s) → Within u v
+both_answer d e x y s u v p q = same_end u v (p.1 ∙ sym q.1)
+
+-- ---- branches that both take
+
+ok_both : {X Y : Type 0} (o : Result X Y) (P Q : X → Type 0) (R S : Y → Type 0) (Z : Type 0) → ((x : X) → P x → Q x → Z) → ((y : Y) → R y → S y → Z) → MatchResult o P R → MatchResult o Q S → Z
+ok_both (Ok x) P Q R S Z f g p q = f x p q
+ok_both (Err y) P Q R S Z f g p q = g y p q
+
+some_both : {X : Type 0} (o : Option X) (P Q : Type 0) (R S : X → Type 0) (Z : Type 0) → (P → Q → Z) → ((x : X) → R x → S x → Z) → MatchOption o P R → MatchOption o Q S → Z
+some_both None P Q R S Z f g p q = f p q
+some_both (Some x) P Q R S Z f g p q = g x p q
+
+and_both : {X : Type 0} (o : Option X) (P Q : X → Type 0) (Z : Type 0) → ((x : X) → P x → Q x → Z) → IsSomeAnd o P → IsSomeAnd o Q → Z
+and_both None P Q Z f p q = absurd p
+and_both (Some x) P Q Z f p q = f x p q
+
+among_both : {A : Type 0} (ys : List Data) (P Q : Type 0) (x y : Data) (s u v : State A) → (P → Q → Within u v) → OrErrorAmong ys P s x u → OrErrorAmong ys Q s y v → Within u v
+among_both ys P Q x y s u v f p q = some_both (find is_fault ys) P Q (λ e. Answers e s x u) (λ e. Answers e s y v) (Within u v) f (λ e. both_answer e e x y s u v) p q
+
+error_both : {A : Type 0} (w : Data) (P Q : Type 0) (x y : Data) (s u v : State A) → (P → Q → Within u v) → OrError w P s x u → OrError w Q s y v → Within u v
+error_both (fault k cs) P Q x y s u v f p q = both_answer (fault k cs) (fault k cs) x y s u v p q
+error_both blank P Q x y s u v f p q = f p q
+error_both (number z) P Q x y s u v f p q = f p q
+error_both (text cs) P Q x y s u v f p q = f p q
+error_both (boolean b) P Q x y s u v f p q = f p q
+error_both (date z) P Q x y s u v f p q = f p q
+error_both (rec fs) P Q x y s u v f p q = f p q
+error_both (tab rs) P Q x y s u v f p q = f p q
+
+done_both : {A : Type 0} (done : Bool) (P Q : Type 0) (x y : Data) (s u v : State A) → (P → Q → Within u v) → ByDone done P s x u → ByDone done Q s y v → Within u v
+done_both true P Q x y s u v f p q = f p q
+done_both false P Q x y s u v f p q = both_answer _ _ x y s u v p q
+
+found_both : {A : Type 0} (found : Bool) (P Q : Type 0) (x y : Data) (s u v : State A) → (P → Q → Within u v) → ByFound found P s x u → ByFound found Q s y v → Within u v
+found_both true P Q x y s u v f p q = f p q
+found_both false P Q x y s u v f p q = both_answer _ _ x y s u v p q
+
+put_both : {A : Type 0} (p : TableShape) (put : Put) (P Q : Type 0) (x y : Data) (s u v : State A) → (P → Q → Within u v) → ByPut p put P s x u → ByPut p put Q s y v → Within u v
+put_both p (Id id) P Q x y s u v f a b = f a b
+put_both p NoRow P Q x y s u v f a b = both_answer _ _ x y s u v a b
+put_both p (Refused r) P Q x y s u v f a b = both_answer _ _ x y s u v a b
+
+-- ---- rows and variables one by one
+
+sets_on : {A : Type 0} (n : ℕ) (ks : List Source) (ys : List Data) (s : State A) (x y : Data) (u v : State A) → AreSet (take n ks) (take n ys) s x u → AreSet ks ys s y v → Within u v
+sets_on zero ks ys s x y u v p q = from_start s u v p.1 (writes.sets ks ys s y v q)
+sets_on (suc n) [] [] s x y u v p q = both_answer _ _ x y s u v p q
+sets_on (suc n) [] (z ∷ ys) s x y u v p q = absurd q
+sets_on (suc n) (source.Context k ∷ ks) [] s x y u v p q = absurd q
+sets_on (suc n) (source.Context k ∷ ks) (z ∷ ys) s x y u v p q =
+    let e : Same p.0 p.1 q.0 q.1 = given_one (change.Context k) (with_variable k) (source.Context k ∷ []) (sees_context k) z s (p.0, p.1) (q.0, q.1) p.2 q.2 in
+    done_both q.0 (AreSet (take n ks) (take n ys) q.1 x u) (AreSet ks ys q.1 y v) x y q.1 u v (sets_on n ks ys q.1 x y u v)
+    (subst (λ o. ByDone o.0 (AreSet (take n ks) (take n ys) o.1 x u) o.1 x u) e p.3) q.3
+sets_on (suc n) (source.Cell k ∷ ks) ys s x y u v p q = absurd q
+sets_on (suc n) (source.Global k ∷ ks) ys s x y u v p q = absurd q
+sets_on (suc n) (source.Gathered k ∷ ks) ys s x y u v p q = absurd q
+sets_on (suc n) (source.Input k ∷ ks) ys s x y u v p q = absurd q
+sets_on (suc n) (source.Chosen k ∷ ks) ys s x y u v p q = absurd q
+sets_on (suc n) (source.Table k ∷ ks) ys s x y u v p q = absurd q
+sets_on (suc n) (source.Today ∷ ks) ys s x y u v p q = absurd q
+
+removes_on : {A : Type 0} (k n : ℕ) (ys : List Data) (s : State A) (x y : Data) (u v : State A) → AreRemoved k (take n ys) s x u → AreRemoved k ys s y v → Within u v
+removes_on k zero ys s x y u v p q = from_start s u v p.1 (writes.removes k ys s y v q)
+removes_on k (suc n) [] s x y u v p q = both_answer _ _ x y s u v p q
+removes_on k (suc n) (z ∷ ys) s x y u v p q =
+    ok_both (named_id (id_of z)) (λ id. Removes k id s (λ m. AreRemoved k (take n ys) m x u) x u) (λ id. Removes k id s (λ m. AreRemoved k ys m y v) y v) (λ e. Answers e s x u) (λ e. Answers e s y v) (Within u v)
+    (λ id a b.
+    let e : Same a.0 a.1 b.0 b.1 = taken_out_one k id s (a.0, a.1) (b.0, b.1) a.2 b.2 in
+    found_both b.0 (AreRemoved k (take n ys) b.1 x u) (AreRemoved k ys b.1 y v) x y b.1 u v (removes_on k n ys b.1 x y u v)
+    (subst (λ o. ByFound o.0 (AreRemoved k (take n ys) o.1 x u) o.1 x u) e a.3) b.3)
+    (λ e. both_answer e e x y s u v) p q
+
+updates_on : {A : Type 0} (t : TableShape) (k n : ℕ) (rs : List Row) (cs : List Data) (s : State A) (x y : Data) (u v : State A) → AreUpdated t k (take n rs) cs s x u → AreUpdated t k rs cs s y v → Within u v
+updates_on t k zero rs cs s x y u v p q = from_start s u v p.1 (writes.updates t k rs cs s y v q)
+updates_on t k (suc n) [] cs s x y u v p q = both_answer _ _ x y s u v p q
+updates_on t k (suc n) (r ∷ rs) [] s x y u v p q = both_answer _ _ x y s u v p q
+updates_on {A} t k (suc n) (r ∷ rs) (c ∷ cs) s x y u v p q =
+    ok_both (named_id (id_of (record_of r))) (λ id. Updates t k (rows_in c) id s (λ m. AreUpdated t k (take n rs) cs m x u) x u) (λ id. Updates t k (rows_in c) id s (λ m. AreUpdated t k rs cs m y v) y v)
+    (λ e. Answers e s x u) (λ e. Answers e s y v) (Within u v)
+    (λ id. some_both (row_at k id s) (Answers _ s x u) (Answers _ s y v)
+    (λ w. (put : Put) × (m : State A) × IsRowChanged t.columns k id (changed_cells t.columns (rows_in c) w.cells) put s m × ByPut t put (AreUpdated t k (take n rs) cs m x u) m x u)
+    (λ w. (put : Put) × (m : State A) × IsRowChanged t.columns k id (changed_cells t.columns (rows_in c) w.cells) put s m × ByPut t put (AreUpdated t k rs cs m y v) m y v)
+    (Within u v) (both_answer _ _ x y s u v)
+    (λ w a b.
+    let e : Same a.0 a.1 b.0 b.1 = put_over_one t.columns k id (changed_cells t.columns (rows_in c) w.cells) s (a.0, a.1) (b.0, b.1) a.2 b.2 in
+    put_both t b.0 (AreUpdated t k (take n rs) cs b.1 x u) (AreUpdated t k rs cs b.1 y v) x y b.1 u v (updates_on t k n rs cs b.1 x y u v)
+    (subst (λ o. ByPut t o.0 (AreUpdated t k (take n rs) cs o.1 x u) o.1 x u) e a.3) b.3))
+    (λ e. both_answer e e x y s u v) p q
+
+takes_on : {A : Type 0} (cs : ColumnList) (k n : ℕ) (ys : List Data) (s : State A) (x y : Data) (u v : State A) → AreTaken cs k (take n ys) s x u → AreTaken cs k ys s y v → Within u v
+takes_on cs k zero ys s x y u v p q = from_start s u v p.1 (writes.takes cs k ys s y v q)
+takes_on cs k (suc n) [] s x y u v p q = both_answer _ _ x y s u v p q
+takes_on cs k (suc n) (z ∷ ys) s x y u v (inl p) (inl q) =
+    let e : Same p.0 p.1 q.0 q.1 = first_one (row_named cs z) (rows_held k s) (p.0, p.1) (q.0, q.1) p.4 q.4 in
+    let given : IsGiven (change.Gather k) (table_of (q.0 ++ q.1)) p.2 s p.3 = subst (λ o. IsGiven (change.Gather k) (table_of (o.0 ++ o.1)) p.2 s p.3) e p.5 in
+    let f : Same p.2 p.3 q.2 q.3 = given_one (change.Gather k) (with_collection k) (source.Gathered k ∷ []) (sees_gather k) (table_of (q.0 ++ q.1)) s (p.2, p.3) (q.2, q.3) given q.5 in
+    done_both q.2 (AreTaken cs k (take n ys) q.3 x u) (AreTaken cs k ys q.3 y v) x y q.3 u v (takes_on cs k n ys q.3 x y u v)
+    (subst (λ o. ByDone o.0 (AreTaken cs k (take n ys) o.1 x u) o.1 x u) f p.6) q.6
+takes_on cs k (suc n) (z ∷ ys) s x y u v (inr p) (inr q) = both_answer _ _ x y s u v p.1 q.1
+takes_on cs k (suc n) (z ∷ ys) s x y u v (inl p) (inr q) = absurd (first_or_lacks (row_named cs z) (rows_held k s) p.0 p.1 p.4 q.0)
+takes_on cs k (suc n) (z ∷ ys) s x y u v (inr p) (inl q) = absurd (first_or_lacks (row_named cs z) (rows_held k s) q.0 q.1 q.4 p.0)
+
+-- the first rows of a list, as values
+take_records : (n : ℕ) (rs : List Row) → map record_of (take n rs) ≡ take n (map record_of rs)
+take_records zero rs = refl
+take_records (suc n) [] = refl
+take_records (suc n) (r ∷ rs) = ap (λ zs. record_of r ∷ zs) (take_records n rs)
+
+-- ---- deeds
+
+-- a single change is the same
+single_on : {A : Type 0} (f : Frame) (d : Deed) (ys : List Data) (s : State A) (x y : Data) (u v : State A) → IsDeed f d ys s x u → IsDeed f d ys s y v → Within u v
+single_on f d ys s x y u v p q =
+    let e : Same x u y v = deed_once f d ys s (x, u) (y, v) p q in
+    same_end u v (ap (λ o. o.1) e)
+
+begun_on : {A : Type 0} (f : Frame) (d : Deed) (ys : List Data) (s : State A) (n : ℕ) (x y : Data) (u v : State A) → IsBegun f d ys s n x u → IsDeed f d ys s y v → Within u v
+begun_on f (deed.UpdateContext ks) ys s n x y u v p q = sets_on n ks ys s x y u v p q
+begun_on f (deed.Remove (target.Table k)) ys s n x y u v p q =
+    among_both ys (AreRemoved k (take n ys) s x u) (AreRemoved k ys s y v) x y s u v (removes_on k n ys s x y u v) p q
+begun_on f (deed.Remove (target.Gathered k)) ys s n x y u v p q =
+    let cs = columns_in (f.types (source.Gathered k)) in
+    among_both ys (AreTaken cs k (take n ys) s x u) (AreTaken cs k ys s y v) x y s u v (takes_on cs k n ys s x y u v) p q
+begun_on f (deed.RemoveIf (target.Table k)) [] s n x y u v p q = absurd q
+begun_on f (deed.RemoveIf (target.Table k)) (z ∷ []) s n x y u v p q =
+    let rs = map record_of (rows_in z) in
+    error_both z (AreRemoved k (map record_of (take n (rows_in z))) s x u) (AreRemoved k rs s y v) x y s u v
+    (λ a b. removes_on k n rs s x y u v (subst (λ zs. AreRemoved k zs s x u) (take_records n (rows_in z)) a) b) p q
+begun_on f (deed.RemoveIf (target.Table k)) (z ∷ w ∷ ys) s n x y u v p q = absurd q
+begun_on f (deed.RemoveIf (target.Gathered k)) ys s n x y u v p q = single_on f (deed.RemoveIf (target.Gathered k)) ys s x y u v p q
+begun_on f (deed.Set k) ys s n x y u v p q = single_on f (deed.Set k) ys s x y u v p q
+begun_on f (deed.Collect k) ys s n x y u v p q = single_on f (deed.Collect k) ys s x y u v p q
+begun_on f (deed.Clear k) ys s n x y u v p q = single_on f (deed.Clear k) ys s x y u v p q
+begun_on f (deed.ClearCollect k) ys s n x y u v p q = single_on f (deed.ClearCollect k) ys s x y u v p q
+begun_on f (deed.Patch t) ys s n x y u v p q = single_on f (deed.Patch t) ys s x y u v p q
+begun_on f (deed.UpdateIf t) ys s n x y u v p q = absurd q
+begun_on f (deed.Navigate k) ys s n x y u v p q = single_on f (deed.Navigate k) ys s x y u v p q
+begun_on f deed.Notify ys s n x y u v p q = single_on f deed.Notify ys s x y u v p q
+begun_on f (deed.Reset k) ys s n x y u v p q = single_on f (deed.Reset k) ys s x y u v p q
+
+update_begun_on : {A : Type 0} (f : Frame) (t : Target) (rows : List Row) (changes : List Data) (s : State A) (n : ℕ) (x y : Data) (u v : State A) →
+    IsUpdateBegun f t rows changes s n x u → IsUpdate f t rows changes s y v → Within u v
+update_begun_on f (target.Table k) rows changes s n x y u v p q =
+    among_both (errors_in changes) (OfTable f.schema k (λ z. AreUpdated z k (take n rows) changes s x u)) (OfTable f.schema k (λ z. AreUpdated z k rows changes s y v)) x y s u v
+    (and_both (slice_get f.schema.tables k) (λ z. AreUpdated z k (take n rows) changes s x u) (λ z. AreUpdated z k rows changes s y v) (Within u v)
+    (λ z. updates_on z k n rows changes s x y u v)) p q
+update_begun_on f (target.Gathered k) rows changes s n x y u v p q =
+    let e : Same x u y v = update_one f (target.Gathered k) rows changes s (x, u) (y, v) p q in
+    same_end u v (ap (λ o. o.1) e)
+
+up_to_on : {A : Type 0} (P : ℕ → Data → State A → Type 0) (s u v : State A) → Within s v → ((n : ℕ) (x : Data) → P n x u → Within u v) → UpTo P s u → Within u v
+up_to_on P s u v w f (inl e) = from_start s u v e w
+up_to_on P s u v w f (inr p) = f p.0 p.1 p.2
+
+-- THE WHOLE DEED GOES ON FROM WHERE IT WAS CUT OFF
+pub deed_on : {A : Type 0} (f : Frame) (d : Deed) (ys : List Data) (s : State A) (y : Data) (u v : State A) → CutDeed f d ys s u → IsDeed f d ys s y v → Within u v
+deed_on f d ys s y u v c q = up_to_on (IsBegun f d ys s) s u v (writes.done_by f d ys s y v q) (λ n x p. begun_on f d ys s n x y u v p q) c
+
+pub update_on : {A : Type 0} (f : Frame) (t : Target) (rows : List Row) (changes : List Data) (s : State A) (y : Data) (u v : State A) → CutUpdate f t rows changes s u → IsUpdate f t rows changes s y v → Within u v
+update_on f t rows changes s y u v c q =
+    up_to_on (IsUpdateBegun f t rows changes s) s u v (writes.update f t rows changes s y v q) (λ n x p. update_begun_on f t rows changes s n x y u v p q) c
