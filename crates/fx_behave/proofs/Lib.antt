@@ -12,3 +12,4 @@ pub mod Purely
 pub mod Following
 pub mod WritesAll
 pub mod SingleAll
+pub mod CutOff

@@ -37,16 +37,16 @@ use Rattle.fx_behave.specs.Unique.{GivesOne}
 use Rattle.fx_semantics.proofs.SingleWhole.{coerced_one, single}
 
 -- what a formula does is one thing at most
-abbrev DoesOne : {A : Type 0} → Doing A → Type 0
+abbrev pub DoesOne : {A : Type 0} → Doing A → Type 0
 DoesOne {A} P = (h : Held) (s : State A) → AtMostOne (λ (o : Outcome A). P h s o.0 o.1)
 
-abbrev AllDoOne : {A : Type 0} → List (Doing A) → Type 0
+abbrev pub AllDoOne : {A : Type 0} → List (Doing A) → Type 0
 AllDoOne [] = Unit {0}
 AllDoOne (P ∷ Ps) = DoesOne P × AllDoOne Ps
 
 -- ---- parts in order
 
-performed_one : {A : Type 0} (Ps : List (Doing A)) → AllDoOne Ps → (h : Held) (s : State A) (xs ys : List Data) (t u : State A) → ArePerformed Ps h s xs t → ArePerformed Ps h s ys u → Same xs t ys u
+pub performed_one : {A : Type 0} (Ps : List (Doing A)) → AllDoOne Ps → (h : Held) (s : State A) (xs ys : List Data) (t u : State A) → ArePerformed Ps h s xs t → ArePerformed Ps h s ys u → Same xs t ys u
 performed_one [] all h s [] [] t u g k = λ i. ([], (g ∙ sym k) i)
 performed_one [] all h s (x ∷ xs) ys t u g k = absurd g
 performed_one [] all h s [] (y ∷ ys) t u g k = absurd k
@@ -110,7 +110,7 @@ within_one (P ∷ F ∷ []) all h s =
     (λ w m. or_error_one w (λ o. F (inner h w) m o.0 o.1) m (all.1.0 (inner h w) m))
 within_one (P ∷ F ∷ Q ∷ Ps) all h s = λ v w g k. absurd g
 
-each_one : {A : Type 0} (P : Doing A) → DoesOne P → (h : Held) (rs : List Row) (s : State A) (xs ys : List Data) (t u : State A) → AreEach P h rs s xs t → AreEach P h rs s ys u → Same xs t ys u
+pub each_one : {A : Type 0} (P : Doing A) → DoesOne P → (h : Held) (rs : List Row) (s : State A) (xs ys : List Data) (t u : State A) → AreEach P h rs s xs t → AreEach P h rs s ys u → Same xs t ys u
 each_one P all h [] s [] [] t u g k = λ i. ([], (g ∙ sym k) i)
 each_one P all h [] s (x ∷ xs) ys t u g k = absurd g
 each_one P all h [] s [] (y ∷ ys) t u g k = absurd k
@@ -220,7 +220,7 @@ done_one g once one false k c Ps all = λ h s v w i j.
 
 mutual
   -- over sources that give one value each
-  performs_one : {A : Type 0} (g : Ground A) → Once → GivesOne g.gives → (c : Term) → DoesOne (performing g c)
+  pub performs_one : {A : Type 0} (g : Ground A) → Once → GivesOne g.gives → (c : Term) → DoesOne (performing g c)
   performs_one g once one (of k ts) = done_one g once one (acts (of k ts)) k (of k ts) (performings g ts) (all_perform_one g once one ts)
 
   all_perform_one : {A : Type 0} (g : Ground A) → Once → GivesOne g.gives → (ts : Terms) → AllDoOne (performings g ts)

@@ -29,33 +29,33 @@ use Rattle.fx_deeds.specs.State.{Ground, State}
 use Rattle.fx_deeds.specs.Within.{Within}
 
 -- what it leaves is as it was, but for what it wrote
-abbrev Writes : {A : Type 0} → Doing A → Type 0
+abbrev pub Writes : {A : Type 0} → Doing A → Type 0
 Writes {A} P = (h : Held) (s : State A) (x : Data) (u : State A) → P h s x u → Within s u
 
-abbrev AllWrite : {A : Type 0} → List (Doing A) → Type 0
+abbrev pub AllWrite : {A : Type 0} → List (Doing A) → Type 0
 AllWrite [] = Unit {0}
 AllWrite (P ∷ Ps) = Writes P × AllWrite Ps
 
-same_within : {A : Type 0} (s u : State A) → u ≡ s → Within s u
+pub same_within : {A : Type 0} (s u : State A) → u ≡ s → Within s u
 same_within s u e = subst (λ z. Within s z) (sym e) (within_nowhere s)
 
-performed : {A : Type 0} (Ps : List (Doing A)) → AllWrite Ps → (h : Held) (s : State A) (xs : List Data) (u : State A) → ArePerformed Ps h s xs u → Within s u
+pub performed : {A : Type 0} (Ps : List (Doing A)) → AllWrite Ps → (h : Held) (s : State A) (xs : List Data) (u : State A) → ArePerformed Ps h s xs u → Within s u
 performed [] w h s [] u p = same_within s u p
 performed [] w h s (x ∷ xs) u p = absurd p
 performed (P ∷ Ps) w h s [] u p = absurd p
 performed (P ∷ Ps) w h s (x ∷ xs) u p = within_on s p.0 u (w.0 h s x p.0 p.1) (performed Ps w.1 h p.0 xs u p.2)
 
-in_chain : {A : Type 0} (Ps : List (Doing A)) → AllWrite Ps → Writes (IsChain Ps)
+pub in_chain : {A : Type 0} (Ps : List (Doing A)) → AllWrite Ps → Writes (IsChain Ps)
 in_chain [] w h s x u p = absurd p
 in_chain (P ∷ []) w h s x u p = w.0 h s x u p
 in_chain (P ∷ Q ∷ Ps) w h s x u p = within_on s p.1 u (w.0 h s p.0 p.1 p.2) (in_chain (Q ∷ Ps) w.1 h p.1 x u p.3)
 
-decided : {A : Type 0} (D : Decision) (P Q : Type 0) (s : State A) (x : Data) (u : State A) → (P → Within s u) → (Q → Within s u) → Decides D P Q s x u → Within s u
+pub decided : {A : Type 0} (D : Decision) (P Q : Type 0) (s : State A) (x : Data) (u : State A) → (P → Within s u) → (Q → Within s u) → Decides D P Q s x u → Within s u
 decided Met P Q s x u f g p = f p
 decided Unmet P Q s x u f g p = g p
 decided (Error e) P Q s x u f g p = same_within s u p.1
 
-branched : {A : Type 0} (D : Data → Decision) (Ps : List (Doing A)) → AllWrite Ps → Writes (IsBranched D Ps)
+pub branched : {A : Type 0} (D : Data → Decision) (Ps : List (Doing A)) → AllWrite Ps → Writes (IsBranched D Ps)
 branched D [] w h s x u p = same_within s u p.1
 branched D (P ∷ []) w h s x u p = w.0 h s x u p
 branched D (C ∷ P ∷ Ps) w h s x u p =
@@ -68,7 +68,7 @@ switched (P ∷ Ps) w h s x u p =
     within_on s p.1 u (w.0 h s p.0 p.1 p.2)
     (deeds.or_error p.0 (IsBranched (matching p.0) Ps h p.1 x u) p.1 x u (λ q. branched (matching p.0) Ps w.1 h p.1 x u q) p.3)
 
-caught : {A : Type 0} (w : Data) (C : Kind → List ℕ → Type 0) (P : Type 0) (s u : State A) → ((k : Kind) (cs : List ℕ) → C k cs → Within s u) → (P → Within s u) → CaughtOr w C P → Within s u
+pub caught : {A : Type 0} (w : Data) (C : Kind → List ℕ → Type 0) (P : Type 0) (s u : State A) → ((k : Kind) (cs : List ℕ) → C k cs → Within s u) → (P → Within s u) → CaughtOr w C P → Within s u
 caught (fault k cs) C P s u f g p = f k cs p
 caught blank C P s u f g p = g p
 caught (number z) C P s u f g p = g p
@@ -78,7 +78,7 @@ caught (date z) C P s u f g p = g p
 caught (rec fs) C P s u f g p = g p
 caught (tab rs) C P s u f g p = g p
 
-recovered : {A : Type 0} (d : Data) (Ps : List (Doing A)) → AllWrite Ps → Writes (IsRecovered d Ps)
+pub recovered : {A : Type 0} (d : Data) (Ps : List (Doing A)) → AllWrite Ps → Writes (IsRecovered d Ps)
 recovered d [] w h s x u p = same_within s u p.1
 recovered d (P ∷ []) w h s x u p = w.0 h s x u p
 recovered d (P ∷ F ∷ Ps) w h s x u p =
@@ -92,7 +92,7 @@ in_record (P ∷ F ∷ []) w h s x u p =
     within_on s p.1 u (w.0 h s p.0 p.1 p.2) (deeds.or_error p.0 (F (inner h p.0) p.1 x u) p.1 x u (λ q. w.1.0 (inner h p.0) p.1 x u q) p.3)
 in_record (P ∷ F ∷ Q ∷ Ps) w h s x u p = absurd p
 
-for_each : {A : Type 0} (P : Doing A) → Writes P → (h : Held) (rs : List Row) (s : State A) (xs : List Data) (u : State A) → AreEach P h rs s xs u → Within s u
+pub for_each : {A : Type 0} (P : Doing A) → Writes P → (h : Held) (rs : List Row) (s : State A) (xs : List Data) (u : State A) → AreEach P h rs s xs u → Within s u
 for_each P w h [] s [] u p = same_within s u p
 for_each P w h [] s (x ∷ xs) u p = absurd p
 for_each P w h (r ∷ rs) s [] u p = absurd p
@@ -171,7 +171,7 @@ done g true k M Ps w = acting g k Ps w
 done g false k M Ps w = λ h s x u p. same_within s u p.1
 
 mutual
-  tree_writes : {A : Type 0} (g : Ground A) (t : Term) → Writes (performing g t)
+  pub tree_writes : {A : Type 0} (g : Ground A) (t : Term) → Writes (performing g t)
   tree_writes g (of k ts) = done g (acts (of k ts)) k (taken g (of k ts)) (performings g ts) (trees_write g ts)
 
   trees_write : {A : Type 0} (g : Ground A) (ts : Terms) → AllWrite (performings g ts)

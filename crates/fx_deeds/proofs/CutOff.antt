@@ -31,11 +31,11 @@ use Rattle.fx_deeds.specs.State.{Frame, State}
 use Rattle.fx_deeds.specs.Within.{Within}
 
 -- what was left as it was goes on as all does
-from_start : {A : Type 0} (s u v : State A) → u ≡ s → Within s v → Within u v
+pub from_start : {A : Type 0} (s u v : State A) → u ≡ s → Within s v → Within u v
 from_start s u v e w = subst (λ z. Within z v) (sym e) w
 
 -- the same state
-same_end : {A : Type 0} (u v : State A) → u ≡ v → Within u v
+pub same_end : {A : Type 0} (u v : State A) → u ≡ v → Within u v
 same_end u v e = subst (λ z. Within u z) e (within_nowhere u)
 
 -- both have answered and left all
