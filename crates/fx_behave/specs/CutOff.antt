@@ -148,6 +148,10 @@ abbrev mutual
   parts g nil = []
   parts g (cons t ts) = record { whole = performing g t; cut = cutting g t } ∷ parts g ts
 
+-- a tree as a part
+abbrev pub part : {A : Type 0} → Ground A → Term → Part A
+part g t = record { whole = performing g t; cut = cutting g t }
+
 -- PERFORMING a tree where it stands WAS CUT OFF, and has taken the state s to u
 abbrev pub IsCutOff : {A : Type 0} → Ground A → Term → Held → State A → State A → Type 0
 IsCutOff g t h s u = cutting g t h s u

@@ -1,5 +1,5 @@
 //! Formulas in which something acts.
-ghost use Rattle.std.specs.Prelude.{◌≡◌, ◌∷◌, [], List, IfOk, IsErrOf, map, true};
+ghost use Rattle.std.specs.Prelude.{◌≡◌, ◌∷◌, [], List, IfOk, IsErrOf, OnErr, map, true};
 ghost use Rattle.fx_base.specs.Faults.{Rose};
 ghost use Rattle.fx_base.specs.Silence.{Goes, IsLost};
 ghost use Rattle.fx_data.specs.Types.{Shape, booleans};
@@ -19,6 +19,7 @@ ghost use Rattle.fx_deeds.specs.Stages.{Passed, stage};
 ghost use Rattle.fx_deeds.specs.State.{ground};
 ghost use Rattle.fx_deeds.specs.Writable.{WritesOnly};
 ghost use Rattle.fx_behave.specs.Actable.{AreActable, AreBranches, AreRecoveries, AreTwo, CanAct, EndsIn, IsActable, IsActableInside, IsMatchedBy, IsSwitch};
+ghost use Rattle.fx_behave.specs.CutOff.{AreCut, AreEachCut, IsActCut, IsBranchCut, IsCutOff, IsForAllCut, IsRecoveryCut, IsSwitchCut, IsUpdateIfCut, IsWithinCut, part as part_of, parts as parts_of};
 ghost use Rattle.fx_behave.specs.Perform.{AreEach, ArePerformed, IsAct, IsBranched, IsChain, IsForAll, IsRecovered, IsSwitched, IsUpdateIf, IsWithin, Performs, matching, performing, performings};
 ghost use Rattle.fx_behave.specs.Writable.{AnyMayWrite, MayWrite};
 
@@ -38,8 +39,8 @@ use std::sync::ledger::Ledger;
 
 /// Performs a behaviour formula, which is well typed under the world's names and acts in its places alone, in a
 /// scope that fits it: what acts in it changes the world, from left to right. At each exit what has changed was written,
-/// and no source was but those that its deeds name. After a `Stop` the world may hold a part of the changes. `Keeper`
-/// only where a fault was counted.
+/// and no source was but those that its deeds name. After a `Stop` the world holds the changes up to where the performing
+/// was cut off. `Keeper` only where a fault was counted.
 pub fn act<W: World, L: Ledger>(
     alloc: Global,
     world: &mut W,
@@ -55,6 +56,7 @@ pub fn act<W: World, L: Ledger>(
     ensures scope { scope.new ≡ scope.old }
     ensures keeper { IsErrOf result Stop.Keeper → Rose (W.marks world.old).faults (W.marks world.new).faults }
     ensures done { IfOk result (λ v. Goes (IsLost (W.marks world.old) (W.marks world.new)) (λ s t. Performs (ground W.gives (W.fixed world.old)) core.now scope.old (view v) s t) (W.state world.old) (W.state world.new)) }
+    ensures cut { OnErr result (Goes (IsLost (W.marks world.old) (W.marks world.new)) (IsCutOff (ground W.gives (W.fixed world.old)) core.now scope.old) (W.state world.old) (W.state world.new)) }
     ensures fits { (u : Shape) → IsActable (W.fixed world.old).types scope.old core.now u → IfOk result (λ v. fits_in (view v) u ≡ true) }
 {
     perform(alloc, world, scope, core, steps)
@@ -77,6 +79,7 @@ fn perform<W: World, L: Ledger>(
     ensures scope { scope.new ≡ scope.old }
     ensures keeper { IsErrOf result Stop.Keeper → Rose (W.marks world.old).faults (W.marks world.new).faults }
     ensures done { IfOk result (λ v. Goes (IsLost (W.marks world.old) (W.marks world.new)) (λ s t. Performs (ground W.gives (W.fixed world.old)) core.now scope.old (view v) s t) (W.state world.old) (W.state world.new)) }
+    ensures cut { OnErr result (Goes (IsLost (W.marks world.old) (W.marks world.new)) (IsCutOff (ground W.gives (W.fixed world.old)) core.now scope.old) (W.state world.old) (W.state world.new)) }
     ensures fits { (u : Shape) → IsActable (W.fixed world.old).types scope.old core.now u → IfOk result (λ v. fits_in (view v) u ≡ true) }
 {
     if acts(core) {
@@ -104,6 +107,7 @@ fn node<W: World, L: Ledger>(
     ensures scope { scope.new ≡ scope.old }
     ensures keeper { IsErrOf result Stop.Keeper → Rose (W.marks world.old).faults (W.marks world.new).faults }
     ensures done { IfOk result (λ v. Goes (IsLost (W.marks world.old) (W.marks world.new)) (λ s t. Performs (ground W.gives (W.fixed world.old)) core.now scope.old (view v) s t) (W.state world.old) (W.state world.new)) }
+    ensures cut { OnErr result (Goes (IsLost (W.marks world.old) (W.marks world.new)) (IsCutOff (ground W.gives (W.fixed world.old)) core.now scope.old) (W.state world.old) (W.state world.new)) }
     ensures fits { (u : Shape) → IsActable (W.fixed world.old).types scope.old core.now u → IfOk result (λ v. fits_in (view v) u ≡ true) }
 {
     match &core.node {
@@ -166,6 +170,7 @@ fn act_deed<W: World, L: Ledger>(
     ensures scope { scope.new ≡ scope.old }
     ensures keeper { IsErrOf result Stop.Keeper → Rose (W.marks world.old).faults (W.marks world.new).faults }
     ensures done { IfOk result (λ v. Goes (IsLost (W.marks world.old) (W.marks world.new)) (λ s t. IsAct (ground W.gives (W.fixed world.old)) deed.now (performings (ground W.gives (W.fixed world.old)) (all parts.now)) scope.old s (view v) t) (W.state world.old) (W.state world.new)) }
+    ensures cut { OnErr result (Goes (IsLost (W.marks world.old) (W.marks world.new)) (IsActCut (ground W.gives (W.fixed world.old)) deed.now (parts_of (ground W.gives (W.fixed world.old)) (all parts.now)) scope.old) (W.state world.old) (W.state world.new)) }
     ensures fits { (u : Shape) → IsActable (W.fixed world.old).types scope.old (of (deed_head deed.now) (all parts.now)) u → IfOk result (λ v. fits_in (view v) u ≡ true) }
 {
     match deed {
@@ -195,6 +200,7 @@ fn update_if<W: World, L: Ledger>(
     ensures scope { scope.new ≡ scope.old }
     ensures keeper { IsErrOf result Stop.Keeper → Rose (W.marks world.old).faults (W.marks world.new).faults }
     ensures done { IfOk result (λ v. Goes (IsLost (W.marks world.old) (W.marks world.new)) (λ s t. IsUpdateIf (ground W.gives (W.fixed world.old)) target (performings (ground W.gives (W.fixed world.old)) (all parts.now)) scope.old s (view v) t) (W.state world.old) (W.state world.new)) }
+    ensures cut { OnErr result (Goes (IsLost (W.marks world.old) (W.marks world.new)) (IsUpdateIfCut (ground W.gives (W.fixed world.old)) target (parts_of (ground W.gives (W.fixed world.old)) (all parts.now)) scope.old) (W.state world.old) (W.state world.new)) }
     ensures fits { IfOk result (λ v. fits_in (view v) booleans ≡ true) }
 {
     let (filter, change) = filter_and_change(parts);
@@ -240,6 +246,7 @@ fn chain<W: World, L: Ledger>(
     ensures scope { scope.new ≡ scope.old }
     ensures keeper { IsErrOf result Stop.Keeper → Rose (W.marks world.old).faults (W.marks world.new).faults }
     ensures done { IfOk result (λ v. Goes (IsLost (W.marks world.old) (W.marks world.new)) (λ s t. IsChain (performings (ground W.gives (W.fixed world.old)) (all parts.now)) scope.old s (view v) t) (W.state world.old) (W.state world.new)) }
+    ensures cut { OnErr result (Goes (IsLost (W.marks world.old) (W.marks world.new)) (AreCut (parts_of (ground W.gives (W.fixed world.old)) (all parts.now)) scope.old) (W.state world.old) (W.state world.new)) }
     ensures fits { (u : Shape) → EndsIn (W.fixed world.old).types scope.old u parts.now → IfOk result (λ v. fits_in (view v) u ≡ true) }
 {
     let mut rest = parts;
@@ -270,6 +277,7 @@ fn branches<W: World, L: Ledger>(
     ensures scope { scope.new ≡ scope.old }
     ensures keeper { IsErrOf result Stop.Keeper → Rose (W.marks world.old).faults (W.marks world.new).faults }
     ensures done { IfOk result (λ v. Goes (IsLost (W.marks world.old) (W.marks world.new)) (λ s t. IsBranched decision_of (performings (ground W.gives (W.fixed world.old)) (all parts.now)) scope.old s (view v) t) (W.state world.old) (W.state world.new)) }
+    ensures cut { OnErr result (Goes (IsLost (W.marks world.old) (W.marks world.new)) (IsBranchCut decision_of (parts_of (ground W.gives (W.fixed world.old)) (all parts.now)) scope.old) (W.state world.old) (W.state world.new)) }
     ensures fits { (u : Shape) → AreBranches (W.fixed world.old).types scope.old u parts.now → IfOk result (λ v. fits_in (view v) u ≡ true) }
 {
     let mut rest = parts;
@@ -304,6 +312,7 @@ fn switch<W: World, L: Ledger>(
     ensures scope { scope.new ≡ scope.old }
     ensures keeper { IsErrOf result Stop.Keeper → Rose (W.marks world.old).faults (W.marks world.new).faults }
     ensures done { IfOk result (λ v. Goes (IsLost (W.marks world.old) (W.marks world.new)) (λ s t. IsSwitched (performings (ground W.gives (W.fixed world.old)) (all parts.now)) scope.old s (view v) t) (W.state world.old) (W.state world.new)) }
+    ensures cut { OnErr result (Goes (IsLost (W.marks world.old) (W.marks world.new)) (IsSwitchCut (parts_of (ground W.gives (W.fixed world.old)) (all parts.now)) scope.old) (W.state world.old) (W.state world.new)) }
     ensures fits { (u : Shape) → IsSwitch (W.fixed world.old).types scope.old u parts.now → IfOk result (λ v. fits_in (view v) u ≡ true) }
 {
     let Some((part, others)) = parts.split_first() else {
@@ -334,6 +343,7 @@ fn matches<W: World, L: Ledger>(
     ensures scope { scope.new ≡ scope.old }
     ensures keeper { IsErrOf result Stop.Keeper → Rose (W.marks world.old).faults (W.marks world.new).faults }
     ensures done { IfOk result (λ v. Goes (IsLost (W.marks world.old) (W.marks world.new)) (λ s t. IsBranched (matching (view wanted)) (performings (ground W.gives (W.fixed world.old)) (all parts.now)) scope.old s (view v) t) (W.state world.old) (W.state world.new)) }
+    ensures cut { OnErr result (Goes (IsLost (W.marks world.old) (W.marks world.new)) (IsBranchCut (matching (view wanted)) (parts_of (ground W.gives (W.fixed world.old)) (all parts.now)) scope.old) (W.state world.old) (W.state world.new)) }
     ensures fits { (u : Shape) → IsMatchedBy (W.fixed world.old).types scope.old (view wanted) u parts.now → IfOk result (λ v. fits_in (view v) u ≡ true) }
 {
     let mut rest = parts;
@@ -368,6 +378,7 @@ fn recover<W: World, L: Ledger>(
     ensures scope { scope.new ≡ scope.old }
     ensures keeper { IsErrOf result Stop.Keeper → Rose (W.marks world.old).faults (W.marks world.new).faults }
     ensures done { IfOk result (λ v. Goes (IsLost (W.marks world.old) (W.marks world.new)) (λ s t. IsRecovered (none_left_of form.IfError) (performings (ground W.gives (W.fixed world.old)) (all parts.now)) scope.old s (view v) t) (W.state world.old) (W.state world.new)) }
+    ensures cut { OnErr result (Goes (IsLost (W.marks world.old) (W.marks world.new)) (IsRecoveryCut (parts_of (ground W.gives (W.fixed world.old)) (all parts.now)) scope.old) (W.state world.old) (W.state world.new)) }
     ensures fits { (u : Shape) → AreRecoveries (W.fixed world.old).types scope.old u parts.now → IfOk result (λ v. fits_in (view v) u ≡ true) }
 {
     let mut last = Value::Blank;
@@ -411,6 +422,7 @@ fn catch_error<W: World, L: Ledger>(
     ensures scope { scope.new ≡ scope.old }
     ensures keeper { IsErrOf result Stop.Keeper → Rose (W.marks world.old).faults (W.marks world.new).faults }
     ensures done { IfOk result (λ v. Goes (IsLost (W.marks world.old) (W.marks world.new)) (λ s t. Performs (ground W.gives (W.fixed world.old)) formula.now (caught_in scope.old fault.kind fault.message) (view v) s t) (W.state world.old) (W.state world.new)) }
+    ensures cut { OnErr result (Goes (IsLost (W.marks world.old) (W.marks world.new)) (IsCutOff (ground W.gives (W.fixed world.old)) formula.now (caught_in scope.old fault.kind fault.message)) (W.state world.old) (W.state world.new)) }
     ensures fits { (u : Shape) → IsActable (W.fixed world.old).types (caught_in scope.old fault.kind fault.message) formula.now u → IfOk result (λ v. fits_in (view v) u ≡ true) }
 {
     let outer = scope.caught.replace(fault);
@@ -438,6 +450,7 @@ fn within<W: World, L: Ledger>(
     ensures scope { scope.new ≡ scope.old }
     ensures keeper { IsErrOf result Stop.Keeper → Rose (W.marks world.old).faults (W.marks world.new).faults }
     ensures done { IfOk result (λ v. Goes (IsLost (W.marks world.old) (W.marks world.new)) (λ s t. IsWithin (performings (ground W.gives (W.fixed world.old)) (cons part.now (cons formula.now nil))) scope.old s (view v) t) (W.state world.old) (W.state world.new)) }
+    ensures cut { OnErr result (Goes (IsLost (W.marks world.old) (W.marks world.new)) (IsWithinCut (parts_of (ground W.gives (W.fixed world.old)) (cons part.now (cons formula.now nil))) scope.old) (W.state world.old) (W.state world.new)) }
     ensures fits { (u : Shape) → IsActable (W.fixed world.old).types scope.old (of scoped (cons part.now (cons formula.now nil))) u → IfOk result (λ v. fits_in (view v) u ≡ true) }
 {
     let value = perform(alloc, world, scope, part, steps)?;
@@ -465,6 +478,7 @@ fn in_scope<W: World, L: Ledger>(
     ensures scope { scope.new ≡ scope.old }
     ensures keeper { IsErrOf result Stop.Keeper → Rose (W.marks world.old).faults (W.marks world.new).faults }
     ensures done { IfOk result (λ v. Goes (IsLost (W.marks world.old) (W.marks world.new)) (λ s t. Performs (ground W.gives (W.fixed world.old)) formula.now (inner scope.old (view row)) (view v) s t) (W.state world.old) (W.state world.new)) }
+    ensures cut { OnErr result (Goes (IsLost (W.marks world.old) (W.marks world.new)) (IsCutOff (ground W.gives (W.fixed world.old)) formula.now (inner scope.old (view row))) (W.state world.old) (W.state world.new)) }
     ensures fits { (u : Shape) → IsActable (W.fixed world.old).types (inner scope.old (view row)) formula.now u → IfOk result (λ v. fits_in (view v) u ≡ true) }
 {
     scope.rows.push(row)?;
@@ -492,6 +506,7 @@ fn for_all<W: World, L: Ledger>(
     ensures scope { scope.new ≡ scope.old }
     ensures keeper { IsErrOf result Stop.Keeper → Rose (W.marks world.old).faults (W.marks world.new).faults }
     ensures done { IfOk result (λ v. Goes (IsLost (W.marks world.old) (W.marks world.new)) (λ s t. IsForAll (performings (ground W.gives (W.fixed world.old)) (cons table.now (all parts.now))) scope.old s (view v) t) (W.state world.old) (W.state world.new)) }
+    ensures cut { OnErr result (Goes (IsLost (W.marks world.old) (W.marks world.new)) (IsForAllCut (parts_of (ground W.gives (W.fixed world.old)) (cons table.now (all parts.now))) scope.old) (W.state world.old) (W.state world.new)) }
     ensures fits { (u : Shape) → IsActable (W.fixed world.old).types scope.old (of (over fun.ForAll) (cons table.now (all parts.now))) u → IfOk result (λ v. fits_in (view v) u ≡ true) }
 {
     let Some((formula, _)) = parts.split_first() else {
@@ -525,6 +540,7 @@ fn each<W: World, L: Ledger>(
     ensures scope { scope.new ≡ scope.old }
     ensures keeper { IsErrOf result Stop.Keeper → Rose (W.marks world.old).faults (W.marks world.new).faults }
     ensures done { IfOk result (λ vs. Goes (IsLost (W.marks world.old) (W.marks world.new)) (λ s t. AreEach (performing (ground W.gives (W.fixed world.old)) formula.now) scope.old rows.now s (map view vs.items) t) (W.state world.old) (W.state world.new)) }
+    ensures cut { OnErr result (Goes (IsLost (W.marks world.old) (W.marks world.new)) (AreEachCut (part_of (ground W.gives (W.fixed world.old)) formula.now) scope.old rows.now) (W.state world.old) (W.state world.new)) }
     ensures fits { (u : Shape) → IsActableInside (W.fixed world.old).types scope.old u formula.now rows.now → IfOk result (λ vs. AreOf u (map view vs.items)) }
 {
     let mut values = Vec::new(alloc);
@@ -555,6 +571,7 @@ fn part_values<W: World, L: Ledger>(
     ensures scope { scope.new ≡ scope.old }
     ensures keeper { IsErrOf result Stop.Keeper → Rose (W.marks world.old).faults (W.marks world.new).faults }
     ensures done { IfOk result (λ vs. Goes (IsLost (W.marks world.old) (W.marks world.new)) (λ s t. ArePerformed (performings (ground W.gives (W.fixed world.old)) (all parts.now)) scope.old s (map view vs.items) t) (W.state world.old) (W.state world.new)) }
+    ensures cut { OnErr result (Goes (IsLost (W.marks world.old) (W.marks world.new)) (AreCut (parts_of (ground W.gives (W.fixed world.old)) (all parts.now)) scope.old) (W.state world.old) (W.state world.new)) }
     ensures fits { (us : List Shape) → AreActable (W.fixed world.old).types scope.old us parts.now → IfOk result (λ vs. AreFit (map view vs.items) us) }
 {
     let mut values = Vec::new(alloc);

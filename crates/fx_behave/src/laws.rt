@@ -1,4 +1,5 @@
 // Laws of performings.
+ghost use Rattle.fx_behave.specs.CutOff.{CutsGoOn};
 ghost use Rattle.fx_behave.specs.Unique.{OnePerforming, PerformingsWrite};
 
 use fx_deeds::World;
@@ -22,3 +23,15 @@ pub fn one_performing<W: World>()
 pub fn performings_write<W: World>()
     ensures { PerformingsWrite W.gives }
 {}
+
+/// A law, and no work: over sources that give one value each, the whole performing goes on from where one was cut off.
+pub fn cuts_go_on<W: World>()
+    ensures { CutsGoOn W.gives }
+{
+    sum_once();
+    least_once();
+    greatest_once();
+    count_once();
+    count_if_once();
+    sort_once();
+}

@@ -12,4 +12,4 @@ mod perform;
 
 pub use acting::act;
 pub use fx_deeds::World;
-pub use laws::{one_performing, performings_write};
+pub use laws::{cuts_go_on, one_performing, performings_write};

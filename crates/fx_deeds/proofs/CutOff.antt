@@ -18,7 +18,9 @@ use Rattle.fx_trees.specs.declared.sources.Source.TheVariants as source
 use Rattle.row_keeper.specs.declared.rows.Put.{Put}
 use Rattle.row_keeper.specs.declared.rows.Put.TheVariants.{Id, NoRow, Refused}
 use Rattle.session_state.specs.declared.change.Change.TheVariants as change
-use Rattle.fx_deeds.proofs.Passing.{within_nowhere, within_on}
+use Rattle.fx_base.specs.Silence.{Goes}
+use Rattle.fx_base.specs.Telling.{Stays}
+use Rattle.fx_deeds.proofs.Passing.{goes_weaker, same_state, within_nowhere, within_on}
 use Rattle.fx_deeds.proofs.Single.{Outcome, Same, deed_once, first_one, first_or_lacks, given_one, put_over_one, sees_context, sees_gather, taken_out_one, update_one, with_collection, with_variable}
 use Rattle.fx_deeds.proofs.Writes as writes
 use Rattle.fx_deeds.specs.Changed.{IsRowChanged, IsRowRemoved}
@@ -201,3 +203,7 @@ deed_on f d ys s y u v c q = up_to_on (IsBegun f d ys s) s u v (writes.done_by f
 pub update_on : {A : Type 0} (f : Frame) (t : Target) (rows : List Row) (changes : List Data) (s : State A) (y : Data) (u v : State A) → CutUpdate f t rows changes s u → IsUpdate f t rows changes s y v → Within u v
 update_on f t rows changes s y u v c q =
     up_to_on (IsUpdateBegun f t rows changes s) s u v (writes.update f t rows changes s y v q) (λ n x p. update_begun_on f t rows changes s n x y u v p q) c
+
+-- nothing was done yet
+pub cut_nowhere : {A : Type 0} (lost : Type 0) (P : ℕ → State A → Data → State A → Type 0) (x : Option (State A)) → Goes lost (λ s u. UpTo (λ n d t. P n s d t) s u) x x
+cut_nowhere lost P x = goes_weaker lost Stays (λ s u. UpTo (λ n d t. P n s d t) s u) (λ s u e. inl e) x x (same_state lost x)

@@ -1,10 +1,11 @@
 //! Deeds, by the values of their parts.
-ghost use Rattle.std.specs.Prelude.{◌≡◌, ◌∷◌, [], true, IfOk, IsErrOf, length, map};
+ghost use Rattle.std.specs.Prelude.{◌≡◌, ◌∷◌, [], true, IfOk, IsErrOf, OnErr, length, map};
 ghost use Rattle.fx_base.specs.Faults.{Rose};
 ghost use Rattle.fx_base.specs.Silence.{Goes, IsLost};
 ghost use Rattle.fx_data.specs.Types.{Shape};
 ghost use Rattle.fx_data.specs.ValueView.{view};
 ghost use Rattle.fx_value.specs.Fits.{fits_in};
+ghost use Rattle.fx_deeds.specs.CutOff.{CutDeed};
 ghost use Rattle.fx_deeds.specs.Doable.{AnswersAs, CanDo};
 ghost use Rattle.fx_deeds.specs.Done.{IsDeed};
 ghost use Rattle.fx_deeds.specs.Stages.{Passed, stage};
@@ -36,6 +37,7 @@ pub fn do_deed<W: World, L: Ledger>(
     ensures only { Goes (IsLost (W.marks world.old) (W.marks world.new)) (WritesOnly (DeedMayWrite deed.now)) (W.state world.old) (W.state world.new) }
     ensures keeper { IsErrOf result Stop.Keeper → Rose (W.marks world.old).faults (W.marks world.new).faults }
     ensures done { IfOk result (λ x. Goes (IsLost (W.marks world.old) (W.marks world.new)) (λ s t. IsDeed (frame_of (W.fixed world.old)) deed.now (map view values.items) s (view x) t) (W.state world.old) (W.state world.new)) }
+    ensures cut { OnErr result (Goes (IsLost (W.marks world.old) (W.marks world.new)) (CutDeed (frame_of (W.fixed world.old)) deed.now (map view values.items)) (W.state world.old) (W.state world.new)) }
     ensures fits { (u : Shape) → AnswersAs (W.fixed world.old).types deed.now u → IfOk result (λ x. fits_in (view x) u ≡ true) }
 {
     match deed {

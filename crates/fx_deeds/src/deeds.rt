@@ -1,5 +1,5 @@
 //! Deeds on rows, by the values of their parts.
-ghost use Rattle.std.specs.Prelude.{◌≡◌, [], ◌∷◌, true, IfOk, IsErrOf, map};
+ghost use Rattle.std.specs.Prelude.{◌≡◌, [], ◌∷◌, true, IfOk, IsErrOf, OnErr, map};
 ghost use Rattle.fx_base.specs.Faults.{Rose};
 ghost use Rattle.fx_base.specs.Silence.{Goes, IsLost};
 ghost use Rattle.fx_data.specs.Types.{Shape, booleans};
@@ -7,6 +7,7 @@ ghost use Rattle.fx_data.specs.ValueView.{view};
 ghost use Rattle.fx_trees.specs.declared.deeds.Deed.TheVariants as deed;
 ghost use Rattle.fx_trees.specs.declared.deeds.Target.TheVariants as target;
 ghost use Rattle.fx_value.specs.Fits.{fits_in};
+ghost use Rattle.fx_deeds.specs.CutOff.{CutUpdate};
 ghost use Rattle.fx_deeds.specs.Doable.{AnswersAs, CanDo, CanUpdate};
 ghost use Rattle.fx_deeds.specs.Done.{IsDeed, IsUpdate};
 ghost use Rattle.fx_deeds.specs.Stages.{Passed, stage};
@@ -127,6 +128,7 @@ pub fn update<W: World, L: Ledger>(
     ensures only { Goes (IsLost (W.marks world.old) (W.marks world.new)) (WritesOnly (DeedMayWrite (deed.UpdateIf target))) (W.state world.old) (W.state world.new) }
     ensures keeper { IsErrOf result Stop.Keeper → Rose (W.marks world.old).faults (W.marks world.new).faults }
     ensures done { IfOk result (λ x. Goes (IsLost (W.marks world.old) (W.marks world.new)) (λ s t. IsUpdate (frame_of (W.fixed world.old)) target rows.now (map view changes.now) s (view x) t) (W.state world.old) (W.state world.new)) }
+    ensures cut { OnErr result (Goes (IsLost (W.marks world.old) (W.marks world.new)) (CutUpdate (frame_of (W.fixed world.old)) target rows.now (map view changes.now)) (W.state world.old) (W.state world.new)) }
     ensures fits { IfOk result (λ x. fits_in (view x) booleans ≡ true) }
 {
     if let Some(error) = first_of_changes(alloc, changes)? {
