@@ -252,7 +252,7 @@ acting_on g (top.rec ns) Ps f h s u x v c p = absurd c
 from_start : {A : Type 0} (s u v : State A) → u ≡ s → Within s v → Within u v
 from_start s u v e w = subst (λ z. Within z v) (sym e) w
 
-whole_parts : {A : Type 0} (g : Ground A) (ts : Terms) → wholes (parts g ts) ≡ performings g ts
+pub whole_parts : {A : Type 0} (g : Ground A) (ts : Terms) → wholes (parts g ts) ≡ performings g ts
 whole_parts g nil = refl
 whole_parts g (cons t ts) = ap (λ Ps. performing g t ∷ Ps) (whole_parts g ts)
 

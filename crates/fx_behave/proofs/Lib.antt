@@ -13,3 +13,4 @@ pub mod Following
 pub mod WritesAll
 pub mod SingleAll
 pub mod CutOff
+pub mod Cutting

@@ -80,7 +80,7 @@ or_value (rec fs) P s x t n p = p
 or_value (tab rs) P s x t n p = p
 or_value (fault k cs) P s x t n p = absurd n
 
-caught_or : (w : Data) (C : Kind → List ℕ → Type 0) (P : Type 0) → IsNoError w → P → CaughtOr w C P
+pub caught_or : (w : Data) (C : Kind → List ℕ → Type 0) (P : Type 0) → IsNoError w → P → CaughtOr w C P
 caught_or blank C P n p = p
 caught_or (number z) C P n p = p
 caught_or (text cs) C P n p = p

@@ -1,7 +1,7 @@
 use Rattle.std.proofs.Common.{◌≡◌, ◌∷◌, [], ◌∙◌, List, map, true, ap, sym, subst, refl, arith, inl, inr}
 use Rattle.std.proofs.lemmas.List.{map-append, nil_from_length}
-use Rattle.std.proofs.lemmas.Result.{IfOk-weaker}
-use Rattle.std.specs.Prelude.{IfOk}
+use Rattle.std.proofs.lemmas.Result.{IfOk-weaker, on_err_weaker}
+use Rattle.std.specs.Prelude.{IfOk, OnErr}
 use Rattle.fx_base.proofs.Silences.{rose_before}
 use Rattle.fx_base.specs.Silence.{Goes, IsLost}
 use Rattle.fx_data.specs.Types.{booleans}
@@ -26,12 +26,14 @@ use Rattle.fx_value.specs.Fits.{fits_in}
 use Rattle.fx_trees.specs.declared.deeds.Deed.TheVariants as deed
 use Rattle.fx_deeds.proofs.Passing.{passed_nowhere, passed_on}
 use Rattle.fx_deeds.proofs.Allowing.{only_nowhere, only_on, only_over, only_staying, only_wider}
+use Rattle.fx_deeds.specs.CutOff.{CutDeed, CutUpdate}
 use Rattle.fx_deeds.specs.Doable.{AnswersAs, CanDo, CanUpdate}
 use Rattle.fx_deeds.specs.Done.{IsDeed, IsUpdate}
 use Rattle.fx_deeds.specs.Lefts.{Decides}
 use Rattle.fx_deeds.specs.State.{frame_of, ground}
 use Rattle.fx_deeds.specs.Writable.{DeedMayWrite}
 use Rattle.fx_behave.proofs.Acted as acted
+use Rattle.fx_behave.proofs.Cutting as cutting
 use Rattle.fx_behave.proofs.Actables.{chain_actable, if_actable, formula_actable, quiet_ready, record_actable, recover_actable, switch_actable}
 use Rattle.fx_behave.proofs.Eaches.{formula_is, formula_there, gone, table_can}
 use Rattle.fx_behave.proofs.Following as left
@@ -43,6 +45,7 @@ use Rattle.fx_behave.proofs.Sequences.{is_no_error, refl_le}
 use Rattle.fx_behave.proofs.Updated as updated
 use Rattle.fx_behave.proofs.Allowing.{first_may, only_next, only_one, only_parts, only_same, others_may}
 use Rattle.fx_behave.specs.Actable.{AreBranches, AreRecoveries, CanAct, EndsIn, IsActable, IsActableInside, IsMatchedBy, IsSwitch}
+use Rattle.fx_behave.specs.CutOff.{IsActCut, IsBranchCut, IsCutOff, IsForAllCut, IsSwitchCut, IsUpdateIfCut, part as part_of, parts as parts_of}
 use Rattle.fx_behave.specs.Perform.{AreEach, IsBranched, IsForAll, IsSwitched, IsUpdateIf, Performs, matching, performing, performings}
 use Rattle.fx_behave.specs.Writable.{AnyMayWrite, MayWrite}
 use Rattle.fx_behave.proofs.acting.+perform.Goals as goal
@@ -57,6 +60,7 @@ chain-loop-part-init g t c =
       fits = λ u r. r;
       done = begins _ _ (steps.chain_of (ground g.W.World.gives (g.W.Env.fixed c.args.world.now)) c.args.scope.now c.args.parts.now);
       small = refl_le (terms_size (all c.args.parts.now));
+      cut = cutting.cut_begins _ _ (cutting.parts_left (ground g.W.World.gives (g.W.Env.fixed c.args.world.now)) c.args.scope.now c.args.parts.now);
     }
 
 pub chain-perform-requires : goal.chain-perform-requires
@@ -97,6 +101,7 @@ chain-loop-part-preserved g t c =
       fits = λ u r. left.chain_rest (g.W.Env.fixed c.args.world.now).types c.args.scope.now u c.in-Some.part.now c.in-Some.others.now c.loop-part.rest.now c.in-Some.ensures.cases.0 (steps.some_left _ (sym c.is_empty.ensures ∙ c.if-is_empty.false)) (c.loop-part.invariant.fits u r);
       done = steps.chain_goes g.W.World.gives _ _ _ _ _ _ _ _ _ _ (steps.chain_of (ground g.W.World.gives (g.W.Env.fixed c.args.world.now)) c.args.scope.now c.args.parts.now) c.in-Some.part.now c.in-Some.others.now c.loop-part.rest.now _ c.loop-part.invariant.passed.fixed c.loop-part.invariant.scope c.loop-part.invariant.passed.later c.perform-in-Some.ensures.passed.later c.in-Some.ensures.cases.0 (steps.some_left _ (sym c.is_empty.ensures ∙ c.if-is_empty.false)) c.loop-part.invariant.done c.in_ok-perform.ensures.done;
       small = let j = steps.first_is_smaller c.loop-part.rest.now c.in-Some.part.now c.in-Some.others.now (terms_size (all c.args.parts.now)) c.in-Some.ensures.cases.0 c.loop-part.invariant.small in omega (arith, j);
+      cut = cutting.parts_go g.W.World.gives _ _ _ _ _ _ _ _ _ _ (cutting.parts_left (ground g.W.World.gives (g.W.Env.fixed c.args.world.now)) c.args.scope.now c.args.parts.now) c.in-Some.part.now c.in-Some.others.now c.loop-part.rest.now c.loop-part.invariant.passed.fixed c.loop-part.invariant.scope c.loop-part.invariant.passed.later c.perform-in-Some.ensures.passed.later c.in-Some.ensures.cases.0 _ c.loop-part.invariant.cut c.in_ok-perform.ensures.done;
     }
 
 pub chain-returns-in_err-perform-clause-passed : goal.chain-returns-in_err-perform-clause-passed
@@ -509,6 +514,7 @@ branches-loop-part-preserved g t c =
       small = let j = steps.first_is_smaller c.loop-part.rest.now c.in-Some.part.now c.in-Some.others.now (terms_size (all c.args.parts.now)) c.in-Some.ensures.cases.0 c.loop-part.invariant.small in
           let i = steps.first_is_smaller c.in-Some.others.now c.in-Some-split_first.branch.now c.in-Some-split_first.beyond.now (terms_size (all c.in-Some.others.now)) c.in-Some-split_first.ensures.cases.0 (refl_le (terms_size (all c.in-Some.others.now))) in
           omega (arith, i, j);
+      cut = cutting.branch_unmet g.W.World.gives _ _ _ _ _ _ _ _ _ _ (cutting.branches_left decision_of (ground g.W.World.gives (g.W.Env.fixed c.args.world.now)) c.args.scope.now c.args.parts.now) c.in-Some.part.now c.in-Some.others.now c.loop-part.rest.now c.loop-part.invariant.passed.fixed c.loop-part.invariant.scope c.loop-part.invariant.passed.later c.perform-in-Some.ensures.passed.later c.in-Some.ensures.cases.0 (view c.in_ok-value.value) decision_of c.in-Some-split_first.branch.now c.in-Some-split_first.beyond.now c.in-Some-split_first.ensures.cases.0 (sym c.decide.ensures ∙ c.in-Unmet.is) c.loop-part.invariant.cut c.in_ok-value.ensures.done;
     }
 
 pub branches-returns-in-Error-clause-passed : goal.branches-returns-in-Error-clause-passed
@@ -591,6 +597,7 @@ matches-loop-part-preserved g t c =
       small = let j = steps.first_is_smaller c.loop-part.rest.now c.in-Some.part.now c.in-Some.others.now (terms_size (all c.args.parts.now)) c.in-Some.ensures.cases.0 c.loop-part.invariant.small in
           let i = steps.first_is_smaller c.in-Some.others.now c.in-Some-split_first.branch.now c.in-Some-split_first.beyond.now (terms_size (all c.in-Some.others.now)) c.in-Some-split_first.ensures.cases.0 (refl_le (terms_size (all c.in-Some.others.now))) in
           omega (arith, i, j);
+      cut = cutting.branch_unmet g.W.World.gives _ _ _ _ _ _ _ _ _ _ (cutting.branches_left (matching (view c.args.wanted)) (ground g.W.World.gives (g.W.Env.fixed c.args.world.now)) c.args.scope.now c.args.parts.now) c.in-Some.part.now c.in-Some.others.now c.loop-part.rest.now c.loop-part.invariant.passed.fixed c.loop-part.invariant.scope c.loop-part.invariant.passed.later c.perform-in-Some.ensures.passed.later c.in-Some.ensures.cases.0 (view c.in_ok-value.value) (matching (view c.args.wanted)) c.in-Some-split_first.branch.now c.in-Some-split_first.beyond.now c.in-Some-split_first.ensures.cases.0 (sym (ap (λ w. matching (view w) (view c.in_ok-value.value)) c.loop-part.invariant.wanted) ∙ sym c.decide_match.ensures ∙ c.in-Unmet.is) c.loop-part.invariant.cut c.in_ok-value.ensures.done;
     }
 
 pub matches-returns-in-Error-clause-passed : goal.matches-returns-in-Error-clause-passed
@@ -679,6 +686,7 @@ recover-loop-part-preserved g t c =
       small = let j = steps.first_is_smaller c.loop-part.rest.now c.in-Some.part.now c.in-Some.others.now (terms_size (all c.args.parts.now)) c.in-Some.ensures.cases.0 c.loop-part.invariant.small in
           let i = steps.first_is_smaller c.in-Some.others.now c.in-Some-split_first.fallback.now c.in-Some-split_first.beyond.now (terms_size (all c.in-Some.others.now)) c.in-Some-split_first.ensures.cases.0 (refl_le (terms_size (all c.in-Some.others.now))) in
           omega (arith, i, j);
+      cut = cutting.recovery_goes g.W.World.gives _ _ _ _ _ _ _ _ _ _ (cutting.recovery_left (ground g.W.World.gives (g.W.Env.fixed c.args.world.now)) c.args.scope.now c.args.parts.now) c.in-Some.part.now c.in-Some.others.now c.loop-part.rest.now c.loop-part.invariant.passed.fixed c.loop-part.invariant.scope c.loop-part.invariant.passed.later c.perform-in-Some.ensures.passed.later c.in-Some.ensures.cases.0 (view c.in_ok-value.value) c.in-Some-split_first.fallback.now c.in-Some-split_first.beyond.now c.in-Some-split_first.ensures.cases.0 c.in-Ok.ensures.1 c.loop-part.invariant.cut c.in_ok-value.ensures.done;
     }
 
 pub recover-returns-clause-done : goal.recover-returns-clause-done
@@ -707,6 +715,7 @@ each-loop-row-preserved g t c =
       scope = c.in_scope.ensures.scope ∙ c.loop-row.invariant.scope;
       fits = λ u r. (left.inside_rest (g.W.Env.fixed c.args.world.now).types c.args.scope.now u c.args.formula.now c.in-Some.row.now c.in-Some.others.now c.loop-row.rest.now c.in-Some.ensures.cases.0 (c.loop-row.invariant.fits u r).0, left.of_more u (map view c.loop-row.values.items) _ (view c.in_ok-value.value) (ap (map view) c.in_ok-push.ensures.items ∙ map-append _ _ _) (c.loop-row.invariant.fits u r).1 (c.in_ok-value.ensures.fits u (steps.moved (λ f h. IsActable f.types (inner h (record_of c.in_ok-copy.field-0)) c.args.formula.now u) _ _ _ _ c.loop-row.invariant.passed.fixed c.loop-row.invariant.scope (subst (λ q. IsActable (g.W.Env.fixed c.args.world.now).types (inner c.args.scope.now (record_of q)) c.args.formula.now u) (sym c.in_ok-copy.ensures) (left.inside_first (g.W.Env.fixed c.args.world.now).types c.args.scope.now u c.args.formula.now c.in-Some.row.now c.in-Some.others.now c.loop-row.rest.now c.in-Some.ensures.cases.0 (c.loop-row.invariant.fits u r).0)))));
       done = steps.each_goes g.W.World.gives _ _ _ _ _ _ _ _ _ _ (steps.each_of (ground g.W.World.gives (g.W.Env.fixed c.args.world.now)) c.args.scope.now c.args.formula.now c.args.rows.now) (map view c.loop-row.values.items) _ (view c.in_ok-value.value) c.loop-row.invariant.passed.fixed c.loop-row.invariant.scope c.loop-row.invariant.passed.later c.in_scope.ensures.passed.later (ap (map view) c.in_ok-push.ensures.items ∙ map-append _ _ _) c.args.formula.now c.in-Some.row.now (record_of c.in_ok-copy.field-0) c.in-Some.others.now c.loop-row.rest.now c.in-Some.ensures.cases.0 (ap record_of c.in_ok-copy.ensures) c.loop-row.invariant.done c.in_ok-value.ensures.done;
+      cut = cutting.each_go g.W.World.gives _ _ _ _ _ _ _ _ _ _ (cutting.each_left (ground g.W.World.gives (g.W.Env.fixed c.args.world.now)) c.args.scope.now c.args.formula.now c.args.rows.now) c.args.formula.now c.in-Some.row.now (record_of c.in_ok-copy.field-0) c.in-Some.others.now c.loop-row.rest.now c.loop-row.invariant.passed.fixed c.loop-row.invariant.scope c.loop-row.invariant.passed.later c.in_scope.ensures.passed.later c.in-Some.ensures.cases.0 (ap record_of c.in_ok-copy.ensures) (view c.in_ok-value.value) c.loop-row.invariant.cut c.in_ok-value.ensures.done;
     }
 
 pub each-returns-clause-done : goal.each-returns-clause-done
@@ -742,6 +751,7 @@ part_values-loop-part-preserved g t c =
       fits = λ us r. left.left_rest (g.W.Env.fixed c.args.world.now).types c.args.scope.now us (map view c.loop-part.values.items) _ c.in-Some.part.now c.in-Some.others.now c.loop-part.rest.now (view c.in_ok-value.value) c.in-Some.ensures.cases.0 (ap (map view) c.in_ok-push.ensures.items ∙ map-append _ _ _) (λ q i. c.in_ok-value.ensures.fits q (steps.moved (λ f h. IsActable f.types h c.in-Some.part.now q) _ _ _ _ c.loop-part.invariant.passed.fixed c.loop-part.invariant.scope (i))) (c.loop-part.invariant.fits us r);
       done = steps.performed_goes g.W.World.gives _ _ _ _ _ _ _ _ _ _ (steps.parts_of (ground g.W.World.gives (g.W.Env.fixed c.args.world.now)) c.args.scope.now c.args.parts.now) (map view c.loop-part.values.items) _ (view c.in_ok-value.value) c.loop-part.invariant.passed.fixed c.loop-part.invariant.scope c.loop-part.invariant.passed.later c.perform.ensures.passed.later (ap (map view) c.in_ok-push.ensures.items ∙ map-append _ _ _) c.in-Some.part.now c.in-Some.others.now c.loop-part.rest.now c.in-Some.ensures.cases.0 c.loop-part.invariant.done c.in_ok-value.ensures.done;
       small = let j = steps.first_is_smaller c.loop-part.rest.now c.in-Some.part.now c.in-Some.others.now (terms_size (all c.args.parts.now)) c.in-Some.ensures.cases.0 c.loop-part.invariant.small in omega (arith, j);
+      cut = cutting.parts_go g.W.World.gives _ _ _ _ _ _ _ _ _ _ (cutting.parts_left (ground g.W.World.gives (g.W.Env.fixed c.args.world.now)) c.args.scope.now c.args.parts.now) c.in-Some.part.now c.in-Some.others.now c.loop-part.rest.now c.loop-part.invariant.passed.fixed c.loop-part.invariant.scope c.loop-part.invariant.passed.later c.perform.ensures.passed.later c.in-Some.ensures.cases.0 (view c.in_ok-value.value) c.loop-part.invariant.cut c.in_ok-value.ensures.done;
     }
 
 pub part_values-returns-clause-done : goal.part_values-returns-clause-done
@@ -762,6 +772,7 @@ part_values-loop-part-init g t c =
       fits = λ us r. ([], us, refl, subst (λ z. AreFit (map view z) []) (sym c.new-values.ensures.items) tt, r);
       done = steps.performed_begins _ _ (ground g.W.World.gives (g.W.Env.fixed c.args.world.now)) c.args.scope.now c.args.parts.now _ (ap (map view) c.new-values.ensures.items);
       small = refl_le (terms_size (all c.args.parts.now));
+      cut = cutting.cut_begins _ _ (cutting.parts_left (ground g.W.World.gives (g.W.Env.fixed c.args.world.now)) c.args.scope.now c.args.parts.now);
     }
 
 pub for_all-returns-in_ok-for_all-in-Ok-clause-done : goal.for_all-returns-in_ok-for_all-in-Ok-clause-done
@@ -824,6 +835,10 @@ act_deed-returns-in_ok-values-in_default g t c =
           (subst (λ (f : Fixed). Goes (IsLost (g.W.Env.marks c.part_values.new.world) (g.W.Env.marks c.do_deed.new.world)) (λ s u. IsDeed (frame_of f) c.args.deed.now (map view c.in_ok-values-in_default.values.items) s (view v) u) (g.W.World.state c.part_values.new.world) (g.W.World.state c.do_deed.new.world)) c.part_values.ensures.passed.fixed k))
           c.do_deed.ensures.done;
       fits = λ u r. c.do_deed.ensures.fits u (subst (λ (f : Fixed). AnswersAs f.types c.args.deed.now u) (sym c.part_values.ensures.passed.fixed) (acted.deed_answers (g.W.Env.fixed c.args.world.now).types c.args.scope.now c.args.deed.now c.args.parts.now u (acted.not_updating c.args.deed.now c.in_default.not-UpdateIf) r));
+      cut = on_err_weaker c.do_deed.result
+          (λ k. cutting.deed_then (ground g.W.World.gives (g.W.Env.fixed c.args.world.now)) c.args.scope.now _ _ _ _ _ _ c.args.deed.now (acted.not_updating c.args.deed.now c.in_default.not-UpdateIf) c.args.parts.now (map view c.in_ok-values-in_default.values.items) c.part_values.ensures.passed.later c.do_deed.ensures.passed.later c.in_ok-values-in_default.ensures.done
+          (subst (λ (f : Fixed). Goes (IsLost (g.W.Env.marks c.part_values.new.world) (g.W.Env.marks c.do_deed.new.world)) (CutDeed (frame_of f) c.args.deed.now (map view c.in_ok-values-in_default.values.items)) (g.W.World.state c.part_values.new.world) (g.W.World.state c.do_deed.new.world)) c.part_values.ensures.passed.fixed k))
+          c.do_deed.ensures.cut;
     }
 
 pub chain-returns-then-is_empty-clause-only : goal.chain-returns-then-is_empty-clause-only
@@ -910,6 +925,7 @@ branches-loop-part-init g t c =
       fits = λ u r. r;
       done = begins _ _ (steps.branches_of decision_of (ground g.W.World.gives (g.W.Env.fixed c.args.world.now)) c.args.scope.now c.args.parts.now);
       small = refl_le (terms_size (all c.args.parts.now));
+      cut = cutting.cut_begins _ _ (cutting.branches_left decision_of (ground g.W.World.gives (g.W.Env.fixed c.args.world.now)) c.args.scope.now c.args.parts.now);
     }
 
 pub matches-loop-part-init : goal.matches-loop-part-init
@@ -923,6 +939,7 @@ matches-loop-part-init g t c =
       fits = λ u r. r;
       done = begins _ _ (steps.branches_of (matching (view c.args.wanted)) (ground g.W.World.gives (g.W.Env.fixed c.args.world.now)) c.args.scope.now c.args.parts.now);
       small = refl_le (terms_size (all c.args.parts.now));
+      cut = cutting.cut_begins _ _ (cutting.branches_left (matching (view c.args.wanted)) (ground g.W.World.gives (g.W.Env.fixed c.args.world.now)) c.args.scope.now c.args.parts.now);
     }
 
 pub recover-loop-part-init : goal.recover-loop-part-init
@@ -935,6 +952,7 @@ recover-loop-part-init g t c =
       fits = λ u r. (r, refl);
       done = begins _ _ (steps.recovery_of (ground g.W.World.gives (g.W.Env.fixed c.args.world.now)) c.args.scope.now (none_left_of form.IfError) c.args.parts.now);
       small = refl_le (terms_size (all c.args.parts.now));
+      cut = cutting.cut_begins _ _ (cutting.recovery_left (ground g.W.World.gives (g.W.Env.fixed c.args.world.now)) c.args.scope.now c.args.parts.now);
     }
 
 pub node-returns-in-Chain-clause-only : goal.node-returns-in-Chain-clause-only
@@ -1080,3 +1098,214 @@ act_deed-returns-in-UpdateIf-clause-only g t c =
 pub act_deed-returns-in_err-values-in_default-clause-only : goal.act_deed-returns-in_err-values-in_default-clause-only
 act_deed-returns-in_err-values-in_default-clause-only g t c =
     only_wider (AnyMayWrite (all c.args.parts.now)) (MayWrite (of (top.act c.args.deed.now) (all c.args.parts.now))) (λ x m. inr m) _ _ c.part_values.ensures.passed c.part_values.ensures.only
+
+pub chain-returns-then-is_empty-clause-cut : goal.chain-returns-then-is_empty-clause-cut
+chain-returns-then-is_empty-clause-cut g t c =
+    on_err_weaker c.perform.result
+    (λ k. cutting.parts_cut g.W.World.gives _ _ _ _ _ _ _ _ _ _ (cutting.parts_left (ground g.W.World.gives (g.W.Env.fixed c.args.world.now)) c.args.scope.now c.args.parts.now) c.in-Some.part.now c.in-Some.others.now c.loop-part.rest.now c.loop-part.invariant.passed.fixed c.loop-part.invariant.scope c.loop-part.invariant.passed.later c.perform.ensures.passed.later c.in-Some.ensures.cases.0 c.loop-part.invariant.cut k)
+    c.perform.ensures.cut
+
+pub chain-returns-in_err-perform-clause-cut : goal.chain-returns-in_err-perform-clause-cut
+chain-returns-in_err-perform-clause-cut g t c =
+    cutting.parts_cut g.W.World.gives _ _ _ _ _ _ _ _ _ _ (cutting.parts_left (ground g.W.World.gives (g.W.Env.fixed c.args.world.now)) c.args.scope.now c.args.parts.now) c.in-Some.part.now c.in-Some.others.now c.loop-part.rest.now c.loop-part.invariant.passed.fixed c.loop-part.invariant.scope c.loop-part.invariant.passed.later c.perform-in-Some.ensures.passed.later c.in-Some.ensures.cases.0 c.loop-part.invariant.cut c.in_err-perform.ensures.cut
+
+pub branches-returns-in_default-split_first-clause-cut : goal.branches-returns-in_default-split_first-clause-cut
+branches-returns-in_default-split_first-clause-cut g t c =
+    on_err_weaker c.perform.result
+    (λ k. cutting.branches_cut g.W.World.gives _ _ _ _ _ _ _ _ _ _ (cutting.branches_left decision_of (ground g.W.World.gives (g.W.Env.fixed c.args.world.now)) c.args.scope.now c.args.parts.now) c.in-Some.part.now c.in-Some.others.now c.loop-part.rest.now c.loop-part.invariant.passed.fixed c.loop-part.invariant.scope c.loop-part.invariant.passed.later c.perform.ensures.passed.later c.in-Some.ensures.cases.0 decision_of c.loop-part.invariant.cut k)
+    c.perform.ensures.cut
+
+pub branches-returns-in_err-value-clause-cut : goal.branches-returns-in_err-value-clause-cut
+branches-returns-in_err-value-clause-cut g t c =
+    cutting.branches_cut g.W.World.gives _ _ _ _ _ _ _ _ _ _ (cutting.branches_left decision_of (ground g.W.World.gives (g.W.Env.fixed c.args.world.now)) c.args.scope.now c.args.parts.now) c.in-Some.part.now c.in-Some.others.now c.loop-part.rest.now c.loop-part.invariant.passed.fixed c.loop-part.invariant.scope c.loop-part.invariant.passed.later c.perform-in-Some.ensures.passed.later c.in-Some.ensures.cases.0 decision_of c.loop-part.invariant.cut c.in_err-value.ensures.cut
+
+pub branches-returns-in-Met-clause-cut : goal.branches-returns-in-Met-clause-cut
+branches-returns-in-Met-clause-cut g t c =
+    on_err_weaker c.perform-in-Met.result
+    (λ k. cutting.branch_cut g.W.World.gives _ _ _ _ _ _ _ _ _ _ (cutting.branches_left decision_of (ground g.W.World.gives (g.W.Env.fixed c.args.world.now)) c.args.scope.now c.args.parts.now) c.in-Some-split_first.branch.now (c.perform-in-Some.ensures.passed.fixed ∙ c.loop-part.invariant.passed.fixed) (c.perform-in-Some.ensures.scope ∙ c.loop-part.invariant.scope) (passed_on _ _ _ c.loop-part.invariant.passed c.perform-in-Some.ensures.passed).later c.perform-in-Met.ensures.passed.later
+    (cutting.branch_met g.W.World.gives _ _ _ _ _ _ _ _ _ _ (cutting.branches_left decision_of (ground g.W.World.gives (g.W.Env.fixed c.args.world.now)) c.args.scope.now c.args.parts.now) c.in-Some.part.now c.in-Some.others.now c.loop-part.rest.now c.loop-part.invariant.passed.fixed c.loop-part.invariant.scope c.loop-part.invariant.passed.later c.perform-in-Some.ensures.passed.later c.in-Some.ensures.cases.0 (view c.in_ok-value.value) decision_of c.in-Some-split_first.branch.now c.in-Some-split_first.beyond.now c.in-Some-split_first.ensures.cases.0 (sym c.decide.ensures ∙ c.in-Met.is) c.loop-part.invariant.cut c.in_ok-value.ensures.done) k)
+    c.perform-in-Met.ensures.cut
+
+pub matches-returns-in_default-split_first-clause-cut : goal.matches-returns-in_default-split_first-clause-cut
+matches-returns-in_default-split_first-clause-cut g t c =
+    on_err_weaker c.perform.result
+    (λ k. cutting.branches_cut g.W.World.gives _ _ _ _ _ _ _ _ _ _ (cutting.branches_left (matching (view c.args.wanted)) (ground g.W.World.gives (g.W.Env.fixed c.args.world.now)) c.args.scope.now c.args.parts.now) c.in-Some.part.now c.in-Some.others.now c.loop-part.rest.now c.loop-part.invariant.passed.fixed c.loop-part.invariant.scope c.loop-part.invariant.passed.later c.perform.ensures.passed.later c.in-Some.ensures.cases.0 (matching (view c.args.wanted)) c.loop-part.invariant.cut k)
+    c.perform.ensures.cut
+
+pub matches-returns-in_err-value-clause-cut : goal.matches-returns-in_err-value-clause-cut
+matches-returns-in_err-value-clause-cut g t c =
+    cutting.branches_cut g.W.World.gives _ _ _ _ _ _ _ _ _ _ (cutting.branches_left (matching (view c.args.wanted)) (ground g.W.World.gives (g.W.Env.fixed c.args.world.now)) c.args.scope.now c.args.parts.now) c.in-Some.part.now c.in-Some.others.now c.loop-part.rest.now c.loop-part.invariant.passed.fixed c.loop-part.invariant.scope c.loop-part.invariant.passed.later c.perform-in-Some.ensures.passed.later c.in-Some.ensures.cases.0 (matching (view c.args.wanted)) c.loop-part.invariant.cut c.in_err-value.ensures.cut
+
+pub matches-returns-in-Met-clause-cut : goal.matches-returns-in-Met-clause-cut
+matches-returns-in-Met-clause-cut g t c =
+    on_err_weaker c.perform-in-Met.result
+    (λ k. cutting.branch_cut g.W.World.gives _ _ _ _ _ _ _ _ _ _ (cutting.branches_left (matching (view c.args.wanted)) (ground g.W.World.gives (g.W.Env.fixed c.args.world.now)) c.args.scope.now c.args.parts.now) c.in-Some-split_first.branch.now (c.perform-in-Some.ensures.passed.fixed ∙ c.loop-part.invariant.passed.fixed) (c.perform-in-Some.ensures.scope ∙ c.loop-part.invariant.scope) (passed_on _ _ _ c.loop-part.invariant.passed c.perform-in-Some.ensures.passed).later c.perform-in-Met.ensures.passed.later
+    (cutting.branch_met g.W.World.gives _ _ _ _ _ _ _ _ _ _ (cutting.branches_left (matching (view c.args.wanted)) (ground g.W.World.gives (g.W.Env.fixed c.args.world.now)) c.args.scope.now c.args.parts.now) c.in-Some.part.now c.in-Some.others.now c.loop-part.rest.now c.loop-part.invariant.passed.fixed c.loop-part.invariant.scope c.loop-part.invariant.passed.later c.perform-in-Some.ensures.passed.later c.in-Some.ensures.cases.0 (view c.in_ok-value.value) (matching (view c.args.wanted)) c.in-Some-split_first.branch.now c.in-Some-split_first.beyond.now c.in-Some-split_first.ensures.cases.0 (sym (ap (λ w. matching (view w) (view c.in_ok-value.value)) c.loop-part.invariant.wanted) ∙ sym c.decide_match.ensures ∙ c.in-Met.is) c.loop-part.invariant.cut c.in_ok-value.ensures.done) k)
+    c.perform-in-Met.ensures.cut
+
+pub recover-returns-in_default-split_first-clause-cut : goal.recover-returns-in_default-split_first-clause-cut
+recover-returns-in_default-split_first-clause-cut g t c =
+    on_err_weaker c.perform.result
+    (λ k. cutting.recovery_cut g.W.World.gives _ _ _ _ _ _ _ _ _ _ (cutting.recovery_left (ground g.W.World.gives (g.W.Env.fixed c.args.world.now)) c.args.scope.now c.args.parts.now) c.in-Some.part.now c.in-Some.others.now c.loop-part.rest.now c.loop-part.invariant.passed.fixed c.loop-part.invariant.scope c.loop-part.invariant.passed.later c.perform.ensures.passed.later c.in-Some.ensures.cases.0 c.loop-part.invariant.cut k)
+    c.perform.ensures.cut
+
+pub recover-returns-in_err-value-clause-cut : goal.recover-returns-in_err-value-clause-cut
+recover-returns-in_err-value-clause-cut g t c =
+    cutting.recovery_cut g.W.World.gives _ _ _ _ _ _ _ _ _ _ (cutting.recovery_left (ground g.W.World.gives (g.W.Env.fixed c.args.world.now)) c.args.scope.now c.args.parts.now) c.in-Some.part.now c.in-Some.others.now c.loop-part.rest.now c.loop-part.invariant.passed.fixed c.loop-part.invariant.scope c.loop-part.invariant.passed.later c.perform-in-Some.ensures.passed.later c.in-Some.ensures.cases.0 c.loop-part.invariant.cut c.in_err-value.ensures.cut
+
+pub recover-returns-in-Err-clause-cut : goal.recover-returns-in-Err-clause-cut
+recover-returns-in-Err-clause-cut g t c =
+    on_err_weaker c.catch_error.result
+    (λ k. cutting.branch_cut g.W.World.gives _ _ _ _ _ _ _ _ _ _ (cutting.recovery_left (ground g.W.World.gives (g.W.Env.fixed c.args.world.now)) c.args.scope.now c.args.parts.now) c.in-Some-split_first.fallback.now (c.perform-in-Some.ensures.passed.fixed ∙ c.loop-part.invariant.passed.fixed) (ap (λ h. caught_in h c.in-Err.fault.kind c.in-Err.fault.message) (c.perform-in-Some.ensures.scope ∙ c.loop-part.invariant.scope)) (passed_on _ _ _ c.loop-part.invariant.passed c.perform-in-Some.ensures.passed).later c.catch_error.ensures.passed.later
+    (cutting.recovery_falls g.W.World.gives _ _ _ _ _ _ _ _ _ _ (cutting.recovery_left (ground g.W.World.gives (g.W.Env.fixed c.args.world.now)) c.args.scope.now c.args.parts.now) c.in-Some.part.now c.in-Some.others.now c.loop-part.rest.now c.loop-part.invariant.passed.fixed c.loop-part.invariant.scope c.loop-part.invariant.passed.later c.perform-in-Some.ensures.passed.later c.in-Some.ensures.cases.0 (view c.in_ok-value.value) c.in-Some-split_first.fallback.now c.in-Some-split_first.beyond.now c.in-Some-split_first.ensures.cases.0 c.in-Err.fault.kind c.in-Err.fault.message c.in-Err.ensures c.loop-part.invariant.cut c.in_ok-value.ensures.done) k)
+    c.catch_error.ensures.cut
+
+pub part_values-returns-in_err-value-clause-cut : goal.part_values-returns-in_err-value-clause-cut
+part_values-returns-in_err-value-clause-cut g t c =
+    cutting.parts_cut g.W.World.gives _ _ _ _ _ _ _ _ _ _ (cutting.parts_left (ground g.W.World.gives (g.W.Env.fixed c.args.world.now)) c.args.scope.now c.args.parts.now) c.in-Some.part.now c.in-Some.others.now c.loop-part.rest.now c.loop-part.invariant.passed.fixed c.loop-part.invariant.scope c.loop-part.invariant.passed.later c.perform.ensures.passed.later c.in-Some.ensures.cases.0 c.loop-part.invariant.cut c.in_err-value.ensures.cut
+
+pub part_values-returns-in_err-push-clause-cut : goal.part_values-returns-in_err-push-clause-cut
+part_values-returns-in_err-push-clause-cut g t c =
+    cutting.cut_here _ _ _ (cutting.parts_left (ground g.W.World.gives (g.W.Env.fixed c.args.world.now)) c.args.scope.now c.in-Some.others.now) (cutting.parts_left (ground g.W.World.gives (g.W.Env.fixed c.args.world.now)) c.args.scope.now c.args.parts.now) (λ s. cutting.parts_unbegun (ground g.W.World.gives (g.W.Env.fixed c.args.world.now)) c.in-Some.others.now c.args.scope.now s)
+    (cutting.parts_go g.W.World.gives _ _ _ _ _ _ _ _ _ _ (cutting.parts_left (ground g.W.World.gives (g.W.Env.fixed c.args.world.now)) c.args.scope.now c.args.parts.now) c.in-Some.part.now c.in-Some.others.now c.loop-part.rest.now c.loop-part.invariant.passed.fixed c.loop-part.invariant.scope c.loop-part.invariant.passed.later c.perform.ensures.passed.later c.in-Some.ensures.cases.0 (view c.in_ok-value.value) c.loop-part.invariant.cut c.in_ok-value.ensures.done)
+
+pub each-returns-in_err-value-clause-cut : goal.each-returns-in_err-value-clause-cut
+each-returns-in_err-value-clause-cut g t c =
+    cutting.each_cut g.W.World.gives _ _ _ _ _ _ _ _ _ _ (cutting.each_left (ground g.W.World.gives (g.W.Env.fixed c.args.world.now)) c.args.scope.now c.args.formula.now c.args.rows.now) c.args.formula.now c.in-Some.row.now (record_of c.in_ok-copy.field-0) c.in-Some.others.now c.loop-row.rest.now c.loop-row.invariant.passed.fixed c.loop-row.invariant.scope c.loop-row.invariant.passed.later c.in_scope.ensures.passed.later c.in-Some.ensures.cases.0 (ap record_of c.in_ok-copy.ensures) c.loop-row.invariant.cut c.in_err-value.ensures.cut
+
+pub each-returns-in_err-push-clause-cut : goal.each-returns-in_err-push-clause-cut
+each-returns-in_err-push-clause-cut g t c =
+    cutting.cut_here _ _ _ (cutting.each_left (ground g.W.World.gives (g.W.Env.fixed c.args.world.now)) c.args.scope.now c.args.formula.now c.in-Some.others.now) (cutting.each_left (ground g.W.World.gives (g.W.Env.fixed c.args.world.now)) c.args.scope.now c.args.formula.now c.args.rows.now) (λ s. cutting.each_unbegun (ground g.W.World.gives (g.W.Env.fixed c.args.world.now)) c.args.formula.now c.in-Some.others.now c.args.scope.now s)
+    (cutting.each_go g.W.World.gives _ _ _ _ _ _ _ _ _ _ (cutting.each_left (ground g.W.World.gives (g.W.Env.fixed c.args.world.now)) c.args.scope.now c.args.formula.now c.args.rows.now) c.args.formula.now c.in-Some.row.now (record_of c.in_ok-copy.field-0) c.in-Some.others.now c.loop-row.rest.now c.loop-row.invariant.passed.fixed c.loop-row.invariant.scope c.loop-row.invariant.passed.later c.in_scope.ensures.passed.later c.in-Some.ensures.cases.0 (ap record_of c.in_ok-copy.ensures) (view c.in_ok-value.value) c.loop-row.invariant.cut c.in_ok-value.ensures.done)
+
+pub each-returns-in_err-copy-clause-cut : goal.each-returns-in_err-copy-clause-cut
+each-returns-in_err-copy-clause-cut g t c =
+    cutting.cut_here _ _ _ (cutting.each_left (ground g.W.World.gives (g.W.Env.fixed c.args.world.now)) c.args.scope.now c.args.formula.now c.loop-row.rest.now) (cutting.each_left (ground g.W.World.gives (g.W.Env.fixed c.args.world.now)) c.args.scope.now c.args.formula.now c.args.rows.now) (λ s. cutting.each_unbegun (ground g.W.World.gives (g.W.Env.fixed c.args.world.now)) c.args.formula.now c.loop-row.rest.now c.args.scope.now s) c.loop-row.invariant.cut
+
+pub node-returns-in-Chain-clause-cut : goal.node-returns-in-Chain-clause-cut
+node-returns-in-Chain-clause-cut g t c =
+    cutting.cut_as (IsLost (g.W.Env.marks c.args.world.now) (g.W.Env.marks c.chain.new.world)) (ground g.W.World.gives (g.W.Env.fixed c.args.world.now)) top.chain _ c.as_slice.result.now _ c.args.scope.now c.chain.result (g.W.World.state c.args.world.now) (g.W.World.state c.chain.new.world) (sym (ap branch c.in-Chain.is) ∙ c.core.view_is) c.as_slice.ensures c.requires.acts c.chain.ensures.cut
+
+pub node-returns-in-If-clause-cut : goal.node-returns-in-If-clause-cut
+node-returns-in-If-clause-cut g t c =
+    cutting.cut_as (IsLost (g.W.Env.marks c.args.world.now) (g.W.Env.marks c.branches.new.world)) (ground g.W.World.gives (g.W.Env.fixed c.args.world.now)) (top.form form.If) _ c.as_slice-in-If.result.now _ c.args.scope.now c.branches.result (g.W.World.state c.args.world.now) (g.W.World.state c.branches.new.world) (sym (ap branch c.in-If.is) ∙ c.core.view_is) c.as_slice-in-If.ensures c.requires.acts c.branches.ensures.cut
+
+pub node-returns-in-Switch-clause-cut : goal.node-returns-in-Switch-clause-cut
+node-returns-in-Switch-clause-cut g t c =
+    cutting.cut_as (IsLost (g.W.Env.marks c.args.world.now) (g.W.Env.marks c.switch.new.world)) (ground g.W.World.gives (g.W.Env.fixed c.args.world.now)) (top.form form.Switch) _ c.as_slice-in-Switch.result.now _ c.args.scope.now c.switch.result (g.W.World.state c.args.world.now) (g.W.World.state c.switch.new.world) (sym (ap branch c.in-Switch.is) ∙ c.core.view_is) c.as_slice-in-Switch.ensures c.requires.acts c.switch.ensures.cut
+
+pub node-returns-in-IfError-clause-cut : goal.node-returns-in-IfError-clause-cut
+node-returns-in-IfError-clause-cut g t c =
+    cutting.cut_as (IsLost (g.W.Env.marks c.args.world.now) (g.W.Env.marks c.recover.new.world)) (ground g.W.World.gives (g.W.Env.fixed c.args.world.now)) (top.form form.IfError) _ c.as_slice-in-IfError.result.now _ c.args.scope.now c.recover.result (g.W.World.state c.args.world.now) (g.W.World.state c.recover.new.world) (sym (ap branch c.in-IfError.is) ∙ c.core.view_is) c.as_slice-in-IfError.ensures c.requires.acts c.recover.ensures.cut
+
+pub node-returns-in-Act-clause-cut : goal.node-returns-in-Act-clause-cut
+node-returns-in-Act-clause-cut g t c =
+    cutting.cut_as (IsLost (g.W.Env.marks c.args.world.now) (g.W.Env.marks c.act_deed.new.world)) (ground g.W.World.gives (g.W.Env.fixed c.args.world.now)) (top.act c.in-Act.deed) _ c.as_slice-in-Act.result.now _ c.args.scope.now c.act_deed.result (g.W.World.state c.args.world.now) (g.W.World.state c.act_deed.new.world) (sym (ap branch c.in-Act.is) ∙ c.core.view_is) c.as_slice-in-Act.ensures c.requires.acts c.act_deed.ensures.cut
+
+pub node-returns-in-With-clause-cut : goal.node-returns-in-With-clause-cut
+node-returns-in-With-clause-cut g t c =
+    cutting.cut_as (IsLost (g.W.Env.marks c.args.world.now) (g.W.Env.marks c.within.new.world)) (ground g.W.World.gives (g.W.Env.fixed c.args.world.now)) top.within (c.deref.result.now ∷ c.deref-in-With.result.now ∷ []) (c.deref.result.now ∷ c.deref-in-With.result.now ∷ []) _ c.args.scope.now c.within.result (g.W.World.state c.args.world.now) (g.W.World.state c.within.new.world) (nodes.two_are top.within _ _ _ _ _ (sym (ap branch c.in-With.is) ∙ c.core.view_is) c.deref.ensures c.deref-in-With.ensures) refl c.requires.acts c.within.ensures.cut
+
+pub node-returns-in-Over-clause-cut : goal.node-returns-in-Over-clause-cut
+node-returns-in-Over-clause-cut g t c =
+    cutting.cut_as (IsLost (g.W.Env.marks c.args.world.now) (g.W.Env.marks c.for_all.new.world)) (ground g.W.World.gives (g.W.Env.fixed c.args.world.now)) (top.over fun.ForAll) (c.deref-in-Over.result.now ∷ c.as_slice-in-Over.result.now) (c.deref-in-Over.result.now ∷ c.as_slice-in-Over.result.now) _ c.args.scope.now c.for_all.result (g.W.World.state c.args.world.now) (g.W.World.state c.for_all.new.world) (nodes.over_is (g.W.Env.fixed c.args.world.now).types c.args.scope.now _ _ c.deref-in-Over.result.now _ c.as_slice-in-Over.result.now _ (sym (ap branch c.in-Over.is) ∙ c.core.view_is) c.deref-in-Over.ensures c.as_slice-in-Over.ensures c.requires.can c.requires.acts) refl c.requires.acts c.for_all.ensures.cut
+
+pub node-returns-in_err-value-in-Dot-clause-cut : goal.node-returns-in_err-value-in-Dot-clause-cut
+node-returns-in_err-value-in-Dot-clause-cut g t c =
+    cutting.one_cut (IsLost (g.W.Env.marks c.args.world.now) (g.W.Env.marks c.perform.new.world)) (ground g.W.World.gives (g.W.Env.fixed c.args.world.now)) _ _ _ _ c.args.scope.now (g.W.World.state c.args.world.now) (g.W.World.state c.perform.new.world) (sym (ap branch c.in-Dot.is) ∙ c.core.view_is) c.deref-in-Dot.ensures c.requires.acts (λ s u q. q) c.in_err-value-in-Dot.ensures.cut
+
+pub node-returns-in_err-field_of-in-Dot-clause-cut : goal.node-returns-in_err-field_of-in-Dot-clause-cut
+node-returns-in_err-field_of-in-Dot-clause-cut g t c =
+    cutting.one_behind (IsLost (g.W.Env.marks c.args.world.now) (g.W.Env.marks c.perform.new.world)) (ground g.W.World.gives (g.W.Env.fixed c.args.world.now)) _ _ _ _ (view c.in_ok-value-in-Dot.value) c.args.scope.now (g.W.World.state c.args.world.now) (g.W.World.state c.perform.new.world) (sym (ap branch c.in-Dot.is) ∙ c.core.view_is) c.deref-in-Dot.ensures c.requires.acts (λ s u q. q) c.in_ok-value-in-Dot.ensures.done
+
+pub node-returns-in_err-value-in-Coerce-clause-cut : goal.node-returns-in_err-value-in-Coerce-clause-cut
+node-returns-in_err-value-in-Coerce-clause-cut g t c =
+    cutting.one_cut (IsLost (g.W.Env.marks c.args.world.now) (g.W.Env.marks c.perform-in-Coerce.new.world)) (ground g.W.World.gives (g.W.Env.fixed c.args.world.now)) _ _ _ _ c.args.scope.now (g.W.World.state c.args.world.now) (g.W.World.state c.perform-in-Coerce.new.world) (sym (ap branch c.in-Coerce.is) ∙ c.core.view_is) c.deref-in-Coerce.ensures c.requires.acts (λ s u q. q) c.in_err-value-in-Coerce.ensures.cut
+
+pub node-returns-in_err-coerce-in-Coerce-clause-cut : goal.node-returns-in_err-coerce-in-Coerce-clause-cut
+node-returns-in_err-coerce-in-Coerce-clause-cut g t c =
+    cutting.one_behind (IsLost (g.W.Env.marks c.args.world.now) (g.W.Env.marks c.perform-in-Coerce.new.world)) (ground g.W.World.gives (g.W.Env.fixed c.args.world.now)) _ _ _ _ (view c.in_ok-value-in-Coerce.value) c.args.scope.now (g.W.World.state c.args.world.now) (g.W.World.state c.perform-in-Coerce.new.world) (sym (ap branch c.in-Coerce.is) ∙ c.core.view_is) c.deref-in-Coerce.ensures c.requires.acts (λ s u q. q) c.in_ok-value-in-Coerce.ensures.done
+
+pub node-returns-in_err-values-in-List-clause-cut : goal.node-returns-in_err-values-in-List-clause-cut
+node-returns-in_err-values-in-List-clause-cut g t c =
+    cutting.node_cut (IsLost (g.W.Env.marks c.args.world.now) (g.W.Env.marks c.part_values.new.world)) (ground g.W.World.gives (g.W.Env.fixed c.args.world.now)) _ (all c.as_slice-in-List.result.now) c.args.core.now c.args.scope.now (g.W.World.state c.args.world.now) (g.W.World.state c.part_values.new.world) (heads.parts_are _ _ c.as_slice-in-List.result.now c.args.core.now (sym (ap branch c.in-List.is) ∙ c.core.view_is) c.as_slice-in-List.ensures) c.requires.acts c.in_err-values-in-List.ensures.cut
+
+pub node-returns-in_err-list-in-List-clause-cut : goal.node-returns-in_err-list-in-List-clause-cut
+node-returns-in_err-list-in-List-clause-cut g t c =
+    cutting.node_cut (IsLost (g.W.Env.marks c.args.world.now) (g.W.Env.marks c.part_values.new.world)) (ground g.W.World.gives (g.W.Env.fixed c.args.world.now)) _ (all c.as_slice-in-List.result.now) c.args.core.now c.args.scope.now (g.W.World.state c.args.world.now) (g.W.World.state c.part_values.new.world) (heads.parts_are _ _ c.as_slice-in-List.result.now c.args.core.now (sym (ap branch c.in-List.is) ∙ c.core.view_is) c.as_slice-in-List.ensures) c.requires.acts
+    (cutting.list_behind _ (ground g.W.World.gives (g.W.Env.fixed c.args.world.now)) c.as_slice-in-List.result.now _ c.args.scope.now _ _ c.in_ok-values-in-List.ensures.done)
+
+pub perform-returns-else-acts-clause-cut : goal.perform-returns-else-acts-clause-cut
+perform-returns-else-acts-clause-cut g t c =
+    cutting.on_any c.evaluate.result (cutting.cut_staying (IsLost (g.W.Env.marks c.args.world.now) (g.W.Env.marks c.evaluate.new.world)) (ground g.W.World.gives (g.W.Env.fixed c.args.world.now)) c.args.core.now c.args.scope.now (g.W.World.state c.args.world.now) (g.W.World.state c.evaluate.new.world) c.evaluate.ensures.stays)
+
+pub within-returns-in_err-value-clause-cut : goal.within-returns-in_err-value-clause-cut
+within-returns-in_err-value-clause-cut g t c =
+    cutting.within_first (ground g.W.World.gives (g.W.Env.fixed c.args.world.now)) c.args.scope.now _ _ _ c.args.part.now c.in_err-value.ensures.cut c.args.formula.now
+
+pub within-returns-in-Ok-clause-cut : goal.within-returns-in-Ok-clause-cut
+within-returns-in-Ok-clause-cut g t c =
+    on_err_weaker c.in_scope.result
+    (λ k. cutting.within_then (ground g.W.World.gives (g.W.Env.fixed c.args.world.now)) c.args.scope.now _ _ _ _ _ _ c.args.part.now (view c.in_ok-value.value) c.perform.ensures.passed.later c.in_scope.ensures.passed.later c.in-Ok.ensures.1 c.in_ok-value.ensures.done c.args.formula.now
+    (subst (λ z. Goes (IsLost (g.W.Env.marks c.perform.new.world) (g.W.Env.marks c.in_scope.new.world)) (IsCutOff (ground g.W.World.gives (g.W.Env.fixed c.args.world.now)) c.args.formula.now (inner c.args.scope.now z)) (g.W.World.state c.perform.new.world) (g.W.World.state c.in_scope.new.world)) c.in-Ok.ensures.0
+    (steps.back (λ f h. Goes (IsLost (g.W.Env.marks c.perform.new.world) (g.W.Env.marks c.in_scope.new.world)) (IsCutOff (ground g.W.World.gives f) c.args.formula.now (inner h (view c.in-Ok.row))) (g.W.World.state c.perform.new.world) (g.W.World.state c.in_scope.new.world)) _ _ _ _ c.perform.ensures.passed.fixed c.perform.ensures.scope k)))
+    c.in_scope.ensures.cut
+
+pub switch-returns-in_err-value-clause-cut : goal.switch-returns-in_err-value-clause-cut
+switch-returns-in_err-value-clause-cut g t c =
+    subst (λ (ts : List Term). Goes (IsLost (g.W.Env.marks c.args.world.now) (g.W.Env.marks c.perform.new.world)) (IsSwitchCut (parts_of (ground g.W.World.gives (g.W.Env.fixed c.args.world.now)) (all ts)) c.args.scope.now) (g.W.World.state c.args.world.now) (g.W.World.state c.perform.new.world)) (sym c.in-Some.ensures.cases.0)
+    (cutting.switch_first (ground g.W.World.gives (g.W.Env.fixed c.args.world.now)) c.args.scope.now _ _ _ c.in-Some.part.now c.in_err-value.ensures.cut c.in-Some.others.now)
+
+pub switch-returns-in-Ok-clause-cut : goal.switch-returns-in-Ok-clause-cut
+switch-returns-in-Ok-clause-cut g t c =
+    on_err_weaker c.matches.result
+    (λ k. subst (λ (ts : List Term). Goes (IsLost (g.W.Env.marks c.args.world.now) (g.W.Env.marks c.matches.new.world)) (IsSwitchCut (parts_of (ground g.W.World.gives (g.W.Env.fixed c.args.world.now)) (all ts)) c.args.scope.now) (g.W.World.state c.args.world.now) (g.W.World.state c.matches.new.world)) (sym c.in-Some.ensures.cases.0)
+    (cutting.switch_then (ground g.W.World.gives (g.W.Env.fixed c.args.world.now)) c.args.scope.now _ _ _ _ _ _ c.in-Some.part.now (view c.in_ok-value.value) c.perform.ensures.passed.later c.matches.ensures.passed.later c.in-Ok.ensures.1 c.in_ok-value.ensures.done c.in-Some.others.now
+    (subst (λ z. Goes (IsLost (g.W.Env.marks c.perform.new.world) (g.W.Env.marks c.matches.new.world)) (IsBranchCut (matching z) (parts_of (ground g.W.World.gives (g.W.Env.fixed c.args.world.now)) (all c.in-Some.others.now)) c.args.scope.now) (g.W.World.state c.perform.new.world) (g.W.World.state c.matches.new.world)) c.in-Ok.ensures.0
+    (steps.back (λ f h. Goes (IsLost (g.W.Env.marks c.perform.new.world) (g.W.Env.marks c.matches.new.world)) (IsBranchCut (matching (view c.in-Ok.wanted)) (parts_of (ground g.W.World.gives f) (all c.in-Some.others.now)) h) (g.W.World.state c.perform.new.world) (g.W.World.state c.matches.new.world)) _ _ _ _ c.perform.ensures.passed.fixed c.perform.ensures.scope k))))
+    c.matches.ensures.cut
+
+pub for_all-returns-in_err-value-clause-cut : goal.for_all-returns-in_err-value-clause-cut
+for_all-returns-in_err-value-clause-cut g t c =
+    subst (λ (ts : List Term). Goes (IsLost (g.W.Env.marks c.args.world.now) (g.W.Env.marks c.perform.new.world)) (IsForAllCut (part_of (ground g.W.World.gives (g.W.Env.fixed c.args.world.now)) c.args.table.now ∷ parts_of (ground g.W.World.gives (g.W.Env.fixed c.args.world.now)) (all ts)) c.args.scope.now) (g.W.World.state c.args.world.now) (g.W.World.state c.perform.new.world)) (sym (formula_is (g.W.Env.fixed c.args.world.now).types c.args.scope.now c.args.table.now c.args.parts.now c.requires.0 c.requires.1 c.in-Some.formula.now _ c.in-Some.ensures.cases.0))
+    (cutting.for_all_first (ground g.W.World.gives (g.W.Env.fixed c.args.world.now)) c.args.scope.now _ _ _ c.args.table.now c.in_err-value.ensures.cut c.in-Some.formula.now)
+
+pub for_all-returns-in_err-values-in-Ok-clause-cut : goal.for_all-returns-in_err-values-in-Ok-clause-cut
+for_all-returns-in_err-values-in-Ok-clause-cut g t c =
+    subst (λ (ts : List Term). Goes (IsLost (g.W.Env.marks c.args.world.now) (g.W.Env.marks c.each.new.world)) (IsForAllCut (part_of (ground g.W.World.gives (g.W.Env.fixed c.args.world.now)) c.args.table.now ∷ parts_of (ground g.W.World.gives (g.W.Env.fixed c.args.world.now)) (all ts)) c.args.scope.now) (g.W.World.state c.args.world.now) (g.W.World.state c.each.new.world)) (sym (formula_is (g.W.Env.fixed c.args.world.now).types c.args.scope.now c.args.table.now c.args.parts.now c.requires.0 c.requires.1 c.in-Some.formula.now _ c.in-Some.ensures.cases.0))
+    (cutting.for_all_then (ground g.W.World.gives (g.W.Env.fixed c.args.world.now)) c.args.scope.now _ _ _ _ _ _ c.args.table.now (view c.in_ok-value.value) c.perform.ensures.passed.later c.each.ensures.passed.later (is_no_error _ c.in-Ok.ensures.1) c.in_ok-value.ensures.done c.in-Some.formula.now c.as_slice.result.now (c.as_slice.ensures ∙ c.in-Ok.ensures.0)
+    (steps.back (λ f h. Goes (IsLost (g.W.Env.marks c.perform.new.world) (g.W.Env.marks c.each.new.world)) (cutting.each_left (ground g.W.World.gives f) h c.in-Some.formula.now c.as_slice.result.now) (g.W.World.state c.perform.new.world) (g.W.World.state c.each.new.world)) _ _ _ _ c.perform.ensures.passed.fixed c.perform.ensures.scope c.in_err-values-in-Ok.ensures.cut))
+
+pub for_all-returns-in_err-for_all-in-Ok-clause-cut : goal.for_all-returns-in_err-for_all-in-Ok-clause-cut
+for_all-returns-in_err-for_all-in-Ok-clause-cut g t c =
+    subst (λ (ts : List Term). Goes (IsLost (g.W.Env.marks c.args.world.now) (g.W.Env.marks c.each.new.world)) (IsForAllCut (part_of (ground g.W.World.gives (g.W.Env.fixed c.args.world.now)) c.args.table.now ∷ parts_of (ground g.W.World.gives (g.W.Env.fixed c.args.world.now)) (all ts)) c.args.scope.now) (g.W.World.state c.args.world.now) (g.W.World.state c.each.new.world)) (sym (formula_is (g.W.Env.fixed c.args.world.now).types c.args.scope.now c.args.table.now c.args.parts.now c.requires.0 c.requires.1 c.in-Some.formula.now _ c.in-Some.ensures.cases.0))
+    (cutting.for_all_behind (ground g.W.World.gives (g.W.Env.fixed c.args.world.now)) c.args.scope.now _ _ _ _ _ _ c.args.table.now (view c.in_ok-value.value) c.perform.ensures.passed.later c.each.ensures.passed.later (is_no_error _ c.in-Ok.ensures.1) c.in_ok-value.ensures.done c.in-Some.formula.now c.as_slice.result.now (map view c.in_ok-values-in-Ok.values.items) (c.as_slice.ensures ∙ c.in-Ok.ensures.0)
+    (steps.back (λ f h. Goes (IsLost (g.W.Env.marks c.perform.new.world) (g.W.Env.marks c.each.new.world)) (λ s u. AreEach (performing (ground g.W.World.gives f) c.in-Some.formula.now) h c.as_slice.result.now s (map view c.in_ok-values-in-Ok.values.items) u) (g.W.World.state c.perform.new.world) (g.W.World.state c.each.new.world)) _ _ _ _ c.perform.ensures.passed.fixed c.perform.ensures.scope c.in_ok-values-in-Ok.ensures.done))
+
+pub update_if-returns-in_err-value-clause-cut : goal.update_if-returns-in_err-value-clause-cut
+update_if-returns-in_err-value-clause-cut g t c =
+    subst (λ (ts : List Term). Goes (IsLost (g.W.Env.marks c.args.world.now) (g.W.Env.marks c.perform.new.world)) (IsUpdateIfCut (ground g.W.World.gives (g.W.Env.fixed c.args.world.now)) c.args.target (parts_of (ground g.W.World.gives (g.W.Env.fixed c.args.world.now)) (all ts)) c.args.scope.now) (g.W.World.state c.args.world.now) (g.W.World.state c.perform.new.world)) (sym c.filter_and_change.ensures)
+    (cutting.update_first (ground g.W.World.gives (g.W.Env.fixed c.args.world.now)) c.args.scope.now _ _ _ c.filter_and_change.result.0.now c.in_err-value.ensures.cut c.args.target c.filter_and_change.result.1.now)
+
+pub update_if-returns-in_err-changes-in-Ok-clause-cut : goal.update_if-returns-in_err-changes-in-Ok-clause-cut
+update_if-returns-in_err-changes-in-Ok-clause-cut g t c =
+    subst (λ (ts : List Term). Goes (IsLost (g.W.Env.marks c.args.world.now) (g.W.Env.marks c.each.new.world)) (IsUpdateIfCut (ground g.W.World.gives (g.W.Env.fixed c.args.world.now)) c.args.target (parts_of (ground g.W.World.gives (g.W.Env.fixed c.args.world.now)) (all ts)) c.args.scope.now) (g.W.World.state c.args.world.now) (g.W.World.state c.each.new.world)) (sym c.filter_and_change.ensures)
+    (cutting.update_then (ground g.W.World.gives (g.W.Env.fixed c.args.world.now)) c.args.scope.now _ _ _ _ _ _ c.filter_and_change.result.0.now (view c.in_ok-value.value) c.perform.ensures.passed.later c.each.ensures.passed.later (is_no_error _ c.in-Ok.ensures.1) c.in_ok-value.ensures.done c.args.target c.filter_and_change.result.1.now c.as_slice-kept.result.now (c.as_slice-kept.ensures ∙ c.in-Ok.ensures.0)
+    (cutting.changes_first _ (ground g.W.World.gives (g.W.Env.fixed c.args.world.now)) c.args.target c.filter_and_change.result.1.now c.args.scope.now c.as_slice-kept.result.now _ _ (steps.back (λ f h. Goes (IsLost (g.W.Env.marks c.perform.new.world) (g.W.Env.marks c.each.new.world)) (cutting.each_left (ground g.W.World.gives f) h c.filter_and_change.result.1.now c.as_slice-kept.result.now) (g.W.World.state c.perform.new.world) (g.W.World.state c.each.new.world)) _ _ _ _ c.perform.ensures.passed.fixed c.perform.ensures.scope c.in_err-changes-in-Ok.ensures.cut)))
+
+pub update_if-returns-in_ok-changes-in-Ok-clause-cut : goal.update_if-returns-in_ok-changes-in-Ok-clause-cut
+update_if-returns-in_ok-changes-in-Ok-clause-cut g t c =
+    on_err_weaker c.update.result
+    (λ k. subst (λ (ts : List Term). Goes (IsLost (g.W.Env.marks c.args.world.now) (g.W.Env.marks c.update.new.world)) (IsUpdateIfCut (ground g.W.World.gives (g.W.Env.fixed c.args.world.now)) c.args.target (parts_of (ground g.W.World.gives (g.W.Env.fixed c.args.world.now)) (all ts)) c.args.scope.now) (g.W.World.state c.args.world.now) (g.W.World.state c.update.new.world)) (sym c.filter_and_change.ensures)
+    (cutting.update_then (ground g.W.World.gives (g.W.Env.fixed c.args.world.now)) c.args.scope.now _ _ _ _ _ _ c.filter_and_change.result.0.now (view c.in_ok-value.value) c.perform.ensures.passed.later (passed_on _ _ _ c.each.ensures.passed c.update.ensures.passed).later (is_no_error _ c.in-Ok.ensures.1) c.in_ok-value.ensures.done c.args.target c.filter_and_change.result.1.now c.as_slice-kept.result.now (c.as_slice-kept.ensures ∙ c.in-Ok.ensures.0)
+    (cutting.changes_then (ground g.W.World.gives (g.W.Env.fixed c.args.world.now)) c.args.target c.filter_and_change.result.1.now c.args.scope.now c.as_slice-kept.result.now (map view c.in_ok-changes-in-Ok.changes.items) _ _ _ _ _ _ c.each.ensures.passed.later c.update.ensures.passed.later (steps.back (λ f h. Goes (IsLost (g.W.Env.marks c.perform.new.world) (g.W.Env.marks c.each.new.world)) (λ s u. AreEach (performing (ground g.W.World.gives f) c.filter_and_change.result.1.now) h c.as_slice-kept.result.now s (map view c.in_ok-changes-in-Ok.changes.items) u) (g.W.World.state c.perform.new.world) (g.W.World.state c.each.new.world)) _ _ _ _ c.perform.ensures.passed.fixed c.perform.ensures.scope c.in_ok-changes-in-Ok.ensures.done)
+    (subst (λ (f : Fixed). Goes (IsLost (g.W.Env.marks c.each.new.world) (g.W.Env.marks c.update.new.world)) (CutUpdate (frame_of f) c.args.target c.as_slice-kept.result.now (map view c.in_ok-changes-in-Ok.changes.items)) (g.W.World.state c.each.new.world) (g.W.World.state c.update.new.world)) (c.each.ensures.passed.fixed ∙ c.perform.ensures.passed.fixed) (subst (λ vs. Goes (IsLost (g.W.Env.marks c.each.new.world) (g.W.Env.marks c.update.new.world)) (CutUpdate (frame_of (g.W.Env.fixed c.each.new.world)) c.args.target c.as_slice-kept.result.now (map view vs)) (g.W.World.state c.each.new.world) (g.W.World.state c.update.new.world)) c.as_slice.ensures.value k)))))
+    c.update.ensures.cut
+
+pub act_deed-returns-in-UpdateIf-clause-cut : goal.act_deed-returns-in-UpdateIf-clause-cut
+act_deed-returns-in-UpdateIf-clause-cut g t c =
+    subst (λ (d : Deed). OnErr c.update_if.result (Goes (IsLost (g.W.Env.marks c.args.world.now) (g.W.Env.marks c.update_if.new.world)) (IsActCut (ground g.W.World.gives (g.W.Env.fixed c.args.world.now)) d (parts_of (ground g.W.World.gives (g.W.Env.fixed c.args.world.now)) (all c.args.parts.now)) c.args.scope.now) (g.W.World.state c.args.world.now) (g.W.World.state c.update_if.new.world))) (sym c.in-UpdateIf.is) c.update_if.ensures.cut
+
+pub act_deed-returns-in_err-values-in_default-clause-cut : goal.act_deed-returns-in_err-values-in_default-clause-cut
+act_deed-returns-in_err-values-in_default-clause-cut g t c =
+    cutting.deed_first _ (ground g.W.World.gives (g.W.Env.fixed c.args.world.now)) c.args.deed.now c.args.parts.now c.args.scope.now _ _ (acted.not_updating c.args.deed.now c.in_default.not-UpdateIf) c.in_err-values-in_default.ensures.cut

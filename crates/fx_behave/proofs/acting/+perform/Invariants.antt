@@ -13,6 +13,7 @@ use Rattle.fx_deeds.specs.Lefts.{Decides}
 use Rattle.fx_deeds.specs.Stages.{Passed, stage}
 use Rattle.fx_deeds.specs.State.{ground}
 use Rattle.fx_deeds.specs.Writable.{WritesOnly}
+use Rattle.fx_behave.proofs.Cutting.{Carries, branches_left, each_left, parts_left, recovery_left}
 use Rattle.fx_behave.proofs.Sequences.{DecideAll, branches_of, chain_of, each_of, parts_of, recovery_of}
 use Rattle.fx_behave.specs.Actable.{AreActable, AreBranches, AreRecoveries, EndsIn, IsActableInside, IsMatchedBy}
 use Rattle.fx_behave.specs.Perform.{matching}
@@ -77,6 +78,7 @@ invariant-chain-loop-part g l = record {
   scope : l.scope ≡ l.fn.scope;
   fits : (u : Shape) → EndsIn (g.W.Env.fixed l.fn.world).types l.fn.scope u l.parts → EndsIn (g.W.Env.fixed l.fn.world).types l.fn.scope u l.rest;
   done : Goes (IsLost (g.W.Env.marks l.fn.world) (g.W.Env.marks l.world)) (Decides (chain_of (ground g.W.World.gives (g.W.Env.fixed l.fn.world)) l.fn.scope l.rest) (chain_of (ground g.W.World.gives (g.W.Env.fixed l.fn.world)) l.fn.scope l.parts)) (g.W.World.state l.fn.world) (g.W.World.state l.world);
+  cut : Goes (IsLost (g.W.Env.marks l.fn.world) (g.W.Env.marks l.world)) (Carries (parts_left (ground g.W.World.gives (g.W.Env.fixed l.fn.world)) l.fn.scope l.rest) (parts_left (ground g.W.World.gives (g.W.Env.fixed l.fn.world)) l.fn.scope l.parts)) (g.W.World.state l.fn.world) (g.W.World.state l.world);
   small : terms_size (all l.rest) ≤ terms_size (all l.parts);
 }
 
@@ -93,6 +95,7 @@ invariant-branches-loop-part g l = record {
   scope : l.scope ≡ l.fn.scope;
   fits : (u : Shape) → AreBranches (g.W.Env.fixed l.fn.world).types l.fn.scope u l.parts → AreBranches (g.W.Env.fixed l.fn.world).types l.fn.scope u l.rest;
   done : Goes (IsLost (g.W.Env.marks l.fn.world) (g.W.Env.marks l.world)) (Decides (branches_of decision_of (ground g.W.World.gives (g.W.Env.fixed l.fn.world)) l.fn.scope l.rest) (branches_of decision_of (ground g.W.World.gives (g.W.Env.fixed l.fn.world)) l.fn.scope l.parts)) (g.W.World.state l.fn.world) (g.W.World.state l.world);
+  cut : Goes (IsLost (g.W.Env.marks l.fn.world) (g.W.Env.marks l.world)) (Carries (branches_left decision_of (ground g.W.World.gives (g.W.Env.fixed l.fn.world)) l.fn.scope l.rest) (branches_left decision_of (ground g.W.World.gives (g.W.Env.fixed l.fn.world)) l.fn.scope l.parts)) (g.W.World.state l.fn.world) (g.W.World.state l.world);
   small : terms_size (all l.rest) ≤ terms_size (all l.parts);
 }
 
@@ -110,6 +113,7 @@ invariant-matches-loop-part g l = record {
   wanted : l.wanted ≡ l.fn.wanted;
   fits : (u : Shape) → IsMatchedBy (g.W.Env.fixed l.fn.world).types l.fn.scope (view l.fn.wanted) u l.parts → IsMatchedBy (g.W.Env.fixed l.fn.world).types l.fn.scope (view l.fn.wanted) u l.rest;
   done : Goes (IsLost (g.W.Env.marks l.fn.world) (g.W.Env.marks l.world)) (Decides (branches_of (matching (view l.fn.wanted)) (ground g.W.World.gives (g.W.Env.fixed l.fn.world)) l.fn.scope l.rest) (branches_of (matching (view l.fn.wanted)) (ground g.W.World.gives (g.W.Env.fixed l.fn.world)) l.fn.scope l.parts)) (g.W.World.state l.fn.world) (g.W.World.state l.world);
+  cut : Goes (IsLost (g.W.Env.marks l.fn.world) (g.W.Env.marks l.world)) (Carries (branches_left (matching (view l.fn.wanted)) (ground g.W.World.gives (g.W.Env.fixed l.fn.world)) l.fn.scope l.rest) (branches_left (matching (view l.fn.wanted)) (ground g.W.World.gives (g.W.Env.fixed l.fn.world)) l.fn.scope l.parts)) (g.W.World.state l.fn.world) (g.W.World.state l.world);
   small : terms_size (all l.rest) ≤ terms_size (all l.parts);
 }
 
@@ -126,6 +130,7 @@ invariant-recover-loop-part g l = record {
   scope : l.scope ≡ l.fn.scope;
   fits : (u : Shape) → AreRecoveries (g.W.Env.fixed l.fn.world).types l.fn.scope u l.parts → AreRecoveries (g.W.Env.fixed l.fn.world).types l.fn.scope u l.rest × (fits_in (view l.last) u ≡ true);
   done : Goes (IsLost (g.W.Env.marks l.fn.world) (g.W.Env.marks l.world)) (Decides (recovery_of (ground g.W.World.gives (g.W.Env.fixed l.fn.world)) l.fn.scope (view l.last) l.rest) (recovery_of (ground g.W.World.gives (g.W.Env.fixed l.fn.world)) l.fn.scope (none_left form.IfError) l.parts)) (g.W.World.state l.fn.world) (g.W.World.state l.world);
+  cut : Goes (IsLost (g.W.Env.marks l.fn.world) (g.W.Env.marks l.world)) (Carries (recovery_left (ground g.W.World.gives (g.W.Env.fixed l.fn.world)) l.fn.scope l.rest) (recovery_left (ground g.W.World.gives (g.W.Env.fixed l.fn.world)) l.fn.scope l.parts)) (g.W.World.state l.fn.world) (g.W.World.state l.world);
   small : terms_size (all l.rest) ≤ terms_size (all l.parts);
 }
 
@@ -141,6 +146,7 @@ invariant-each-loop-row g l = record {
   scope : l.scope ≡ l.fn.scope;
   fits : (u : Shape) → IsActableInside (g.W.Env.fixed l.fn.world).types l.fn.scope u l.formula l.rows → IsActableInside (g.W.Env.fixed l.fn.world).types l.fn.scope u l.formula l.rest × AreOf u (map view l.values.items);
   done : Goes (IsLost (g.W.Env.marks l.fn.world) (g.W.Env.marks l.world)) (DecideAll (map view l.values.items) (each_of (ground g.W.World.gives (g.W.Env.fixed l.fn.world)) l.fn.scope l.formula l.rest) (each_of (ground g.W.World.gives (g.W.Env.fixed l.fn.world)) l.fn.scope l.formula l.rows)) (g.W.World.state l.fn.world) (g.W.World.state l.world);
+  cut : Goes (IsLost (g.W.Env.marks l.fn.world) (g.W.Env.marks l.world)) (Carries (each_left (ground g.W.World.gives (g.W.Env.fixed l.fn.world)) l.fn.scope l.formula l.rest) (each_left (ground g.W.World.gives (g.W.Env.fixed l.fn.world)) l.fn.scope l.formula l.rows)) (g.W.World.state l.fn.world) (g.W.World.state l.world);
 }
 
 abbrev pub decreases-part_values-loop-part : goal.decreases-part_values-loop-part
@@ -156,5 +162,6 @@ invariant-part_values-loop-part g l = record {
   scope : l.scope ≡ l.fn.scope;
   fits : (us : List Shape) → AreActable (g.W.Env.fixed l.fn.world).types l.fn.scope us l.parts → (done : List Shape) × (left : List Shape) × (us ≡ done ++ left) × AreFit (map view l.values.items) done × AreActable (g.W.Env.fixed l.fn.world).types l.fn.scope left l.rest;
   done : Goes (IsLost (g.W.Env.marks l.fn.world) (g.W.Env.marks l.world)) (DecideAll (map view l.values.items) (parts_of (ground g.W.World.gives (g.W.Env.fixed l.fn.world)) l.fn.scope l.rest) (parts_of (ground g.W.World.gives (g.W.Env.fixed l.fn.world)) l.fn.scope l.parts)) (g.W.World.state l.fn.world) (g.W.World.state l.world);
+  cut : Goes (IsLost (g.W.Env.marks l.fn.world) (g.W.Env.marks l.world)) (Carries (parts_left (ground g.W.World.gives (g.W.Env.fixed l.fn.world)) l.fn.scope l.rest) (parts_left (ground g.W.World.gives (g.W.Env.fixed l.fn.world)) l.fn.scope l.parts)) (g.W.World.state l.fn.world) (g.W.World.state l.world);
   small : terms_size (all l.rest) ≤ terms_size (all l.parts);
 }
