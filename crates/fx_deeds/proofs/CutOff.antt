@@ -2,6 +2,8 @@
 use Rattle.std.proofs.Common.{◌≡◌, ℕ, zero, suc, refl, ap, List, [], ◌∷◌, ◌++◌, Bool, true, false, map, Option, Some, None, Result, Ok, Err, sym, subst, ◌∙◌, inl, inr}
 use Rattle.std.specs.Prelude.{IsSomeAnd, MatchOption, MatchResult, slice_get, take}
 use Rattle.std.specs.List.{find}
+use Rattle.fx_data.specs.declared.values.Value.{Value}
+use Rattle.fx_data.specs.ValueView.{view}
 use Rattle.fx_data.specs.Types.{ColumnList}
 use Rattle.fx_data.specs.Values.{Data, blank, number, text, boolean, date, rec, tab, fault}
 use Rattle.fx_semantics.specs.Around.{record_of}
@@ -17,18 +19,21 @@ use Rattle.fx_trees.specs.declared.sources.Source.{Source}
 use Rattle.fx_trees.specs.declared.sources.Source.TheVariants as source
 use Rattle.row_keeper.specs.declared.rows.Put.{Put}
 use Rattle.row_keeper.specs.declared.rows.Put.TheVariants.{Id, NoRow, Refused}
+use Rattle.session_state.specs.declared.change.Change.{Change}
 use Rattle.session_state.specs.declared.change.Change.TheVariants as change
-use Rattle.fx_base.specs.Silence.{Goes}
+use Rattle.fx_base.proofs.Silences.{goes_two}
+use Rattle.fx_base.specs.Silence.{Goes, IsLater, IsLost, Marks}
 use Rattle.fx_base.specs.Telling.{Stays}
 use Rattle.fx_deeds.proofs.Passing.{goes_weaker, same_state, within_nowhere, within_on}
 use Rattle.fx_deeds.proofs.Single.{Outcome, Same, deed_once, first_one, first_or_lacks, given_one, put_over_one, sees_context, sees_gather, taken_out_one, update_one, with_collection, with_variable}
 use Rattle.fx_deeds.proofs.Writes as writes
-use Rattle.fx_deeds.specs.Changed.{IsRowChanged, IsRowRemoved}
+use Rattle.fx_deeds.specs.Changed.{IsChanged, IsRowChanged, IsRowRemoved}
 use Rattle.fx_deeds.specs.Collections.{AreTaken, IsFirst, Lacks, rows_held}
 use Rattle.fx_deeds.specs.CutOff.{CutDeed, CutUpdate, IsBegun, IsUpdateBegun, UpTo}
-use Rattle.fx_deeds.specs.Deeds.{Answers, AreRemoved, AreSet, AreUpdated, ByDone, ByFound, ByPut, IsGiven, OfTable, OrError, OrErrorAmong, Removes, Updates, id_of, named_id, row_at}
+use Rattle.fx_deeds.specs.Deeds.{Answers, AreRemoved, AreSet, AreUpdated, ByDone, ByFound, ByPut, IsGiven, Makes, OfTable, OrError, OrErrorAmong, Removes, Updates, id_of, named_id, row_at}
 use Rattle.fx_deeds.specs.Done.{IsDeed, IsUpdate, errors_in}
-use Rattle.fx_deeds.specs.RowValues.{changed_cells, columns_in, row_named}
+use Rattle.fx_deeds.specs.RowValues.{changed_cells, columns_in, row_named, taken_or}
+use Rattle.fx_deeds.specs.Found.{IsTakenOut}
 use Rattle.fx_deeds.specs.State.{Frame, State}
 use Rattle.fx_deeds.specs.Within.{Within}
 
@@ -192,18 +197,60 @@ update_begun_on f (target.Gathered k) rows changes s n x y u v p q =
     let e : Same x u y v = update_one f (target.Gathered k) rows changes s (x, u) (y, v) p q in
     same_end u v (ap (λ o. o.1) e)
 
-up_to_on : {A : Type 0} (P : ℕ → Data → State A → Type 0) (s u v : State A) → Within s v → ((n : ℕ) (x : Data) → P n x u → Within u v) → UpTo P s u → Within u v
+up_to_on : {A : Type 0} (P : State A → ℕ → Data → State A → Type 0) (s u v : State A) → Within s v → ((n : ℕ) (x : Data) → P s n x u → Within u v) → UpTo P s u → Within u v
 up_to_on P s u v w f (inl e) = from_start s u v e w
 up_to_on P s u v w f (inr p) = f p.0 p.1 p.2
 
 -- THE WHOLE DEED GOES ON FROM WHERE IT WAS CUT OFF
 pub deed_on : {A : Type 0} (f : Frame) (d : Deed) (ys : List Data) (s : State A) (y : Data) (u v : State A) → CutDeed f d ys s u → IsDeed f d ys s y v → Within u v
-deed_on f d ys s y u v c q = up_to_on (IsBegun f d ys s) s u v (writes.done_by f d ys s y v q) (λ n x p. begun_on f d ys s n x y u v p q) c
+deed_on f d ys s y u v c q = up_to_on (IsBegun f d ys) s u v (writes.done_by f d ys s y v q) (λ n x p. begun_on f d ys s n x y u v p q) c
 
 pub update_on : {A : Type 0} (f : Frame) (t : Target) (rows : List Row) (changes : List Data) (s : State A) (y : Data) (u v : State A) → CutUpdate f t rows changes s u → IsUpdate f t rows changes s y v → Within u v
 update_on f t rows changes s y u v c q =
-    up_to_on (IsUpdateBegun f t rows changes s) s u v (writes.update f t rows changes s y v q) (λ n x p. update_begun_on f t rows changes s n x y u v p q) c
+    up_to_on (IsUpdateBegun f t rows changes) s u v (writes.update f t rows changes s y v q) (λ n x p. update_begun_on f t rows changes s n x y u v p q) c
+
+-- a call that leaves the state
+pub cut_staying : {A : Type 0} (lost : Type 0) (P : State A → ℕ → Data → State A → Type 0) (x y : Option (State A)) → Goes lost Stays x y → Goes lost (UpTo P) x y
+cut_staying lost P x y = goes_weaker lost Stays (UpTo P) (λ s u e. inl e) x y
 
 -- nothing was done yet
-pub cut_nowhere : {A : Type 0} (lost : Type 0) (P : ℕ → State A → Data → State A → Type 0) (x : Option (State A)) → Goes lost (λ s u. UpTo (λ n d t. P n s d t) s u) x x
-cut_nowhere lost P x = goes_weaker lost Stays (λ s u. UpTo (λ n d t. P n s d t) s u) (λ s u e. inl e) x x (same_state lost x)
+pub cut_nowhere : {A : Type 0} (lost : Type 0) (P : State A → ℕ → Data → State A → Type 0) (x : Option (State A)) → Goes lost (UpTo P) x x
+cut_nowhere lost P x = cut_staying lost P x x (same_state lost x)
+
+-- a single change was made, but not answered
+pub cut_made : {A : Type 0} (lost : Type 0) (c : Change) (done : Bool) (taken : Data) (x y : Option (State A)) → Goes lost (IsChanged c done) x y → Goes lost (UpTo (λ s n d t. Makes c taken s d t)) x y
+cut_made lost c done taken x y = goes_weaker lost (IsChanged c done) (UpTo (λ s n d t. Makes c taken s d t)) (λ s u h. inr (0, taken_or done taken, (done, h, refl))) x y
+
+-- ---- rows one by one
+
+-- rows that were taken out of a table, up to where it was cut off
+abbrev pub CutRemoved : {A : Type 0} → ℕ → List Data → State A → State A → Type 0
+CutRemoved k ys = UpTo (λ s n x t. AreRemoved k (take n ys) s x t)
+
+-- what is cut off of the others is cut off of all
+abbrev pub Carries : {A : Type 0} → (State A → State A → Type 0) → (State A → State A → Type 0) → State A → State A → Type 0
+Carries {A} R W s m = (u : State A) → R m u → W s u
+
+pub carries_nowhere : {A : Type 0} (lost : Type 0) (x : Option (State A)) (W : State A → State A → Type 0) → Goes lost (Carries W W) x x
+carries_nowhere lost None W = refl
+carries_nowhere lost (Some s) W = λ u c. c
+
+removed_behind : {A : Type 0} (k id : ℕ) (y : Data) (ys : List Data) (s m u : State A) (n : ℕ) (x : Data) → named_id (id_of y) ≡ Ok id → IsRowRemoved k id true s m → AreRemoved k (take n ys) m x u → AreRemoved k (take (suc n) (y ∷ ys)) s x u
+removed_behind k id y ys s m u n x e r p =
+    subst (λ o. MatchResult o (λ id. Removes k id s (λ m. AreRemoved k (take n ys) m x u) x u) (λ e. Answers e s x u)) (sym e) (true, m, r, p)
+
+removed_next : {A : Type 0} (k : ℕ) (y : Data) (ys : List Data) (s m u : State A) → IsTakenOut k y None s m → CutRemoved k ys m u → CutRemoved k (y ∷ ys) s u
+removed_next k y ys s m u t (inl e) = inr (1, boolean true, removed_behind k t.0 y ys s m u 0 (boolean true) t.1 t.2 (refl, e))
+removed_next k y ys s m u t (inr p) = inr (suc p.0, p.1, removed_behind k t.0 y ys s m u p.0 p.1 t.1 t.2 p.2)
+
+module _ {A : Type 0} (k l m : Marks) (x y z : Option (State A)) (W : State A → State A → Type 0) (n : ℕ) (v : Value) (vs rest : List Value) (before : IsLater k l) (later : IsLater l m) (first : rest ≡ v ∷ vs) where
+  pub removed_goes : (o : Option Value) → ((e : Value) → o ≡ Some e → ⊥) → Goes (IsLost k l) (Carries (CutRemoved n (map view rest)) W) x y → Goes (IsLost l m) (IsTakenOut n (view v) o) y z →
+      Goes (IsLost k m) (Carries (CutRemoved n (map view vs)) W) x z
+  removed_goes (Some e) none c p = absurd (none e refl)
+  removed_goes None none c p =
+      goes_two (Carries (CutRemoved n (map view rest)) W) (IsTakenOut n (view v) None) (Carries (CutRemoved n (map view vs)) W)
+      (λ s i j h t u q. h u (subst (λ (ws : List Value). CutRemoved n (map view ws) i u) (sym first) (removed_next n (view v) (map view vs) i j u t q))) k l m before later x y z c p
+
+-- the step behind which it was cut off has left the state
+pub carried : {A : Type 0} (k l m : Marks) (x y z : Option (State A)) (R W : State A → State A → Type 0) → IsLater k l → IsLater l m → ((s : State A) → R s s) → Goes (IsLost k l) (Carries R W) x y → Goes (IsLost l m) Stays y z → Goes (IsLost k m) W x z
+carried k l m x y z R W before later f = goes_two (Carries R W) Stays W (λ s n u h e. h u (subst (λ w. R n w) (sym e) (f n))) k l m before later x y z

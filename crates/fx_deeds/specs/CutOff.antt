@@ -16,8 +16,8 @@ use Rattle.fx_deeds.specs.RowValues.{columns_in}
 use Rattle.fx_deeds.specs.State.{Frame, State}
 
 -- what was cut off has done nothing yet, or what P does with the first so many of its values
-abbrev pub UpTo : {A : Type 0} → (ℕ → Data → State A → Type 0) → State A → State A → Type 0
-UpTo P s u = (u ≡ s) ⊎ ((n : ℕ) × (x : Data) × P n x u)
+abbrev pub UpTo : {A : Type 0} → (State A → ℕ → Data → State A → Type 0) → State A → State A → Type 0
+UpTo P s u = (u ≡ s) ⊎ ((n : ℕ) × (x : Data) × P s n x u)
 
 -- what a deed does with the first n of its variables or rows; one that makes a single change makes it
 abbrev pub IsBegun : {A : Type 0} → Frame → Deed → List Data → State A → ℕ → Data → State A → Type 0
@@ -37,8 +37,8 @@ IsUpdateBegun f p rows changes s n x t = IsUpdate f p rows changes s x t
 
 -- WHAT A DEED HAS DONE THAT WAS CUT OFF, from the values of its parts
 abbrev pub CutDeed : {A : Type 0} → Frame → Deed → List Data → State A → State A → Type 0
-CutDeed f d ys s u = UpTo (IsBegun f d ys s) s u
+CutDeed f d ys s u = UpTo (IsBegun f d ys) s u
 
 -- the same of `UpdateIf`, from the rows of its filter and the change of each
 abbrev pub CutUpdate : {A : Type 0} → Frame → Target → List Row → List Data → State A → State A → Type 0
-CutUpdate f p rows changes s u = UpTo (IsUpdateBegun f p rows changes s) s u
+CutUpdate f p rows changes s u = UpTo (IsUpdateBegun f p rows changes) s u

@@ -1,7 +1,8 @@
 //! Changes of a world, one call each.
-ghost use Rattle.std.specs.Prelude.{◌≡◌, ◌∷◌, [], IfOk, IsErrOf, IsSome, IsSomeAnd, slice_get, true};
+ghost use Rattle.std.specs.Prelude.{◌≡◌, ◌∷◌, [], IfOk, IsErrOf, IsSome, IsSomeAnd, OnErr, slice_get, true};
 ghost use Rattle.fx_base.specs.Faults.{Rose};
 ghost use Rattle.fx_base.specs.Silence.{Goes, IsLost};
+ghost use Rattle.fx_base.specs.Telling.{Stays};
 ghost use Rattle.fx_data.specs.Types.{Shape};
 ghost use Rattle.fx_data.specs.ValueView.{view};
 ghost use Rattle.fx_value.specs.Fits.{fits_in};
@@ -11,6 +12,7 @@ ghost use Rattle.row_keeper.specs.Tables.{columns_at};
 ghost use Rattle.row_queries.specs.TableRows.{AreCellsOf};
 ghost use Rattle.session_state.specs.Changes.{FitsChange};
 ghost use Rattle.fx_deeds.specs.Changed.{IsChanged, IsRowChanged, IsRowMade, IsRowRemoved, written};
+ghost use Rattle.fx_deeds.specs.CutOff.{UpTo};
 ghost use Rattle.fx_deeds.specs.Deeds.{Makes};
 ghost use Rattle.fx_deeds.specs.Stages.{Passed, stage};
 ghost use Rattle.fx_deeds.specs.Writable.{IsOneOf, WritesOnly};
@@ -34,6 +36,7 @@ pub(crate) fn change<W: World>(world: &mut W, change: Change) -> Result<bool, St
     ensures named { W.names world.new ≡ W.names world.old }
     ensures keeper { IsErrOf result Stop.Keeper → Rose (W.marks world.old).faults (W.marks world.new).faults }
     ensures done { IfOk result (λ done. Goes (IsLost (W.marks world.old) (W.marks world.new)) (IsChanged change done) (W.state world.old) (W.state world.new)) }
+    ensures stops { OnErr result (Goes (IsLost (W.marks world.old) (W.marks world.new)) Stays (W.state world.old) (W.state world.new)) }
 {
     world.change(change)
 }
@@ -52,6 +55,7 @@ pub(crate) fn make<W: World>(
     ensures only { Goes (IsLost (W.marks world.old) (W.marks world.new)) (WritesOnly (IsOneOf (written wanted))) (W.state world.old) (W.state world.new) }
     ensures keeper { IsErrOf result Stop.Keeper → Rose (W.marks world.old).faults (W.marks world.new).faults }
     ensures done { IfOk result (λ x. Goes (IsLost (W.marks world.old) (W.marks world.new)) (λ s t. Makes wanted (view taken) s (view x) t) (W.state world.old) (W.state world.new)) }
+    ensures cut { OnErr result (Goes (IsLost (W.marks world.old) (W.marks world.new)) (UpTo (λ s n x t. Makes wanted (view taken) s x t)) (W.state world.old) (W.state world.new)) }
     ensures fits { (u : Shape) → fits_in (view taken) u ≡ true → IfOk result (λ x. fits_in (view x) u ≡ true) }
 {
     let done = change(world, wanted)?;
@@ -67,6 +71,7 @@ pub(crate) fn insert<W: World>(world: &mut W, table: u16, cells: &Cells) -> Resu
     ensures only { Goes (IsLost (W.marks world.old) (W.marks world.new)) (WritesOnly (IsOneOf (source.Table table ∷ []))) (W.state world.old) (W.state world.new) }
     ensures keeper { IsErrOf result Stop.Keeper → Rose (W.marks world.old).faults (W.marks world.new).faults }
     ensures put { IfOk result (λ put. Goes (IsLost (W.marks world.old) (W.marks world.new)) (IsRowMade (columns_at (W.fixed world.old).schema.tables table) table cells.now put) (W.state world.old) (W.state world.new)) }
+    ensures stops { OnErr result (Goes (IsLost (W.marks world.old) (W.marks world.new)) Stays (W.state world.old) (W.state world.new)) }
     ensures sound { IfOk result (λ put. IsInserted (columns_at (W.fixed world.old).schema.tables table) put) }
 {
     world.insert(table, cells)
@@ -86,6 +91,7 @@ pub(crate) fn replace<W: World>(
     ensures only { Goes (IsLost (W.marks world.old) (W.marks world.new)) (WritesOnly (IsOneOf (source.Table table ∷ []))) (W.state world.old) (W.state world.new) }
     ensures keeper { IsErrOf result Stop.Keeper → Rose (W.marks world.old).faults (W.marks world.new).faults }
     ensures put { IfOk result (λ put. Goes (IsLost (W.marks world.old) (W.marks world.new)) (IsRowChanged (columns_at (W.fixed world.old).schema.tables table) table id cells.now put) (W.state world.old) (W.state world.new)) }
+    ensures stops { OnErr result (Goes (IsLost (W.marks world.old) (W.marks world.new)) Stays (W.state world.old) (W.state world.new)) }
     ensures sound { IfOk result (λ put. IsReplaced (columns_at (W.fixed world.old).schema.tables table) id put) }
 {
     world.replace(table, id, cells)
@@ -100,6 +106,7 @@ pub(crate) fn remove<W: World>(world: &mut W, table: u16, id: u32) -> Result<boo
     ensures only { Goes (IsLost (W.marks world.old) (W.marks world.new)) (WritesOnly (IsOneOf (source.Table table ∷ []))) (W.state world.old) (W.state world.new) }
     ensures keeper { IsErrOf result Stop.Keeper → Rose (W.marks world.old).faults (W.marks world.new).faults }
     ensures was { IfOk result (λ was. Goes (IsLost (W.marks world.old) (W.marks world.new)) (IsRowRemoved table id was) (W.state world.old) (W.state world.new)) }
+    ensures stops { OnErr result (Goes (IsLost (W.marks world.old) (W.marks world.new)) Stays (W.state world.old) (W.state world.new)) }
 {
     world.remove(table, id)
 }

@@ -1,12 +1,14 @@
 //! Rows of tables that are taken out.
-ghost use Rattle.std.specs.Prelude.{◌≡◌, ◌∷◌, [], IfOk, IfSome, IsErrOf, IsSome, map, pos, slice_get, true};
+ghost use Rattle.std.specs.Prelude.{◌≡◌, ◌∷◌, [], IfOk, IfSome, IsErrOf, IsSome, OnErr, map, pos, slice_get, take, true};
 ghost use Rattle.fx_base.specs.Faults.{Rose};
 ghost use Rattle.fx_base.specs.Silence.{Goes, IsLost};
+ghost use Rattle.fx_base.specs.Telling.{Stays};
 ghost use Rattle.fx_data.specs.Types.{booleans};
 ghost use Rattle.fx_data.specs.ValueView.{view};
 ghost use Rattle.fx_trees.specs.Lawful.{id_name as name_of_id};
 ghost use Rattle.fx_value.specs.Fits.{fits_in};
 ghost use Rattle.fx_trees.specs.declared.sources.Source.TheVariants as source;
+ghost use Rattle.fx_deeds.specs.CutOff.{UpTo};
 ghost use Rattle.fx_deeds.specs.Deeds.{AreRemoved, id_of};
 ghost use Rattle.fx_deeds.specs.Found.{IsNamed, IsTakenOut};
 ghost use Rattle.fx_deeds.specs.RowValues.{id_in};
@@ -94,6 +96,7 @@ fn remove_row<W: World>(
     ensures only { Goes (IsLost (W.marks world.old) (W.marks world.new)) (WritesOnly (IsOneOf (source.Table table ∷ []))) (W.state world.old) (W.state world.new) }
     ensures keeper { IsErrOf result Stop.Keeper → Rose (W.marks world.old).faults (W.marks world.new).faults }
     ensures done { IfOk result (λ o. Goes (IsLost (W.marks world.old) (W.marks world.new)) (IsTakenOut table (view row.now) o) (W.state world.old) (W.state world.new)) }
+    ensures stops { OnErr result (Goes (IsLost (W.marks world.old) (W.marks world.new)) Stays (W.state world.old) (W.state world.new)) }
     ensures fits { IfOk result (λ o. IfSome o (λ x. fits_in (view x) booleans ≡ true)) }
 {
     match named_id(alloc, row)? {
@@ -122,6 +125,7 @@ pub(crate) fn remove_rows<W: World>(
     ensures only { Goes (IsLost (W.marks world.old) (W.marks world.new)) (WritesOnly (IsOneOf (source.Table table ∷ []))) (W.state world.old) (W.state world.new) }
     ensures keeper { IsErrOf result Stop.Keeper → Rose (W.marks world.old).faults (W.marks world.new).faults }
     ensures done { IfOk result (λ x. Goes (IsLost (W.marks world.old) (W.marks world.new)) (λ s t. AreRemoved table (map view rows.now) s (view x) t) (W.state world.old) (W.state world.new)) }
+    ensures cut { OnErr result (Goes (IsLost (W.marks world.old) (W.marks world.new)) (UpTo (λ s n x t. AreRemoved table (take n (map view rows.now)) s x t)) (W.state world.old) (W.state world.new)) }
     ensures fits { IfOk result (λ x. fits_in (view x) booleans ≡ true) }
 {
     let mut rest = rows;

@@ -1,5 +1,7 @@
-use Rattle.std.proofs.Common.{◌∷◌, []}
+use Rattle.std.proofs.Common.{◌∷◌, [], inl, map, refl}
+use Rattle.fx_data.specs.ValueView.{view}
 use Rattle.fx_trees.specs.declared.sources.Source.TheVariants as source
+use Rattle.fx_deeds.proofs.CutOff.{CutRemoved, carried, removed_goes}
 use Rattle.fx_deeds.proofs.Passing.{passed_on}
 use Rattle.fx_deeds.proofs.Steps.{remove_goes, remove_stops, removing}
 use Rattle.fx_deeds.proofs.Allowing.{only_on}
@@ -20,6 +22,8 @@ loop-row-preserved g c = record {
   only = only_on (IsOneOf (source.Table c.args.table ∷ [])) _ _ _ c.loop-row.invariant.passed c.remove_row.ensures.passed c.loop-row.invariant.only c.remove_row.ensures.only;
   done = remove_goes _ _ _ _ _ _ (removing c.args.table c.args.rows.now) c.args.table c.in-Some.row.now c.in_ok-answer.field-0 c.in-Some.others.now c.loop-row.rest.now c.loop-row.invariant.passed.later
       c.remove_row.ensures.passed.later c.in-Some.ensures.cases.0 c.in_default-2.not-Some c.loop-row.invariant.done c.in_ok-answer.ensures.done;
+  cut = removed_goes _ _ _ _ _ _ (CutRemoved c.args.table (map view c.args.rows.now)) c.args.table c.in-Some.row.now c.in-Some.others.now c.loop-row.rest.now c.loop-row.invariant.passed.later
+      c.remove_row.ensures.passed.later c.in-Some.ensures.cases.0 c.in_ok-answer.field-0 c.in_default-2.not-Some c.loop-row.invariant.cut c.in_ok-answer.ensures.done;
 }
 
 pub returns-in_err-answer-clause-only : goal.returns-in_err-answer-clause-only
@@ -29,3 +33,8 @@ returns-in_err-answer-clause-only g c =
 pub returns-in-Some-2-clause-only : goal.returns-in-Some-2-clause-only
 returns-in-Some-2-clause-only g c =
     only_on (IsOneOf (source.Table c.args.table ∷ [])) _ _ _ c.loop-row.invariant.passed c.remove_row.ensures.passed c.loop-row.invariant.only c.remove_row.ensures.only
+
+pub returns-in_err-answer-clause-cut : goal.returns-in_err-answer-clause-cut
+returns-in_err-answer-clause-cut g c =
+    carried _ _ _ _ _ _ (CutRemoved c.args.table (map view c.loop-row.rest.now)) (CutRemoved c.args.table (map view c.args.rows.now)) c.loop-row.invariant.passed.later c.remove_row.ensures.passed.later (λ s. inl refl)
+    c.loop-row.invariant.cut c.in_err-answer.ensures.stops
