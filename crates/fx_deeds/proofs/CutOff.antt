@@ -1,6 +1,6 @@
 -- A deed goes on from where it was cut off.
 use Rattle.std.proofs.Common.{◌≡◌, ℕ, zero, suc, refl, ap, List, [], ◌∷◌, ◌++◌, Bool, true, false, map, Option, Some, None, Result, Ok, Err, sym, subst, ◌∙◌, inl, inr}
-use Rattle.std.specs.Prelude.{IsSomeAnd, MatchOption, MatchResult, slice_get, take}
+use Rattle.std.specs.Prelude.{IsSomeAnd, MatchOption, MatchResult, OnErr, slice_get, take}
 use Rattle.std.specs.List.{find}
 use Rattle.fx_data.specs.declared.values.Value.{Value}
 use Rattle.fx_data.specs.ValueView.{view}
@@ -254,3 +254,8 @@ module _ {A : Type 0} (k l m : Marks) (x y z : Option (State A)) (W : State A �
 -- the step behind which it was cut off has left the state
 pub carried : {A : Type 0} (k l m : Marks) (x y z : Option (State A)) (R W : State A → State A → Type 0) → IsLater k l → IsLater l m → ((s : State A) → R s s) → Goes (IsLost k l) (Carries R W) x y → Goes (IsLost l m) Stays y z → Goes (IsLost k m) W x z
 carried k l m x y z R W before later f = goes_two (Carries R W) Stays W (λ s n u h e. h u (subst (λ w. R n w) (sym e) (f n))) k l m before later x y z
+
+-- what holds at any end of a call
+pub on_any : {T E : Type 0} (r : Result T E) {P : Type 0} → P → OnErr r P
+on_any (Ok x) p = tt
+on_any (Err e) p = p

@@ -1172,7 +1172,7 @@ part_values-returns-in_err-value-clause-cut g t c =
 pub part_values-returns-in_err-push-clause-cut : goal.part_values-returns-in_err-push-clause-cut
 part_values-returns-in_err-push-clause-cut g t c =
     cutting.on_any c.from_residual-in_err-push.result
-    (cutting.cut_here _ _ _ (cutting.parts_left (ground g.W.World.gives (g.W.Env.fixed c.args.world.now)) c.args.scope.now c.in-Some.others.now) (cutting.parts_left (ground g.W.World.gives (g.W.Env.fixed c.args.world.now)) c.args.scope.now c.args.parts.now) (λ s. cutting.parts_unbegun (ground g.W.World.gives (g.W.Env.fixed c.args.world.now)) c.in-Some.others.now c.args.scope.now s)
+    (cutting.cut_here (IsLost (g.W.Env.marks c.args.world.now) (g.W.Env.marks c.perform.new.world)) (g.W.World.state c.args.world.now) (g.W.World.state c.perform.new.world) (cutting.parts_left (ground g.W.World.gives (g.W.Env.fixed c.args.world.now)) c.args.scope.now c.in-Some.others.now) (cutting.parts_left (ground g.W.World.gives (g.W.Env.fixed c.args.world.now)) c.args.scope.now c.args.parts.now) (λ s. cutting.parts_unbegun (ground g.W.World.gives (g.W.Env.fixed c.args.world.now)) c.in-Some.others.now c.args.scope.now s)
     (cutting.parts_go g.W.World.gives _ _ _ _ _ _ _ _ _ _ (cutting.parts_left (ground g.W.World.gives (g.W.Env.fixed c.args.world.now)) c.args.scope.now c.args.parts.now) c.in-Some.part.now c.in-Some.others.now c.loop-part.rest.now c.loop-part.invariant.passed.fixed c.loop-part.invariant.scope c.loop-part.invariant.passed.later c.perform.ensures.passed.later c.in-Some.ensures.cases.0 (view c.in_ok-value.value) c.loop-part.invariant.cut c.in_ok-value.ensures.done))
 
 pub each-returns-in_err-value-clause-cut : goal.each-returns-in_err-value-clause-cut
@@ -1183,13 +1183,13 @@ each-returns-in_err-value-clause-cut g t c =
 pub each-returns-in_err-push-clause-cut : goal.each-returns-in_err-push-clause-cut
 each-returns-in_err-push-clause-cut g t c =
     cutting.on_any c.from_residual-in_err-push.result
-    (cutting.cut_here _ _ _ (cutting.each_left (ground g.W.World.gives (g.W.Env.fixed c.args.world.now)) c.args.scope.now c.args.formula.now c.in-Some.others.now) (cutting.each_left (ground g.W.World.gives (g.W.Env.fixed c.args.world.now)) c.args.scope.now c.args.formula.now c.args.rows.now) (λ s. cutting.each_unbegun (ground g.W.World.gives (g.W.Env.fixed c.args.world.now)) c.args.formula.now c.in-Some.others.now c.args.scope.now s)
+    (cutting.cut_here (IsLost (g.W.Env.marks c.args.world.now) (g.W.Env.marks c.in_scope.new.world)) (g.W.World.state c.args.world.now) (g.W.World.state c.in_scope.new.world) (cutting.each_left (ground g.W.World.gives (g.W.Env.fixed c.args.world.now)) c.args.scope.now c.args.formula.now c.in-Some.others.now) (cutting.each_left (ground g.W.World.gives (g.W.Env.fixed c.args.world.now)) c.args.scope.now c.args.formula.now c.args.rows.now) (λ s. cutting.each_unbegun (ground g.W.World.gives (g.W.Env.fixed c.args.world.now)) c.args.formula.now c.in-Some.others.now c.args.scope.now s)
     (cutting.each_go g.W.World.gives _ _ _ _ _ _ _ _ _ _ (cutting.each_left (ground g.W.World.gives (g.W.Env.fixed c.args.world.now)) c.args.scope.now c.args.formula.now c.args.rows.now) c.args.formula.now c.in-Some.row.now (record_of c.in_ok-copy.field-0) c.in-Some.others.now c.loop-row.rest.now c.loop-row.invariant.passed.fixed c.loop-row.invariant.scope c.loop-row.invariant.passed.later c.in_scope.ensures.passed.later c.in-Some.ensures.cases.0 (ap record_of c.in_ok-copy.ensures) (view c.in_ok-value.value) c.loop-row.invariant.cut c.in_ok-value.ensures.done))
 
 pub each-returns-in_err-copy-clause-cut : goal.each-returns-in_err-copy-clause-cut
 each-returns-in_err-copy-clause-cut g t c =
     cutting.on_any c.from_residual.result
-    (cutting.cut_here _ _ _ (cutting.each_left (ground g.W.World.gives (g.W.Env.fixed c.args.world.now)) c.args.scope.now c.args.formula.now c.loop-row.rest.now) (cutting.each_left (ground g.W.World.gives (g.W.Env.fixed c.args.world.now)) c.args.scope.now c.args.formula.now c.args.rows.now) (λ s. cutting.each_unbegun (ground g.W.World.gives (g.W.Env.fixed c.args.world.now)) c.args.formula.now c.loop-row.rest.now c.args.scope.now s) c.loop-row.invariant.cut)
+    (cutting.cut_here (IsLost (g.W.Env.marks c.args.world.now) (g.W.Env.marks c.loop-row.world)) (g.W.World.state c.args.world.now) (g.W.World.state c.loop-row.world) (cutting.each_left (ground g.W.World.gives (g.W.Env.fixed c.args.world.now)) c.args.scope.now c.args.formula.now c.loop-row.rest.now) (cutting.each_left (ground g.W.World.gives (g.W.Env.fixed c.args.world.now)) c.args.scope.now c.args.formula.now c.args.rows.now) (λ s. cutting.each_unbegun (ground g.W.World.gives (g.W.Env.fixed c.args.world.now)) c.args.formula.now c.loop-row.rest.now c.args.scope.now s) c.loop-row.invariant.cut)
 
 pub node-returns-in-Chain-clause-cut : goal.node-returns-in-Chain-clause-cut
 node-returns-in-Chain-clause-cut g t c =
@@ -1248,7 +1248,7 @@ pub node-returns-in_err-list-in-List-clause-cut : goal.node-returns-in_err-list-
 node-returns-in_err-list-in-List-clause-cut g t c =
     cutting.on_any c.from_residual-in_err-list-in-List.result
     (cutting.node_cut (IsLost (g.W.Env.marks c.args.world.now) (g.W.Env.marks c.part_values.new.world)) (ground g.W.World.gives (g.W.Env.fixed c.args.world.now)) _ (all c.as_slice-in-List.result.now) c.args.core.now c.args.scope.now (g.W.World.state c.args.world.now) (g.W.World.state c.part_values.new.world) (heads.parts_are _ _ c.as_slice-in-List.result.now c.args.core.now (sym (ap branch c.in-List.is) ∙ c.core.view_is) c.as_slice-in-List.ensures) c.requires.acts
-    (cutting.list_behind _ (ground g.W.World.gives (g.W.Env.fixed c.args.world.now)) c.as_slice-in-List.result.now _ c.args.scope.now _ _ c.in_ok-values-in-List.ensures.done))
+    (cutting.list_behind (IsLost (g.W.Env.marks c.args.world.now) (g.W.Env.marks c.part_values.new.world)) (ground g.W.World.gives (g.W.Env.fixed c.args.world.now)) c.as_slice-in-List.result.now (map view c.in_ok-values-in-List.values.items) c.args.scope.now (g.W.World.state c.args.world.now) (g.W.World.state c.part_values.new.world) c.in_ok-values-in-List.ensures.done))
 
 pub perform-returns-else-acts-clause-cut : goal.perform-returns-else-acts-clause-cut
 perform-returns-else-acts-clause-cut g t c =
@@ -1257,7 +1257,7 @@ perform-returns-else-acts-clause-cut g t c =
 pub within-returns-in_err-value-clause-cut : goal.within-returns-in_err-value-clause-cut
 within-returns-in_err-value-clause-cut g t c =
     cutting.on_any c.from_residual.result
-    (cutting.within_first (ground g.W.World.gives (g.W.Env.fixed c.args.world.now)) c.args.scope.now _ _ _ c.args.part.now c.in_err-value.ensures.cut c.args.formula.now)
+    (cutting.within_first (ground g.W.World.gives (g.W.Env.fixed c.args.world.now)) c.args.scope.now (IsLost (g.W.Env.marks c.args.world.now) (g.W.Env.marks c.perform.new.world)) (g.W.World.state c.args.world.now) (g.W.World.state c.perform.new.world) c.args.part.now c.in_err-value.ensures.cut c.args.formula.now)
 
 pub within-returns-in-Ok-clause-cut : goal.within-returns-in-Ok-clause-cut
 within-returns-in-Ok-clause-cut g t c =
@@ -1271,7 +1271,7 @@ pub switch-returns-in_err-value-clause-cut : goal.switch-returns-in_err-value-cl
 switch-returns-in_err-value-clause-cut g t c =
     cutting.on_any c.from_residual.result
     (subst (λ (ts : List Term). Goes (IsLost (g.W.Env.marks c.args.world.now) (g.W.Env.marks c.perform.new.world)) (IsSwitchCut (parts_of (ground g.W.World.gives (g.W.Env.fixed c.args.world.now)) (all ts)) c.args.scope.now) (g.W.World.state c.args.world.now) (g.W.World.state c.perform.new.world)) (sym c.in-Some.ensures.cases.0)
-    (cutting.switch_first (ground g.W.World.gives (g.W.Env.fixed c.args.world.now)) c.args.scope.now _ _ _ c.in-Some.part.now c.in_err-value.ensures.cut c.in-Some.others.now))
+    (cutting.switch_first (ground g.W.World.gives (g.W.Env.fixed c.args.world.now)) c.args.scope.now (IsLost (g.W.Env.marks c.args.world.now) (g.W.Env.marks c.perform.new.world)) (g.W.World.state c.args.world.now) (g.W.World.state c.perform.new.world) c.in-Some.part.now c.in_err-value.ensures.cut c.in-Some.others.now))
 
 pub switch-returns-in-Ok-clause-cut : goal.switch-returns-in-Ok-clause-cut
 switch-returns-in-Ok-clause-cut g t c =
@@ -1286,7 +1286,7 @@ pub for_all-returns-in_err-value-clause-cut : goal.for_all-returns-in_err-value-
 for_all-returns-in_err-value-clause-cut g t c =
     cutting.on_any c.from_residual.result
     (subst (λ (ts : List Term). Goes (IsLost (g.W.Env.marks c.args.world.now) (g.W.Env.marks c.perform.new.world)) (IsForAllCut (part_of (ground g.W.World.gives (g.W.Env.fixed c.args.world.now)) c.args.table.now ∷ parts_of (ground g.W.World.gives (g.W.Env.fixed c.args.world.now)) (all ts)) c.args.scope.now) (g.W.World.state c.args.world.now) (g.W.World.state c.perform.new.world)) (sym (formula_is (g.W.Env.fixed c.args.world.now).types c.args.scope.now c.args.table.now c.args.parts.now c.requires.0 c.requires.1 c.in-Some.formula.now _ c.in-Some.ensures.cases.0))
-    (cutting.for_all_first (ground g.W.World.gives (g.W.Env.fixed c.args.world.now)) c.args.scope.now _ _ _ c.args.table.now c.in_err-value.ensures.cut c.in-Some.formula.now))
+    (cutting.for_all_first (ground g.W.World.gives (g.W.Env.fixed c.args.world.now)) c.args.scope.now (IsLost (g.W.Env.marks c.args.world.now) (g.W.Env.marks c.perform.new.world)) (g.W.World.state c.args.world.now) (g.W.World.state c.perform.new.world) c.args.table.now c.in_err-value.ensures.cut c.in-Some.formula.now))
 
 pub for_all-returns-in_err-values-in-Ok-clause-cut : goal.for_all-returns-in_err-values-in-Ok-clause-cut
 for_all-returns-in_err-values-in-Ok-clause-cut g t c =
@@ -1306,14 +1306,14 @@ pub update_if-returns-in_err-value-clause-cut : goal.update_if-returns-in_err-va
 update_if-returns-in_err-value-clause-cut g t c =
     cutting.on_any c.from_residual.result
     (subst (λ (ts : List Term). Goes (IsLost (g.W.Env.marks c.args.world.now) (g.W.Env.marks c.perform.new.world)) (IsUpdateIfCut (ground g.W.World.gives (g.W.Env.fixed c.args.world.now)) c.args.target (parts_of (ground g.W.World.gives (g.W.Env.fixed c.args.world.now)) (all ts)) c.args.scope.now) (g.W.World.state c.args.world.now) (g.W.World.state c.perform.new.world)) (sym c.filter_and_change.ensures)
-    (cutting.update_first (ground g.W.World.gives (g.W.Env.fixed c.args.world.now)) c.args.scope.now _ _ _ c.filter_and_change.result.0.now c.in_err-value.ensures.cut c.args.target c.filter_and_change.result.1.now))
+    (cutting.update_first (ground g.W.World.gives (g.W.Env.fixed c.args.world.now)) c.args.scope.now (IsLost (g.W.Env.marks c.args.world.now) (g.W.Env.marks c.perform.new.world)) (g.W.World.state c.args.world.now) (g.W.World.state c.perform.new.world) c.filter_and_change.result.0.now c.in_err-value.ensures.cut c.args.target c.filter_and_change.result.1.now))
 
 pub update_if-returns-in_err-changes-in-Ok-clause-cut : goal.update_if-returns-in_err-changes-in-Ok-clause-cut
 update_if-returns-in_err-changes-in-Ok-clause-cut g t c =
     cutting.on_any c.from_residual-in_err-changes-in-Ok.result
     (subst (λ (ts : List Term). Goes (IsLost (g.W.Env.marks c.args.world.now) (g.W.Env.marks c.each.new.world)) (IsUpdateIfCut (ground g.W.World.gives (g.W.Env.fixed c.args.world.now)) c.args.target (parts_of (ground g.W.World.gives (g.W.Env.fixed c.args.world.now)) (all ts)) c.args.scope.now) (g.W.World.state c.args.world.now) (g.W.World.state c.each.new.world)) (sym c.filter_and_change.ensures)
     (cutting.update_then (ground g.W.World.gives (g.W.Env.fixed c.args.world.now)) c.args.scope.now _ _ _ _ _ _ c.filter_and_change.result.0.now (view c.in_ok-value.value) c.perform.ensures.passed.later c.each.ensures.passed.later (is_no_error _ c.in-Ok.ensures.1) c.in_ok-value.ensures.done c.args.target c.filter_and_change.result.1.now c.as_slice-kept.result.now (c.as_slice-kept.ensures ∙ c.in-Ok.ensures.0)
-    (cutting.changes_first _ (ground g.W.World.gives (g.W.Env.fixed c.args.world.now)) c.args.target c.filter_and_change.result.1.now c.args.scope.now c.as_slice-kept.result.now _ _ (steps.back (λ f h. Goes (IsLost (g.W.Env.marks c.perform.new.world) (g.W.Env.marks c.each.new.world)) (cutting.each_left (ground g.W.World.gives f) h c.filter_and_change.result.1.now c.as_slice-kept.result.now) (g.W.World.state c.perform.new.world) (g.W.World.state c.each.new.world)) _ _ _ _ c.perform.ensures.passed.fixed c.perform.ensures.scope c.in_err-changes-in-Ok.ensures.cut))))
+    (cutting.changes_first (IsLost (g.W.Env.marks c.perform.new.world) (g.W.Env.marks c.each.new.world)) (ground g.W.World.gives (g.W.Env.fixed c.args.world.now)) c.args.target c.filter_and_change.result.1.now c.args.scope.now c.as_slice-kept.result.now (g.W.World.state c.perform.new.world) (g.W.World.state c.each.new.world) (steps.back (λ f h. Goes (IsLost (g.W.Env.marks c.perform.new.world) (g.W.Env.marks c.each.new.world)) (cutting.each_left (ground g.W.World.gives f) h c.filter_and_change.result.1.now c.as_slice-kept.result.now) (g.W.World.state c.perform.new.world) (g.W.World.state c.each.new.world)) _ _ _ _ c.perform.ensures.passed.fixed c.perform.ensures.scope c.in_err-changes-in-Ok.ensures.cut))))
 
 pub update_if-returns-in_ok-changes-in-Ok-clause-cut : goal.update_if-returns-in_ok-changes-in-Ok-clause-cut
 update_if-returns-in_ok-changes-in-Ok-clause-cut g t c =
@@ -1331,7 +1331,7 @@ act_deed-returns-in-UpdateIf-clause-cut g t c =
 pub act_deed-returns-in_err-values-in_default-clause-cut : goal.act_deed-returns-in_err-values-in_default-clause-cut
 act_deed-returns-in_err-values-in_default-clause-cut g t c =
     cutting.on_any c.from_residual.result
-    (cutting.deed_first _ (ground g.W.World.gives (g.W.Env.fixed c.args.world.now)) c.args.deed.now c.args.parts.now c.args.scope.now _ _ (acted.not_updating c.args.deed.now c.in_default.not-UpdateIf) c.in_err-values-in_default.ensures.cut)
+    (cutting.deed_first (IsLost (g.W.Env.marks c.args.world.now) (g.W.Env.marks c.part_values.new.world)) (ground g.W.World.gives (g.W.Env.fixed c.args.world.now)) c.args.deed.now c.args.parts.now c.args.scope.now (g.W.World.state c.args.world.now) (g.W.World.state c.part_values.new.world) (acted.not_updating c.args.deed.now c.in_default.not-UpdateIf) c.in_err-values-in_default.ensures.cut)
 
 pub in_scope-returns-in_err-push-clause-cut : goal.in_scope-returns-in_err-push-clause-cut
 in_scope-returns-in_err-push-clause-cut g t c =

@@ -1,7 +1,7 @@
 use Rattle.std.proofs.Common.{◌∷◌, [], inl, map, refl}
 use Rattle.fx_data.specs.ValueView.{view}
 use Rattle.fx_trees.specs.declared.sources.Source.TheVariants as source
-use Rattle.fx_deeds.proofs.CutOff.{CutRemoved, carried, removed_goes}
+use Rattle.fx_deeds.proofs.CutOff.{CutRemoved, carried, on_any, removed_goes}
 use Rattle.fx_deeds.proofs.Passing.{passed_on}
 use Rattle.fx_deeds.proofs.Steps.{remove_goes, remove_stops, removing}
 use Rattle.fx_deeds.proofs.Allowing.{only_on}
@@ -36,5 +36,6 @@ returns-in-Some-2-clause-only g c =
 
 pub returns-in_err-answer-clause-cut : goal.returns-in_err-answer-clause-cut
 returns-in_err-answer-clause-cut g c =
-    carried _ _ _ _ _ _ (CutRemoved c.args.table (map view c.loop-row.rest.now)) (CutRemoved c.args.table (map view c.args.rows.now)) c.loop-row.invariant.passed.later c.remove_row.ensures.passed.later (λ s. inl refl)
-    c.loop-row.invariant.cut c.in_err-answer.ensures.stops
+    on_any c.from_residual.result
+    (carried _ _ _ _ _ _ (CutRemoved c.args.table (map view c.loop-row.rest.now)) (CutRemoved c.args.table (map view c.args.rows.now)) c.loop-row.invariant.passed.later c.remove_row.ensures.passed.later (λ s. inl refl)
+    c.loop-row.invariant.cut c.in_err-answer.ensures.stops)
