@@ -1,5 +1,6 @@
 -- A deed goes on from where it was cut off.
 use Rattle.std.proofs.Common.{◌≡◌, ℕ, zero, suc, refl, ap, List, [], ◌∷◌, ◌++◌, Bool, true, false, map, Option, Some, None, Result, Ok, Err, sym, subst, ◌∙◌, inl, inr}
+use Rattle.std.proofs.lemmas.Result.{on_err_weaker}
 use Rattle.std.specs.Prelude.{IsSomeAnd, MatchOption, MatchResult, OnErr, slice_get, take}
 use Rattle.std.specs.List.{find}
 use Rattle.fx_data.specs.declared.values.Value.{Value}
@@ -259,3 +260,22 @@ carried k l m x y z R W before later f = goes_two (Carries R W) Stays W (λ s n 
 pub on_any : {T E : Type 0} (r : Result T E) {P : Type 0} → P → OnErr r P
 on_any (Ok x) p = tt
 on_any (Err e) p = p
+
+-- ---- calls that pass it on
+
+up_to_by : {A : Type 0} (P Q : State A → ℕ → Data → State A → Type 0) → ((s : State A) (n : ℕ) (d : Data) (t : State A) → P s n d t → Q s n d t) → (s u : State A) → UpTo P s u → UpTo Q s u
+up_to_by P Q f s u (inl e) = inl e
+up_to_by P Q f s u (inr p) = inr (p.0, p.1, f s p.0 p.1 u p.2)
+
+pub cut_by : {A T E : Type 0} (r : Result T E) (lost : Type 0) (P Q : State A → ℕ → Data → State A → Type 0) (x y : Option (State A)) → ((s : State A) (n : ℕ) (d : Data) (t : State A) → P s n d t → Q s n d t) →
+    OnErr r (Goes lost (UpTo P) x y) → OnErr r (Goes lost (UpTo Q) x y)
+cut_by r lost P Q x y f = on_err_weaker r (goes_weaker lost (UpTo P) (UpTo Q) (λ s u h. up_to_by P Q f s u h) x y)
+
+-- behind a call that leaves the state, and by what that found
+pub cut_behind : {A T E : Type 0} (r : Result T E) (H : State A → State A → Type 0) (P Q : State A → ℕ → Data → State A → Type 0) (k l m : Marks) (x y z : Option (State A)) → IsLater k l → IsLater l m →
+    ((s n : State A) → H s n → n ≡ s) → ((s n : State A) → H s n → (i : ℕ) (d : Data) (t : State A) → P s i d t → Q s i d t) →
+    Goes (IsLost k l) H x y → OnErr r (Goes (IsLost l m) (UpTo P) y z) → OnErr r (Goes (IsLost k m) (UpTo Q) x z)
+cut_behind r H P Q k l m x y z before later still f h =
+    on_err_weaker r
+    (goes_two H (UpTo P) (UpTo Q)
+    (λ s n u i c. up_to_by P Q (λ q j d t p. f s n i j d t p) s u c) k l m before later x y z h)
