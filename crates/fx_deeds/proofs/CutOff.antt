@@ -271,11 +271,38 @@ pub cut_by : {A T E : Type 0} (r : Result T E) (lost : Type 0) (P Q : State A �
     OnErr r (Goes lost (UpTo P) x y) → OnErr r (Goes lost (UpTo Q) x y)
 cut_by r lost P Q x y f = on_err_weaker r (goes_weaker lost (UpTo P) (UpTo Q) (λ s u h. up_to_by P Q f s u h) x y)
 
+behind_by : {A : Type 0} (P Q : State A → ℕ → Data → State A → Type 0) (s m u : State A) → m ≡ s → ((n : ℕ) (d : Data) (t : State A) → P m n d t → Q s n d t) → UpTo P m u → UpTo Q s u
+behind_by P Q s m u e f (inl q) = inl (q ∙ e)
+behind_by P Q s m u e f (inr p) = inr (p.0, p.1, f p.0 p.1 u p.2)
+
 -- behind a call that leaves the state, and by what that found
 pub cut_behind : {A T E : Type 0} (r : Result T E) (H : State A → State A → Type 0) (P Q : State A → ℕ → Data → State A → Type 0) (k l m : Marks) (x y z : Option (State A)) → IsLater k l → IsLater l m →
-    ((s n : State A) → H s n → n ≡ s) → ((s n : State A) → H s n → (i : ℕ) (d : Data) (t : State A) → P s i d t → Q s i d t) →
+    ((s n : State A) → H s n → n ≡ s) → ((s n : State A) → H s n → (i : ℕ) (d : Data) (t : State A) → P n i d t → Q s i d t) →
     Goes (IsLost k l) H x y → OnErr r (Goes (IsLost l m) (UpTo P) y z) → OnErr r (Goes (IsLost k m) (UpTo Q) x z)
 cut_behind r H P Q k l m x y z before later still f h =
-    on_err_weaker r
-    (goes_two H (UpTo P) (UpTo Q)
-    (λ s n u i c. up_to_by P Q (λ q j d t p. f s n i j d t p) s u c) k l m before later x y z h)
+    on_err_weaker r (goes_two H (UpTo P) (UpTo Q) (λ s n u i c. behind_by P Q s n u (still s n i) (f s n i) c) k l m before later x y z h)
+
+-- ---- variables one by one
+
+abbrev pub CutSet : {A : Type 0} → List Source → List Data → State A → State A → Type 0
+CutSet ks ys = UpTo (λ s n x t. AreSet (take n ks) (take n ys) s x t)
+
+set_next : {A : Type 0} (n : ℕ) (ks : List Source) (v : Value) (d : Data) (ys : List Data) (s m u : State A) → view v ≡ d → IsChanged (change.Context n v) true s m → CutSet ks ys m u → CutSet (source.Context n ∷ ks) (d ∷ ys) s u
+set_next n ks v d ys s m u c h (inl e) = inr (1, boolean true, (true, m, (v, c, h), (refl, e)))
+set_next n ks v d ys s m u c h (inr p) = inr (suc p.0, p.1, (true, m, (v, c, h), p.2))
+
+module _ {A : Type 0} (k l m : Marks) (x y z : Option (State A)) (W : State A → State A → Type 0) (n : ℕ) (ks names : List Source) (d v : Value) (ds vs : List Value) (done : Bool) (before : IsLater k l) (later : IsLater l m) where
+  pub set_goes_on : names ≡ source.Context n ∷ ks → vs ≡ d ∷ ds → v ≡ d → done ≡ true → Goes (IsLost k l) (Carries (CutSet names (map view vs)) W) x y → Goes (IsLost l m) (IsChanged (change.Context n v) done) y z →
+      Goes (IsLost k m) (Carries (CutSet ks (map view ds)) W) x z
+  set_goes_on p q c f =
+      goes_two (Carries (CutSet names (map view vs)) W) (IsChanged (change.Context n v) done) (Carries (CutSet ks (map view ds)) W)
+      (λ s i j h b u r. h u (subst (λ ns. CutSet ns (map view vs) i u) (sym p) (subst (λ ws. CutSet (source.Context n ∷ ks) (map view ws) i u) (sym q)
+      (set_next n ks v (view d) (map view ds) i j u (ap view c) (subst (λ o. IsChanged (change.Context n v) o i j) f b) r)))) k l m before later x y z
+
+-- a change that was refused has left the state
+pub refused_stays : {A : Type 0} (lost : Type 0) (c : Change) (done : Bool) (x y : Option (State A)) → done ≡ false → Goes lost (IsChanged c done) x y → Goes lost Stays x y
+refused_stays lost c done x y f = goes_weaker lost (IsChanged c done) Stays (λ s t h. (subst (λ o. IsChanged c o s t) f h).1) x y
+
+-- it was cut off where what is left hasn't begun
+pub cut_where : {A : Type 0} (lost : Type 0) (x y : Option (State A)) (R W : State A → State A → Type 0) → ((s : State A) → R s s) → Goes lost (Carries R W) x y → Goes lost W x y
+cut_where lost x y R W f = goes_weaker lost (Carries R W) W (λ s u c. c u (f u)) x y

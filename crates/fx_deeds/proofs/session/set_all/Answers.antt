@@ -1,4 +1,8 @@
 use Rattle.std.proofs.lemmas.List.{nil_from_length}
+use Rattle.session_state.specs.declared.change.Change.TheVariants as change
+use Rattle.std.proofs.Common.{inl, map, refl}
+use Rattle.fx_data.specs.ValueView.{view}
+use Rattle.fx_deeds.proofs.CutOff.{CutSet, carried, cut_where, on_any, refused_stays, set_goes_on}
 use Rattle.fx_base.specs.Silence.{IsLost}
 use Rattle.fx_deeds.proofs.Passing.{passed_on}
 use Rattle.fx_deeds.proofs.Steps.{can_rest, set_ends, set_goes, set_refused, setting}
@@ -22,6 +26,8 @@ loop-value-preserved g c = record {
   can = can_rest (g.W.Env.fixed c.args.world.now).types _ _ c.loop-value.names.now _ _ c.loop-value.rest.now c.first_variable-number.ensures c.in-Some.ensures.cases.0 c.loop-value.invariant.can;
   done = set_goes _ _ _ _ _ _ (setting c.args.variables.now c.args.values.now) _ _ _ _ _ _ _ _ c.loop-value.invariant.passed.later c.change.ensures.passed.later c.first_variable-number.ensures c.in-Some.ensures.cases.0
       c.in_ok-copy.ensures c.if-not-branch.false c.loop-value.invariant.done c.in_ok-change.ensures.done;
+  cut = set_goes_on _ _ _ _ _ _ (CutSet c.args.variables.now (map view c.args.values.now)) _ _ c.loop-value.names.now _ _ _ c.loop-value.rest.now _ c.loop-value.invariant.passed.later c.change.ensures.passed.later c.first_variable-number.ensures c.in-Some.ensures.cases.0
+      c.in_ok-copy.ensures c.if-not-branch.false c.loop-value.invariant.cut c.in_ok-change.ensures.done;
 }
 
 pub returns-clause-done : goal.returns-clause-done
@@ -36,3 +42,22 @@ returns-in_err-change-clause-only g c =
 pub returns-then-not-branch-clause-only : goal.returns-then-not-branch-clause-only
 returns-then-not-branch-clause-only g c =
     only_over (IsOneOf c.args.variables.now) _ (IsOneOf c.args.variables.now) (λ x w. w) (first_among c.loop-value.names.now _ _ (IsOneOf c.args.variables.now) c.first_variable-number.ensures c.loop-value.invariant.allowed) _ _ _ c.loop-value.invariant.passed c.change.ensures.passed c.loop-value.invariant.only c.change.ensures.only
+
+pub returns-in_err-change-clause-cut : goal.returns-in_err-change-clause-cut
+returns-in_err-change-clause-cut g c =
+    on_any _
+    (carried _ _ _ _ _ _ (CutSet c.loop-value.names.now (map view c.loop-value.rest.now)) (CutSet c.args.variables.now (map view c.args.values.now)) c.loop-value.invariant.passed.later c.change.ensures.passed.later (λ s. inl refl)
+    c.loop-value.invariant.cut c.in_err-change.ensures.stops)
+
+pub returns-in_err-copy-clause-cut : goal.returns-in_err-copy-clause-cut
+returns-in_err-copy-clause-cut g c =
+    on_any _
+    (cut_where (IsLost (g.W.Env.marks c.args.world.now) (g.W.Env.marks c.loop-value.world)) (g.W.World.state c.args.world.now) (g.W.World.state c.loop-value.world) (CutSet c.loop-value.names.now (map view c.loop-value.rest.now))
+    (CutSet c.args.variables.now (map view c.args.values.now)) (λ s. inl refl) c.loop-value.invariant.cut)
+
+pub returns-in_err-error-clause-cut : goal.returns-in_err-error-clause-cut
+returns-in_err-error-clause-cut g c =
+    on_any _
+    (carried _ _ _ _ _ _ (CutSet c.loop-value.names.now (map view c.loop-value.rest.now)) (CutSet c.args.variables.now (map view c.args.values.now)) c.loop-value.invariant.passed.later c.change.ensures.passed.later (λ s. inl refl)
+    c.loop-value.invariant.cut
+    (refused_stays (IsLost (g.W.Env.marks c.loop-value.world) (g.W.Env.marks c.change.new.world)) (change.Context c.first_variable-number.result.0 c.in_ok-copy.field-0) _ (g.W.World.state c.loop-value.world) (g.W.World.state c.change.new.world) c.if-not-branch.true c.in_ok-change.ensures.done))

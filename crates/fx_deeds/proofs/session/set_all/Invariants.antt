@@ -1,3 +1,4 @@
+use Rattle.fx_deeds.proofs.CutOff.{Carries, CutSet}
 use Rattle.std.proofs.Common.{length, map}
 use Rattle.fx_base.specs.Silence.{Goes, IsLost}
 use Rattle.fx_data.specs.ValueView.{view}
@@ -18,6 +19,7 @@ invariant-loop-value g l = record {
   only : Goes (IsLost (g.W.Env.marks l.fn.world) (g.W.Env.marks l.world)) (WritesOnly (IsOneOf l.variables)) (g.W.World.state l.fn.world) (g.W.World.state l.world);
   can : CanTakeAll (g.W.Env.fixed l.fn.world).types l.names (map view l.rest);
   done : Goes (IsLost (g.W.Env.marks l.fn.world) (g.W.Env.marks l.world)) (Decides (AreSet l.names (map view l.rest)) (AreSet l.variables (map view l.values))) (g.W.World.state l.fn.world) (g.W.World.state l.world);
+  cut : Goes (IsLost (g.W.Env.marks l.fn.world) (g.W.Env.marks l.world)) (Carries (CutSet l.names (map view l.rest)) (CutSet l.variables (map view l.values))) (g.W.World.state l.fn.world) (g.W.World.state l.world);
 }
 
 abbrev pub decreases-loop-value : goal.decreases-loop-value
