@@ -1,13 +1,15 @@
 //! Rows of a collection that are taken out, changed, or put behind the others.
-ghost use Rattle.std.specs.Prelude.{◌≡◌, ◌↔◌, ◌∷◌, [], false, true, IfOk, IfSome, IsErrOf, IsTrue, MatchOption, map};
+ghost use Rattle.std.specs.Prelude.{◌≡◌, ◌↔◌, ◌∷◌, [], false, true, IfOk, IfSome, IsErrOf, IsTrue, MatchOption, map, OnErr, take};
 ghost use Rattle.fx_base.specs.Faults.{Rose};
 ghost use Rattle.fx_base.specs.Silence.{Goes, IsLost};
+ghost use Rattle.fx_base.specs.Telling.{Stays};
 ghost use Rattle.fx_data.specs.Types.{ColumnList, booleans, column_list, records};
 ghost use Rattle.fx_data.specs.ValueView.{view};
 ghost use Rattle.fx_semantics.specs.Around.{record_of};
 ghost use Rattle.fx_value.specs.Columns.{Row};
 ghost use Rattle.fx_trees.specs.declared.sources.Source.TheVariants as source;
 ghost use Rattle.fx_value.specs.Fits.{fits_in};
+ghost use Rattle.fx_deeds.specs.CutOff.{UpTo};
 ghost use Rattle.fx_deeds.specs.Collections.{Appends, AreBlank, AreTaken, IsFirst, IsPatchedIn, Lacks, PatchesRow, PutsFor};
 ghost use Rattle.fx_deeds.specs.Fitting.{CanChange, IsOfColumns};
 ghost use Rattle.fx_deeds.specs.Found.{IsTakenFrom};
@@ -116,6 +118,7 @@ fn take_row<W: World, L: Ledger>(
     ensures only { Goes (IsLost (W.marks world.old) (W.marks world.new)) (WritesOnly (IsOneOf (source.Gathered collection ∷ []))) (W.state world.old) (W.state world.new) }
     ensures keeper { IsErrOf result Stop.Keeper → Rose (W.marks world.old).faults (W.marks world.new).faults }
     ensures done { IfOk result (λ o. Goes (IsLost (W.marks world.old) (W.marks world.new)) (IsTakenFrom collection row o) (W.state world.old) (W.state world.new)) }
+    ensures stops { OnErr result (Goes (IsLost (W.marks world.old) (W.marks world.new)) Stays (W.state world.old) (W.state world.new)) }
     ensures fits { IfOk result (λ o. IfSome o (λ x. fits_in (view x) booleans ≡ true)) }
 {
     let rows = rows_held(alloc, world, collection, steps)?;
@@ -146,6 +149,7 @@ fn take_rows<W: World, L: Ledger>(
     ensures only { Goes (IsLost (W.marks world.old) (W.marks world.new)) (WritesOnly (IsOneOf (source.Gathered collection ∷ []))) (W.state world.old) (W.state world.new) }
     ensures keeper { IsErrOf result Stop.Keeper → Rose (W.marks world.old).faults (W.marks world.new).faults }
     ensures done { IfOk result (λ x. Goes (IsLost (W.marks world.old) (W.marks world.new)) (λ s t. AreTaken (column_list columns.now) collection (map view rows.now) s (view x) t) (W.state world.old) (W.state world.new)) }
+    ensures cut { OnErr result (Goes (IsLost (W.marks world.old) (W.marks world.new)) (UpTo (λ s n x t. AreTaken (column_list columns.now) collection (take n (map view rows.now)) s x t)) (W.state world.old) (W.state world.new)) }
     ensures fits { IfOk result (λ x. fits_in (view x) booleans ≡ true) }
 {
     let mut rest = rows;
@@ -174,6 +178,7 @@ pub(crate) fn remove_equal<W: World, L: Ledger>(
     ensures only { Goes (IsLost (W.marks world.old) (W.marks world.new)) (WritesOnly (IsOneOf (source.Gathered collection ∷ []))) (W.state world.old) (W.state world.new) }
     ensures keeper { IsErrOf result Stop.Keeper → Rose (W.marks world.old).faults (W.marks world.new).faults }
     ensures done { IfOk result (λ x. Goes (IsLost (W.marks world.old) (W.marks world.new)) (λ s t. AreTaken (columns_in ((W.fixed world.old).types (source.Gathered collection))) collection (map view rows.now) s (view x) t) (W.state world.old) (W.state world.new)) }
+    ensures cut { OnErr result (Goes (IsLost (W.marks world.old) (W.marks world.new)) (UpTo (λ s n x t. AreTaken (columns_in ((W.fixed world.old).types (source.Gathered collection))) collection (take n (map view rows.now)) s x t)) (W.state world.old) (W.state world.new)) }
     ensures fits { IfOk result (λ x. fits_in (view x) booleans ≡ true) }
 {
     let columns = collection_columns(alloc, world, collection)?;
@@ -195,6 +200,7 @@ fn append<W: World, L: Ledger>(
     ensures only { Goes (IsLost (W.marks world.old) (W.marks world.new)) (WritesOnly (IsOneOf (source.Gathered collection ∷ []))) (W.state world.old) (W.state world.new) }
     ensures keeper { IsErrOf result Stop.Keeper → Rose (W.marks world.old).faults (W.marks world.new).faults }
     ensures done { IfOk result (λ x. Goes (IsLost (W.marks world.old) (W.marks world.new)) (λ s t. Appends collection row s (view x) t) (W.state world.old) (W.state world.new)) }
+    ensures cut { OnErr result (Goes (IsLost (W.marks world.old) (W.marks world.new)) (UpTo (λ s n x t. Appends collection row s x t)) (W.state world.old) (W.state world.new)) }
     ensures fits { (cs : ColumnList) → fits_in (record_of row) (records cs) ≡ true → IfOk result (λ x. fits_in (view x) (records cs) ≡ true) }
 {
     let answer = Value::Rec(row.copy(alloc)?);
@@ -224,6 +230,7 @@ fn put_for<W: World, L: Ledger>(
     ensures only { Goes (IsLost (W.marks world.old) (W.marks world.new)) (WritesOnly (IsOneOf (source.Gathered collection ∷ []))) (W.state world.old) (W.state world.new) }
     ensures keeper { IsErrOf result Stop.Keeper → Rose (W.marks world.old).faults (W.marks world.new).faults }
     ensures done { IfOk result (λ x. Goes (IsLost (W.marks world.old) (W.marks world.new)) (λ s t. PutsFor collection row changed s (view x) t) (W.state world.old) (W.state world.new)) }
+    ensures cut { OnErr result (Goes (IsLost (W.marks world.old) (W.marks world.new)) (UpTo (λ s n x t. PutsFor collection row changed s x t)) (W.state world.old) (W.state world.new)) }
     ensures fits { (cs : ColumnList) → fits_in (record_of changed) (records cs) ≡ true → IfOk result (λ x. fits_in (view x) (records cs) ≡ true) }
 {
     let rows = rows_held(alloc, world, collection, steps)?;
@@ -273,6 +280,7 @@ fn patch_row<W: World, L: Ledger>(
     ensures only { Goes (IsLost (W.marks world.old) (W.marks world.new)) (WritesOnly (IsOneOf (source.Gathered collection ∷ []))) (W.state world.old) (W.state world.new) }
     ensures keeper { IsErrOf result Stop.Keeper → Rose (W.marks world.old).faults (W.marks world.new).faults }
     ensures done { IfOk result (λ x. Goes (IsLost (W.marks world.old) (W.marks world.new)) (λ s t. PatchesRow collection row changed s (view x) t) (W.state world.old) (W.state world.new)) }
+    ensures cut { OnErr result (Goes (IsLost (W.marks world.old) (W.marks world.new)) (UpTo (λ s n x t. PatchesRow collection row changed s x t)) (W.state world.old) (W.state world.new)) }
     ensures fits { (cs : ColumnList) → fits_in (record_of changed) (records cs) ≡ true → IfOk result (λ x. fits_in (view x) (records cs) ≡ true) }
 {
     if are_blank(&row) {
@@ -298,6 +306,7 @@ pub(crate) fn patch_equal<W: World, L: Ledger>(
     ensures only { Goes (IsLost (W.marks world.old) (W.marks world.new)) (WritesOnly (IsOneOf (source.Gathered collection ∷ []))) (W.state world.old) (W.state world.new) }
     ensures keeper { IsErrOf result Stop.Keeper → Rose (W.marks world.old).faults (W.marks world.new).faults }
     ensures done { IfOk result (λ x. Goes (IsLost (W.marks world.old) (W.marks world.new)) (λ s t. IsPatchedIn (columns_in ((W.fixed world.old).types (source.Gathered collection))) collection (view base.now) (map view changes.now) s (view x) t) (W.state world.old) (W.state world.new)) }
+    ensures cut { OnErr result (Goes (IsLost (W.marks world.old) (W.marks world.new)) (UpTo (λ s n x t. IsPatchedIn (columns_in ((W.fixed world.old).types (source.Gathered collection))) collection (view base.now) (map view changes.now) s x t)) (W.state world.old) (W.state world.new)) }
     ensures fits { (cs : ColumnList) → IsOfColumns (W.fixed world.old).types collection cs → IfOk result (λ x. fits_in (view x) (records cs) ≡ true) }
 {
     let changes = with_tables(alloc, Rows::new(alloc), changes)?;

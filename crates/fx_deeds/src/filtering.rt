@@ -1,5 +1,5 @@
 //! Rows that a filter kept, and that are taken out.
-ghost use Rattle.std.specs.Prelude.{◌≡◌, ◌∷◌, [], true, false, IfOk, IsErrOf, IsSome, map, slice_get};
+ghost use Rattle.std.specs.Prelude.{◌≡◌, ◌∷◌, [], true, false, IfOk, IsErrOf, IsSome, map, slice_get, OnErr, take};
 ghost use Rattle.fx_base.specs.Faults.{Rose};
 ghost use Rattle.fx_base.specs.Silence.{Goes, IsLost};
 ghost use Rattle.fx_data.specs.Types.{ColumnList, booleans};
@@ -9,6 +9,7 @@ ghost use Rattle.fx_semantics.specs.Rows.{rows_in};
 ghost use Rattle.fx_value.specs.Fits.{fits_in};
 ghost use Rattle.fx_trees.specs.declared.sources.Source.TheVariants as source;
 ghost use Rattle.fx_deeds.specs.Collections.{AreLeft, AreTakenIf};
+ghost use Rattle.fx_deeds.specs.CutOff.{UpTo};
 ghost use Rattle.fx_deeds.specs.Deeds.{AreRemoved, OrError};
 ghost use Rattle.fx_deeds.specs.Fitting.{IsOfColumns};
 ghost use Rattle.fx_deeds.specs.Lefts.{AreRecords, IsFirstOf, behind, rows_by};
@@ -94,6 +95,7 @@ pub(crate) fn remove_filtered<W: World>(
     ensures only { Goes (IsLost (W.marks world.old) (W.marks world.new)) (WritesOnly (IsOneOf (source.Table table ∷ []))) (W.state world.old) (W.state world.new) }
     ensures keeper { IsErrOf result Stop.Keeper → Rose (W.marks world.old).faults (W.marks world.new).faults }
     ensures done { IfOk result (λ x. Goes (IsLost (W.marks world.old) (W.marks world.new)) (λ s t. OrError (view filtered) (AreRemoved table (map record_of (rows_in (view filtered))) s (view x) t) s (view x) t) (W.state world.old) (W.state world.new)) }
+    ensures cut { OnErr result (Goes (IsLost (W.marks world.old) (W.marks world.new)) (UpTo (λ s n x t. OrError (view filtered) (AreRemoved table (map record_of (take n (rows_in (view filtered)))) s x t) s x t)) (W.state world.old) (W.state world.new)) }
     ensures fits { IfOk result (λ x. fits_in (view x) booleans ≡ true) }
 {
     match rows_of(alloc, filtered) {
@@ -120,6 +122,7 @@ pub(crate) fn take_filtered<W: World, L: Ledger>(
     ensures only { Goes (IsLost (W.marks world.old) (W.marks world.new)) (WritesOnly (IsOneOf (source.Gathered collection ∷ []))) (W.state world.old) (W.state world.new) }
     ensures keeper { IsErrOf result Stop.Keeper → Rose (W.marks world.old).faults (W.marks world.new).faults }
     ensures done { IfOk result (λ x. Goes (IsLost (W.marks world.old) (W.marks world.new)) (λ s t. OrError (view filtered) (AreTakenIf collection (rows_in (view filtered)) s (view x) t) s (view x) t) (W.state world.old) (W.state world.new)) }
+    ensures cut { OnErr result (Goes (IsLost (W.marks world.old) (W.marks world.new)) (UpTo (λ s n x t. OrError (view filtered) (AreTakenIf collection (rows_in (view filtered)) s x t) s x t)) (W.state world.old) (W.state world.new)) }
     ensures fits { IfOk result (λ x. fits_in (view x) booleans ≡ true) }
 {
     match rows_of(alloc, filtered) {

@@ -1,5 +1,5 @@
 //! `UpdateIf` on a collection.
-ghost use Rattle.std.specs.Prelude.{◌≡◌, ◌∷◌, [], true, IfOk, IfSome, IsErrOf, map, option_map};
+ghost use Rattle.std.specs.Prelude.{◌≡◌, ◌∷◌, [], true, IfOk, IfSome, IsErrOf, map, option_map, OnErr};
 ghost use Rattle.std.specs.List.{find};
 ghost use Rattle.fx_base.specs.Faults.{Rose};
 ghost use Rattle.fx_base.specs.Silence.{Goes, IsLost};
@@ -10,6 +10,7 @@ ghost use Rattle.fx_semantics.specs.Rows.{table_of};
 ghost use Rattle.fx_tables.specs.Unions.{is_fault};
 ghost use Rattle.fx_trees.specs.declared.sources.Source.TheVariants as source;
 ghost use Rattle.fx_value.specs.Fits.{fits_in};
+ghost use Rattle.fx_deeds.specs.CutOff.{UpTo};
 ghost use Rattle.fx_deeds.specs.Collections.{AreUpdatedIn, AreWith};
 ghost use Rattle.fx_deeds.specs.Done.{errors_in, errors_of};
 ghost use Rattle.fx_deeds.specs.Fitting.{CanChangeAll, IsOfColumns};
@@ -130,6 +131,7 @@ pub(crate) fn update_equal<W: World, L: Ledger>(
     ensures only { Goes (IsLost (W.marks world.old) (W.marks world.new)) (WritesOnly (IsOneOf (source.Gathered collection ∷ []))) (W.state world.old) (W.state world.new) }
     ensures keeper { IsErrOf result Stop.Keeper → Rose (W.marks world.old).faults (W.marks world.new).faults }
     ensures done { IfOk result (λ x. Goes (IsLost (W.marks world.old) (W.marks world.new)) (λ s t. AreUpdatedIn (columns_in ((W.fixed world.old).types (source.Gathered collection))) collection kept.now (map view changes.now) s (view x) t) (W.state world.old) (W.state world.new)) }
+    ensures cut { OnErr result (Goes (IsLost (W.marks world.old) (W.marks world.new)) (UpTo (λ s n x t. AreUpdatedIn (columns_in ((W.fixed world.old).types (source.Gathered collection))) collection kept.now (map view changes.now) s x t)) (W.state world.old) (W.state world.new)) }
     ensures fits { IfOk result (λ x. fits_in (view x) booleans ≡ true) }
 {
     let columns = collection_columns(alloc, world, collection)?;
