@@ -34,7 +34,7 @@ use Rattle.fx_deeds.specs.CutOff.{CutDeed, CutUpdate, IsBegun, IsUpdateBegun, Up
 use Rattle.fx_deeds.specs.Deeds.{Answers, AreRemoved, AreSet, AreUpdated, ByDone, ByFound, ByPut, IsGiven, Makes, OfTable, OrError, OrErrorAmong, Removes, Updates, id_of, named_id, row_at}
 use Rattle.fx_deeds.specs.Done.{IsDeed, IsUpdate, errors_in}
 use Rattle.fx_deeds.specs.RowValues.{changed_cells, columns_in, row_named, taken_or}
-use Rattle.fx_deeds.specs.Found.{IsTakenOut}
+use Rattle.fx_deeds.specs.Found.{IsTakenFrom, IsTakenOut}
 use Rattle.fx_deeds.specs.State.{Frame, State}
 use Rattle.fx_deeds.specs.Within.{Within}
 
@@ -306,3 +306,23 @@ refused_stays lost c done x y f = goes_weaker lost (IsChanged c done) Stays (λ 
 -- it was cut off where what is left hasn't begun
 pub cut_where : {A : Type 0} (lost : Type 0) (x y : Option (State A)) (R W : State A → State A → Type 0) → ((s : State A) → R s s) → Goes lost (Carries R W) x y → Goes lost W x y
 cut_where lost x y R W f = goes_weaker lost (Carries R W) W (λ s u c. c u (f u)) x y
+
+-- ---- rows of a collection one by one
+
+abbrev pub CutTaken : {A : Type 0} → ColumnList → ℕ → List Data → State A → State A → Type 0
+CutTaken cs k ys = UpTo (λ s n x t. AreTaken cs k (take n ys) s x t)
+
+taken_next : {A : Type 0} (cs : ColumnList) (k : ℕ) (y : Data) (ys : List Data) (r : Row) (s m u : State A) → r ≡ row_named cs y → IsTakenFrom k r None s m → CutTaken cs k ys m u → CutTaken cs k (y ∷ ys) s u
+taken_next cs k y ys r s m u q t (inl e) =
+    inr (1, boolean true, inl (t.0, t.1, true, m, subst (λ z. IsFirst z (rows_held k s) t.0 t.1) q t.2, t.3, (refl, e)))
+taken_next cs k y ys r s m u q t (inr p) =
+    inr (suc p.0, p.1, inl (t.0, t.1, true, m, subst (λ z. IsFirst z (rows_held k s) t.0 t.1) q t.2, t.3, p.2))
+
+module _ {A : Type 0} (k l m : Marks) (x y z : Option (State A)) (W : State A → State A → Type 0) (cs : ColumnList) (n : ℕ) (v : Value) (vs rest : List Value) (r : Row) (before : IsLater k l) (later : IsLater l m) (first : rest ≡ v ∷ vs)
+    (named : r ≡ row_named cs (view v)) where
+  pub taken_goes : (o : Option Value) → ((e : Value) → o ≡ Some e → ⊥) → Goes (IsLost k l) (Carries (CutTaken cs n (map view rest)) W) x y → Goes (IsLost l m) (IsTakenFrom n r o) y z →
+      Goes (IsLost k m) (Carries (CutTaken cs n (map view vs)) W) x z
+  taken_goes (Some e) none c p = absurd (none e refl)
+  taken_goes None none c p =
+      goes_two (Carries (CutTaken cs n (map view rest)) W) (IsTakenFrom n r None) (Carries (CutTaken cs n (map view vs)) W)
+      (λ s i j h t u q. h u (subst (λ (ws : List Value). CutTaken cs n (map view ws) i u) (sym first) (taken_next cs n (view v) (map view vs) r i j u named t q))) k l m before later x y z c p

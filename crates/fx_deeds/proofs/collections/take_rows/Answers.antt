@@ -1,6 +1,9 @@
-use Rattle.std.proofs.Common.{◌∷◌, []}
+use Rattle.std.proofs.Common.{◌∷◌, [], inl, map, refl}
+use Rattle.fx_base.specs.Silence.{IsLost}
+use Rattle.fx_data.specs.ValueView.{view}
 use Rattle.fx_data.specs.Types.{column_list}
 use Rattle.fx_trees.specs.declared.sources.Source.TheVariants as source
+use Rattle.fx_deeds.proofs.CutOff.{CutTaken, carried, cut_where, on_any, taken_goes}
 use Rattle.fx_deeds.proofs.Gathering.{take_goes, take_stops, taking}
 use Rattle.fx_deeds.proofs.Passing.{passed_on}
 use Rattle.fx_deeds.proofs.Allowing.{only_on}
@@ -21,6 +24,8 @@ loop-sought-preserved g c = record {
   only = only_on (IsOneOf (source.Gathered c.args.collection ∷ [])) _ _ _ c.loop-sought.invariant.passed c.take_row.ensures.passed c.loop-sought.invariant.only c.take_row.ensures.only;
   done = take_goes _ _ _ _ _ _ (taking (column_list c.args.columns.now) c.args.collection c.args.rows.now) (column_list c.args.columns.now) c.args.collection c.in-Some.sought.now c.in_ok-answer.field-0 c.in-Some.others.now
       c.loop-sought.rest.now c.in_ok-row.row c.loop-sought.invariant.passed.later c.take_row.ensures.passed.later c.in-Some.ensures.cases.0 c.in_ok-row.ensures c.in_default-2.not-Some c.loop-sought.invariant.done c.in_ok-answer.ensures.done;
+  cut = taken_goes _ _ _ _ _ _ (CutTaken (column_list c.args.columns.now) c.args.collection (map view c.args.rows.now)) (column_list c.args.columns.now) c.args.collection c.in-Some.sought.now c.in-Some.others.now c.loop-sought.rest.now c.in_ok-row.row c.loop-sought.invariant.passed.later
+      c.take_row.ensures.passed.later c.in-Some.ensures.cases.0 c.in_ok-row.ensures c.in_ok-answer.field-0 c.in_default-2.not-Some c.loop-sought.invariant.cut c.in_ok-answer.ensures.done;
 }
 
 pub returns-in_err-answer-clause-only : goal.returns-in_err-answer-clause-only
@@ -30,3 +35,13 @@ returns-in_err-answer-clause-only g c =
 pub returns-in-Some-2-clause-only : goal.returns-in-Some-2-clause-only
 returns-in-Some-2-clause-only g c =
     only_on (IsOneOf (source.Gathered c.args.collection ∷ [])) _ _ _ c.loop-sought.invariant.passed c.take_row.ensures.passed c.loop-sought.invariant.only c.take_row.ensures.only
+
+pub returns-in_err-answer-clause-cut : goal.returns-in_err-answer-clause-cut
+returns-in_err-answer-clause-cut g c =
+    on_any _
+    (carried _ _ _ _ _ _ (CutTaken (column_list c.args.columns.now) c.args.collection (map view c.loop-sought.rest.now)) (CutTaken (column_list c.args.columns.now) c.args.collection (map view c.args.rows.now)) c.loop-sought.invariant.passed.later c.take_row.ensures.passed.later (λ s. inl refl) c.loop-sought.invariant.cut c.in_err-answer.ensures.stops)
+
+pub returns-in_err-row-clause-cut : goal.returns-in_err-row-clause-cut
+returns-in_err-row-clause-cut g c =
+    on_any _
+    (cut_where (IsLost (g.W.Env.marks c.args.world.now) (g.W.Env.marks c.loop-sought.world)) (g.W.World.state c.args.world.now) (g.W.World.state c.loop-sought.world) (CutTaken (column_list c.args.columns.now) c.args.collection (map view c.loop-sought.rest.now)) (CutTaken (column_list c.args.columns.now) c.args.collection (map view c.args.rows.now)) (λ s. inl refl) c.loop-sought.invariant.cut)

@@ -3,6 +3,7 @@ use Rattle.fx_base.specs.Silence.{Goes, IsLost}
 use Rattle.fx_data.specs.Types.{column_list}
 use Rattle.fx_data.specs.ValueView.{view}
 use Rattle.fx_trees.specs.declared.sources.Source.TheVariants as source
+use Rattle.fx_deeds.proofs.CutOff.{Carries, CutTaken}
 use Rattle.fx_deeds.specs.Collections.{AreTaken}
 use Rattle.fx_deeds.specs.Lefts.{Decides}
 use Rattle.fx_deeds.specs.Stages.{Passed, stage}
@@ -15,6 +16,7 @@ invariant-loop-sought g l = record {
       (stage (g.W.Env.fixed l.world) (g.W.World.state l.world) (g.W.Env.marks l.world) (g.W.Env.visited l.world));
   only : Goes (IsLost (g.W.Env.marks l.fn.world) (g.W.Env.marks l.world)) (WritesOnly (IsOneOf (source.Gathered l.collection ∷ []))) (g.W.World.state l.fn.world) (g.W.World.state l.world);
   done : Goes (IsLost (g.W.Env.marks l.fn.world) (g.W.Env.marks l.world)) (Decides (AreTaken (column_list l.columns) l.collection (map view l.rest)) (AreTaken (column_list l.columns) l.collection (map view l.rows))) (g.W.World.state l.fn.world) (g.W.World.state l.world);
+  cut : Goes (IsLost (g.W.Env.marks l.fn.world) (g.W.Env.marks l.world)) (Carries (CutTaken (column_list l.columns) l.collection (map view l.rest)) (CutTaken (column_list l.columns) l.collection (map view l.rows))) (g.W.World.state l.fn.world) (g.W.World.state l.world);
 }
 
 abbrev pub decreases-loop-sought : goal.decreases-loop-sought
