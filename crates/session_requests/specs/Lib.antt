@@ -16,6 +16,7 @@ pub mod Triggers
 pub mod Scenes
 pub mod Running
 pub mod Writable
+pub mod Whole
 pub mod Requests
 pub mod Opening
 pub mod EventLaws

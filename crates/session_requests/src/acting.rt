@@ -25,6 +25,7 @@ ghost use Rattle.session_requests.specs.Acting.{EffectWrites, EndsEvent, EndsInp
 ghost use Rattle.session_requests.specs.Posting.{SessionsFit};
 ghost use Rattle.session_requests.specs.Shown.{cell_values};
 ghost use Rattle.session_requests.specs.Targets.{IsTarget, input_target};
+ghost use Rattle.session_requests.specs.Whole.{GivenAndWrites, InputGivenWrites, IsInAll, TargetWrites};
 ghost use Rattle.session_requests.specs.Writable.{AreAll, EffectMayWrite, GivenMayWrite, TargetMayWrite};
 ghost use Rattle.session_requests.specs.declared.input.Input.{Input as Asked};
 ghost use Rattle.view_text.specs.RefusalText.{Fits};
@@ -206,6 +207,7 @@ pub(crate) fn end_input<K: Keeper, L: Ledger>(
     ensures clean { IsLeftBut app.now wrote.new.items cache.old cache.new }
     ensures wrote { IfOk result (λ r. InputWrites (IsLost (K.marks keeper.old) (K.marks keeper.new)) app.now moment session (value_of cache.old) verdict (K.told keeper.old) (K.told keeper.new) wrote.new.items) }
     ensures only { Goes (IsLost (K.marks keeper.old) (K.marks keeper.new)) (λ t u. AreAll (GivenMayWrite app.now verdict) wrote.new.items) (K.told keeper.old) (K.told keeper.new) }
+    ensures cut { OnErr result (Goes (IsLost (K.marks keeper.old) (K.marks keeper.new)) (λ t u. AreAll (IsInAll (InputGivenWrites app.now moment session (value_of cache.old) verdict t)) wrote.new.items) (K.told keeper.old) (K.told keeper.new)) }
     ensures loan { K.loan keeper.new ≡ K.loan keeper.old }
 {
     match verdict {
@@ -267,6 +269,7 @@ pub(crate) fn end_event<K: Keeper, L: Ledger>(
     ensures clean { IsLeftBut app.now wrote.new.items cache.old cache.new }
     ensures wrote { IfOk result (λ r. EventWrites (IsLost (K.marks keeper.old) (K.marks keeper.new)) app.now moment session (value_of cache.old) verdict (K.told keeper.old) (K.told keeper.new) wrote.new.items) }
     ensures only { Goes (IsLost (K.marks keeper.old) (K.marks keeper.new)) (λ t u. AreAll (TargetMayWrite app.now verdict) wrote.new.items) (K.told keeper.old) (K.told keeper.new) }
+    ensures cut { OnErr result (Goes (IsLost (K.marks keeper.old) (K.marks keeper.new)) (λ t u. AreAll (IsInAll (TargetWrites app.now moment session (value_of cache.old) verdict t)) wrote.new.items) (K.told keeper.old) (K.told keeper.new)) }
     ensures loan { K.loan keeper.new ≡ K.loan keeper.old }
 {
     match verdict {
@@ -342,6 +345,7 @@ fn take_effect<K: Keeper, L: Ledger>(
     ensures clean { IsLeftBut app.now wrote.new.items cache.old cache.new }
     ensures wrote { IfOk result (λ r. EffectWrites (IsLost (K.marks keeper.old) (K.marks keeper.new)) app.now moment trigger (option_map view item) (option_to_list given) session (K.told keeper.old) (K.told keeper.new) wrote.new.items) }
     ensures only { Goes (IsLost (K.marks keeper.old) (K.marks keeper.new)) (λ t u. AreAll (EffectMayWrite app.now (option_to_list given) trigger) wrote.new.items) (K.told keeper.old) (K.told keeper.new) }
+    ensures cut { OnErr result (Goes (IsLost (K.marks keeper.old) (K.marks keeper.new)) (λ t u. AreAll (IsInAll (GivenAndWrites app.now moment trigger (option_map view item) (option_to_list given) session t)) wrote.new.items) (K.told keeper.old) (K.told keeper.new)) }
     ensures loan { K.loan keeper.new ≡ K.loan keeper.old }
 {
     let body = Vec::from_slice(alloc, body)?;

@@ -1,5 +1,5 @@
 //! Performing a behaviour formula of an app.
-ghost use Rattle.std.specs.Prelude.{◌≡◌, ◌≤◌, Some, IfOk, drop, length, option_map, take, true};
+ghost use Rattle.std.specs.Prelude.{◌≡◌, ◌≤◌, Some, IfOk, OnErr, drop, length, option_map, take, true};
 ghost use Rattle.fx_base.specs.Silence.{Goes, IsLost};
 ghost use Rattle.fx_base.specs.Telling.{Stays};
 ghost use Rattle.fx_data.specs.TypeView.{shape};
@@ -16,6 +16,7 @@ ghost use Rattle.session_state.specs.Changes.{FitsNames};
 ghost use Rattle.session_requests.specs.Caching.{AreLater, AreSessionsBut, AreSources, IsCached, LeavesBut};
 ghost use Rattle.session_requests.specs.Performing.{Acts, IsActing, Leaves};
 ghost use Rattle.fx_behave.specs.Writable.{MayWrite};
+ghost use Rattle.session_requests.specs.Whole.{FormulaWrites, IsInAll};
 ghost use Rattle.session_requests.specs.Writable.{AreAll};
 
 use crate::accepted::{Accepted, SoundApp};
@@ -80,6 +81,7 @@ pub fn perform<K: Keeper, L: Ledger>(
     ensures cause { HasCause (K.marks keeper.old) (K.marks keeper.new) result }
     ensures visited { K.visited keeper.old ≤ K.visited keeper.new }
     ensures only { Goes (IsLost (K.marks keeper.old) (K.marks keeper.new)) (λ t u. AreAll (MayWrite info.now.core) (drop (length wrote.old.items) wrote.new.items)) (K.told keeper.old) (K.told keeper.new) }
+    ensures cut { OnErr result (Goes (IsLost (K.marks keeper.old) (K.marks keeper.new)) (λ t u. AreAll (IsInAll (FormulaWrites app.now moment info.now (option_map view item) t session.old)) (drop (length wrote.old.items) wrote.new.items)) (K.told keeper.old) (K.told keeper.new)) }
     ensures loan { K.loan keeper.new ≡ K.loan keeper.old }
 {
     let day = today(alloc, moment)?;
@@ -139,6 +141,7 @@ fn perform_over<'a, A: SoundApp, K: Keeper, L: Ledger, S: Start>(
     ensures cause { HasCause (K.marks keeper.old) (K.marks keeper.new) result }
     ensures visited { K.visited keeper.old ≤ K.visited keeper.new }
     ensures only { Goes (IsLost (K.marks keeper.old) (K.marks keeper.new)) (λ t u. AreAll (MayWrite info.now.core) (drop (length wrote.old.items) wrote.new.items)) (K.told keeper.old) (K.told keeper.new) }
+    ensures cut { OnErr result (Goes (IsLost (K.marks keeper.old) (K.marks keeper.new)) (λ t u. AreAll (IsInAll (FormulaWrites (A.app app.now) moment info.now (option_map view item) t session.old)) (drop (length wrote.old.items) wrote.new.items)) (K.told keeper.old) (K.told keeper.new)) }
     ensures loan { K.loan keeper.new ≡ K.loan keeper.old }
 {
     // Called for what it says: the app is sound.

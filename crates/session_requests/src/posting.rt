@@ -22,6 +22,7 @@ ghost use Rattle.view_text.specs.RefusalText.{Fits};
 ghost use Rattle.session_requests.specs.Caching.{AreFreshAt, AreSources, IsCached};
 ghost use Rattle.session_requests.specs.Posting.{EventLooksAt, InputLooksAt, IsVerdict, SendsEvent, SendsEventWriting, SendsInput, SendsInputWriting, SessionsFit};
 ghost use Rattle.session_requests.specs.Targets.{IsTarget, event_target as event_target_of, or_refused};
+ghost use Rattle.session_requests.specs.Whole.{EventPerforms, InputPerforms, IsInAll};
 ghost use Rattle.session_requests.specs.Writable.{AreAll, EventMayWrite, InputMayWrite};
 
 use crate::acting::{end_event, end_input};
@@ -88,6 +89,7 @@ pub fn send_input<K: Keeper, L: Ledger>(
     ensures clean { IsLeftBut app.now wrote.new.items cache.old cache.new }
     ensures wrote { IfOk result (λ r. SendsInputWriting (IsLost (K.marks keeper.old) (K.marks keeper.new)) app.now moment name.now body.now input (K.told keeper.old) sessions.old.items (said r) (K.told keeper.new) sessions.new.items wrote.new.items) }
     ensures only { Goes (IsLost (K.marks keeper.old) (K.marks keeper.new)) (λ t u. AreAll (InputMayWrite app.now input) wrote.new.items) (K.told keeper.old) (K.told keeper.new) }
+    ensures cut { OnErr result (Goes (IsLost (K.marks keeper.old) (K.marks keeper.new)) (λ t u. AreAll (IsInAll (InputPerforms app.now moment name.now input t sessions.old.items)) wrote.new.items) (K.told keeper.old) (K.told keeper.new)) }
     ensures loan { K.loan keeper.new ≡ K.loan keeper.old }
 {
     match place_of(sessions, name) {
@@ -177,6 +179,7 @@ fn act_input<K: Keeper, L: Ledger>(
     ensures clean { IsLeftBut app.now wrote.new.items cache.old cache.new }
     ensures wrote { IfOk result (λ r. SendsInputWriting (IsLost (K.marks keeper.old) (K.marks keeper.new)) app.now moment name.now body.now input (K.told keeper.old) sessions.old.items (said r) (K.told keeper.new) sessions.new.items wrote.new.items) }
     ensures only { Goes (IsLost (K.marks keeper.old) (K.marks keeper.new)) (λ t u. AreAll (InputMayWrite app.now input) wrote.new.items) (K.told keeper.old) (K.told keeper.new) }
+    ensures cut { OnErr result (Goes (IsLost (K.marks keeper.old) (K.marks keeper.new)) (λ t u. AreAll (IsInAll (InputPerforms app.now moment name.now input t sessions.old.items)) wrote.new.items) (K.told keeper.old) (K.told keeper.new)) }
     ensures loan { K.loan keeper.new ≡ K.loan keeper.old }
 {
     fitting_holds();
@@ -235,6 +238,7 @@ pub fn send_event<K: Keeper, L: Ledger>(
     ensures clean { IsLeftBut app.now wrote.new.items cache.old cache.new }
     ensures wrote { IfOk result (λ r. SendsEventWriting (IsLost (K.marks keeper.old) (K.marks keeper.new)) app.now moment name.now body.now event.now (K.told keeper.old) sessions.old.items (said r) (K.told keeper.new) sessions.new.items wrote.new.items) }
     ensures only { Goes (IsLost (K.marks keeper.old) (K.marks keeper.new)) (λ t u. AreAll (EventMayWrite app.now event.now) wrote.new.items) (K.told keeper.old) (K.told keeper.new) }
+    ensures cut { OnErr result (Goes (IsLost (K.marks keeper.old) (K.marks keeper.new)) (λ t u. AreAll (IsInAll (EventPerforms app.now moment name.now event.now t sessions.old.items)) wrote.new.items) (K.told keeper.old) (K.told keeper.new)) }
     ensures loan { K.loan keeper.new ≡ K.loan keeper.old }
 {
     match place_of(sessions, name) {
@@ -324,6 +328,7 @@ fn act_event<K: Keeper, L: Ledger>(
     ensures clean { IsLeftBut app.now wrote.new.items cache.old cache.new }
     ensures wrote { IfOk result (λ r. SendsEventWriting (IsLost (K.marks keeper.old) (K.marks keeper.new)) app.now moment name.now body.now event.now (K.told keeper.old) sessions.old.items (said r) (K.told keeper.new) sessions.new.items wrote.new.items) }
     ensures only { Goes (IsLost (K.marks keeper.old) (K.marks keeper.new)) (λ t u. AreAll (EventMayWrite app.now event.now) wrote.new.items) (K.told keeper.old) (K.told keeper.new) }
+    ensures cut { OnErr result (Goes (IsLost (K.marks keeper.old) (K.marks keeper.new)) (λ t u. AreAll (IsInAll (EventPerforms app.now moment name.now event.now t sessions.old.items)) wrote.new.items) (K.told keeper.old) (K.told keeper.new)) }
     ensures loan { K.loan keeper.new ≡ K.loan keeper.old }
 {
     fitting_holds();

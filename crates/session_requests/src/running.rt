@@ -1,5 +1,5 @@
 //! Formulas that act in a request, one after another.
-ghost use Rattle.std.specs.Prelude.{◌≡◌, IfOk, None, OnOk, Some, drop, length, option_map, take, true};
+ghost use Rattle.std.specs.Prelude.{◌≡◌, IfOk, None, OnErr, OnOk, Some, drop, length, option_map, take, true};
 ghost use Rattle.recalc.specs.app_semantics.Sound.{IsSound};
 ghost use Rattle.fx_base.specs.Silence.{Goes, IsLost};
 ghost use Rattle.fx_base.specs.Telling.{Stays};
@@ -10,6 +10,7 @@ ghost use Rattle.session_requests.specs.Caching.{AreLater, AreSessionsBut, AreSo
 ghost use Rattle.session_requests.specs.Running.{ActsWriting, IsShown, IsTriggered, Opens, OpensWriting, Runs, RunsWriting, ShowsWriting};
 ghost use Rattle.session_requests.specs.Scenes.{scene};
 ghost use Rattle.session_requests.specs.Triggers.{ItemFits, cell_at as cell_of};
+ghost use Rattle.session_requests.specs.Whole.{IsInAll, RequestWrites, ScreenWrites, TriggerWrites};
 ghost use Rattle.session_requests.specs.Writable.{AreAll, RequestMayWrite, ScreenMayWrite, TriggerMayWrite};
 ghost use Rattle.session_state.specs.Changes.{FitsNames};
 
@@ -66,6 +67,7 @@ fn act<K: Keeper, L: Ledger>(
         (λ t u. ActsWriting app.now moment (cell_of trigger app.now) (option_map view item) (scene t session.old) (view v) (scene u session.new) (drop (length wrote.old.items) wrote.new.items)) (K.told keeper.old) (K.told keeper.new)) }
     ensures prefix { take (length wrote.old.items) wrote.new.items ≡ wrote.old.items }
     ensures only { Goes (IsLost (K.marks keeper.old) (K.marks keeper.new)) (λ t u. AreAll (TriggerMayWrite app.now trigger) (drop (length wrote.old.items) wrote.new.items)) (K.told keeper.old) (K.told keeper.new) }
+    ensures cut { OnErr result (Goes (IsLost (K.marks keeper.old) (K.marks keeper.new)) (λ t u. AreAll (IsInAll (TriggerWrites app.now moment trigger (option_map view item) (scene t session.old))) (drop (length wrote.old.items) wrote.new.items)) (K.told keeper.old) (K.told keeper.new)) }
     ensures loan { K.loan keeper.new ≡ K.loan keeper.old }
 {
     // The law is called for what it says of formulas that act.
@@ -119,6 +121,7 @@ fn show<K: Keeper, L: Ledger>(
         (λ t u. ShowsWriting app.now moment (scene t session.old) (scene u session.new) (drop (length wrote.old.items) wrote.new.items)) (K.told keeper.old) (K.told keeper.new)) }
     ensures prefix { take (length wrote.old.items) wrote.new.items ≡ wrote.old.items }
     ensures only { Goes (IsLost (K.marks keeper.old) (K.marks keeper.new)) (λ t u. AreAll (ScreenMayWrite app.now) (drop (length wrote.old.items) wrote.new.items)) (K.told keeper.old) (K.told keeper.new) }
+    ensures cut { OnErr result (Goes (IsLost (K.marks keeper.old) (K.marks keeper.new)) (λ t u. AreAll (IsInAll (ScreenWrites app.now moment (scene t session.old))) (drop (length wrote.old.items) wrote.new.items)) (K.told keeper.old) (K.told keeper.new)) }
     ensures loan { K.loan keeper.new ≡ K.loan keeper.old }
 {
     session.take_navigated();
@@ -172,6 +175,7 @@ pub(crate) fn run<K: Keeper, L: Ledger>(
         (λ t u. RunsWriting app.now moment trigger (option_map view item) (scene t session.old) (view v) (scene u session.new) (drop (length wrote.old.items) wrote.new.items)) (K.told keeper.old) (K.told keeper.new)) }
     ensures prefix { take (length wrote.old.items) wrote.new.items ≡ wrote.old.items }
     ensures only { Goes (IsLost (K.marks keeper.old) (K.marks keeper.new)) (λ t u. AreAll (RequestMayWrite app.now trigger) (drop (length wrote.old.items) wrote.new.items)) (K.told keeper.old) (K.told keeper.new) }
+    ensures cut { OnErr result (Goes (IsLost (K.marks keeper.old) (K.marks keeper.new)) (λ t u. AreAll (IsInAll (RequestWrites app.now moment trigger (option_map view item) (scene t session.old))) (drop (length wrote.old.items) wrote.new.items)) (K.told keeper.old) (K.told keeper.new)) }
     ensures loan { K.loan keeper.new ≡ K.loan keeper.old }
 {
     let value = act(

@@ -12,8 +12,9 @@ ghost use Rattle.recalc.specs.app_cells.declared.app.App.{App as AnApp};
 ghost use Rattle.recalc.specs.Kept.{IsInOrder};
 ghost use Rattle.session_requests.specs.Caching.{AreLater, AreSessionsBut, AreSources, AreTouched, IsCached, IsPending, LeavesBut};
 ghost use Rattle.session_requests.specs.Requests.{Accepts, AcceptsWriting, accepted_reply};
-ghost use Rattle.session_requests.specs.Scenes.{quiet};
+ghost use Rattle.session_requests.specs.Scenes.{begun, quiet, scene};
 ghost use Rattle.session_requests.specs.Triggers.{ItemFits};
+ghost use Rattle.session_requests.specs.Whole.{IsInAll, RequestWrites};
 ghost use Rattle.session_requests.specs.Writable.{AreAll, RequestMayWrite};
 ghost use Rattle.session_state.specs.Changes.{FitsNames};
 
@@ -81,6 +82,7 @@ fn prepare<K: Keeper, L: Ledger>(
     ensures wrote { IfOk result (λ r. AcceptsWriting (IsLost (K.marks keeper.old) (K.marks keeper.new)) app.now moment trigger (option_map view item) session (K.told keeper.old) (K.told keeper.new) (drop (length wrote.old.items) wrote.new.items)) }
     ensures prefix { take (length wrote.old.items) wrote.new.items ≡ wrote.old.items }
     ensures only { Goes (IsLost (K.marks keeper.old) (K.marks keeper.new)) (λ t u. AreAll (RequestMayWrite app.now trigger) (drop (length wrote.old.items) wrote.new.items)) (K.told keeper.old) (K.told keeper.new) }
+    ensures cut { OnErr result (Goes (IsLost (K.marks keeper.old) (K.marks keeper.new)) (λ t u. AreAll (IsInAll (RequestWrites app.now moment trigger (option_map view item) (scene t (begun session)))) (drop (length wrote.old.items) wrote.new.items)) (K.told keeper.old) (K.told keeper.new)) }
     ensures loan { K.loan keeper.new ≡ K.loan keeper.old }
 {
     session.take_notices();
@@ -160,6 +162,7 @@ fn transact<K: Keeper, L: Ledger>(
     ensures wrote { IfOk result (λ r. AcceptsWriting (IsLost (K.marks keeper.old) (K.marks keeper.new)) app.now moment trigger (option_map view item) session (K.told keeper.old) (K.told keeper.new) (drop (length wrote.old.items) wrote.new.items)) }
     ensures prefix { take (length wrote.old.items) wrote.new.items ≡ wrote.old.items }
     ensures only { Goes (IsLost (K.marks keeper.old) (K.marks keeper.new)) (λ t u. AreAll (RequestMayWrite app.now trigger) (drop (length wrote.old.items) wrote.new.items)) (K.told keeper.old) (K.told keeper.new) }
+    ensures cut { OnErr result (Goes (IsLost (K.marks keeper.old) (K.marks keeper.new)) (λ t u. AreAll (IsInAll (RequestWrites app.now moment trigger (option_map view item) (scene t (begun session)))) (drop (length wrote.old.items) wrote.new.items)) (K.told keeper.old) (K.told keeper.new)) }
     ensures loan { K.loan keeper.new ≡ K.loan keeper.old }
 {
     match keeper.begin() {
@@ -232,6 +235,7 @@ pub fn accept_request<K: Keeper, L: Ledger>(
     ensures wrote { IfOk result (λ r. AcceptsWriting (IsLost (K.marks keeper.old) (K.marks keeper.new)) app.now moment trigger (option_map view item) session (K.told keeper.old) (K.told keeper.new) (drop (length wrote.old.items) wrote.new.items)) }
     ensures prefix { take (length wrote.old.items) wrote.new.items ≡ wrote.old.items }
     ensures only { Goes (IsLost (K.marks keeper.old) (K.marks keeper.new)) (λ t u. AreAll (RequestMayWrite app.now trigger) (drop (length wrote.old.items) wrote.new.items)) (K.told keeper.old) (K.told keeper.new) }
+    ensures cut { OnErr result (Goes (IsLost (K.marks keeper.old) (K.marks keeper.new)) (λ t u. AreAll (IsInAll (RequestWrites app.now moment trigger (option_map view item) (scene t (begun session)))) (drop (length wrote.old.items) wrote.new.items)) (K.told keeper.old) (K.told keeper.new)) }
     ensures loan { K.loan keeper.new ≡ K.loan keeper.old }
 {
     match transact(
