@@ -22,7 +22,8 @@ use Rattle.fx_trees.specs.declared.deeds.Deed.TheVariants as deed
 use Rattle.fx_trees.specs.declared.deeds.Target.{Target}
 use Rattle.fx_trees.specs.Term.{Term, Terms, of, nil, cons, all, Top}
 use Rattle.fx_typing.specs.Acts.{acts}
-use Rattle.fx_deeds.proofs.Passing.{goes_weaker, same_state}
+use Rattle.fx_base.proofs.Silences.{goes_weaker}
+use Rattle.fx_deeds.proofs.Passing.{same_state}
 use Rattle.fx_deeds.specs.CutOff.{CutDeed, CutUpdate}
 use Rattle.fx_deeds.specs.State.{Giving, Ground, State, ground}
 use Rattle.fx_behave.proofs.CutOff.{whole_parts}

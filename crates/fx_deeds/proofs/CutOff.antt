@@ -22,10 +22,10 @@ use Rattle.row_keeper.specs.declared.rows.Put.{Put}
 use Rattle.row_keeper.specs.declared.rows.Put.TheVariants.{Id, NoRow, Refused}
 use Rattle.session_state.specs.declared.change.Change.{Change}
 use Rattle.session_state.specs.declared.change.Change.TheVariants as change
-use Rattle.fx_base.proofs.Silences.{goes_two}
+use Rattle.fx_base.proofs.Silences.{goes_two, goes_weaker}
 use Rattle.fx_base.specs.Silence.{Goes, IsLater, IsLost, Marks}
 use Rattle.fx_base.specs.Telling.{Stays}
-use Rattle.fx_deeds.proofs.Passing.{goes_weaker, same_state, within_nowhere, within_on}
+use Rattle.fx_deeds.proofs.Passing.{same_state, within_nowhere, within_on}
 use Rattle.fx_deeds.proofs.Single.{Outcome, Same, deed_once, first_one, first_or_lacks, given_one, put_over_one, sees_context, sees_gather, taken_out_one, update_one, with_collection, with_variable}
 use Rattle.fx_deeds.proofs.Writes as writes
 use Rattle.fx_deeds.specs.Changed.{IsChanged, IsRowChanged, IsRowRemoved}
