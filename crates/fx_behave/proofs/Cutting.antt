@@ -2,7 +2,7 @@
 use Rattle.std.proofs.Common.{◌≡◌, ℕ, List, [], ◌∷◌, Bool, true, false, Option, Some, None, Result, Ok, Err, refl, ap, sym, subst, ◌∙◌, inl, inr}
 use Rattle.std.specs.Prelude.{OnErr}
 use Rattle.std.proofs.lemmas.Result.{on_err_weaker}
-use Rattle.fx_base.proofs.Silences.{goes_two, later_then}
+use Rattle.fx_base.proofs.Silences.{goes_two, goes_weaker, later_then}
 use Rattle.fx_base.specs.Silence.{Goes, IsLater, IsLost, Marks}
 use Rattle.fx_base.specs.Telling.{Stays}
 use Rattle.fx_data.specs.declared.faults.Kind.{Kind}
@@ -22,7 +22,6 @@ use Rattle.fx_trees.specs.declared.deeds.Deed.TheVariants as deed
 use Rattle.fx_trees.specs.declared.deeds.Target.{Target}
 use Rattle.fx_trees.specs.Term.{Term, Terms, of, nil, cons, all, Top}
 use Rattle.fx_typing.specs.Acts.{acts}
-use Rattle.fx_base.proofs.Silences.{goes_weaker}
 use Rattle.fx_deeds.proofs.Passing.{same_state}
 use Rattle.fx_deeds.specs.CutOff.{CutDeed, CutUpdate}
 use Rattle.fx_deeds.specs.State.{Giving, Ground, State, ground}
