@@ -25,11 +25,11 @@ use Rattle.session_state.specs.declared.change.Change.TheVariants as change
 use Rattle.fx_base.proofs.Silences.{goes_two, goes_weaker}
 use Rattle.fx_base.specs.Silence.{Goes, IsLater, IsLost, Marks}
 use Rattle.fx_base.specs.Telling.{Stays}
-use Rattle.fx_deeds.proofs.Passing.{same_state, within_nowhere, within_on}
-use Rattle.fx_deeds.proofs.Single.{Outcome, Same, deed_once, first_one, first_or_lacks, given_one, put_over_one, sees_context, sees_gather, taken_out_one, update_one, with_collection, with_variable}
+use Rattle.fx_deeds.proofs.Passing.{same_state, within_nowhere}
+use Rattle.fx_deeds.proofs.Single.{Same, deed_once, first_one, first_or_lacks, given_one, put_over_one, sees_context, sees_gather, taken_out_one, update_one, with_collection, with_variable}
 use Rattle.fx_deeds.proofs.Writes as writes
 use Rattle.fx_deeds.specs.Changed.{IsChanged, IsRowChanged, IsRowRemoved}
-use Rattle.fx_deeds.specs.Collections.{AreTaken, IsFirst, Lacks, rows_held}
+use Rattle.fx_deeds.specs.Collections.{AreTaken, IsFirst, rows_held}
 use Rattle.fx_deeds.specs.CutOff.{CutDeed, CutUpdate, IsBegun, IsUpdateBegun, UpTo}
 use Rattle.fx_deeds.specs.Deeds.{Answers, AreRemoved, AreSet, AreUpdated, ByDone, ByFound, ByPut, IsGiven, Makes, OfTable, OrError, OrErrorAmong, Removes, Updates, id_of, named_id, row_at}
 use Rattle.fx_deeds.specs.Done.{IsDeed, IsUpdate, errors_in}
@@ -151,7 +151,7 @@ takes_on cs k (suc n) (z ∷ ys) s x y u v (inl p) (inr q) = absurd (first_or_la
 takes_on cs k (suc n) (z ∷ ys) s x y u v (inr p) (inl q) = absurd (first_or_lacks (row_named cs z) (rows_held k s) q.0 q.1 q.4 p.0)
 
 -- the first rows of a list, as values
-take_records : (n : ℕ) (rs : List Row) → map record_of (take n rs) ≡ take n (map record_of rs)
+pub take_records : (n : ℕ) (rs : List Row) → map record_of (take n rs) ≡ take n (map record_of rs)
 take_records zero rs = refl
 take_records (suc n) [] = refl
 take_records (suc n) (r ∷ rs) = ap (λ zs. record_of r ∷ zs) (take_records n rs)

@@ -38,7 +38,7 @@ held_then (Ok v) k l m x y z n rows made taken R a b f h j =
     (λ s c t p q. f s (view v) t p.1 (subst (λ w. Makes (change.Gather n (Tab made)) taken w (view v) t) p.0 q)) k l m a b x y z h j
 held_then (Err e) k l m x y z n rows made taken R a b f h j = tt
 
-no_fault : {A : Type 0} (d : Data) (P : Type 0) (s : State A) (x : Data) (t : State A) → is_fault d ≡ false → P → OrError d P s x t
+pub no_fault : {A : Type 0} (d : Data) (P : Type 0) (s : State A) (x : Data) (t : State A) → is_fault d ≡ false → P → OrError d P s x t
 no_fault blank P s x t e h = h
 no_fault (number z) P s x t e h = h
 no_fault (text cs) P s x t e h = h
@@ -49,38 +49,49 @@ no_fault (tab rs) P s x t e h = h
 no_fault (fault k cs) P s x t e h = absurd cc
 
 -- `RemoveIf`
+pub takes_if : {A : Type 0} (n : ℕ) (rows left kept : List Row) (d : Data) → is_fault d ≡ false → kept ≡ rows_in d → AreLeft rows kept left → (s : State A) (x : Data) (t : State A) → rows ≡ rows_held n s →
+    Makes (change.Gather n (Tab left)) (boolean true) s x t → OrError d (AreTakenIf n (rows_in d) s x t) s x t
+takes_if n rows left kept d e f h s x t p q = no_fault d _ s x t e (left, subst (λ w. AreLeft w (rows_in d) left) p (subst (λ w. AreLeft rows w left) f h), (Tab left, refl, q))
+
 pub taken_if : {A E : Type 0} (r : Result Value E) (k l m : Marks) (x y z : Option (State A)) (n : ℕ) (rows left kept : List Row) (d : Data) → IsLater k l → IsLater l m → is_fault d ≡ false → kept ≡ rows_in d → AreLeft rows kept left →
     Goes (IsLost k l) (HeldRows n rows) x y → IfOk r (λ v. Goes (IsLost l m) (λ s t. Makes (change.Gather n (Tab left)) (boolean true) s (view v) t) y z) →
     IfOk r (λ v. Goes (IsLost k m) (λ s t. OrError d (AreTakenIf n (rows_in d) s (view v) t) s (view v) t) x z)
 taken_if r k l m x y z n rows left kept d a b e f h =
-    held_then r k l m x y z n rows left (boolean true) (λ s v t. OrError d (AreTakenIf n (rows_in d) s v t) s v t) a b
-    (λ s v t p q. no_fault d _ s v t e (left, subst (λ w. AreLeft w (rows_in d) left) p (subst (λ w. AreLeft rows w left) f h), (Tab left, refl, q)))
+    held_then r k l m x y z n rows left (boolean true) (λ s v t. OrError d (AreTakenIf n (rows_in d) s v t) s v t) a b (takes_if n rows left kept d e f h)
 
 -- `UpdateIf`
+pub updates_in : {A : Type 0} (n : ℕ) (types : SourceTypes) (cs : ColumnList) (rows made kept again : List Row) (ds : List Data) → IsOfColumns types n cs → again ≡ kept → AreWith cs rows again ds made → (s : State A) (x : Data) (t : State A) →
+    rows ≡ rows_held n s → Makes (change.Gather n (Tab made)) (boolean true) s x t → AreUpdatedIn (columns_in (types (source.Gathered n))) n kept ds s x t
+updates_in n types cs rows made kept again ds c e h s x t p q = (
+  made,
+  subst (λ w. AreWith (columns_in (types (source.Gathered n))) w kept ds made) p
+      (subst (λ w. AreWith w rows kept ds made) (sym (ap columns_in c)) (subst (λ w. AreWith cs rows w ds made) e h)),
+  (Tab made, refl, q),
+)
+
 pub updated_in : {A E : Type 0} (r : Result Value E) (k l m : Marks) (x y z : Option (State A)) (n : ℕ) (types : SourceTypes) (cs : ColumnList) (rows made kept again : List Row) (ds : List Data) → IsLater k l → IsLater l m → IsOfColumns types n cs →
     again ≡ kept → AreWith cs rows again ds made → Goes (IsLost k l) (HeldRows n rows) x y → IfOk r (λ v. Goes (IsLost l m) (λ s t. Makes (change.Gather n (Tab made)) (boolean true) s (view v) t) y z) →
     IfOk r (λ v. Goes (IsLost k m) (λ s t. AreUpdatedIn (columns_in (types (source.Gathered n))) n kept ds s (view v) t) x z)
 updated_in r k l m x y z n types cs rows made kept again ds a b c e h =
-    held_then r k l m x y z n rows made (boolean true) (λ s v t. AreUpdatedIn (columns_in (types (source.Gathered n))) n kept ds s v t) a b
-    (λ s v t p q. (
-      made,
-      subst (λ w. AreWith (columns_in (types (source.Gathered n))) w kept ds made) p
-          (subst (λ w. AreWith w rows kept ds made) (sym (ap columns_in c)) (subst (λ w. AreWith cs rows w ds made) e h)),
-      (Tab made, refl, q),
-    ))
+    held_then r k l m x y z n rows made (boolean true) (λ s v t. AreUpdatedIn (columns_in (types (source.Gathered n))) n kept ds s v t) a b (updates_in n types cs rows made kept again ds c e h)
 
 -- `Patch`
+pub patches_in : {A : Type 0} (n : ℕ) (types : SourceTypes) (cs : ColumnList) (b : Data) (ys : List Data) (start rows : List Row) (row changed : Row) → IsOfColumns types n cs → start ≡ [] → rows ≡ start ++ rows_among ys →
+    find is_fault (values_among rows) ≡ None → row ≡ row_named cs b → changed ≡ changed_row cs rows row → (s : State A) (x : Data) (t : State A) → PatchesRow n row changed s x t → IsPatchedIn (columns_in (types (source.Gathered n))) n b ys s x t
+patches_in n types cs b ys start rows row changed c begin q none f g s x t k =
+    let all : rows ≡ rows_among ys = q ∙ ap (λ w. w ++ rows_among ys) begin in
+    subst (λ w. IsPatchedIn w n b ys s x t) (sym (ap columns_in c))
+    (by_none (values_among (rows_among ys)) _ s x t (subst (λ w. find is_fault (values_among w) ≡ None) all none)
+    (subst (λ w. PatchesRow n (row_named cs b) (changed_row cs w (row_named cs b)) s x t) all
+    (subst (λ w. PatchesRow n w (changed_row cs rows w) s x t) f (subst (λ w. PatchesRow n row w s x t) g k))))
+
 pub patched_in : {A E : Type 0} (r : Result Value E) (lost : Type 0) (y z : Option (State A)) (n : ℕ) (types : SourceTypes) (cs : ColumnList) (b : Data) (ys : List Data) (start rows : List Row) (row changed : Row) → IsOfColumns types n cs → start ≡ [] →
     rows ≡ start ++ rows_among ys → find is_fault (values_among rows) ≡ None → row ≡ row_named cs b → changed ≡ changed_row cs rows row → IfOk r (λ v. Goes lost (λ s t. PatchesRow n row changed s (view v) t) y z) →
     IfOk r (λ v. Goes lost (λ s t. IsPatchedIn (columns_in (types (source.Gathered n))) n b ys s (view v) t) y z)
 patched_in (Err e) lost y z n types cs b ys start rows row changed c e1 q none f g h = tt
 patched_in (Ok v) lost y z n types cs b ys start rows row changed c begin q none f g h =
-    let all : rows ≡ rows_among ys = q ∙ ap (λ w. w ++ rows_among ys) begin in
     goes_weaker lost (λ s t. PatchesRow n row changed s (view v) t) (λ s t. IsPatchedIn (columns_in (types (source.Gathered n))) n b ys s (view v) t)
-    (λ s t k. subst (λ w. IsPatchedIn w n b ys s (view v) t) (sym (ap columns_in c))
-    (by_none (values_among (rows_among ys)) _ s (view v) t (subst (λ w. find is_fault (values_among w) ≡ None) all none)
-    (subst (λ w. PatchesRow n (row_named cs b) (changed_row cs w (row_named cs b)) s (view v) t) all
-    (subst (λ w. PatchesRow n w (changed_row cs rows w) s (view v) t) f (subst (λ w. PatchesRow n row w s (view v) t) g k))))) y z h
+    (λ s t k. patches_in n types cs b ys start rows row changed c begin q none f g s (view v) t k) y z h
 
 -- ---- what can be changed
 

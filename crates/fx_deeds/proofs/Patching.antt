@@ -58,7 +58,7 @@ by_number p k changes (fault e cs) s x t n h = h
 abbrev pub updating : {A : Type 0} → TableShape → ℕ → List Row → List Value → Whole A
 updating p k rs vs = AreUpdated p k rs (map view vs)
 
-goes_on : {A : Type 0} (p : TableShape) (k : ℕ) (changes : List Row) (id n : ℕ) (cells : List Data) (s m : State A) (P : State A → Type 0) (x : Data) (t : State A) → IsRowPatched p k changes id cells (Id n) s m → P m → Updates p k changes id s P x t
+pub goes_on : {A : Type 0} (p : TableShape) (k : ℕ) (changes : List Row) (id n : ℕ) (cells : List Data) (s m : State A) (P : State A → Type 0) (x : Data) (t : State A) → IsRowPatched p k changes id cells (Id n) s m → P m → Updates p k changes id s P x t
 goes_on {A} p k changes id n cells s m P x t h q = by (row_at k id s) h
   where
     by : (o : Option KeptRow) → MatchOption o ((Id n ≡ NoRow) × (m ≡ s)) (λ (r : KeptRow). (cells ≡ changed_cells p.columns changes r.cells) × IsRowChanged p.columns k id cells (Id n) s m) →
@@ -74,7 +74,7 @@ stopped p (Refused r) P x t h = (h, refl)
 none_there : (p : TableShape) (put : Put) (x : Data) → put ≡ NoRow → IsStopped p put x → x ≡ not_found
 none_there p put x e h = subst (λ z. IsStopped p z x) e h
 
-stops_there : {A : Type 0} (p : TableShape) (k : ℕ) (changes : List Row) (id : ℕ) (cells : List Data) (put : Put) (s : State A) (P : State A → Type 0) (x : Data) (t : State A) → IsRowPatched p k changes id cells put s t → IsStopped p put x →
+pub stops_there : {A : Type 0} (p : TableShape) (k : ℕ) (changes : List Row) (id : ℕ) (cells : List Data) (put : Put) (s : State A) (P : State A → Type 0) (x : Data) (t : State A) → IsRowPatched p k changes id cells put s t → IsStopped p put x →
     Updates p k changes id s P x t
 stops_there {A} p k changes id cells put s P x t h q = by (row_at k id s) h
   where

@@ -1,5 +1,4 @@
-use Rattle.std.proofs.Common.{◌≡◌}
-use Rattle.fx_base.specs.Silence.{Goes, IsLost}
+use Rattle.fx_base.specs.Silence.{IsLost}
 use Rattle.fx_data.specs.ValueView.{view}
 use Rattle.fx_deeds.proofs.CutOff.{cut_made, cut_staying, on_any}
 use Rattle.fx_deeds.specs.Deeds.{Makes}

@@ -1,7 +1,9 @@
-use Rattle.std.proofs.Common.{[], ◌∷◌}
+use Rattle.std.proofs.Common.{[], ◌∙◌, ◌∷◌, ap, map}
 use Rattle.fx_trees.specs.declared.sources.Source.TheVariants as source
 use Rattle.fx_deeds.specs.Writable.{IsOneOf}
 use Rattle.fx_base.specs.Silence.{IsLost}
+use Rattle.fx_data.specs.ValueView.{view}
+use Rattle.fx_deeds.proofs.CutUpdates.{cut_removed_if}
 use Rattle.fx_deeds.proofs.Allowing.{only_nowhere}
 use Rattle.fx_deeds.proofs.filtering.remove_filtered.Goals as goal
 
@@ -12,3 +14,8 @@ returns-in_err-records-in-Ok-clause-only g c =
 pub returns-in-Err-clause-only : goal.returns-in-Err-clause-only
 returns-in-Err-clause-only g c =
     only_nowhere (IsOneOf (source.Table c.args.table ∷ [])) (IsLost (g.W.Env.marks c.args.world.now) (g.W.Env.marks c.args.world.now)) (g.W.World.state c.args.world.now)
+
+pub returns-in_ok-records-in-Ok-clause-cut : goal.returns-in_ok-records-in-Ok-clause-cut
+returns-in_ok-records-in-Ok-clause-cut g c =
+    cut_removed_if c.remove_rows.result (IsLost (g.W.Env.marks c.args.world.now) (g.W.Env.marks c.remove_rows.new.world)) (g.W.World.state c.args.world.now) (g.W.World.state c.remove_rows.new.world) c.args.table (view c.args.filtered) c.as_slice.result.now c.as_slice-in-Ok.result.now c.in-Ok.ensures.1 (c.as_slice.ensures ∙ c.in-Ok.ensures.0)
+    (ap (map view) c.as_slice-in-Ok.ensures.value ∙ c.in_ok-records-in-Ok.ensures) c.remove_rows.ensures.cut

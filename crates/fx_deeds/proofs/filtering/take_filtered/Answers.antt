@@ -1,15 +1,18 @@
 use Rattle.std.proofs.Common.{◌≡◌, ◌∙◌, ◌∷◌, [], true, map, refl, ap, subst, sym}
 use Rattle.fx_base.specs.Silence.{IsLost}
 use Rattle.fx_data.specs.Types.{booleans, tables}
+use Rattle.fx_data.specs.Values.{boolean}
 use Rattle.fx_data.specs.ValueView.{view}
-use Rattle.fx_semantics.specs.Rows.{table_of}
+use Rattle.fx_semantics.specs.Rows.{rows_in, table_of}
 use Rattle.fx_value.specs.Fits.{fits_in}
 use Rattle.fx_trees.specs.declared.sources.Source.TheVariants as source
 use Rattle.fx_deeds.proofs.Adding.{gathers_rows}
-use Rattle.fx_deeds.proofs.Holding.{taken_if}
+use Rattle.fx_deeds.proofs.CutUpdates.{held_cut}
+use Rattle.fx_deeds.proofs.Holding.{taken_if, takes_if}
 use Rattle.fx_deeds.proofs.Lefting.{left_fits, made_records, rows_back}
 use Rattle.fx_deeds.proofs.Allowing.{only_behind, only_nowhere, only_staying}
-use Rattle.fx_deeds.specs.Collections.{AreLeft}
+use Rattle.fx_deeds.specs.Collections.{AreLeft, AreTakenIf}
+use Rattle.fx_deeds.specs.Deeds.{OrError}
 use Rattle.fx_deeds.specs.Lefts.{rows_by}
 use Rattle.fx_deeds.specs.Writable.{IsOneOf}
 use Rattle.fx_deeds.proofs.filtering.take_filtered.Goals as goal
@@ -53,3 +56,12 @@ returns-in_err-left-in-Ok-clause-only g c =
 pub returns-in_ok-left-in-Ok-clause-only : goal.returns-in_ok-left-in-Ok-clause-only
 returns-in_ok-left-in-Ok-clause-only g c =
     only_behind (IsOneOf (source.Gathered c.args.collection ∷ [])) _ _ _ c.rows_held.ensures.passed c.make.ensures.passed c.rows_held.ensures.stays c.make.ensures.only
+
+pub returns-in_ok-left-in-Ok-clause-cut : goal.returns-in_ok-left-in-Ok-clause-cut
+returns-in_ok-left-in-Ok-clause-cut g c =
+    let vs = c.as_slice-in-Ok-2.result.now in
+    let d = view c.args.filtered in
+    let kept = rows_back vs c.as_slice.result.now (ap (map view) c.as_slice-in-Ok-2.ensures.value ∙ c.in_ok-kept-in-Ok.ensures) ∙ c.as_slice.ensures ∙ c.in-Ok.ensures.0 in
+    held_cut c.make.result _ _ _ _ _ _ c.args.collection c.in_ok-rows-in-Ok.rows c.in_ok-left-in-Ok.left (boolean true) (λ s x t. OrError d (AreTakenIf c.args.collection (rows_in d) s x t) s x t) c.rows_held.ensures.passed.later c.make.ensures.passed.later
+    (takes_if c.args.collection c.in_ok-rows-in-Ok.rows c.in_ok-left-in-Ok.left (rows_by vs) d c.in-Ok.ensures.1 kept
+    (subst (λ z. AreLeft z (rows_by vs) c.in_ok-left-in-Ok.left) c.as_slice-in-Ok.ensures c.in_ok-left-in-Ok.ensures)) c.in_ok-rows-in-Ok.ensures.held c.make.ensures.cut

@@ -1,15 +1,18 @@
-use Rattle.std.proofs.Common.{◌≡◌, ◌∙◌, ◌∷◌, [], refl, map, ap, subst, sym}
+use Rattle.std.proofs.Common.{◌≡◌, ◌∙◌, ◌∷◌, [], true, refl, map, ap, subst, sym}
 use Rattle.fx_base.specs.Silence.{IsLost}
 use Rattle.fx_data.specs.Types.{booleans, column_list}
+use Rattle.fx_data.specs.Values.{boolean}
 use Rattle.fx_data.specs.ValueView.{view}
 use Rattle.fx_semantics.specs.Around.{record_of}
 use Rattle.fx_trees.specs.declared.sources.Source.TheVariants as source
-use Rattle.fx_deeds.proofs.Holding.{same_columns, updated_in}
+use Rattle.fx_deeds.proofs.CutUpdates.{held_cut}
+use Rattle.fx_deeds.proofs.Holding.{same_columns, updated_in, updates_in}
 use Rattle.fx_deeds.proofs.Lefting.{made_records, rows_back}
 use Rattle.fx_deeds.proofs.Allowing.{only_behind, only_nowhere, only_staying}
-use Rattle.fx_deeds.specs.Collections.{AreWith}
+use Rattle.fx_deeds.specs.Collections.{AreUpdatedIn, AreWith}
 use Rattle.fx_deeds.specs.Fitting.{CanChangeAll}
 use Rattle.fx_deeds.specs.Lefts.{rows_by}
+use Rattle.fx_deeds.specs.RowValues.{columns_in}
 use Rattle.fx_deeds.specs.Writable.{IsOneOf}
 use Rattle.fx_deeds.proofs.updates.update_equal.Goals as goal
 
@@ -53,3 +56,13 @@ returns-in_err-made-clause-only g c =
 pub returns-clause-only : goal.returns-clause-only
 returns-clause-only g c =
     only_behind (IsOneOf (source.Gathered c.args.collection ∷ [])) _ _ _ c.rows_held.ensures.passed c.make.ensures.passed c.rows_held.ensures.stays c.make.ensures.only
+
+pub returns-clause-cut : goal.returns-clause-cut
+returns-clause-cut g c =
+    let cs = column_list c.in_ok-columns.columns in
+    let types = (g.W.Env.fixed c.args.world.now).types in
+    let e : map view c.as_slice-2.result.now ≡ map record_of c.args.kept.now = ap (map view) c.as_slice-2.ensures.value ∙ c.in_ok-kept.ensures in
+    held_cut c.make.result _ _ _ _ _ _ c.args.collection c.in_ok-rows.rows c.in_ok-made.made (boolean true) (AreUpdatedIn (columns_in (types (source.Gathered c.args.collection))) c.args.collection c.args.kept.now (map view c.args.changes.now))
+    c.rows_held.ensures.passed.later c.make.ensures.passed.later
+    (updates_in c.args.collection types cs c.in_ok-rows.rows c.in_ok-made.made c.args.kept.now (rows_by c.as_slice-2.result.now) (map view c.args.changes.now) c.in_ok-columns.ensures (rows_back c.as_slice-2.result.now c.args.kept.now e)
+    (subst (λ z. AreWith cs z (rows_by c.as_slice-2.result.now) (map view c.args.changes.now) c.in_ok-made.made) c.as_slice.ensures c.in_ok-made.ensures.with)) c.in_ok-rows.ensures.held c.make.ensures.cut
