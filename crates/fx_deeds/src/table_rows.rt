@@ -1,5 +1,5 @@
 //! Rows of tables that are made or changed.
-ghost use Rattle.std.specs.Prelude.{◌≡◌, ◌∷◌, [], false, true, IfOk, IfSome, IsErrOf, IsSome, map, option_map, slice_get};
+ghost use Rattle.std.specs.Prelude.{◌≡◌, ◌∷◌, [], false, true, IfOk, IfSome, IsErrOf, IsSome, OnErr, map, option_map, slice_get, take};
 ghost use Rattle.std.specs.List.{find};
 ghost use Rattle.fx_base.specs.Faults.{Rose};
 ghost use Rattle.fx_base.specs.Silence.{Goes, IsLost};
@@ -18,6 +18,7 @@ ghost use Rattle.fx_trees.specs.declared.sources.Source.TheVariants as source;
 ghost use Rattle.row_queries.specs.TableRows.{AreCellsOf};
 ghost use Rattle.row_keeper.specs.Numbered.{one_row as one_row_query};
 ghost use Rattle.row_keeper.specs.Rules.{only_key};
+ghost use Rattle.fx_deeds.specs.CutOff.{UpTo};
 ghost use Rattle.fx_deeds.specs.Deeds.{AreUpdated, IsPatched, MakesRow, OfTable, PatchesBase, PatchesById, PatchesRow, id_of};
 ghost use Rattle.fx_deeds.specs.Finding.{CanChangeEach, CanChangeRows, CanPatchRows, FindsCells, IsPutEnd, IsPutOf, IsRowAt, IsRowPatched, IsShape, IsUpdatedRow, first_cells as first_cells_of};
 ghost use Rattle.fx_deeds.specs.Found.{IsNamed};
@@ -182,6 +183,7 @@ fn put_changed<W: World>(
     ensures only { Goes (IsLost (W.marks world.old) (W.marks world.new)) (WritesOnly (IsOneOf (source.Table table ∷ []))) (W.state world.old) (W.state world.new) }
     ensures keeper { IsErrOf result Stop.Keeper → Rose (W.marks world.old).faults (W.marks world.new).faults }
     ensures done { IfOk result (λ r. Goes (IsLost (W.marks world.old) (W.marks world.new)) (IsRowPatched shape.now table changes.now id r.cells r.put) (W.state world.old) (W.state world.new)) }
+    ensures stops { OnErr result (Goes (IsLost (W.marks world.old) (W.marks world.new)) Stays (W.state world.old) (W.state world.new)) }
     ensures fit { IfOk result (λ r. IsPutOf shape.now r.cells r.put) }
 {
     let Some(found) = find_cells(alloc, world, table, shape, id)? else {
@@ -363,6 +365,7 @@ fn update_row<W: World>(
     ensures only { Goes (IsLost (W.marks world.old) (W.marks world.new)) (WritesOnly (IsOneOf (source.Table table ∷ []))) (W.state world.old) (W.state world.new) }
     ensures keeper { IsErrOf result Stop.Keeper → Rose (W.marks world.old).faults (W.marks world.new).faults }
     ensures done { IfOk result (λ o. Goes (IsLost (W.marks world.old) (W.marks world.new)) (IsUpdatedRow shape.now table row.now (view change.now) o) (W.state world.old) (W.state world.new)) }
+    ensures cut { OnErr result (Goes (IsLost (W.marks world.old) (W.marks world.new)) (UpTo (λ s n x t. AreUpdated shape.now table (row.now ∷ []) (view change.now ∷ []) s x t)) (W.state world.old) (W.state world.new)) }
     ensures fits { IfOk result (λ o. IfSome o (λ x. fits_in (view x) booleans ≡ true)) }
 {
     let named = row_id(alloc, row)?;
@@ -416,6 +419,7 @@ pub(crate) fn update_table<W: World>(
     ensures only { Goes (IsLost (W.marks world.old) (W.marks world.new)) (WritesOnly (IsOneOf (source.Table table ∷ []))) (W.state world.old) (W.state world.new) }
     ensures keeper { IsErrOf result Stop.Keeper → Rose (W.marks world.old).faults (W.marks world.new).faults }
     ensures done { IfOk result (λ x. Goes (IsLost (W.marks world.old) (W.marks world.new)) (λ s t. OfTable (W.fixed world.old).schema table (λ p. AreUpdated p table rows.now (map view changes.now) s (view x) t)) (W.state world.old) (W.state world.new)) }
+    ensures cut { OnErr result (Goes (IsLost (W.marks world.old) (W.marks world.new)) (UpTo (λ s n x t. OfTable (W.fixed world.old).schema table (λ p. AreUpdated p table (take n rows.now) (map view changes.now) s x t))) (W.state world.old) (W.state world.new)) }
     ensures fits { IfOk result (λ x. fits_in (view x) booleans ≡ true) }
 {
     let shape = shape_of(alloc, world, table)?;
@@ -439,6 +443,7 @@ fn update_rows<W: World>(
     ensures only { Goes (IsLost (W.marks world.old) (W.marks world.new)) (WritesOnly (IsOneOf (source.Table table ∷ []))) (W.state world.old) (W.state world.new) }
     ensures keeper { IsErrOf result Stop.Keeper → Rose (W.marks world.old).faults (W.marks world.new).faults }
     ensures done { IfOk result (λ x. Goes (IsLost (W.marks world.old) (W.marks world.new)) (λ s t. AreUpdated shape.now table rows.now (map view changes.now) s (view x) t) (W.state world.old) (W.state world.new)) }
+    ensures cut { OnErr result (Goes (IsLost (W.marks world.old) (W.marks world.new)) (UpTo (λ s n x t. AreUpdated shape.now table (take n rows.now) (map view changes.now) s x t)) (W.state world.old) (W.state world.new)) }
     ensures fits { IfOk result (λ x. fits_in (view x) booleans ≡ true) }
 {
     let mut rest = rows;

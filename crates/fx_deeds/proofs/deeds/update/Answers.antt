@@ -13,6 +13,10 @@ use Rattle.fx_deeds.proofs.Allowing.{only_nowhere, only_wider}
 use Rattle.fx_deeds.specs.Doable.{CanUpdate}
 use Rattle.fx_deeds.specs.Done.{errors_in}
 use Rattle.fx_deeds.specs.Writable.{IsOneOf, DeedMayWrite}
+use Rattle.fx_deeds.proofs.CutOff.{cut_nowhere, on_any}
+use Rattle.fx_deeds.proofs.CutUpdates.{cut_update, cut_update_in}
+use Rattle.fx_deeds.specs.CutOff.{IsUpdateBegun}
+use Rattle.fx_deeds.specs.State.{frame_of}
 use Rattle.fx_deeds.proofs.deeds.update.Goals as goal
 
 pub returns-in-Some-clause-fits : goal.returns-in-Some-clause-fits
@@ -44,3 +48,17 @@ returns-in-Table-clause-only g c =
 pub returns-in-Gathered-clause-only : goal.returns-in-Gathered-clause-only
 returns-in-Gathered-clause-only g c =
     only_wider (IsOneOf (source.Gathered c.in-Gathered.collection ∷ [])) (DeedMayWrite (deed.UpdateIf c.args.target)) (λ x w. subst (λ p. DeedMayWrite (deed.UpdateIf p) x) (sym c.in-Gathered.is) w) _ _ c.update_equal.ensures.passed c.update_equal.ensures.only
+
+pub returns-in_err-error-clause-cut : goal.returns-in_err-error-clause-cut
+returns-in_err-error-clause-cut g c =
+    on_any _ (cut_nowhere (IsLost (g.W.Env.marks c.args.world.now) (g.W.Env.marks c.args.world.now)) (IsUpdateBegun (frame_of (g.W.Env.fixed c.args.world.now)) c.args.target c.args.rows.now (map view c.args.changes.now)) (g.W.World.state c.args.world.now))
+
+pub returns-in-Table-clause-cut : goal.returns-in-Table-clause-cut
+returns-in-Table-clause-cut g c =
+    cut_update c.update_table.result (IsLost (g.W.Env.marks c.args.world.now) (g.W.Env.marks c.update_table.new.world)) (g.W.World.state c.args.world.now) (g.W.World.state c.update_table.new.world) (frame_of (g.W.Env.fixed c.args.world.now)) c.args.target c.in-Table.table c.args.rows.now (map view c.args.changes.now) c.in-Table.is
+    (no_error c.in_ok-error.field-0 _ c.in_ok-error.ensures c.in_default.not-Some) c.update_table.ensures.cut
+
+pub returns-in-Gathered-clause-cut : goal.returns-in-Gathered-clause-cut
+returns-in-Gathered-clause-cut g c =
+    cut_update_in c.update_equal.result (IsLost (g.W.Env.marks c.args.world.now) (g.W.Env.marks c.update_equal.new.world)) (g.W.World.state c.args.world.now) (g.W.World.state c.update_equal.new.world) (frame_of (g.W.Env.fixed c.args.world.now)) c.args.target c.in-Gathered.collection c.args.rows.now (map view c.args.changes.now) c.in-Gathered.is
+    (no_error c.in_ok-error.field-0 _ c.in_ok-error.ensures c.in_default.not-Some) c.update_equal.ensures.cut

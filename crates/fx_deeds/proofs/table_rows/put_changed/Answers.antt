@@ -10,6 +10,8 @@ use Rattle.fx_deeds.proofs.Allowing.{only_behind, only_staying}
 use Rattle.fx_deeds.specs.Finding.{IsShape}
 use Rattle.fx_deeds.specs.RowValues.{changed_cells}
 use Rattle.fx_deeds.specs.Writable.{IsOneOf}
+use Rattle.fx_deeds.proofs.CutOff.{on_any}
+use Rattle.fx_deeds.proofs.CutUpdates.{stays_on}
 use Rattle.fx_deeds.proofs.table_rows.put_changed.Goals as goal
 
 pub returns-in_default-clause-done : goal.returns-in_default-clause-done
@@ -58,3 +60,13 @@ returns-in_err-put-clause-only g c =
 pub returns-clause-only : goal.returns-clause-only
 returns-clause-only g c =
     only_behind (IsOneOf (source.Table c.args.table ∷ [])) _ _ _ c.find_cells.ensures.passed c.replace.ensures.passed c.find_cells.ensures.stays c.replace.ensures.only
+
+pub returns-in_err-found-clause-stops : goal.returns-in_err-found-clause-stops
+returns-in_err-found-clause-stops g c = on_any _ c.find_cells.ensures.stays
+
+pub returns-in_err-cells-clause-stops : goal.returns-in_err-cells-clause-stops
+returns-in_err-cells-clause-stops g c = on_any _ c.find_cells.ensures.stays
+
+pub returns-in_err-put-clause-stops : goal.returns-in_err-put-clause-stops
+returns-in_err-put-clause-stops g c =
+    on_any _ (stays_on _ _ _ _ _ _ c.find_cells.ensures.passed.later c.replace.ensures.passed.later c.find_cells.ensures.stays c.in_err-put.ensures.stops)

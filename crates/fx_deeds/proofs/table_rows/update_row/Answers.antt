@@ -11,6 +11,9 @@ use Rattle.fx_deeds.proofs.Allowing.{only_nowhere}
 use Rattle.fx_deeds.specs.Finding.{CanChangeRows, IsUpdatedRow}
 use Rattle.fx_deeds.specs.Found.{IsNamed}
 use Rattle.fx_deeds.specs.Writable.{IsOneOf}
+use Rattle.fx_deeds.proofs.CutOff.{cut_nowhere, cut_staying, on_any}
+use Rattle.fx_deeds.proofs.CutUpdates.{cut_put}
+use Rattle.fx_deeds.specs.Deeds.{AreUpdated}
 use Rattle.fx_deeds.proofs.table_rows.update_row.Goals as goal
 
 pub returns-in-Err-clause-done : goal.returns-in-Err-clause-done
@@ -41,3 +44,22 @@ returns-in_err-changes-clause-only g c =
 pub returns-in-Err-clause-only : goal.returns-in-Err-clause-only
 returns-in-Err-clause-only g c =
     only_nowhere (IsOneOf (source.Table c.args.table ∷ [])) (IsLost (g.W.Env.marks c.args.world.now) (g.W.Env.marks c.args.world.now)) (g.W.World.state c.args.world.now)
+
+pub returns-in_err-named-clause-cut : goal.returns-in_err-named-clause-cut
+returns-in_err-named-clause-cut g c =
+    on_any _ (cut_nowhere (IsLost (g.W.Env.marks c.args.world.now) (g.W.Env.marks c.args.world.now)) (λ s n d t. AreUpdated c.args.shape.now c.args.table (c.args.row.now ∷ []) (view c.args.change.now ∷ []) s d t) (g.W.World.state c.args.world.now))
+
+pub returns-in_err-changes-clause-cut : goal.returns-in_err-changes-clause-cut
+returns-in_err-changes-clause-cut g c =
+    on_any _ (cut_nowhere (IsLost (g.W.Env.marks c.args.world.now) (g.W.Env.marks c.args.world.now)) (λ s n d t. AreUpdated c.args.shape.now c.args.table (c.args.row.now ∷ []) (view c.args.change.now ∷ []) s d t) (g.W.World.state c.args.world.now))
+
+pub returns-in_err-patched-in-Ok-clause-cut : goal.returns-in_err-patched-in-Ok-clause-cut
+returns-in_err-patched-in-Ok-clause-cut g c =
+    on_any _ (cut_staying (IsLost (g.W.Env.marks c.args.world.now) (g.W.Env.marks c.put_changed.new.world)) (λ s n d t. AreUpdated c.args.shape.now c.args.table (c.args.row.now ∷ []) (view c.args.change.now ∷ []) s d t) (g.W.World.state c.args.world.now) (g.W.World.state c.put_changed.new.world) c.in_err-patched-in-Ok.ensures.stops)
+
+pub returns-in_err-end-in-Ok-clause-cut : goal.returns-in_err-end-in-Ok-clause-cut
+returns-in_err-end-in-Ok-clause-cut g c =
+    let rows = c.as_slice.ensures ∙ c.in_ok-changes.ensures ∙ ap (λ z. z ++ rows_in (view c.args.change.now)) c.new.ensures in
+    on_any _
+    (cut_put (IsLost (g.W.Env.marks c.args.world.now) (g.W.Env.marks c.put_changed.new.world)) (g.W.World.state c.args.world.now) (g.W.World.state c.put_changed.new.world) c.args.shape.now c.args.table c.in-Ok.id c.args.row.now (view c.args.change.now) c.as_slice.result.now c.in_ok-patched-in-Ok.patched.cells c.in_ok-patched-in-Ok.patched.put
+    (subst (IsNamed (record_of c.args.row.now)) c.in-Ok.is c.in_ok-named.ensures) rows c.in_ok-patched-in-Ok.ensures.done)

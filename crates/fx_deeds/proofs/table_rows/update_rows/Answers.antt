@@ -9,6 +9,8 @@ use Rattle.fx_deeds.proofs.Patching.{update_ends, update_goes, update_stops, upd
 use Rattle.fx_deeds.proofs.Allowing.{only_on}
 use Rattle.fx_deeds.specs.Finding.{CanChangeEach, IsShape}
 use Rattle.fx_deeds.specs.Writable.{IsOneOf}
+use Rattle.fx_deeds.proofs.CutOff.{on_any}
+use Rattle.fx_deeds.proofs.CutUpdates.{CutUpdated, updated_cut, updated_goes}
 use Rattle.fx_deeds.proofs.table_rows.update_rows.Goals as goal
 
 pub update_row-requires-clause-shape : goal.update_row-requires-clause-shape
@@ -35,6 +37,9 @@ loop-row-preserved g c = record {
   done = update_goes _ _ _ _ _ _ (updating c.args.shape.now c.args.table c.args.rows.now c.args.changes.now) c.args.shape.now c.args.table c.in-Some.row.now c.in-Some.others.now c.loop-row.rest.now c.in-Some-split_first.change.now
       c.in_ok-answer.field-0 c.in-Some-split_first.more.now c.loop-row.left.now c.loop-row.invariant.passed.later c.update_row.ensures.passed.later c.in-Some.ensures.cases.0 c.in-Some-split_first.ensures.cases.0 c.in_default-2.not-Some
       c.loop-row.invariant.done c.in_ok-answer.ensures.done;
+  cut = updated_goes _ _ _ _ _ _ (CutUpdated c.args.shape.now c.args.table c.args.rows.now (map view c.args.changes.now)) c.args.shape.now c.args.table c.in-Some.row.now c.in-Some.others.now c.loop-row.rest.now c.in-Some-split_first.change.now c.in-Some-split_first.more.now c.loop-row.left.now c.loop-row.invariant.passed.later c.update_row.ensures.passed.later
+      c.in-Some.ensures.cases.0 c.in-Some-split_first.ensures.cases.0
+      c.in_ok-answer.field-0 c.in_default-2.not-Some c.loop-row.invariant.cut c.in_ok-answer.ensures.done;
 }
 
 pub returns-in_default-split_first-clause-done : goal.returns-in_default-split_first-clause-done
@@ -57,3 +62,8 @@ returns-in_err-answer-clause-only g c =
 pub returns-in-Some-2-clause-only : goal.returns-in-Some-2-clause-only
 returns-in-Some-2-clause-only g c =
     only_on (IsOneOf (source.Table c.args.table ∷ [])) _ _ _ c.loop-row.invariant.passed c.update_row.ensures.passed c.loop-row.invariant.only c.update_row.ensures.only
+
+pub returns-in_err-answer-clause-cut : goal.returns-in_err-answer-clause-cut
+returns-in_err-answer-clause-cut g c =
+    on_any _
+    (updated_cut _ _ _ _ _ _ (CutUpdated c.args.shape.now c.args.table c.args.rows.now (map view c.args.changes.now)) c.args.shape.now c.args.table c.in-Some.row.now c.in-Some.others.now c.loop-row.rest.now c.in-Some-split_first.change.now c.in-Some-split_first.more.now c.loop-row.left.now c.loop-row.invariant.passed.later c.update_row.ensures.passed.later c.in-Some.ensures.cases.0 c.in-Some-split_first.ensures.cases.0 c.loop-row.invariant.cut c.in_err-answer.ensures.cut)

@@ -2,6 +2,8 @@ use Rattle.std.proofs.Common.{◌∷◌, [], length, map}
 use Rattle.fx_base.specs.Silence.{Goes, IsLost}
 use Rattle.fx_data.specs.ValueView.{view}
 use Rattle.fx_trees.specs.declared.sources.Source.TheVariants as source
+use Rattle.fx_deeds.proofs.CutOff.{Carries}
+use Rattle.fx_deeds.proofs.CutUpdates.{CutUpdated}
 use Rattle.fx_deeds.specs.Deeds.{AreUpdated}
 use Rattle.fx_deeds.specs.Finding.{CanChangeEach}
 use Rattle.fx_deeds.specs.Lefts.{Decides}
@@ -16,6 +18,7 @@ invariant-loop-row g l = record {
   only : Goes (IsLost (g.W.Env.marks l.fn.world) (g.W.Env.marks l.world)) (WritesOnly (IsOneOf (source.Table l.table ∷ []))) (g.W.World.state l.fn.world) (g.W.World.state l.world);
   can : CanChangeEach l.shape (map view l.left);
   done : Goes (IsLost (g.W.Env.marks l.fn.world) (g.W.Env.marks l.world)) (Decides (AreUpdated l.shape l.table l.rest (map view l.left)) (AreUpdated l.shape l.table l.rows (map view l.changes))) (g.W.World.state l.fn.world) (g.W.World.state l.world);
+  cut : Goes (IsLost (g.W.Env.marks l.fn.world) (g.W.Env.marks l.world)) (Carries (CutUpdated l.shape l.table l.rest (map view l.left)) (CutUpdated l.shape l.table l.rows (map view l.changes))) (g.W.World.state l.fn.world) (g.W.World.state l.world);
 }
 
 abbrev pub decreases-loop-row : goal.decreases-loop-row
