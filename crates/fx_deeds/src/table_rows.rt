@@ -153,6 +153,7 @@ fn make_row<W: World>(
     ensures only { Goes (IsLost (W.marks world.old) (W.marks world.new)) (WritesOnly (IsOneOf (source.Table table ∷ []))) (W.state world.old) (W.state world.new) }
     ensures keeper { IsErrOf result Stop.Keeper → Rose (W.marks world.old).faults (W.marks world.new).faults }
     ensures done { IfOk result (λ x. Goes (IsLost (W.marks world.old) (W.marks world.new)) (λ s t. MakesRow shape.now table cells s (view x) t) (W.state world.old) (W.state world.new)) }
+    ensures cut { OnErr result (Goes (IsLost (W.marks world.old) (W.marks world.new)) (UpTo (λ s n x t. MakesRow shape.now table cells s x t)) (W.state world.old) (W.state world.new)) }
     ensures fits { IfOk result (λ x. fits_in (view x) (records (columns_of shape.now)) ≡ true) }
 {
     let put = insert(world, table, &cells)?;
@@ -214,6 +215,7 @@ fn patch_row<W: World>(
     ensures only { Goes (IsLost (W.marks world.old) (W.marks world.new)) (WritesOnly (IsOneOf (source.Table table ∷ []))) (W.state world.old) (W.state world.new) }
     ensures keeper { IsErrOf result Stop.Keeper → Rose (W.marks world.old).faults (W.marks world.new).faults }
     ensures done { IfOk result (λ x. Goes (IsLost (W.marks world.old) (W.marks world.new)) (λ s t. PatchesRow shape.now table changes.now id s (view x) t) (W.state world.old) (W.state world.new)) }
+    ensures cut { OnErr result (Goes (IsLost (W.marks world.old) (W.marks world.new)) (UpTo (λ s n x t. PatchesRow shape.now table changes.now id s x t)) (W.state world.old) (W.state world.new)) }
     ensures fits { IfOk result (λ x. fits_in (view x) (records (columns_of shape.now)) ≡ true) }
 {
     let patched = put_changed(alloc, world, table, shape, id, changes)?;
@@ -237,6 +239,7 @@ fn patch_new<W: World>(
     ensures only { Goes (IsLost (W.marks world.old) (W.marks world.new)) (WritesOnly (IsOneOf (source.Table table ∷ []))) (W.state world.old) (W.state world.new) }
     ensures keeper { IsErrOf result Stop.Keeper → Rose (W.marks world.old).faults (W.marks world.new).faults }
     ensures done { IfOk result (λ x. Goes (IsLost (W.marks world.old) (W.marks world.new)) (λ s t. MakesRow shape.now table (changed_cells_of shape.now.columns changes.now (blank_cells_of shape.now.columns)) s (view x) t) (W.state world.old) (W.state world.new)) }
+    ensures cut { OnErr result (Goes (IsLost (W.marks world.old) (W.marks world.new)) (UpTo (λ s n x t. MakesRow shape.now table (changed_cells_of shape.now.columns changes.now (blank_cells_of shape.now.columns)) s x t)) (W.state world.old) (W.state world.new)) }
     ensures fits { IfOk result (λ x. fits_in (view x) (records (columns_of shape.now)) ≡ true) }
 {
     let columns = shape.columns.as_slice();
@@ -274,6 +277,7 @@ fn patch_numbered<W: World>(
     ensures only { Goes (IsLost (W.marks world.old) (W.marks world.new)) (WritesOnly (IsOneOf (source.Table table ∷ []))) (W.state world.old) (W.state world.new) }
     ensures keeper { IsErrOf result Stop.Keeper → Rose (W.marks world.old).faults (W.marks world.new).faults }
     ensures done { IfOk result (λ x. Goes (IsLost (W.marks world.old) (W.marks world.new)) (λ s t. PatchesById shape.now table changes.now (id_of (view base.now)) s (view x) t) (W.state world.old) (W.state world.new)) }
+    ensures cut { OnErr result (Goes (IsLost (W.marks world.old) (W.marks world.new)) (UpTo (λ s n x t. PatchesById shape.now table changes.now (id_of (view base.now)) s x t)) (W.state world.old) (W.state world.new)) }
     ensures fits { IfOk result (λ x. fits_in (view x) (records (columns_of shape.now)) ≡ true) }
 {
     if has_blank_number(alloc, base)? {
@@ -303,6 +307,7 @@ fn patch_base<W: World>(
     ensures only { Goes (IsLost (W.marks world.old) (W.marks world.new)) (WritesOnly (IsOneOf (source.Table table ∷ []))) (W.state world.old) (W.state world.new) }
     ensures keeper { IsErrOf result Stop.Keeper → Rose (W.marks world.old).faults (W.marks world.new).faults }
     ensures done { IfOk result (λ x. Goes (IsLost (W.marks world.old) (W.marks world.new)) (λ s t. PatchesBase shape.now table changes.now (view base.now) s (view x) t) (W.state world.old) (W.state world.new)) }
+    ensures cut { OnErr result (Goes (IsLost (W.marks world.old) (W.marks world.new)) (UpTo (λ s n x t. PatchesBase shape.now table changes.now (view base.now) s x t)) (W.state world.old) (W.state world.new)) }
     ensures fits { IfOk result (λ x. fits_in (view x) (records (columns_of shape.now)) ≡ true) }
 {
     match base {
@@ -338,6 +343,7 @@ pub(crate) fn patch_table<W: World>(
     ensures only { Goes (IsLost (W.marks world.old) (W.marks world.new)) (WritesOnly (IsOneOf (source.Table table ∷ []))) (W.state world.old) (W.state world.new) }
     ensures keeper { IsErrOf result Stop.Keeper → Rose (W.marks world.old).faults (W.marks world.new).faults }
     ensures done { IfOk result (λ x. Goes (IsLost (W.marks world.old) (W.marks world.new)) (λ s t. IsPatched (W.fixed world.old).schema table (view base.now) (map view changes.now) s (view x) t) (W.state world.old) (W.state world.new)) }
+    ensures cut { OnErr result (Goes (IsLost (W.marks world.old) (W.marks world.new)) (UpTo (λ s n x t. IsPatched (W.fixed world.old).schema table (view base.now) (map view changes.now) s x t)) (W.state world.old) (W.state world.new)) }
     ensures fits { OfTable (W.fixed world.old).schema table (λ p. IfOk result (λ x. fits_in (view x) (records (columns_of p)) ≡ true)) }
 {
     let shape = shape_of(alloc, world, table)?;

@@ -7,6 +7,7 @@ use Rattle.fx_deeds.proofs.Tabling.{base_there, no_base}
 use Rattle.fx_deeds.proofs.Allowing.{only_nowhere}
 use Rattle.fx_deeds.specs.Deeds.{PatchesBase}
 use Rattle.fx_deeds.specs.Writable.{IsOneOf}
+use Rattle.fx_deeds.proofs.CutRows.{cut_base}
 use Rattle.fx_deeds.proofs.table_rows.patch_base.Goals as goal
 
 pub returns-in-Rec-clause-done : goal.returns-in-Rec-clause-done
@@ -26,3 +27,6 @@ returns-in_ok-error-in_default-clause-only g c =
 pub returns-in_err-error-in_default-clause-only : goal.returns-in_err-error-in_default-clause-only
 returns-in_err-error-in_default-clause-only g c =
     only_nowhere (IsOneOf (source.Table c.args.table ∷ [])) (IsLost (g.W.Env.marks c.args.world.now) (g.W.Env.marks c.args.world.now)) (g.W.World.state c.args.world.now)
+
+pub returns-in-Rec-clause-cut : goal.returns-in-Rec-clause-cut
+returns-in-Rec-clause-cut g c = cut_base c.patch_numbered.result (IsLost (g.W.Env.marks c.args.world.now) (g.W.Env.marks c.patch_numbered.new.world)) (g.W.World.state c.args.world.now) (g.W.World.state c.patch_numbered.new.world) c.args.shape.now c.args.table c.args.changes.now c.args.base.now _ c.in-Rec.is c.patch_numbered.ensures.cut

@@ -8,6 +8,7 @@ use Rattle.fx_deeds.proofs.Allowing.{only_nowhere}
 use Rattle.fx_deeds.specs.Deeds.{PatchesById, id_of}
 use Rattle.fx_deeds.specs.Found.{IsNamed}
 use Rattle.fx_deeds.specs.Writable.{IsOneOf}
+use Rattle.fx_deeds.proofs.CutRows.{cut_new, cut_numbered}
 use Rattle.fx_deeds.proofs.table_rows.patch_numbered.Goals as goal
 
 pub returns-then-branch-clause-done : goal.returns-then-branch-clause-done
@@ -38,3 +39,12 @@ returns-in_err-named-clause-only g c =
 pub returns-in-Err-clause-only : goal.returns-in-Err-clause-only
 returns-in-Err-clause-only g c =
     only_nowhere (IsOneOf (source.Table c.args.table ∷ [])) (IsLost (g.W.Env.marks c.args.world.now) (g.W.Env.marks c.args.world.now)) (g.W.World.state c.args.world.now)
+
+pub returns-then-branch-clause-cut : goal.returns-then-branch-clause-cut
+returns-then-branch-clause-cut g c =
+    cut_new c.patch_new.result (IsLost (g.W.Env.marks c.args.world.now) (g.W.Env.marks c.patch_new.new.world)) (g.W.World.state c.args.world.now) (g.W.World.state c.patch_new.new.world) c.args.shape.now c.args.table c.args.changes.now (id_of (view c.args.base.now)) (c.in_ok-has_blank_number.ensures.blank c.if-branch.true) c.patch_new.ensures.cut
+
+pub returns-in-Ok-clause-cut : goal.returns-in-Ok-clause-cut
+returns-in-Ok-clause-cut g c =
+    cut_numbered c.patch_row.result (IsLost (g.W.Env.marks c.args.world.now) (g.W.Env.marks c.patch_row.new.world)) (g.W.World.state c.args.world.now) (g.W.World.state c.patch_row.new.world) c.args.shape.now c.args.table c.in-Ok.id c.args.changes.now (id_of (view c.args.base.now)) (c.in_ok-has_blank_number.ensures.other c.if-branch.false)
+    (subst (IsNamed (view c.args.base.now)) c.in-Ok.is c.in_ok-named.ensures) c.patch_row.ensures.cut

@@ -16,6 +16,7 @@ use Rattle.fx_deeds.specs.Deeds.{IsPatched, OfTable, PatchesBase, id_of}
 use Rattle.fx_deeds.specs.Finding.{CanPatchRows}
 use Rattle.fx_deeds.specs.RowValues.{rows_among, values_among}
 use Rattle.fx_deeds.specs.Writable.{IsOneOf}
+use Rattle.fx_deeds.proofs.CutRows.{cut_patched}
 use Rattle.fx_deeds.proofs.table_rows.patch_table.Goals as goal
 
 pub returns-in-Some-clause-done : goal.returns-in-Some-clause-done
@@ -76,3 +77,12 @@ returns-in_err-error-clause-only g c =
 pub returns-in-Some-clause-only : goal.returns-in-Some-clause-only
 returns-in-Some-clause-only g c =
     only_nowhere (IsOneOf (source.Table c.args.table ∷ [])) (IsLost (g.W.Env.marks c.args.world.now) (g.W.Env.marks c.args.world.now)) (g.W.World.state c.args.world.now)
+
+pub returns-clause-cut : goal.returns-clause-cut
+returns-clause-cut g c =
+    let b = view c.args.base.now in
+    let ys = map view c.args.changes.now in
+    let rows = c.as_slice-2.ensures ∙ c.in_ok-changes.ensures ∙ ap (λ z. z ++ rows_among ys) c.new.ensures in
+    let first = c.as_slice.ensures ∙ c.in_ok-changes.ensures ∙ ap (λ z. z ++ rows_among ys) c.new.ensures in
+    let none = ap (λ z. find is_fault (id_of b ∷ values_among z)) (sym first) ∙ no_error c.in_ok-error.field-0 _ c.in_ok-error.ensures c.in_default.not-Some in
+    cut_patched c.patch_base.result (IsLost (g.W.Env.marks c.args.world.now) (g.W.Env.marks c.patch_base.new.world)) (g.W.World.state c.args.world.now) (g.W.World.state c.patch_base.new.world) (g.W.Env.fixed c.args.world.now).schema c.args.table c.in_ok-shape.shape b ys c.as_slice-2.result.now c.in_ok-shape.ensures rows none c.patch_base.ensures.cut
