@@ -7,7 +7,7 @@ ghost use Rattle.fx_data.specs.ValueView.{view};
 ghost use Rattle.fx_trees.specs.declared.deeds.Deed.TheVariants as deed;
 ghost use Rattle.fx_trees.specs.declared.deeds.Target.TheVariants as target;
 ghost use Rattle.fx_value.specs.Fits.{fits_in};
-ghost use Rattle.fx_deeds.specs.CutOff.{CutUpdate};
+ghost use Rattle.fx_deeds.specs.CutOff.{CutDeed, CutUpdate};
 ghost use Rattle.fx_deeds.specs.Doable.{AnswersAs, CanDo, CanUpdate};
 ghost use Rattle.fx_deeds.specs.Done.{IsDeed, IsUpdate};
 ghost use Rattle.fx_deeds.specs.Stages.{Passed, stage};
@@ -43,6 +43,7 @@ pub fn remove<W: World, L: Ledger>(
     ensures only { Goes (IsLost (W.marks world.old) (W.marks world.new)) (WritesOnly (DeedMayWrite (deed.Remove target))) (W.state world.old) (W.state world.new) }
     ensures keeper { IsErrOf result Stop.Keeper → Rose (W.marks world.old).faults (W.marks world.new).faults }
     ensures done { IfOk result (λ x. Goes (IsLost (W.marks world.old) (W.marks world.new)) (λ s t. IsDeed (frame_of (W.fixed world.old)) (deed.Remove target) (map view values.now) s (view x) t) (W.state world.old) (W.state world.new)) }
+    ensures cut { OnErr result (Goes (IsLost (W.marks world.old) (W.marks world.new)) (CutDeed (frame_of (W.fixed world.old)) (deed.Remove target) (map view values.now)) (W.state world.old) (W.state world.new)) }
     ensures fits { IfOk result (λ x. fits_in (view x) booleans ≡ true) }
 {
     if let Some(error) = first_error(alloc, values)? {
@@ -69,6 +70,7 @@ pub fn remove_if<W: World, L: Ledger>(
     ensures only { Goes (IsLost (W.marks world.old) (W.marks world.new)) (WritesOnly (DeedMayWrite (deed.RemoveIf target))) (W.state world.old) (W.state world.new) }
     ensures keeper { IsErrOf result Stop.Keeper → Rose (W.marks world.old).faults (W.marks world.new).faults }
     ensures done { IfOk result (λ x. Goes (IsLost (W.marks world.old) (W.marks world.new)) (λ s t. IsDeed (frame_of (W.fixed world.old)) (deed.RemoveIf target) (view filtered ∷ []) s (view x) t) (W.state world.old) (W.state world.new)) }
+    ensures cut { OnErr result (Goes (IsLost (W.marks world.old) (W.marks world.new)) (CutDeed (frame_of (W.fixed world.old)) (deed.RemoveIf target) (view filtered ∷ [])) (W.state world.old) (W.state world.new)) }
     ensures fits { IfOk result (λ x. fits_in (view x) booleans ≡ true) }
 {
     match target {
@@ -94,6 +96,7 @@ pub fn patch<W: World, L: Ledger>(
     ensures only { Goes (IsLost (W.marks world.old) (W.marks world.new)) (WritesOnly (DeedMayWrite (deed.Patch target))) (W.state world.old) (W.state world.new) }
     ensures keeper { IsErrOf result Stop.Keeper → Rose (W.marks world.old).faults (W.marks world.new).faults }
     ensures done { IfOk result (λ x. Goes (IsLost (W.marks world.old) (W.marks world.new)) (λ s t. IsDeed (frame_of (W.fixed world.old)) (deed.Patch target) (map view values.now) s (view x) t) (W.state world.old) (W.state world.new)) }
+    ensures cut { OnErr result (Goes (IsLost (W.marks world.old) (W.marks world.new)) (CutDeed (frame_of (W.fixed world.old)) (deed.Patch target) (map view values.now)) (W.state world.old) (W.state world.new)) }
     ensures fits { (u : Shape) → AnswersAs (W.fixed world.old).types (deed.Patch target) u → IfOk result (λ x. fits_in (view x) u ≡ true) }
 {
     if let Some(error) = first_error(alloc, values)? {

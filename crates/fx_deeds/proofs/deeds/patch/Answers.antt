@@ -1,3 +1,4 @@
+use Rattle.fx_trees.specs.declared.deeds.Target.TheVariants as target
 use Rattle.std.proofs.Common.{◌≡◌, ◌∷◌, [], ◌∙◌, List, map, ap, subst, sym, true}
 use Rattle.std.specs.Prelude.{IfOk, option_map}
 use Rattle.fx_base.specs.Silence.{IsLost}
@@ -11,8 +12,15 @@ use Rattle.fx_deeds.proofs.Holding.{base_can}
 use Rattle.fx_deeds.proofs.Targets.{can_patch, patched_fits}
 use Rattle.fx_deeds.proofs.Allowing.{only_nowhere, only_wider}
 use Rattle.fx_deeds.specs.Doable.{AnswersAs, CanDo}
-use Rattle.fx_deeds.specs.RowValues.{rows_among}
+use Rattle.fx_deeds.specs.RowValues.{rows_among, columns_in}
 use Rattle.fx_deeds.specs.Writable.{IsOneOf, DeedMayWrite}
+use Rattle.fx_deeds.specs.State.{frame_of}
+use Rattle.std.specs.List.{find}
+use Rattle.fx_tables.specs.Unions.{is_fault}
+use Rattle.fx_deeds.proofs.CutRows.{cut_among, cut_as}
+use Rattle.fx_deeds.proofs.Deeding.{no_error}
+use Rattle.fx_deeds.specs.Collections.{IsPatchedIn}
+use Rattle.fx_deeds.specs.Deeds.{IsPatched}
 use Rattle.fx_deeds.proofs.deeds.patch.Goals as goal
 
 pub returns-in-Some-clause-fits : goal.returns-in-Some-clause-fits
@@ -59,3 +67,20 @@ returns-in-Table-clause-only g c =
 pub returns-in-Gathered-clause-only : goal.returns-in-Gathered-clause-only
 returns-in-Gathered-clause-only g c =
     only_wider (IsOneOf (source.Gathered c.in-Gathered.collection ∷ [])) (DeedMayWrite (deed.Patch c.args.target)) (λ x w. subst (λ p. DeedMayWrite (deed.Patch p) x) (sym c.in-Gathered.is) w) _ _ c.patch_equal.ensures.passed c.patch_equal.ensures.only
+
+pub returns-in-Table-clause-cut : goal.returns-in-Table-clause-cut
+returns-in-Table-clause-cut g c =
+    let b = view c.in-Some-split_first.base.now in
+    let ys = map view c.in-Some-split_first.changes.now in
+    let none = ap (λ (z : List Value). find is_fault (map view z)) (sym c.in-Some-split_first.ensures.cases.0) ∙ no_error c.in_ok-error.field-0 _ c.in_ok-error.ensures c.in_default.not-Some in
+    cut_as c.patch_table.result (IsLost (g.W.Env.marks c.args.world.now) (g.W.Env.marks c.patch_table.new.world)) (g.W.World.state c.args.world.now) (g.W.World.state c.patch_table.new.world) (frame_of (g.W.Env.fixed c.args.world.now)) (deed.Patch c.args.target) (deed.Patch (target.Table c.in-Table.table)) c.args.values.now (c.in-Some-split_first.base.now ∷ c.in-Some-split_first.changes.now) (ap deed.Patch c.in-Table.is) c.in-Some-split_first.ensures.cases.0
+    (cut_among c.patch_table.result (IsLost (g.W.Env.marks c.args.world.now) (g.W.Env.marks c.patch_table.new.world)) (g.W.World.state c.args.world.now) (g.W.World.state c.patch_table.new.world) (b ∷ ys) (λ s n x t. IsPatched (g.W.Env.fixed c.args.world.now).schema c.in-Table.table b ys s x t) none c.patch_table.ensures.cut)
+
+pub returns-in-Gathered-clause-cut : goal.returns-in-Gathered-clause-cut
+returns-in-Gathered-clause-cut g c =
+    let b = view c.in-Some-split_first.base.now in
+    let ys = map view c.in-Some-split_first.changes.now in
+    let k = c.in-Gathered.collection in
+    let none = ap (λ (z : List Value). find is_fault (map view z)) (sym c.in-Some-split_first.ensures.cases.0) ∙ no_error c.in_ok-error.field-0 _ c.in_ok-error.ensures c.in_default.not-Some in
+    cut_as c.patch_equal.result (IsLost (g.W.Env.marks c.args.world.now) (g.W.Env.marks c.patch_equal.new.world)) (g.W.World.state c.args.world.now) (g.W.World.state c.patch_equal.new.world) (frame_of (g.W.Env.fixed c.args.world.now)) (deed.Patch c.args.target) (deed.Patch (target.Gathered k)) c.args.values.now (c.in-Some-split_first.base.now ∷ c.in-Some-split_first.changes.now) (ap deed.Patch c.in-Gathered.is) c.in-Some-split_first.ensures.cases.0
+    (cut_among c.patch_equal.result (IsLost (g.W.Env.marks c.args.world.now) (g.W.Env.marks c.patch_equal.new.world)) (g.W.World.state c.args.world.now) (g.W.World.state c.patch_equal.new.world) (b ∷ ys) (λ s n x t. IsPatchedIn (columns_in ((g.W.Env.fixed c.args.world.now).types (source.Gathered k))) k b ys s x t) none c.patch_equal.ensures.cut)
