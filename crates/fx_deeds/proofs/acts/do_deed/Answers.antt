@@ -1,6 +1,7 @@
-use Rattle.std.proofs.Common.{◌≡◌, ◌∷◌, [], ap, refl, subst, sym, ◌∙◌}
+use Rattle.std.proofs.Common.{◌∷◌, [], ap, refl, subst, sym, ◌∙◌}
 use Rattle.fx_base.specs.Silence.{IsLost}
 use Rattle.fx_trees.specs.declared.deeds.Deed.TheVariants as deed
+use Rattle.fx_deeds.proofs.CutRows.{cut_as}
 use Rattle.fx_deeds.proofs.Doing.{can_as, done_as, fits_as, none_cleared, none_reset, none_shown, one_filter, one_given, one_text}
 use Rattle.fx_deeds.proofs.Allowing.{only_wider}
 use Rattle.fx_deeds.specs.Doable.{AnswersAs}
@@ -189,3 +190,69 @@ returns-in-Notify-clause-only g c =
 pub returns-in-Reset-clause-only : goal.returns-in-Reset-clause-only
 returns-in-Reset-clause-only g c =
     only_wider (DeedMayWrite (deed.Reset c.in-Reset.control)) (DeedMayWrite c.args.deed.now) (λ x w. subst (λ d. DeedMayWrite d x) (sym c.in-Reset.is) w) _ _ c.reset.ensures.passed c.reset.ensures.only
+
+pub returns-in-Set-clause-cut : goal.returns-in-Set-clause-cut
+returns-in-Set-clause-cut g c =
+    let old = c.args.world.now in
+    let new = c.set.new.world in
+    cut_as c.set.result (IsLost (g.W.Env.marks old) (g.W.Env.marks new)) (g.W.World.state old) (g.W.World.state new) (frame_of (g.W.Env.fixed old)) c.args.deed.now (deed.Set c.in-Set.variable) c.args.values.items (c.only.result ∷ []) c.in-Set.is c.only.ensures c.set.ensures.cut
+
+pub returns-in-UpdateContext-clause-cut : goal.returns-in-UpdateContext-clause-cut
+returns-in-UpdateContext-clause-cut g c =
+    let old = c.args.world.now in
+    let new = c.set_all.new.world in
+    cut_as c.set_all.result (IsLost (g.W.Env.marks old) (g.W.Env.marks new)) (g.W.World.state old) (g.W.World.state new) (frame_of (g.W.Env.fixed old)) c.args.deed.now (deed.UpdateContext c.as_slice.result.now) c.args.values.items c.as_slice-in-UpdateContext.result.now (c.in-UpdateContext.is ∙ ap deed.UpdateContext (sym c.as_slice.ensures)) (sym c.as_slice-in-UpdateContext.ensures.value) c.set_all.ensures.cut
+
+pub returns-in-Collect-clause-cut : goal.returns-in-Collect-clause-cut
+returns-in-Collect-clause-cut g c =
+    let old = c.args.world.now in
+    let new = c.collect.new.world in
+    cut_as c.collect.result (IsLost (g.W.Env.marks old) (g.W.Env.marks new)) (g.W.World.state old) (g.W.World.state new) (frame_of (g.W.Env.fixed old)) c.args.deed.now (deed.Collect c.in-Collect.collection) c.args.values.items c.as_slice-in-Collect.result.now c.in-Collect.is (sym c.as_slice-in-Collect.ensures.value) c.collect.ensures.cut
+
+pub returns-in-Clear-clause-cut : goal.returns-in-Clear-clause-cut
+returns-in-Clear-clause-cut g c =
+    let old = c.args.world.now in
+    let new = c.clear.new.world in
+    cut_as c.clear.result (IsLost (g.W.Env.marks old) (g.W.Env.marks new)) (g.W.World.state old) (g.W.World.state new) (frame_of (g.W.Env.fixed old)) c.args.deed.now (deed.Clear c.in-Clear.collection) c.args.values.items [] c.in-Clear.is (none_cleared (g.W.Env.fixed c.args.world.now).types c.in-Clear.collection c.args.values.items (can_as (g.W.Env.fixed c.args.world.now).types c.args.deed.now (deed.Clear c.in-Clear.collection) c.args.values.items c.args.values.items c.in-Clear.is refl c.requires)) c.clear.ensures.cut
+
+pub returns-in-ClearCollect-clause-cut : goal.returns-in-ClearCollect-clause-cut
+returns-in-ClearCollect-clause-cut g c =
+    let old = c.args.world.now in
+    let new = c.clear_collect.new.world in
+    cut_as c.clear_collect.result (IsLost (g.W.Env.marks old) (g.W.Env.marks new)) (g.W.World.state old) (g.W.World.state new) (frame_of (g.W.Env.fixed old)) c.args.deed.now (deed.ClearCollect c.in-ClearCollect.collection) c.args.values.items c.as_slice-in-ClearCollect.result.now c.in-ClearCollect.is (sym c.as_slice-in-ClearCollect.ensures.value) c.clear_collect.ensures.cut
+
+pub returns-in-Patch-clause-cut : goal.returns-in-Patch-clause-cut
+returns-in-Patch-clause-cut g c =
+    let old = c.args.world.now in
+    let new = c.patch.new.world in
+    cut_as c.patch.result (IsLost (g.W.Env.marks old) (g.W.Env.marks new)) (g.W.World.state old) (g.W.World.state new) (frame_of (g.W.Env.fixed old)) c.args.deed.now (deed.Patch c.in-Patch.target) c.args.values.items c.as_slice-in-Patch.result.now c.in-Patch.is (sym c.as_slice-in-Patch.ensures.value) c.patch.ensures.cut
+
+pub returns-in-Remove-clause-cut : goal.returns-in-Remove-clause-cut
+returns-in-Remove-clause-cut g c =
+    let old = c.args.world.now in
+    let new = c.remove.new.world in
+    cut_as c.remove.result (IsLost (g.W.Env.marks old) (g.W.Env.marks new)) (g.W.World.state old) (g.W.World.state new) (frame_of (g.W.Env.fixed old)) c.args.deed.now (deed.Remove c.in-Remove.target) c.args.values.items c.as_slice-in-Remove.result.now c.in-Remove.is (sym c.as_slice-in-Remove.ensures.value) c.remove.ensures.cut
+
+pub returns-in-RemoveIf-clause-cut : goal.returns-in-RemoveIf-clause-cut
+returns-in-RemoveIf-clause-cut g c =
+    let old = c.args.world.now in
+    let new = c.remove_if.new.world in
+    cut_as c.remove_if.result (IsLost (g.W.Env.marks old) (g.W.Env.marks new)) (g.W.World.state old) (g.W.World.state new) (frame_of (g.W.Env.fixed old)) c.args.deed.now (deed.RemoveIf c.in-RemoveIf.target) c.args.values.items (c.only-in-RemoveIf.result ∷ []) c.in-RemoveIf.is c.only-in-RemoveIf.ensures c.remove_if.ensures.cut
+
+pub returns-in-Navigate-clause-cut : goal.returns-in-Navigate-clause-cut
+returns-in-Navigate-clause-cut g c =
+    let old = c.args.world.now in
+    let new = c.navigate.new.world in
+    cut_as c.navigate.result (IsLost (g.W.Env.marks old) (g.W.Env.marks new)) (g.W.World.state old) (g.W.World.state new) (frame_of (g.W.Env.fixed old)) c.args.deed.now (deed.Navigate c.in-Navigate.screen) c.args.values.items [] c.in-Navigate.is (none_shown (g.W.Env.fixed c.args.world.now).types c.in-Navigate.screen c.args.values.items (can_as (g.W.Env.fixed c.args.world.now).types c.args.deed.now (deed.Navigate c.in-Navigate.screen) c.args.values.items c.args.values.items c.in-Navigate.is refl c.requires)) c.navigate.ensures.cut
+
+pub returns-in-Notify-clause-cut : goal.returns-in-Notify-clause-cut
+returns-in-Notify-clause-cut g c =
+    let old = c.args.world.now in
+    let new = c.notify.new.world in
+    cut_as c.notify.result (IsLost (g.W.Env.marks old) (g.W.Env.marks new)) (g.W.World.state old) (g.W.World.state new) (frame_of (g.W.Env.fixed old)) c.args.deed.now deed.Notify c.args.values.items (c.only-in-Notify.result ∷ []) c.in-Notify.is c.only-in-Notify.ensures c.notify.ensures.cut
+
+pub returns-in-Reset-clause-cut : goal.returns-in-Reset-clause-cut
+returns-in-Reset-clause-cut g c =
+    let old = c.args.world.now in
+    let new = c.reset.new.world in
+    cut_as c.reset.result (IsLost (g.W.Env.marks old) (g.W.Env.marks new)) (g.W.World.state old) (g.W.World.state new) (frame_of (g.W.Env.fixed old)) c.args.deed.now (deed.Reset c.in-Reset.control) c.args.values.items [] c.in-Reset.is (none_reset (g.W.Env.fixed c.args.world.now).types c.in-Reset.control c.args.values.items (can_as (g.W.Env.fixed c.args.world.now).types c.args.deed.now (deed.Reset c.in-Reset.control) c.args.values.items c.args.values.items c.in-Reset.is refl c.requires)) c.reset.ensures.cut
