@@ -1,6 +1,6 @@
 -- Clean cells that requests leave so.
 use Rattle.std.proofs.Common.{◌≡◌, ◌≢◌, ◌⊎◌, ℕ, ◌/◌, zero, suc, ◌<◌, ◌≤◌, Bool, true, false, List, [], ◌∷◌, ◌++◌, get_or, length, Option, None, Some, Result, Ok, Err, refl, ap, sym, ◌∙◌, subst, inl, inr, arith}
-use Rattle.std.specs.Prelude.{IfOk, IsSome, OnErr, bytes_eq, if◌then◌else◌, nat_le, option_map, slice_get, slice_set}
+use Rattle.std.specs.Prelude.{IfOk, IfSome, IsSome, OnErr, bytes_eq, if◌then◌else◌, nat_le, option_map, slice_get, slice_set}
 use Rattle.std.proofs.lemmas.Bool.{le-leb, lt-leb}
 use Rattle.std.specs.List.{position}
 use Rattle.std.proofs.lemmas.List.{length-set}
@@ -19,6 +19,7 @@ use Rattle.fx_base.specs.Silence.{Goes, IsLost, Marks}
 use Rattle.recalc.specs.Kept.{Kept}
 use Rattle.row_keeper.specs.Tables.{Tables}
 use Rattle.session_requests.specs.Bodies.{event_in, input_in}
+use Rattle.session_requests.specs.Writable.{AreAll}
 use Rattle.session_requests.specs.declared.event.Event.{Event as Asks}
 use Rattle.session_requests.specs.declared.input.Input.{Input as Gives}
 use Rattle.session_state.specs.Sessions.{SessionState}
@@ -31,7 +32,7 @@ use Rattle.office.proofs.Rounds.{no_table, one_table}
 use Rattle.office.proofs.Sent.{other_apart, other_itself}
 use Rattle.office.proofs.Places.{cases_of, item_at, one_at, position_passes, position_within, set_here, set_there, some_at}
 use Rattle.office.specs.Caches.{AreEach, AreTouched, IsToldAside, IsTurned, WentOver, is_other, is_table, tables_in}
-use Rattle.office.specs.Leaving.{ActsClean, AreActed, AreEachLeft, AreLeft, AreLeftAt, AreLeftBeside, AreStopped, BeginLeaves, EventLeaves, InputLeaves, LeavesActed, LeavesBy, LeavesClean, LeavesStopped, StopsClean, Writing, any_table, either, event_may, input_may, nothing, tables_of, those, turned}
+use Rattle.office.specs.Leaving.{ActsClean, AreActed, AreEachLeft, AreLeft, AreLeftAt, AreLeftBeside, AreStopped, BeginLeaves, EventLeaves, InputLeaves, LeavesActed, LeavesBy, LeavesClean, LeavesStopped, StopsClean, Writing, any_table, either, event_cut, input_cut, nothing, tables_of, those, turned}
 use Rattle.office.specs.Sessions.{OpensSessionWriting, begin_checks, most_sessions, without}
 use Rattle.view_text.specs.ReplyText.{ok_text}
 use Rattle.office.specs.State.{Seen, State, schema_of}
@@ -619,6 +620,12 @@ still_told lost Q None (Some u) still h = absurd cc
 still_told lost Q (Some t) None still h = absurd cc
 still_told lost Q (Some t) (Some u) still h = h
 
+-- and so does, of each of these sources, what holds over the tables that were told before
+pub still_all : (lost : Type 0) (P : Tables → Source → Type 0) (ws : List Source) (x y : Option Tables) → IsSome y → Goes lost (λ (t u : Tables). AreAll (P t) ws) x y → (s : Source) → IsAmong s ws → IfSome x (λ t. P t s)
+still_all lost P ws None y still h s among = tt
+still_all lost P ws (Some t) None still h s among = absurd cc
+still_all lost P ws (Some t) (Some u) still h s among = h s among
+
 -- the cache of the session at a place became another, and so it is left
 pub at_stopped : (a : App) (one : List ℕ) (W : Writing) (ws : List Source) (cs : List (Named Kept)) (p : ℕ) (old : Named Kept) (now : Kept) → p < length cs → old ≡ get_or cs p old → position (is_named one) cs ≡ Some p
     → ((x : Source) → IsAmong x ws → W x) → IsLeftBut a ws old.it now → AreLeftAt a one (either nothing W) cs (slice_set cs p (record { name = old.name; it = now }))
@@ -666,26 +673,31 @@ stopped_after a one V W told cs ds es day (own, others) = (
       (all.0, (λ x among. elim (all.1 x among) [ inl h ↦ h | inr none ↦ absurd none ]), all.2)),
 )
 
-stops_after : (route : Route) (V : Writing) (body : List ℕ) (s t : State) (cs ds es : List (Named Kept)) → AreEachLeft s.app V cs ds → StopsClean route nothing body s t ds es → StopsClean route V body s t cs es
+stops_after : (m : ℕ) (route : Route) (V : Writing) (body : List ℕ) (s t : State) (cs ds es : List (Named Kept)) → AreEachLeft s.app V cs ds → StopsClean m route nothing body s t ds es → StopsClean m route V body s t cs es
 unfolding StopsClean
-stops_after (Event name) V body s t cs ds es day h = stopped_after s.app name V _ t.tables cs ds es day h
-stops_after (Input name) V body s t cs ds es day h = stopped_after s.app name V _ t.tables cs ds es day h
-stops_after (Begin name) V body s t cs ds es day h = left_after_none s.app V cs ds es day h
-stops_after (End name) V body s t cs ds es day h = tt
-stops_after (View name) V body s t cs ds es day h = tt
-stops_after (Formulas name) V body s t cs ds es day h = tt
-stops_after (Items name gallery from) V body s t cs ds es day h = tt
-stops_after (Rows desk) V body s t cs ds es day h = tt
-stops_after (Edit desk) V body s t cs ds es day h = tt
-stops_after (Page table after) V body s t cs ds es day h = tt
-stops_after Plan V body s t cs ds es day h = tt
-stops_after Graph V body s t cs ds es day h = tt
+stops_after m (Event name) V body s t cs ds es day h = stopped_after s.app name V _ t.tables cs ds es day h
+stops_after m (Input name) V body s t cs ds es day h = stopped_after s.app name V _ t.tables cs ds es day h
+stops_after m (Begin name) V body s t cs ds es day h = left_after_none s.app V cs ds es day h
+stops_after m (End name) V body s t cs ds es day h = tt
+stops_after m (View name) V body s t cs ds es day h = tt
+stops_after m (Formulas name) V body s t cs ds es day h = tt
+stops_after m (Items name gallery from) V body s t cs ds es day h = tt
+stops_after m (Rows desk) V body s t cs ds es day h = tt
+stops_after m (Edit desk) V body s t cs ds es day h = tt
+stops_after m (Page table after) V body s t cs ds es day h = tt
+stops_after m Plan V body s t cs ds es day h = tt
+stops_after m Graph V body s t cs ds es day h = tt
 
 -- over an office that went over to the moment
-pub stops_then : (s t u : State) (before moment : ℕ) (request : Asked) (route : Route) (cs ds es : List (Named Kept)) → Routing request.method request.path (Ok route) → t ≡ s → AreEachLeft s.app (turned before moment) cs ds
-    → StopsClean route nothing request.body t u ds es → LeavesStopped s before cs moment request u es
-stops_then s t u before moment request route cs ds es is same day h =
-    inr (route, is, stops_after route (turned before moment) request.body s u cs ds es day (subst (λ (x : State). StopsClean route nothing request.body x u ds es) same h))
+pub stops_then : (s t u : State) (before m moment : ℕ) (request : Asked) (route : Route) (cs ds es : List (Named Kept)) → Routing request.method request.path (Ok route) → t ≡ s → m ≡ moment → AreEachLeft s.app (turned before moment) cs ds
+    → StopsClean m route nothing request.body t u ds es → LeavesStopped s before cs moment request u es
+stops_then s t u before m moment request route cs ds es is same at day h =
+    inr (
+      route,
+      is,
+      stops_after moment route (turned before moment) request.body s u cs ds es day
+          (subst (λ (x : ℕ). StopsClean x route nothing request.body s u ds es) at (subst (λ (x : State). StopsClean m route nothing request.body x u ds es) same h)),
+    )
 
 -- one that was cut off before its route was taken
 pub stops_unrouted : (s t : State) (before moment : ℕ) (request : Asked) (cs ds : List (Named Kept)) → AreEachLeft s.app (turned before moment) cs ds → LeavesStopped s before cs moment request t ds
@@ -696,45 +708,45 @@ stops_same s t before moment request cs = stops_unrouted s t before moment reque
 
 -- of the route that was taken
 pub stops_event : (route : Route) (name body given : List ℕ) (old made : Seen) (t : State) (ds : List (Named Kept)) → route ≡ Event name → made ≡ old → given ≡ body
-    → AreStopped made.state.app name nothing (event_may made.state.app (checks event_in (λ (e : Asks). e.seq) (session_of name made.state.sessions) given)) t.tables made.caches ds
-    → StopsClean route nothing body old.state t old.caches ds
+    → AreStopped made.state.app name nothing (event_cut made.state.app made.moment name made.state.tables made.state.sessions (checks event_in (λ (e : Asks). e.seq) (session_of name made.state.sessions) given)) t.tables made.caches ds
+    → StopsClean old.moment route nothing body old.state t old.caches ds
 unfolding StopsClean
 stops_event route name body given old made t ds is same equal h =
-    subst (λ (r : Route). StopsClean r nothing body old.state t old.caches ds) (sym is)
-    (subst (λ (s : Seen). StopsClean (Event name) nothing body s.state t s.caches ds) same
-    (subst (λ (b : List ℕ). StopsClean (Event name) nothing b made.state t made.caches ds) equal h))
+    subst (λ (r : Route). StopsClean old.moment r nothing body old.state t old.caches ds) (sym is)
+    (subst (λ (s : Seen). StopsClean s.moment (Event name) nothing body s.state t s.caches ds) same
+    (subst (λ (b : List ℕ). StopsClean made.moment (Event name) nothing b made.state t made.caches ds) equal h))
 
 pub stops_input : (route : Route) (name body given : List ℕ) (old made : Seen) (t : State) (ds : List (Named Kept)) → route ≡ Input name → made ≡ old → given ≡ body
-    → AreStopped made.state.app name nothing (input_may made.state.app (checks input_in (λ (i : Gives). i.seq) (session_of name made.state.sessions) given)) t.tables made.caches ds
-    → StopsClean route nothing body old.state t old.caches ds
+    → AreStopped made.state.app name nothing (input_cut made.state.app made.moment name made.state.tables made.state.sessions (checks input_in (λ (i : Gives). i.seq) (session_of name made.state.sessions) given)) t.tables made.caches ds
+    → StopsClean old.moment route nothing body old.state t old.caches ds
 unfolding StopsClean
 stops_input route name body given old made t ds is same equal h =
-    subst (λ (r : Route). StopsClean r nothing body old.state t old.caches ds) (sym is)
-    (subst (λ (s : Seen). StopsClean (Input name) nothing body s.state t s.caches ds) same
-    (subst (λ (b : List ℕ). StopsClean (Input name) nothing b made.state t made.caches ds) equal h))
+    subst (λ (r : Route). StopsClean old.moment r nothing body old.state t old.caches ds) (sym is)
+    (subst (λ (s : Seen). StopsClean s.moment (Input name) nothing body s.state t s.caches ds) same
+    (subst (λ (b : List ℕ). StopsClean made.moment (Input name) nothing b made.state t made.caches ds) equal h))
 
-pub stops_begin : (route : Route) (name body : List ℕ) (old made : Seen) (t : State) (ds : List (Named Kept)) → route ≡ Begin name → made ≡ old → AreLeft made.state.app nothing made.caches ds → StopsClean route nothing body old.state t old.caches ds
+pub stops_begin : (route : Route) (name body : List ℕ) (old made : Seen) (t : State) (ds : List (Named Kept)) → route ≡ Begin name → made ≡ old → AreLeft made.state.app nothing made.caches ds → StopsClean old.moment route nothing body old.state t old.caches ds
 unfolding StopsClean
 stops_begin route name body old made t ds is same h =
-    subst (λ (r : Route). StopsClean r nothing body old.state t old.caches ds) (sym is) (subst (λ (s : Seen). StopsClean (Begin name) nothing body s.state t s.caches ds) same h)
+    subst (λ (r : Route). StopsClean old.moment r nothing body old.state t old.caches ds) (sym is) (subst (λ (s : Seen). StopsClean s.moment (Begin name) nothing body s.state t s.caches ds) same h)
 
-stops_none : (kind : Route) (body : List ℕ) (s t : State) (cs ds : List (Named Kept)) → IsQuiet kind → StopsClean kind nothing body s t cs ds
+stops_none : (m : ℕ) (kind : Route) (body : List ℕ) (s t : State) (cs ds : List (Named Kept)) → IsQuiet kind → StopsClean m kind nothing body s t cs ds
 unfolding StopsClean
-stops_none (Event name) body s t cs ds h = absurd h
-stops_none (Input name) body s t cs ds h = absurd h
-stops_none (Begin name) body s t cs ds h = absurd h
-stops_none (End name) body s t cs ds h = tt
-stops_none (View name) body s t cs ds h = tt
-stops_none (Formulas name) body s t cs ds h = tt
-stops_none (Items name gallery from) body s t cs ds h = tt
-stops_none (Rows desk) body s t cs ds h = tt
-stops_none (Edit desk) body s t cs ds h = tt
-stops_none (Page table after) body s t cs ds h = tt
-stops_none Plan body s t cs ds h = tt
-stops_none Graph body s t cs ds h = tt
+stops_none m (Event name) body s t cs ds h = absurd h
+stops_none m (Input name) body s t cs ds h = absurd h
+stops_none m (Begin name) body s t cs ds h = absurd h
+stops_none m (End name) body s t cs ds h = tt
+stops_none m (View name) body s t cs ds h = tt
+stops_none m (Formulas name) body s t cs ds h = tt
+stops_none m (Items name gallery from) body s t cs ds h = tt
+stops_none m (Rows desk) body s t cs ds h = tt
+stops_none m (Edit desk) body s t cs ds h = tt
+stops_none m (Page table after) body s t cs ds h = tt
+stops_none m Plan body s t cs ds h = tt
+stops_none m Graph body s t cs ds h = tt
 
-pub stops_quiet : (route kind : Route) (body : List ℕ) (s t : State) (cs ds : List (Named Kept)) → route ≡ kind → IsQuiet kind → StopsClean route nothing body s t cs ds
-stops_quiet route kind body s t cs ds is quiet = subst (λ (r : Route). StopsClean r nothing body s t cs ds) (sym is) (stops_none kind body s t cs ds quiet)
+pub stops_quiet : (m : ℕ) (route kind : Route) (body : List ℕ) (s t : State) (cs ds : List (Named Kept)) → route ≡ kind → IsQuiet kind → StopsClean m route nothing body s t cs ds
+stops_quiet m route kind body s t cs ds is quiet = subst (λ (r : Route). StopsClean m r nothing body s t cs ds) (sym is) (stops_none m kind body s t cs ds quiet)
 
 pub err_always : {X E : Type 0} (r : Result X E) (P : Type 0) → P → OnErr r P
 err_always (Ok x) P h = tt

@@ -1,5 +1,5 @@
 -- Which cells of sessions a request leaves clean.
-use Rattle.std.specs.Prelude.{◌≡◌, ◌≢◌, ◌⊎◌, ℕ, ◌/◌, true, List, [], IsSome, Option, None, Some, Result, Ok, Err}
+use Rattle.std.specs.Prelude.{◌≡◌, ◌≢◌, ◌⊎◌, ℕ, ◌/◌, true, List, [], IsSome, Option, None, Some, IfSome, Result, Ok, Err}
 use Rattle.app_cells.specs.declared.app.App.{App}
 use Rattle.app_wire.specs.Framing.{Asked}
 use Rattle.app_wire.specs.ReplyBytes.{refusal}
@@ -18,6 +18,7 @@ use Rattle.row_keeper.specs.Tables.{Tables}
 use Rattle.row_requests.specs.Written.{IsNamedBy}
 use Rattle.session_requests.specs.Bodies.{event_in, input_in}
 use Rattle.session_requests.specs.Posting.{SendsEventWriting, SendsInputWriting}
+use Rattle.session_requests.specs.Whole.{EventPerforms, InputPerforms, IsInAll}
 use Rattle.session_requests.specs.Writable.{EventMayWrite, InputMayWrite}
 use Rattle.session_requests.specs.declared.event.Event.{Event}
 use Rattle.session_requests.specs.declared.input.Input.{Input}
@@ -134,33 +135,42 @@ LeavesActed lost s before old moment request said t new =
 
 -- ---- what stops
 
--- A session's request was cut off: all others keep all clean cells so, and of its own it keeps those that reach nothing of what may
--- be written, where the tables are still told.
+-- A session's request was cut off: all others keep all clean cells so, and of its own it keeps those that reach nothing of what it may
+-- have written, where the tables are still told.
 abbrev pub AreStopped : App → List ℕ → Writing → Writing → Option Tables → List (Named Kept) → List (Named Kept) → Type 0
 AreStopped a one V W told' old new = (IsSome told' → AreLeftAt a one (either V W) old new) × AreLeftBeside a one V old new
 
--- what an event may write, where it passed the checks of numbered requests
-abbrev pub event_may : App → Result Event (List ℕ) → Writing
-event_may a (Err words) = nothing
-event_may a (Ok e) = EventMayWrite a e
+-- WHAT AN EVENT WROTE AT MOST THAT WAS CUT OFF: what its formulas may write, and nothing beside what its whole performing writes over
+-- the tables and the sessions that were there before
+abbrev pub EventCutOff : App → ℕ → List ℕ → Event → Option Tables → List (Named SessionState) → Writing
+EventCutOff a m name e told sessions x = EventMayWrite a e x × IfSome told (λ t. IsInAll (EventPerforms a m name e t sessions) x)
 
--- and what an input may
-abbrev pub input_may : App → Result Input (List ℕ) → Writing
-input_may a (Err words) = nothing
-input_may a (Ok i) = InputMayWrite a i
+-- and what an input did
+abbrev pub InputCutOff : App → ℕ → List ℕ → Input → Option Tables → List (Named SessionState) → Writing
+InputCutOff a m name i told sessions x = InputMayWrite a i x × IfSome told (λ t. IsInAll (InputPerforms a m name i t sessions) x)
 
--- THE cells that a request by which something acts leaves clean where it was cut off: those that reach nothing that it may write, and
--- in all other sessions all. So does all an opening that was cut off. Of other routes `LeavesBy` says it.
-unfoldable pub StopsClean : Route → Writing → List ℕ → State → State → List (Named Kept) → List (Named Kept) → Type 0
-StopsClean (OfEvent name) V body s t old new =
-    AreStopped s.app name V (event_may s.app (checks event_in (λ (e : Event). e.seq) (session_of name s.sessions) body)) t.tables old new
-StopsClean (OfInput name) V body s t old new =
-    AreStopped s.app name V (input_may s.app (checks input_in (λ (i : Input). i.seq) (session_of name s.sessions) body)) t.tables old new
-StopsClean (Begin name) V body s t old new = AreLeft s.app V old new
-StopsClean _ V body s t old new = Unit {0}
+-- where the event passed the checks of numbered requests; else nothing was written
+abbrev pub event_cut : App → ℕ → List ℕ → Option Tables → List (Named SessionState) → Result Event (List ℕ) → Writing
+event_cut a m name told sessions (Err words) = nothing
+event_cut a m name told sessions (Ok e) = EventCutOff a m name e told sessions
+
+-- and where the input did
+abbrev pub input_cut : App → ℕ → List ℕ → Option Tables → List (Named SessionState) → Result Input (List ℕ) → Writing
+input_cut a m name told sessions (Err words) = nothing
+input_cut a m name told sessions (Ok i) = InputCutOff a m name i told sessions
+
+-- THE cells that a request by which something acts leaves clean where it was cut off: those that reach nothing that its whole performing
+-- writes, and in all other sessions all. So does all an opening that was cut off. Of other routes `LeavesBy` says it.
+unfoldable pub StopsClean : ℕ → Route → Writing → List ℕ → State → State → List (Named Kept) → List (Named Kept) → Type 0
+StopsClean m (OfEvent name) V body s t old new =
+    AreStopped s.app name V (event_cut s.app m name s.tables s.sessions (checks event_in (λ (e : Event). e.seq) (session_of name s.sessions) body)) t.tables old new
+StopsClean m (OfInput name) V body s t old new =
+    AreStopped s.app name V (input_cut s.app m name s.tables s.sessions (checks input_in (λ (i : Input). i.seq) (session_of name s.sessions) body)) t.tables old new
+StopsClean m (Begin name) V body s t old new = AreLeft s.app V old new
+StopsClean m _ V body s t old new = Unit {0}
 
 -- so it is with a request that was cut off, before its route was taken or after
 abbrev pub LeavesStopped : State → ℕ → List (Named Kept) → ℕ → Asked → State → List (Named Kept) → Type 0
 LeavesStopped s before old moment request t new =
     AreLeft s.app (turned before moment) old new
-    ⊎ ((route : Route) × Routing request.method request.path (Ok route) × StopsClean route (turned before moment) request.body s t old new)
+    ⊎ ((route : Route) × Routing request.method request.path (Ok route) × StopsClean moment route (turned before moment) request.body s t old new)

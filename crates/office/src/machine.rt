@@ -210,7 +210,7 @@ impl<K: Keeper + Drop> Office<K> {
         ensures clean { LeavesBy route nothing request.now.body.items self.old.state self.new.state self.old.caches self.new.caches }
         ensures acted { IfOk result (λ r. ActsClean (IsLost self.old.marks self.new.marks) self.old.moment route nothing request.now.body.items self.old.state (said r) self.new.state self.old.caches self.new.caches) }
         ensures costs { IfOk result (λ r. CostsBy route self.old.moment self.old.state (said r) self.new.state self.old.caches self.new.caches (counts steps.old self.old.visited) (counts steps.new self.new.visited)) }
-        ensures cut { OnErr result (StopsClean route nothing request.now.body.items self.old.state self.new.state self.old.caches self.new.caches) }
+        ensures cut { OnErr result (StopsClean self.old.moment route nothing request.now.body.items self.old.state self.new.state self.old.caches self.new.caches) }
         ensures loan { self.new.loan ≡ self.old.loan }
     {
         let moment = self.moment;

@@ -18,11 +18,10 @@ ghost use Rattle.row_keeper.specs.declared.keeper.KeeperEnd.TheVariants.{Failed}
 ghost use Rattle.row_requests.specs.DeskRows.{PostsRows, ReachesRows};
 ghost use Rattle.row_requests.specs.Sound.{AreSound};
 ghost use Rattle.session_requests.specs.Posting.{PostsEvent, PostsInput, ReachesEvent, ReachesInput, SendsEvent, SendsInput};
-ghost use Rattle.session_requests.specs.Writable.{EventMayWrite, InputMayWrite};
 ghost use Rattle.session_state.specs.Sessions.{SessionState};
 ghost use Rattle.row_requests.specs.Written.{IsNamedBy};
 ghost use Rattle.office.specs.Caches.{AreKept};
-ghost use Rattle.office.specs.Leaving.{AreEachLeft, AreLeftBeside, AreStopped, EventLeaves, InputLeaves, any_table, event_may, input_may, nothing};
+ghost use Rattle.office.specs.Leaving.{AreEachLeft, AreLeftBeside, AreStopped, EventCutOff, EventLeaves, InputCutOff, InputLeaves, any_table, event_cut, input_cut, nothing};
 ghost use Rattle.office.specs.Ready.{AreFit};
 
 use crate::keeping::touch_others;
@@ -67,7 +66,7 @@ pub(crate) fn post_input<K: Keeper, L: Ledger>(
     ensures kept { AreKept app.now (K.told keeper.new) moment sessions.new.items caches.new.items }
     ensures clean { AreLeftBeside app.now name.now any_table caches.old.items caches.new.items }
     ensures own { IfOk result (λ r. InputLeaves (IsLost (K.marks keeper.old) (K.marks keeper.new)) app.now moment name.now nothing body.now (checks input_in (λ (i : AnInput). i.seq) (session_of name.now sessions.old.items) body.now) (K.told keeper.old) sessions.old.items (said r) (K.told keeper.new) sessions.new.items caches.old.items caches.new.items) }
-    ensures cut { OnErr result (AreStopped app.now name.now nothing (input_may app.now (checks input_in (λ (i : AnInput). i.seq) (session_of name.now sessions.old.items) body.now)) (K.told keeper.new) caches.old.items caches.new.items) }
+    ensures cut { OnErr result (AreStopped app.now name.now nothing (input_cut app.now moment name.now (K.told keeper.old) sessions.old.items (checks input_in (λ (i : AnInput). i.seq) (session_of name.now sessions.old.items) body.now)) (K.told keeper.new) caches.old.items caches.new.items) }
     ensures rows { AreSound app.now.names.schema (K.told keeper.new) }
     ensures shaped { K.shaped keeper.new ≡ Some app.now.names.schema }
     ensures idle { K.in_transaction keeper.new ≡ false }
@@ -113,7 +112,7 @@ fn act_input<K: Keeper, L: Ledger>(
     ensures kept { AreKept app.now (K.told keeper.new) moment sessions.new.items caches.new.items }
     ensures clean { AreLeftBeside app.now name.now any_table caches.old.items caches.new.items }
     ensures own { IfOk result (λ r. InputLeaves (IsLost (K.marks keeper.old) (K.marks keeper.new)) app.now moment name.now nothing body.now (Ok input) (K.told keeper.old) sessions.old.items (said r) (K.told keeper.new) sessions.new.items caches.old.items caches.new.items) }
-    ensures cut { OnErr result (AreStopped app.now name.now nothing (InputMayWrite app.now input) (K.told keeper.new) caches.old.items caches.new.items) }
+    ensures cut { OnErr result (AreStopped app.now name.now nothing (InputCutOff app.now moment name.now input (K.told keeper.old) sessions.old.items) (K.told keeper.new) caches.old.items caches.new.items) }
     ensures rows { AreSound app.now.names.schema (K.told keeper.new) }
     ensures shaped { K.shaped keeper.new ≡ Some app.now.names.schema }
     ensures idle { K.in_transaction keeper.new ≡ false }
@@ -164,7 +163,7 @@ pub(crate) fn post_event<K: Keeper, L: Ledger>(
     ensures kept { AreKept app.now (K.told keeper.new) moment sessions.new.items caches.new.items }
     ensures clean { AreLeftBeside app.now name.now any_table caches.old.items caches.new.items }
     ensures own { IfOk result (λ r. EventLeaves (IsLost (K.marks keeper.old) (K.marks keeper.new)) app.now moment name.now nothing body.now (checks event_in (λ (e : AnEvent). e.seq) (session_of name.now sessions.old.items) body.now) (K.told keeper.old) sessions.old.items (said r) (K.told keeper.new) sessions.new.items caches.old.items caches.new.items) }
-    ensures cut { OnErr result (AreStopped app.now name.now nothing (event_may app.now (checks event_in (λ (e : AnEvent). e.seq) (session_of name.now sessions.old.items) body.now)) (K.told keeper.new) caches.old.items caches.new.items) }
+    ensures cut { OnErr result (AreStopped app.now name.now nothing (event_cut app.now moment name.now (K.told keeper.old) sessions.old.items (checks event_in (λ (e : AnEvent). e.seq) (session_of name.now sessions.old.items) body.now)) (K.told keeper.new) caches.old.items caches.new.items) }
     ensures rows { AreSound app.now.names.schema (K.told keeper.new) }
     ensures shaped { K.shaped keeper.new ≡ Some app.now.names.schema }
     ensures idle { K.in_transaction keeper.new ≡ false }
@@ -210,7 +209,7 @@ fn act_event<K: Keeper, L: Ledger>(
     ensures kept { AreKept app.now (K.told keeper.new) moment sessions.new.items caches.new.items }
     ensures clean { AreLeftBeside app.now name.now any_table caches.old.items caches.new.items }
     ensures own { IfOk result (λ r. EventLeaves (IsLost (K.marks keeper.old) (K.marks keeper.new)) app.now moment name.now nothing body.now (Ok event.now) (K.told keeper.old) sessions.old.items (said r) (K.told keeper.new) sessions.new.items caches.old.items caches.new.items) }
-    ensures cut { OnErr result (AreStopped app.now name.now nothing (EventMayWrite app.now event.now) (K.told keeper.new) caches.old.items caches.new.items) }
+    ensures cut { OnErr result (AreStopped app.now name.now nothing (EventCutOff app.now moment name.now event.now (K.told keeper.old) sessions.old.items) (K.told keeper.new) caches.old.items caches.new.items) }
     ensures rows { AreSound app.now.names.schema (K.told keeper.new) }
     ensures shaped { K.shaped keeper.new ≡ Some app.now.names.schema }
     ensures idle { K.in_transaction keeper.new ≡ false }

@@ -8,11 +8,12 @@ use Rattle.request_checks.specs.declared.directory.Named.{Named}
 use Rattle.row_requests.specs.Written.{AreTablesBut}
 use Rattle.session_state.specs.Sessions.{SessionState}
 use Rattle.std.specs.Prelude.{slice_set}
-use Rattle.office.specs.Leaving.{AreStopped, any_table, nothing}
+use Rattle.office.specs.Leaving.{AreStopped, InputCutOff, any_table, nothing}
+use Rattle.session_requests.specs.Whole.{InputPerforms, IsInAll}
 use Rattle.session_requests.specs.Writable.{AreAll, InputMayWrite}
 use Rattle.recalc.specs.Changes.{IsLeftBut}
 use Rattle.session_requests.specs.Posting.{SendsInputWriting}
-use Rattle.office.proofs.Leaving.{acted_told, at_stopped, at_told, beside_any, beside_stopped, beside_told, err_always, still_told}
+use Rattle.office.proofs.Leaving.{acted_told, at_stopped, at_told, beside_any, beside_stopped, beside_told, err_always, still_all, still_told}
 use Rattle.office.proofs.Caching.{one_place}
 use Rattle.office.proofs.Sent.{cached_there, kept_sent, kept_stopped, order_after, place_within, sends_input}
 use Rattle.office.proofs.sending.act_input.Goals as goal
@@ -124,9 +125,15 @@ returns-in_err-reply-in-Some-clause-cut g c =
     let beside = one_place app (told c.args.keeper.now) c.args.moment name ss cs c.requires.kept ∙ sym place in
     let ws = c.send_input.new.wrote.items in
     let lost = IsLost (g.K.Keeper.marks c.args.keeper.now) (g.K.Keeper.marks c.send_input.new.keeper) in
-    err_always _ (AreStopped app name nothing (InputMayWrite c.args.app.now c.args.input) (told c.send_input.new.keeper) cs (slice_set cs c.in-Some.place (record { name = c.index_mut.result.now.name; it = c.send_input.new.cache }))) (
+    let was = told c.args.keeper.now in
+    let now = told c.send_input.new.keeper in
+    let wrote = InputCutOff app c.args.moment name c.args.input was ss in
+    err_always _ (AreStopped app name nothing wrote now cs (slice_set cs c.in-Some.place (record { name = c.index_mut.result.now.name; it = c.send_input.new.cache }))) (
       (λ still.
-          at_stopped app name (InputMayWrite c.args.app.now c.args.input) ws cs c.in-Some.place c.index_mut.result.now c.send_input.new.cache here c.index_mut.ensures.value beside
-          (still_told lost (AreAll (InputMayWrite c.args.app.now c.args.input) ws) (told c.args.keeper.now) (told c.send_input.new.keeper) still c.send_input.ensures.only) c.send_input.ensures.clean),
+          at_stopped app name wrote ws cs c.in-Some.place c.index_mut.result.now c.send_input.new.cache here c.index_mut.ensures.value beside
+          (λ x among. (
+            still_told lost (AreAll (InputMayWrite app c.args.input) ws) was now still c.send_input.ensures.only x among,
+            still_all lost (λ t. IsInAll (InputPerforms app c.args.moment name c.args.input t ss)) ws was now still c.in_err-reply-in-Some.ensures.cut x among,
+          )) c.send_input.ensures.clean),
       beside_stopped app name nothing cs c.in-Some.place c.index_mut.result.now c.send_input.new.cache here c.index_mut.ensures.value beside,
     )

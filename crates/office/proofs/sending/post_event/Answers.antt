@@ -11,7 +11,7 @@ use Rattle.session_requests.specs.Bodies.{event_in}
 use Rattle.session_requests.specs.Posting.{PostsEventChecked}
 use Rattle.session_requests.specs.declared.event.Event.{Event}
 use Rattle.session_state.specs.Sessions.{SessionState}
-use Rattle.office.specs.Leaving.{AreStopped, EventLeaves, event_may, nothing}
+use Rattle.office.specs.Leaving.{AreStopped, EventLeaves, event_cut, nothing}
 use Rattle.office.proofs.Leaving.{acted_same, err_always, stopped_same}
 use Rattle.office.proofs.sending.post_event.Goals as goal
 
@@ -65,4 +65,4 @@ returns-in-Acts-clause-cut g c =
     let passed = rw c.in-Acts.is at c.in_ok-reply.ensures.is in
     let is = subst (λ (l : List (Named SessionState)). checks event_in (λ (e : Event). e.seq) (session_of name l) c.args.body.now ≡ Ok c.in-Acts.event) c.deref.ensures.value passed in
     on_err_weaker c.act_event.result (λ stopped.
-    subst (λ (x : Result Event (List ℕ)). AreStopped c.args.app.now name nothing (event_may c.args.app.now x) (g.K.Keeper.told c.act_event.new.keeper) c.args.caches.now.items c.act_event.new.caches.items) (sym is) stopped) c.act_event.ensures.cut
+    subst (λ (x : Result Event (List ℕ)). AreStopped c.args.app.now name nothing (event_cut c.args.app.now c.args.moment name (g.K.Keeper.told c.args.keeper.now) c.args.sessions.now.items x) (g.K.Keeper.told c.act_event.new.keeper) c.args.caches.now.items c.act_event.new.caches.items) (sym is) stopped) c.act_event.ensures.cut

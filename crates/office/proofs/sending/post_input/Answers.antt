@@ -10,7 +10,7 @@ use Rattle.std.proofs.lemmas.Result.{IfOk-weaker, on_err_weaker}
 use Rattle.fx_base.specs.Silence.{IsLost}
 use Rattle.request_checks.specs.Checks.{checks, session_of}
 use Rattle.request_checks.specs.Replies.{said}
-use Rattle.office.specs.Leaving.{AreStopped, InputLeaves, input_may, nothing}
+use Rattle.office.specs.Leaving.{AreStopped, InputLeaves, input_cut, nothing}
 use Rattle.office.proofs.Leaving.{acted_same, err_always, stopped_same}
 use Rattle.office.proofs.sending.post_input.Goals as goal
 
@@ -49,4 +49,4 @@ returns-in-Acts-clause-cut g c =
     let passed = rw c.in-Acts.is at c.in_ok-reply.ensures.is in
     let is = subst (λ (l : List (Named SessionState)). checks input_in (λ (i : Input). i.seq) (session_of name l) c.args.body.now ≡ Ok c.in-Acts.input) c.deref.ensures.value passed in
     on_err_weaker c.act_input.result (λ stopped.
-    subst (λ (x : Result Input (List ℕ)). AreStopped c.args.app.now name nothing (input_may c.args.app.now x) (g.K.Keeper.told c.act_input.new.keeper) c.args.caches.now.items c.act_input.new.caches.items) (sym is) stopped) c.act_input.ensures.cut
+    subst (λ (x : Result Input (List ℕ)). AreStopped c.args.app.now name nothing (input_cut c.args.app.now c.args.moment name (g.K.Keeper.told c.args.keeper.now) c.args.sessions.now.items x) (g.K.Keeper.told c.act_input.new.keeper) c.args.caches.now.items c.act_input.new.caches.items) (sym is) stopped) c.act_input.ensures.cut

@@ -68,8 +68,8 @@ returns-in-Err-WrongMethod-clause-costs g c = inr (inr c.fixed_refusal-in-Err-Wr
 pub returns-in-Ok-turn-clause-cut : goal.returns-in-Ok-turn-clause-cut
 returns-in-Ok-turn-clause-cut g c =
     on_err_weaker c.take.result (λ stopped.
-    stops_then c.args.self.now.state c.turn.new.self.state c.take.new.self.state c.args.self.now.moment c.args.moment (asked c.args.request.now) c.in-Ok.route c.args.self.now.caches c.turn.new.self.caches c.take.new.self.caches c.in-Ok.ensures c.turn.ensures.state
-    c.turn.ensures.clean stopped) c.take.ensures.cut
+    stops_then c.args.self.now.state c.turn.new.self.state c.take.new.self.state c.args.self.now.moment _ c.args.moment (asked c.args.request.now) c.in-Ok.route c.args.self.now.caches c.turn.new.self.caches c.take.new.self.caches c.in-Ok.ensures c.turn.ensures.state
+    c.in-Ok-turn.ensures.moment c.turn.ensures.clean stopped) c.take.ensures.cut
 
 pub returns-in-Err-clause-cut : goal.returns-in-Err-clause-cut
 returns-in-Err-clause-cut g c = stops_unrouted c.args.self.now.state c.turn.new.self.state c.args.self.now.moment c.args.moment (asked c.args.request.now) c.args.self.now.caches c.turn.new.self.caches c.turn.ensures.clean

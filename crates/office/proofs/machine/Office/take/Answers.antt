@@ -325,28 +325,28 @@ pub returns-in-Input-clause-costs : goal.returns-in-Input-clause-costs
 returns-in-Input-clause-costs g c = ok_always c.post_input.result _ (λ r. costs_acting c.args.route (Input c.in-Input.name) (said r) _ _ _ _ _ _ _ c.in-Input.is tt)
 
 pub returns-in-View-clause-cut : goal.returns-in-View-clause-cut
-returns-in-View-clause-cut g c = err_always c.show_view_to.result _ (stops_quiet c.args.route (View c.in-View.name) c.args.request.now.body.items _ _ _ _ c.in-View.is tt)
+returns-in-View-clause-cut g c = err_always c.show_view_to.result _ (stops_quiet _ c.args.route (View c.in-View.name) c.args.request.now.body.items _ _ _ _ c.in-View.is tt)
 
 pub returns-in-Named-clause-cut : goal.returns-in-Named-clause-cut
-returns-in-Named-clause-cut g c = err_always c.show_named.result _ (stops_quiet c.args.route (Formulas c.in-Named.name) c.args.request.now.body.items _ _ _ _ c.in-Named.is tt)
+returns-in-Named-clause-cut g c = err_always c.show_named.result _ (stops_quiet _ c.args.route (Formulas c.in-Named.name) c.args.request.now.body.items _ _ _ _ c.in-Named.is tt)
 
 pub returns-in-Items-clause-cut : goal.returns-in-Items-clause-cut
-returns-in-Items-clause-cut g c = err_always c.show_items_to.result _ (stops_quiet c.args.route (Items c.in-Items.name c.in-Items.gallery c.in-Items.from) c.args.request.now.body.items _ _ _ _ c.in-Items.is tt)
+returns-in-Items-clause-cut g c = err_always c.show_items_to.result _ (stops_quiet _ c.args.route (Items c.in-Items.name c.in-Items.gallery c.in-Items.from) c.args.request.now.body.items _ _ _ _ c.in-Items.is tt)
 
 pub returns-in-Page-clause-cut : goal.returns-in-Page-clause-cut
-returns-in-Page-clause-cut g c = err_always c.show_page.result _ (stops_quiet c.args.route (Page c.in-Page.table c.in-Page.after) c.args.request.now.body.items _ _ _ _ c.in-Page.is tt)
+returns-in-Page-clause-cut g c = err_always c.show_page.result _ (stops_quiet _ c.args.route (Page c.in-Page.table c.in-Page.after) c.args.request.now.body.items _ _ _ _ c.in-Page.is tt)
 
 pub returns-in-Rows-clause-cut : goal.returns-in-Rows-clause-cut
-returns-in-Rows-clause-cut g c = err_always c.change_rows.result _ (stops_quiet c.args.route (Rows c.in-Rows.name) c.args.request.now.body.items _ _ _ _ c.in-Rows.is tt)
+returns-in-Rows-clause-cut g c = err_always c.change_rows.result _ (stops_quiet _ c.args.route (Rows c.in-Rows.name) c.args.request.now.body.items _ _ _ _ c.in-Rows.is tt)
 
 pub returns-in-End-clause-cut : goal.returns-in-End-clause-cut
-returns-in-End-clause-cut g c = stops_quiet c.args.route (End c.in-End.name) c.args.request.now.body.items _ _ _ _ c.in-End.is tt
+returns-in-End-clause-cut g c = stops_quiet _ c.args.route (End c.in-End.name) c.args.request.now.body.items _ _ _ _ c.in-End.is tt
 
 pub returns-in-Edit-clause-cut : goal.returns-in-Edit-clause-cut
-returns-in-Edit-clause-cut g c = stops_quiet c.args.route (Edit c.in-Edit.name) c.args.request.now.body.items _ _ _ _ c.in-Edit.is tt
+returns-in-Edit-clause-cut g c = stops_quiet _ c.args.route (Edit c.in-Edit.name) c.args.request.now.body.items _ _ _ _ c.in-Edit.is tt
 
 pub returns-in-Plan-clause-cut : goal.returns-in-Plan-clause-cut
-returns-in-Plan-clause-cut g c = stops_quiet c.args.route Plan c.args.request.now.body.items _ _ _ _ c.in-Plan.is tt
+returns-in-Plan-clause-cut g c = stops_quiet _ c.args.route Plan c.args.request.now.body.items _ _ _ _ c.in-Plan.is tt
 
 pub returns-in-Begin-clause-cut : goal.returns-in-Begin-clause-cut
 returns-in-Begin-clause-cut g c =
@@ -363,7 +363,7 @@ returns-in-Input-clause-cut g c =
     stops_input c.args.route c.in-Input.name c.args.request.now.body.items c.deref-in-Input.result.now c.args.self.now _ _ c.post_input.new.caches.items c.in-Input.is c.self.view_is c.deref-in-Input.ensures.value stopped) c.post_input.ensures.cut
 
 pub returns-clause-cut : goal.returns-clause-cut
-returns-clause-cut g c = stops_quiet c.args.route Graph c.args.request.now.body.items _ _ _ _ c.in-Graph.is tt
+returns-clause-cut g c = stops_quiet _ c.args.route Graph c.args.request.now.body.items _ _ _ _ c.in-Graph.is tt
 
 pub returns-in-Event-clause-step : goal.returns-in-Event-clause-step
 returns-in-Event-clause-step g c =
