@@ -29,3 +29,4 @@ pub mod Resting
 pub mod Giving
 pub mod Written
 pub mod Writable
+pub mod Cuts

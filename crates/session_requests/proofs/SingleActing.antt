@@ -73,7 +73,7 @@ behind_alike once p values others x sound holds known f g k behind = by (slice_g
     by None e = (f k behind).1 e ∙ sym ((g k behind).1 e)
 
 -- each source gives one value at most in a state: the value of the cell behind it is fresh, and there is one such
-gives_one : OneFreshAt → FittingHolds → GivesOne gives
+pub gives_one : OneFreshAt → FittingHolds → GivesOne gives
 gives_one once holds s x v w g k =
     ∥∥₁_elim g (Coded-set data_code v w) (λ i.
     ∥∥₁_elim k (Coded-set data_code v w) (λ j.

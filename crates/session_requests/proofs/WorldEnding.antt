@@ -61,7 +61,7 @@ can_act a c item h fit = record {
 abbrev pub told_state : Data → Grounds → SessionState → List Data → List Source → Option Tables → Option (State Grounds)
 told_state day g s values ws y = state_told (option_map (told_in day g s values ws) y)
 
-silent : (day : Data) (g : Grounds) (s : SessionState) (values : List Data) (ws : List Source) (y : Option Tables) → told_state day g s values ws y ≡ None → y ≡ None
+pub silent : (day : Data) (g : Grounds) (s : SessionState) (values : List Data) (ws : List Source) (y : Option Tables) → told_state day g s values ws y ≡ None → y ≡ None
 silent day g s values ws None e = refl
 silent day g s values ws (Some t) e = absurd cc
 

@@ -1,4 +1,6 @@
 //! Laws of behaviour formulas.
+ghost use Rattle.fx_behave.specs.Unique.{GivesOne};
+ghost use Rattle.session_requests.specs.Grounds.{gives};
 ghost use Rattle.session_requests.specs.OneActing.{OneActing};
 
 use crate::app_semantics::{fitting_holds, one_fresh_at};
@@ -18,4 +20,12 @@ pub fn one_acting()
     count_once();
     count_if_once();
     sort_once();
+}
+
+/// A law, and no work: a source gives one value at most in a state.
+pub(crate) fn one_source_value()
+    ensures { GivesOne gives }
+{
+    one_fresh_at();
+    fitting_holds();
 }

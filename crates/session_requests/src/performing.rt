@@ -20,10 +20,11 @@ ghost use Rattle.session_requests.specs.Whole.{FormulaWrites, IsInAll};
 ghost use Rattle.session_requests.specs.Writable.{AreAll};
 
 use crate::accepted::{Accepted, SoundApp};
+use crate::acting_laws::one_source_value;
 use crate::app_cells::{App, CellInfo};
 use crate::start::Start;
 use crate::world::SessionWorld;
-use fx_behave::act;
+use fx_behave::{act, cuts_go_on};
 use fx_data::Value;
 use fx_env::Steps;
 use fx_eval::Scope;
@@ -144,8 +145,11 @@ fn perform_over<'a, A: SoundApp, K: Keeper, L: Ledger, S: Start>(
     ensures cut { OnErr result (Goes (IsLost (K.marks keeper.old) (K.marks keeper.new)) (λ t u. AreAll (IsInAll (FormulaWrites (A.app app.now) moment info.now (option_map view item) t session.old)) (drop (length wrote.old.items) wrote.new.items)) (K.told keeper.old) (K.told keeper.new)) }
     ensures loan { K.loan keeper.new ≡ K.loan keeper.old }
 {
-    // Called for what it says: the app is sound.
+    // Called for what they say: the app is sound, a source gives one value, and a whole performing goes on from where one is
+    // cut off.
     app.is_sound();
+    one_source_value();
+    cuts_go_on::<SessionWorld<'_, A, K, S>>();
     let mut world: SessionWorld<'_, A, K, S> = SessionWorld {
         alloc,
         app,

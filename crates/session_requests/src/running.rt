@@ -14,6 +14,7 @@ ghost use Rattle.session_requests.specs.Whole.{IsInAll, RequestWrites, ScreenWri
 ghost use Rattle.session_requests.specs.Writable.{AreAll, RequestMayWrite, ScreenMayWrite, TriggerMayWrite};
 ghost use Rattle.session_state.specs.Changes.{FitsNames};
 
+use crate::acting_laws::one_acting;
 use crate::app_cells::App;
 use crate::performing::perform;
 use crate::trigger::{Trigger, cell_at};
@@ -178,6 +179,8 @@ pub(crate) fn run<K: Keeper, L: Ledger>(
     ensures cut { OnErr result (Goes (IsLost (K.marks keeper.old) (K.marks keeper.new)) (λ t u. AreAll (IsInAll (RequestWrites app.now moment trigger (option_map view item) (scene t session.old))) (drop (length wrote.old.items) wrote.new.items)) (K.told keeper.old) (K.told keeper.new)) }
     ensures loan { K.loan keeper.new ≡ K.loan keeper.old }
 {
+    // The law is called for what it says: a formula does one thing at most.
+    one_acting();
     let value = act(
         alloc, app, before, session, cache, keeper, moment, trigger, item, wrote, steps,
     )?;

@@ -18,6 +18,7 @@ ghost use Rattle.session_requests.specs.Whole.{IsInAll, RequestWrites};
 ghost use Rattle.session_requests.specs.Writable.{AreAll, RequestMayWrite};
 ghost use Rattle.session_state.specs.Changes.{FitsNames};
 
+use crate::acting_laws::one_acting;
 use crate::app_cells::App;
 use crate::running::run;
 use crate::trigger::Trigger;
@@ -85,6 +86,8 @@ fn prepare<K: Keeper, L: Ledger>(
     ensures cut { OnErr result (Goes (IsLost (K.marks keeper.old) (K.marks keeper.new)) (λ t u. AreAll (IsInAll (RequestWrites app.now moment trigger (option_map view item) (scene t (begun session)))) (drop (length wrote.old.items) wrote.new.items)) (K.told keeper.old) (K.told keeper.new)) }
     ensures loan { K.loan keeper.new ≡ K.loan keeper.old }
 {
+    // The law is called for what it says: a formula does one thing at most.
+    one_acting();
     session.take_notices();
     session.take_navigated();
     let value = run(
@@ -165,6 +168,8 @@ fn transact<K: Keeper, L: Ledger>(
     ensures cut { OnErr result (Goes (IsLost (K.marks keeper.old) (K.marks keeper.new)) (λ t u. AreAll (IsInAll (RequestWrites app.now moment trigger (option_map view item) (scene t (begun session)))) (drop (length wrote.old.items) wrote.new.items)) (K.told keeper.old) (K.told keeper.new)) }
     ensures loan { K.loan keeper.new ≡ K.loan keeper.old }
 {
+    // The law is called for what it says: a formula does one thing at most.
+    one_acting();
     match keeper.begin() {
         Ok(()) => {}
         Err(end) => return Err(end),

@@ -20,6 +20,11 @@ use Rattle.session_requests.proofs.Fitting.{fits_answered, put_fits, put_keeps}
 use Rattle.fx_base.specs.Silence.{IsLost}
 use Rattle.session_requests.proofs.Writable.{only_effect, only_none}
 use Rattle.session_requests.specs.Writable.{EffectMayWrite}
+use Rattle.std.proofs.Common.{option_map}
+use Rattle.fx_data.specs.ValueView.{view}
+use Rattle.row_keeper.specs.Tables.{Tables}
+use Rattle.session_requests.proofs.Cuts.{cut_effect, cut_none, on_any}
+use Rattle.session_requests.specs.Whole.{GivenAndWrites, IsInAll}
 use Rattle.session_requests.proofs.acting.take_effect.Goals as goal
 
 pub returns-in-Ok-clause-fit : goal.returns-in-Ok-clause-fit
@@ -112,3 +117,28 @@ returns-in_err-reserve-clause-only g c =
 pub returns-in_err-tell-clause-only : goal.returns-in_err-tell-clause-only
 returns-in_err-tell-clause-only g c =
     only_none (IsLost (g.K.Keeper.marks c.args.keeper.now) (g.K.Keeper.marks c.args.keeper.now)) (EffectMayWrite c.args.app.now (option_to_list c.args.given) c.args.trigger) c.tell.new.wrote.items (g.K.Keeper.told c.args.keeper.now) (c.in_err-tell.ensures.stopped.0 ∙ c.requires.wrote)
+
+pub returns-in-Err-clause-cut : goal.returns-in-Err-clause-cut
+returns-in-Err-clause-cut g c =
+    cut_effect (IsLost (g.K.Keeper.marks c.args.keeper.now) (g.K.Keeper.marks c.accept_request.new.keeper)) c.args.app.now c.args.moment c.args.trigger (option_map view c.args.item) c.args.given c.args.session c.args.wrote.now.items c.tell.new.wrote.items c.accept_request.new.wrote.items
+    (g.K.Keeper.told c.args.keeper.now) (g.K.Keeper.told c.accept_request.new.keeper) c.requires.wrote c.in_ok-tell.ensures.wrote c.accept_request.ensures.prefix c.in-Err.ensures.cut
+
+pub returns-in_err-body-clause-cut : goal.returns-in_err-body-clause-cut
+returns-in_err-body-clause-cut g c =
+    on_any _ (cut_none (IsLost (g.K.Keeper.marks c.args.keeper.now) (g.K.Keeper.marks c.args.keeper.now)) (λ (t : Tables). IsInAll (GivenAndWrites c.args.app.now c.args.moment c.args.trigger (option_map view c.args.item) (option_to_list c.args.given) c.args.session t)) c.args.wrote.now.items
+    (g.K.Keeper.told c.args.keeper.now) c.requires.wrote)
+
+pub returns-in_err-kept-clause-cut : goal.returns-in_err-kept-clause-cut
+returns-in_err-kept-clause-cut g c =
+    on_any _ (cut_none (IsLost (g.K.Keeper.marks c.args.keeper.now) (g.K.Keeper.marks c.args.keeper.now)) (λ (t : Tables). IsInAll (GivenAndWrites c.args.app.now c.args.moment c.args.trigger (option_map view c.args.item) (option_to_list c.args.given) c.args.session t)) c.args.wrote.now.items
+    (g.K.Keeper.told c.args.keeper.now) c.requires.wrote)
+
+pub returns-in_err-reserve-clause-cut : goal.returns-in_err-reserve-clause-cut
+returns-in_err-reserve-clause-cut g c =
+    on_any _ (cut_none (IsLost (g.K.Keeper.marks c.args.keeper.now) (g.K.Keeper.marks c.args.keeper.now)) (λ (t : Tables). IsInAll (GivenAndWrites c.args.app.now c.args.moment c.args.trigger (option_map view c.args.item) (option_to_list c.args.given) c.args.session t)) c.args.wrote.now.items
+    (g.K.Keeper.told c.args.keeper.now) c.requires.wrote)
+
+pub returns-in_err-tell-clause-cut : goal.returns-in_err-tell-clause-cut
+returns-in_err-tell-clause-cut g c =
+    on_any _ (cut_none (IsLost (g.K.Keeper.marks c.args.keeper.now) (g.K.Keeper.marks c.args.keeper.now)) (λ (t : Tables). IsInAll (GivenAndWrites c.args.app.now c.args.moment c.args.trigger (option_map view c.args.item) (option_to_list c.args.given) c.args.session t)) c.tell.new.wrote.items
+    (g.K.Keeper.told c.args.keeper.now) (c.in_err-tell.ensures.stopped.0 ∙ c.requires.wrote))

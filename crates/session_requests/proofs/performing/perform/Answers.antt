@@ -7,6 +7,11 @@ use Rattle.recalc.proofs.Leaving.{left_same, left_then, left_wider}
 use Rattle.session_requests.proofs.Caches.{among_before}
 use Rattle.session_requests.proofs.WorldEnding.{left_alone}
 use Rattle.session_requests.proofs.Writable.{only_same}
+use Rattle.std.proofs.Common.{option_map}
+use Rattle.fx_data.specs.ValueView.{view}
+use Rattle.row_keeper.specs.Tables.{Tables}
+use Rattle.session_requests.proofs.Cuts.{cut_same, on_any}
+use Rattle.session_requests.specs.Whole.{FormulaWrites, IsInAll}
 use Rattle.session_requests.proofs.performing.perform.Goals as goal
 
 pub returns-in_err-day-clause-leaves : goal.returns-in_err-day-clause-leaves
@@ -28,3 +33,8 @@ returns-clause-clean g c = λ start left.
 pub returns-in_err-day-clause-only : goal.returns-in_err-day-clause-only
 returns-in_err-day-clause-only g c =
     only_same (IsLost (g.K.Keeper.marks c.args.keeper.now) (g.K.Keeper.marks c.args.keeper.now)) (MayWrite c.args.info.now.core) c.args.wrote.now.items (g.K.Keeper.told c.args.keeper.now)
+
+pub returns-in_err-day-clause-cut : goal.returns-in_err-day-clause-cut
+returns-in_err-day-clause-cut g c =
+    on_any _ (cut_same (IsLost (g.K.Keeper.marks c.args.keeper.now) (g.K.Keeper.marks c.args.keeper.now)) (λ (t : Tables). IsInAll (FormulaWrites c.args.app.now c.args.moment c.args.info.now (option_map view c.args.item) t c.args.session.now)) c.args.wrote.now.items
+    (g.K.Keeper.told c.args.keeper.now))

@@ -27,6 +27,8 @@ use Rattle.session_requests.specs.Writable.{AreAll}
 use Rattle.session_requests.specs.Grounds.{grounds}
 use Rattle.session_requests.proofs.Anchoring.{cache_same, count_same, keeper_same, loan_same, session_same, stands_same, wrote_same}
 use Rattle.session_requests.proofs.WorldEnding.{acts_from, began_goes, cached_from, can_act, carried_all, carried_both, failed_by, later_from, leaves_from, no_error, only_from}
+use Rattle.session_requests.proofs.Cuts.{cut_from}
+use Rattle.session_requests.specs.Whole.{FormulaWrites, IsInAll}
 use Rattle.session_requests.proofs.performing.perform_over.Goals as goal
 
 pub act-requires : goal.act-requires
@@ -419,3 +421,26 @@ returns-clause-only g c =
     (subst (λ n. Goes (IsLost (marks old) (marks now)) (λ (t u : Tables). AreAll may (drop n w.wrote.now.items)) (told old) (told now)) count
     (only_from (IsLost (marks old) (marks now)) may (view c.args.day.now) (view w.day.now) (grounds (g.A.SoundApp.app c.args.app.now) c.args.moment (g.K.Keeper.began old)) (grounds (g.A.SoundApp.app w.app.now) w.moment (g.K.Keeper.began now)) c.args.session.now w.session.now
     c.args.cache.now.values.cells w.cache.now.values.cells (drop c.args.earlier c.args.wrote.now.items) (drop w.earlier w.wrote.now.items) (told old) (told now) none c.act.ensures.only))
+
+pub returns-clause-cut : goal.returns-clause-cut
+returns-clause-cut g c =
+    let w = c.act.new.world in
+    let told = g.K.Keeper.told in
+    let marks = g.K.Keeper.marks in
+    let old = c.args.keeper.now in
+    let now = w.keeper.now in
+    let a = g.A.SoundApp.app c.args.app.now in
+    let item = option_map view c.args.item in
+    let kept = keeper_same (anchor (g.A.SoundApp.app w.app.now) w.moment w.before.now (take w.earlier w.wrote.now.items)) (anchor (g.A.SoundApp.app c.args.app.now) c.args.moment c.args.before.now (take c.args.earlier c.args.wrote.now.items)) _ _ _ _ _ _ _ _ _ _ _ _ c.act.ensures.passed.fixed in
+    let listed = wrote_same (anchor (g.A.SoundApp.app w.app.now) w.moment w.before.now (take w.earlier w.wrote.now.items)) (anchor (g.A.SoundApp.app c.args.app.now) c.args.moment c.args.before.now (take c.args.earlier c.args.wrote.now.items)) _ _ _ _ _ _ _ _ _ _ _ _ c.act.ensures.passed.fixed in
+    let stands = stands_same (anchor (g.A.SoundApp.app w.app.now) w.moment w.before.now (take w.earlier w.wrote.now.items)) (anchor (g.A.SoundApp.app c.args.app.now) c.args.moment c.args.before.now (take c.args.earlier c.args.wrote.now.items)) _ _ _ _ _ _ _ _ _ _ _ _ c.act.ensures.passed.fixed in
+    let front : take c.args.earlier c.args.wrote.now.items ≡ c.args.wrote.now.items = ap (λ n. take n c.args.wrote.now.items) c.requires.earlier ∙ take-length c.args.wrote.now.items in
+    let count : w.earlier ≡ length c.args.wrote.now.items = count_same w.earlier w.wrote.now.items c.args.wrote.now.items w.counted (stands.earlier ∙ front) in
+    let none : drop c.args.earlier c.args.wrote.now.items ≡ [] = ap (λ n. drop n c.args.wrote.now.items) c.requires.earlier ∙ drop-length c.args.wrote.now.items in
+    let empty : held c.new.result.items c.args.item None ≡ outermost item = ap (λ (vs : List Value). held vs c.args.item None) c.new.ensures.items in
+    carried_both (λ (k : g.row.K.Denot) (zs : List Source). Goes (IsLost (marks old) (marks k)) (λ (t u : Tables). AreAll (IsInAll (FormulaWrites a c.args.moment c.args.info.now item t c.args.session.now)) (drop (length c.args.wrote.now.items) zs)) (told old) (told k))
+    now _ w.wrote.now.items _ (search (rules, kept)) (search (rules, listed))
+    (subst (λ n. Goes (IsLost (marks old) (marks now)) (λ (t u : Tables). AreAll (IsInAll (FormulaWrites a c.args.moment c.args.info.now item t c.args.session.now)) (drop n w.wrote.now.items)) (told old) (told now)) count
+    (cut_from c.cuts_go_on.ensures c.one_source_value.ensures (IsLost (marks old) (marks now)) a c.args.moment c.args.info.now item (held c.new.result.items c.args.item None) (g.K.Keeper.began old) (view c.args.day.now) (view w.day.now) (grounds (g.A.SoundApp.app w.app.now) w.moment (g.K.Keeper.began now))
+    c.args.session.now w.session.now c.args.cache.now.values.cells w.cache.now.values.cells (drop c.args.earlier c.args.wrote.now.items) (drop w.earlier w.wrote.now.items) (told old) (told now)
+    none empty c.act.ensures.passed.state c.in-Err.ensures.cut))

@@ -1,5 +1,5 @@
 use Rattle.std.proofs.Common.{◌≡◌, Option, Some, drop, length, option_map, slice_get, sym}
-use Rattle.std.proofs.lemmas.Result.{IfOk-weaker}
+use Rattle.std.proofs.lemmas.Result.{IfOk-weaker, on_err_weaker}
 use Rattle.fx_base.specs.Silence.{IsLost}
 use Rattle.fx_data.specs.ValueView.{view}
 use Rattle.std.proofs.Math.Seq.{take-length}
@@ -10,6 +10,10 @@ use Rattle.session_requests.proofs.RequestFitting.{is_acting, item_fits, there_a
 use Rattle.fx_behave.specs.Writable.{MayWrite}
 use Rattle.session_requests.proofs.Writable.{only_more, only_same, trigger_may}
 use Rattle.session_requests.specs.Writable.{TriggerMayWrite}
+use Rattle.row_keeper.specs.Tables.{Tables}
+use Rattle.session_requests.proofs.Cuts.{cut_more, trigger_in}
+use Rattle.session_requests.specs.Scenes.{scene}
+use Rattle.session_requests.specs.Whole.{FormulaWrites, IsInAll, TriggerWrites}
 use Rattle.session_requests.proofs.running.act.Goals as goal
 
 pub perform-requires-clause-acting : goal.perform-requires-clause-acting
@@ -68,3 +72,15 @@ returns-in-Some-clause-only g c =
 pub returns-in-None-clause-only : goal.returns-in-None-clause-only
 returns-in-None-clause-only g c =
     only_same (IsLost (g.K.Keeper.marks c.args.keeper.now) (g.K.Keeper.marks c.args.keeper.now)) (TriggerMayWrite c.args.app.now c.args.trigger) c.args.wrote.now.items (g.K.Keeper.told c.args.keeper.now)
+
+pub returns-in-Some-clause-cut : goal.returns-in-Some-clause-cut
+returns-in-Some-clause-cut g c =
+    let told = g.K.Keeper.told in
+    let marks = g.K.Keeper.marks in
+    let info = c.index-as_slice-place.result in
+    let item = option_map view c.args.item in
+    on_err_weaker c.perform.result
+    (cut_more (IsLost (marks c.args.keeper.now) (marks c.perform.new.keeper)) (λ (t : Tables). IsInAll (FormulaWrites c.args.app.now c.args.moment info item t c.args.session.now))
+    (λ (t : Tables). IsInAll (TriggerWrites c.args.app.now c.args.moment c.args.trigger item (scene t c.args.session.now))) (drop (length c.args.wrote.now.items) c.perform.new.wrote.items) (told c.args.keeper.now) (told c.perform.new.keeper)
+    (trigger_in c.args.app.now c.args.moment c.args.trigger item c.in-Some.place info c.args.session.now (sym c.in-Some.ensures.place)
+    (there_at c.args.app.now.cells c.as_slice.result.now c.in-Some.place info c.as_slice.ensures c.in-Some.ensures.within c.index-as_slice-place.is))) c.perform.ensures.cut

@@ -7,6 +7,10 @@ use Rattle.session_requests.proofs.Resting.{arrived_but, run_alone}
 use Rattle.session_requests.proofs.Undone.{but_then, cached_as}
 use Rattle.session_requests.proofs.Writable.{only_more, only_two}
 use Rattle.session_requests.specs.Writable.{RequestMayWrite, ScreenMayWrite, TriggerMayWrite}
+use Rattle.row_keeper.specs.Tables.{Tables}
+use Rattle.session_requests.proofs.Cuts.{cut_more, cut_shown, on_any, request_in}
+use Rattle.session_requests.specs.Scenes.{scene}
+use Rattle.session_requests.specs.Whole.{IsInAll, RequestWrites, TriggerWrites}
 use Rattle.session_requests.proofs.running.run.Goals as goal
 
 pub show-requires-clause-fits : goal.show-requires-clause-fits
@@ -91,3 +95,20 @@ returns-clause-only g c =
     only_two (marks c.args.keeper.now) (marks c.act.new.keeper) (marks c.show.new.keeper) (TriggerMayWrite c.args.app.now c.args.trigger) (ScreenMayWrite c.args.app.now) (RequestMayWrite c.args.app.now c.args.trigger)
     c.args.wrote.now.items c.act.new.wrote.items c.show.new.wrote.items (told c.args.keeper.now) (told c.act.new.keeper) (told c.show.new.keeper) (λ x h. inl h) (λ x h. inr h) c.act.ensures.cause.later c.show.ensures.cause.later
     c.act.ensures.prefix c.show.ensures.prefix c.act.ensures.only c.show.ensures.only
+
+pub returns-in_err-value-clause-cut : goal.returns-in_err-value-clause-cut
+returns-in_err-value-clause-cut g c =
+    let told = g.K.Keeper.told in
+    let marks = g.K.Keeper.marks in
+    let item = option_map view c.args.item in
+    on_any _ (cut_more (IsLost (marks c.args.keeper.now) (marks c.act.new.keeper)) (λ (t : Tables). IsInAll (TriggerWrites c.args.app.now c.args.moment c.args.trigger item (scene t c.args.session.now)))
+    (λ (t : Tables). IsInAll (RequestWrites c.args.app.now c.args.moment c.args.trigger item (scene t c.args.session.now))) (drop (length c.args.wrote.now.items) c.act.new.wrote.items) (told c.args.keeper.now) (told c.act.new.keeper)
+    (request_in c.args.app.now c.args.moment c.args.trigger item c.args.session.now) c.in_err-value.ensures.cut)
+
+pub returns-in_err-show-clause-cut : goal.returns-in_err-show-clause-cut
+returns-in_err-show-clause-cut g c =
+    let told = g.K.Keeper.told in
+    let marks = g.K.Keeper.marks in
+    on_any _ (cut_shown c.one_acting.ensures (marks c.args.keeper.now) (marks c.act.new.keeper) (marks c.show.new.keeper) c.args.app.now c.args.moment c.args.trigger (option_map view c.args.item) c.args.session.now c.act.new.session c.take_navigated.new.self (view c.in_ok-value.value)
+    c.args.wrote.now.items c.act.new.wrote.items c.show.new.wrote.items (told c.args.keeper.now) (told c.act.new.keeper) (told c.show.new.keeper) c.act.ensures.cause.later c.show.ensures.cause.later
+    (sym c.take_navigated.ensures.navigated ∙ c.if-not-take_navigated.false) c.take_navigated.ensures.taken c.act.ensures.prefix c.show.ensures.prefix c.in_ok-value.ensures.wrote c.in_err-show.ensures.cut)

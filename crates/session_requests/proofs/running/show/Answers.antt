@@ -8,6 +8,11 @@ use Rattle.session_requests.proofs.Undone.{but_then, cached_as}
 use Rattle.session_requests.proofs.Writable.{only_more}
 use Rattle.session_requests.specs.Writable.{ScreenMayWrite, TriggerMayWrite}
 use Rattle.session_requests.specs.declared.trigger.Trigger.TheVariants.{OnVisible}
+use Rattle.std.proofs.Common.{None}
+use Rattle.row_keeper.specs.Tables.{Tables}
+use Rattle.session_requests.proofs.Cuts.{cut_more, on_any, screen_in}
+use Rattle.session_requests.specs.Scenes.{scene}
+use Rattle.session_requests.specs.Whole.{IsInAll, ScreenWrites, TriggerWrites}
 use Rattle.session_requests.proofs.running.show.Goals as goal
 
 pub act-requires-clause-fits : goal.act-requires-clause-fits
@@ -51,3 +56,11 @@ pub returns-clause-only : goal.returns-clause-only
 returns-clause-only g c =
     only_more (IsLost (g.K.Keeper.marks c.args.keeper.now) (g.K.Keeper.marks c.act.new.keeper)) (TriggerMayWrite c.args.app.now (OnVisible c.screen.result)) (ScreenMayWrite c.args.app.now) (drop (length c.args.wrote.now.items) c.act.new.wrote.items)
     (g.K.Keeper.told c.args.keeper.now) (g.K.Keeper.told c.act.new.keeper) (λ x h. (c.screen.result, h)) c.act.ensures.only
+
+pub returns-in_err-act-clause-cut : goal.returns-in_err-act-clause-cut
+returns-in_err-act-clause-cut g c =
+    let told = g.K.Keeper.told in
+    let marks = g.K.Keeper.marks in
+    on_any _ (cut_more (IsLost (marks c.args.keeper.now) (marks c.act.new.keeper)) (λ (t : Tables). IsInAll (TriggerWrites c.args.app.now c.args.moment (OnVisible c.screen.result) None (scene t c.take_navigated.new.self)))
+    (λ (t : Tables). IsInAll (ScreenWrites c.args.app.now c.args.moment (scene t c.args.session.now))) (drop (length c.args.wrote.now.items) c.act.new.wrote.items) (told c.args.keeper.now) (told c.act.new.keeper)
+    (screen_in c.args.app.now c.args.moment c.screen.result c.args.session.now c.take_navigated.new.self c.take_navigated.ensures.taken (c.screen.ensures ∙ ap (λ (s : SessionState). s.screen) c.take_navigated.ensures.taken)) c.in_err-act.ensures.cut)

@@ -8,6 +8,9 @@ use Rattle.session_requests.specs.Scenes.{scene}
 use Rattle.session_requests.proofs.RequestFitting.{fits_begun, fits_quiet, is_begun}
 use Rattle.session_requests.proofs.Resting.{begun_but, quiet_but}
 use Rattle.session_requests.proofs.Undone.{but_then, cached_as, pending_undone}
+use Rattle.session_requests.proofs.Cuts.{cut_whole, on_any}
+use Rattle.session_requests.specs.Whole.{IsInAll, RequestWrites}
+use Rattle.session_requests.specs.Writable.{AreAll}
 use Rattle.session_requests.proofs.transaction.prepare.Goals as goal
 
 pub run-requires-clause-fits : goal.run-requires-clause-fits
@@ -72,3 +75,21 @@ returns-clause-wrote g c =
           (λ (t u : Tables). RunsWriting c.args.app.now c.args.moment c.args.trigger (option_map view c.args.item) (scene t s) value (scene u end) (drop (length c.args.wrote.now.items) c.run.new.wrote.items)) (told c.args.keeper.now) (told c.run.new.keeper))
           (is_begun c.args.session c.take_notices.new.self c.take_navigated.new.self c.take_notices.ensures.none c.take_navigated.ensures.taken) c.in_ok-value.ensures.wrote,
     )
+
+pub returns-in_err-value-clause-cut : goal.returns-in_err-value-clause-cut
+returns-in_err-value-clause-cut g c =
+    let told = g.K.Keeper.told in
+    let marks = g.K.Keeper.marks in
+    on_any _ (subst (λ (s : SessionState). Goes (IsLost (marks c.args.keeper.now) (marks c.run.new.keeper))
+    (λ (t u : Tables). AreAll (IsInAll (RequestWrites c.args.app.now c.args.moment c.args.trigger (option_map view c.args.item) (scene t s))) (drop (length c.args.wrote.now.items) c.run.new.wrote.items)) (told c.args.keeper.now) (told c.run.new.keeper))
+    (is_begun c.args.session c.take_notices.new.self c.take_navigated.new.self c.take_notices.ensures.none c.take_navigated.ensures.taken) c.in_err-value.ensures.cut)
+
+pub returns-in_err-replied-clause-cut : goal.returns-in_err-replied-clause-cut
+returns-in_err-replied-clause-cut g c =
+    let told = g.K.Keeper.told in
+    let marks = g.K.Keeper.marks in
+    on_any _ (subst (λ (s : SessionState). Goes (IsLost (marks c.args.keeper.now) (marks c.run.new.keeper))
+    (λ (t u : Tables). AreAll (IsInAll (RequestWrites c.args.app.now c.args.moment c.args.trigger (option_map view c.args.item) (scene t s))) (drop (length c.args.wrote.now.items) c.run.new.wrote.items)) (told c.args.keeper.now) (told c.run.new.keeper))
+    (is_begun c.args.session c.take_notices.new.self c.take_navigated.new.self c.take_notices.ensures.none c.take_navigated.ensures.taken)
+    (cut_whole c.one_acting.ensures (IsLost (marks c.args.keeper.now) (marks c.run.new.keeper)) c.args.app.now c.args.moment c.args.trigger (option_map view c.args.item) c.take_navigated.new.self c.run.new.session (view c.in_ok-value.value)
+    (drop (length c.args.wrote.now.items) c.run.new.wrote.items) (told c.args.keeper.now) (told c.run.new.keeper) c.in_ok-value.ensures.wrote))

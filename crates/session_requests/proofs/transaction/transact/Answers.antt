@@ -11,6 +11,8 @@ use Rattle.session_requests.proofs.Resting.{later_first}
 use Rattle.session_requests.proofs.Undone.{but_back, cached_pending, cached_stays, pending_stays, tables_through}
 use Rattle.session_requests.proofs.Writable.{only_ended, only_stayed, only_undone}
 use Rattle.session_requests.specs.Writable.{AreAll, RequestMayWrite}
+use Rattle.session_requests.proofs.Cuts.{cut_stayed, cut_undone, cut_whole}
+use Rattle.session_requests.specs.Whole.{IsInAll, RequestWrites}
 use Rattle.session_requests.proofs.transaction.transact.Goals as goal
 
 pub prepare-requires-clause-cached : goal.prepare-requires-clause-cached
@@ -133,4 +135,35 @@ returns-in-Err-prepare-clause-only g c =
     let second = c.prepare.new.keeper in
     only_undone (marks c.args.keeper.now) (marks first) (marks second) (marks c.back.new.self) (AreAll (RequestMayWrite c.args.app.now c.args.trigger) (drop (length c.args.wrote.now.items) c.prepare.new.wrote.items))
     (told c.args.keeper.now) (told first) (told second) (began second) (told c.back.new.self) c.begin.ensures.cause.later c.prepare.ensures.cause.later c.back.ensures.later c.begin.ensures.tables c.prepare.ensures.only
+    (subst (λ (z : Option Tables). Goes (IsLost (marks first) (marks second)) Stays z (began second)) c.in-Ok.ensures.ok.1 c.prepare.ensures.began) (g.met.K.Keeper.quiet second) c.back.ensures.tables
+
+pub returns-in-Err-clause-cut : goal.returns-in-Err-clause-cut
+returns-in-Err-clause-cut g c =
+    cut_stayed (IsLost (g.K.Keeper.marks c.args.keeper.now) (g.K.Keeper.marks c.begin.new.self)) (λ (t : Tables). IsInAll (RequestWrites c.args.app.now c.args.moment c.args.trigger (option_map view c.args.item) (scene t (begun c.args.session)))) c.args.wrote.now.items
+    (g.K.Keeper.told c.args.keeper.now) (g.K.Keeper.told c.begin.new.self) c.begin.ensures.tables
+
+pub returns-in-Err-settle-clause-cut : goal.returns-in-Err-settle-clause-cut
+returns-in-Err-settle-clause-cut g c =
+    let told = g.K.Keeper.told in
+    let began = g.K.Keeper.began in
+    let marks = g.K.Keeper.marks in
+    let first = c.begin.new.self in
+    let second = c.prepare.new.keeper in
+    let ws = drop (length c.args.wrote.now.items) c.prepare.new.wrote.items in
+    let h = c.in-Ok-prepare.ensures.wrote in
+    cut_undone (marks c.args.keeper.now) (marks first) (marks second) (marks c.settle.new.keeper) (λ (t : Tables). AreAll (IsInAll (RequestWrites c.args.app.now c.args.moment c.args.trigger (option_map view c.args.item) (scene t (begun c.args.session)))) ws)
+    (told c.args.keeper.now) (told first) (told second) (began second) (told c.settle.new.keeper) c.begin.ensures.cause.later c.prepare.ensures.cause.later c.settle.ensures.cause.later c.begin.ensures.tables
+    (cut_whole c.one_acting.ensures (IsLost (marks first) (marks second)) c.args.app.now c.args.moment c.args.trigger (option_map view c.args.item) (begun c.args.session) h.1 h.0 ws (told first) (told second) h.2)
+    (subst (λ (z : Option Tables). Goes (IsLost (marks first) (marks second)) Stays z (began second)) c.in-Ok.ensures.ok.1 c.prepare.ensures.began) (g.met.K.Keeper.quiet second) c.in-Err-settle.ensures.stopped
+
+pub returns-in-Err-prepare-clause-cut : goal.returns-in-Err-prepare-clause-cut
+returns-in-Err-prepare-clause-cut g c =
+    let told = g.K.Keeper.told in
+    let began = g.K.Keeper.began in
+    let marks = g.K.Keeper.marks in
+    let first = c.begin.new.self in
+    let second = c.prepare.new.keeper in
+    let ws = drop (length c.args.wrote.now.items) c.prepare.new.wrote.items in
+    cut_undone (marks c.args.keeper.now) (marks first) (marks second) (marks c.back.new.self) (λ (t : Tables). AreAll (IsInAll (RequestWrites c.args.app.now c.args.moment c.args.trigger (option_map view c.args.item) (scene t (begun c.args.session)))) ws)
+    (told c.args.keeper.now) (told first) (told second) (began second) (told c.back.new.self) c.begin.ensures.cause.later c.prepare.ensures.cause.later c.back.ensures.later c.begin.ensures.tables c.in-Err-prepare.ensures.cut
     (subst (λ (z : Option Tables). Goes (IsLost (marks first) (marks second)) Stays z (began second)) c.in-Ok.ensures.ok.1 c.prepare.ensures.began) (g.met.K.Keeper.quiet second) c.back.ensures.tables
