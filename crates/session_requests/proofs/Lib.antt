@@ -8,6 +8,7 @@ pub mod Outcomes
 pub mod Passing
 pub mod Posted
 pub mod Sending
+pub mod WholeSent
 pub use Rattle.recalc.proofs as of_recalc
 pub mod WorldTelling
 pub mod Readying

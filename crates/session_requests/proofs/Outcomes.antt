@@ -58,10 +58,10 @@ abbrev Alike : List ℕ → List ℕ → Tables → Tables → (a a' b b' : List
 Alike said said' u v a a' b b' = (said ≡ said') × (u ≡ v) × (a ≡ b → a' ≡ b')
 
 -- an app and a session of it of which the laws hold
-record IsGood (p : Present) : Type 0 where
-  sound : IsSound p.app
-  holds : HoldsFitting p.app.names p.session
-  known : AreKnown p.app p.tables
+pub record IsGood (p : Present) : Type 0 where
+  pub sound : IsSound p.app
+  pub holds : HoldsFitting p.app.names p.session
+  pub known : AreKnown p.app p.tables
 
 -- ---- a control is visible or not
 
@@ -83,7 +83,7 @@ one_shown one p values k None item b b' good fits x y = x ∙ sym y
 
 -- ---- one verdict
 
-one_verdict : OneValue → (p : Present) (values : ℕ → Data) (r v w : Result Target Refusal) → IsGood p → CellsFit p.app values → IsVerdict p values r v → IsVerdict p values r w → v ≡ w
+pub one_verdict : OneValue → (p : Present) (values : ℕ → Data) (r v w : Result Target Refusal) → IsGood p → CellsFit p.app values → IsVerdict p values r v → IsVerdict p values r w → v ≡ w
 one_verdict one p values (Err r) v w good fits x y = x ∙ sym y
 one_verdict one p values (Ok t) v w good fits x y =
     x.2 ∙ ap (λ (b : Bool). or_refused b 17 (Ok t)) (one_shown one p values t.control (gallery_around p.app t.control) t.item x.0 y.0 good fits x.1 y.1) ∙ sym y.2
@@ -92,7 +92,7 @@ one_verdict one p values (Ok t) v w good fits x y =
 abbrev let_in : Target → Result Target Refusal
 let_in t = Ok t
 
-verdict_ok : (p : Present) (values : ℕ → Data) (r : Result Target Refusal) (t : Target) → IsVerdict p values r (Ok t) → r ≡ Ok t
+pub verdict_ok : (p : Present) (values : ℕ → Data) (r : Result Target Refusal) (t : Target) → IsVerdict p values r (Ok t) → r ≡ Ok t
 verdict_ok p values (Err f) t h = absurd cc
 verdict_ok p values (Ok u) t h = by h.0 h.2
   where
@@ -103,7 +103,7 @@ verdict_ok p values (Ok u) t h = by h.0 h.2
 -- ---- what is looked at decides
 
 module _ (p : Present) (values others : ℕ → Data) where
-  verdict_over : (s : SessionState) (e : Event) (r v : Result Target Refusal) → event_target p.app.names s values e ≡ r → ((d : ℕ) → EventLooksAt p.app e d → others d ≡ values d) → IsVerdict p others r v → IsVerdict p values r v
+  pub verdict_over : (s : SessionState) (e : Event) (r v : Result Target Refusal) → event_target p.app.names s values e ≡ r → ((d : ℕ) → EventLooksAt p.app e d → others d ≡ values d) → IsVerdict p others r v → IsVerdict p values r v
   verdict_over s e (Err f) v is h x = x
   verdict_over s e (Ok t) v is h x = (x.0, shown_over p values others e t.control t.item x.0 (event_number p.app.names s values e t is) h x.1, x.2)
 
@@ -124,11 +124,11 @@ module _ (p : Present) (values others : ℕ → Data) where
       (seen_same p.app values others e t (target_is p.app.names s values e t through) (event_number p.app.names s values e t through) h) x
 
 -- values that are fresh where they are looked at agree there
-agreed : OneFreshAt → (p : Present) (looked : ℕ → Type 0) (values others : ℕ → Data) → IsGood p → ∥ AreFreshAt p looked values ∥₁ → ∥ AreFreshAt p looked others ∥₁ → (k : ℕ) → looked k → others k ≡ values k
+pub agreed : OneFreshAt → (p : Present) (looked : ℕ → Type 0) (values others : ℕ → Data) → IsGood p → ∥ AreFreshAt p looked values ∥₁ → ∥ AreFreshAt p looked others ∥₁ → (k : ℕ) → looked k → others k ≡ values k
 agreed one p looked values others good x y k l =
     ∥∥₁_elim x (Coded-set data_code (others k) (values k)) (λ f. ∥∥₁_elim y (Coded-set data_code (others k) (values k)) (λ g. agrees one p looked values others good.sound good.holds good.known f g k l))
 
-all_fit : (p : Present) (looked : ℕ → Type 0) (values : ℕ → Data) → ∥ AreFreshAt p looked values ∥₁ → CellsFit p.app values
+pub all_fit : (p : Present) (looked : ℕ → Type 0) (values : ℕ → Data) → ∥ AreFreshAt p looked values ∥₁ → CellsFit p.app values
 all_fit p looked values x = ∥∥₁_elim x (hlevel (Bool-set, props)) (λ f. f.fits)
 
 -- ---- tables that are told
@@ -136,7 +136,7 @@ all_fit p looked values x = ∥∥₁_elim x (hlevel (Bool-set, props)) (λ f. f
 hold : (schema : Schema) (t : Tables) → AreStatesOf schema.tables t.states → HoldRows schema (rows_told (Some t))
 hold schema t are k shape e = subst (λ (rows : List TableRow). All (IsRowOf shape) rows) (sym (rows_are t.states k)) (state_is schema.tables t.states k shape are e).fit
 
-known_of : (app : App) (t : Tables) → AreSound app.names.schema (Some t) → AreKnown app (rows_told (Some t))
+pub known_of : (app : App) (t : Tables) → AreSound app.names.schema (Some t) → AreKnown app (rows_told (Some t))
 known_of app t sound = record { told = λ k c f. refl; fit = hold app.names.schema t sound }
 
 -- what is told at the end was told as the checks were made, and is what was told at first
@@ -162,7 +162,7 @@ effects_alike one lost lost' app moment trigger item name body seq s t u v a a' 
 
 -- ---- one outcome
 
-one_session : (name : List ℕ) (a b : List (Named SessionState)) (s s' : SessionState) → find name a ≡ find name b → find name a ≡ Some s → find name b ≡ Some s' → s' ≡ s
+pub one_session : (name : List ℕ) (a b : List (Named SessionState)) (s s' : SessionState) → find name a ≡ find name b → find name a ≡ Some s → find name b ≡ Some s' → s' ≡ s
 one_session name a b s s' same e f = let both : Some s' ≡ Some s = sym f ∙ sym same ∙ e in cc
 
 refused_alike : (t u v : Tables) (words words' said said' : List ℕ) (a a' b b' : List (Named SessionState)) → words ≡ words' → (said ≡ words) × (a' ≡ a) × (Some u ≡ Some t) → (said' ≡ words') × (b' ≡ b) × (Some v ≡ Some t) → Alike said said' u v a a' b b'

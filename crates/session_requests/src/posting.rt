@@ -27,9 +27,10 @@ ghost use Rattle.session_requests.specs.Writable.{AreAll, EventMayWrite, InputMa
 
 use crate::acting::{end_event, end_input};
 use crate::app_cells::App;
-use crate::app_semantics::fitting_holds;
+use crate::app_semantics::{fitting_holds, one_fresh_at};
 use crate::checks::{event_target, input_target, plain};
 use crate::event::Event;
+use crate::fx_semantics::one_value;
 use crate::input::Input;
 use crate::looking::{event_cells, input_cells};
 use crate::shown::control_named;
@@ -183,6 +184,7 @@ fn act_input<K: Keeper, L: Ledger>(
     ensures loan { K.loan keeper.new ≡ K.loan keeper.old }
 {
     fitting_holds();
+    one_fresh_at();
     look_for_input(alloc, app, &session, cache, keeper, &input, moment, steps)?;
     let seq = input.seq;
     let values = cache.valued().as_slice();
@@ -332,6 +334,8 @@ fn act_event<K: Keeper, L: Ledger>(
     ensures loan { K.loan keeper.new ≡ K.loan keeper.old }
 {
     fitting_holds();
+    one_fresh_at();
+    one_value();
     look_for_event(alloc, app, &session, cache, keeper, event, moment, steps)?;
     let verdict = judge_event(alloc, app, &session, keeper, cache.valued(), event, steps)?;
     end_event(

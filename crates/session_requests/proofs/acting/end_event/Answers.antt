@@ -16,6 +16,8 @@ use Rattle.session_requests.proofs.Items.{item_within}
 use Rattle.session_requests.proofs.Posted.{event_ends, has_gallery, of_ok}
 use Rattle.session_requests.proofs.Writable.{only_none, only_target}
 use Rattle.session_requests.specs.Writable.{TargetMayWrite}
+use Rattle.session_requests.proofs.WholeSent.{cut_none, cut_target, on_err}
+use Rattle.session_requests.specs.Whole.{TargetWrites}
 use Rattle.session_requests.proofs.acting.end_event.Goals as goal
 
 pub choose-requires : goal.choose-requires
@@ -77,3 +79,14 @@ returns-in_ok-item-in-Ok-clause-only g c =
 pub returns-in_err-item-in-Ok-clause-only : goal.returns-in_err-item-in-Ok-clause-only
 returns-in_err-item-in-Ok-clause-only g c =
     only_none (IsLost (g.K.Keeper.marks c.args.keeper.now) (g.K.Keeper.marks c.args.keeper.now)) (TargetMayWrite c.args.app.now c.args.verdict) c.args.wrote.now.items (g.K.Keeper.told c.args.keeper.now) c.requires.wrote
+
+pub returns-in_ok-item-in-Ok-clause-cut : goal.returns-in_ok-item-in-Ok-clause-cut
+returns-in_ok-item-in-Ok-clause-cut g c =
+    cut_target (IsLost (g.K.Keeper.marks c.args.keeper.now) (g.K.Keeper.marks c.take_effect.new.keeper)) c.args.app.now c.args.moment c.args.session c.choose.new.session (value_of c.args.cache.now) c.args.verdict c.in-Ok.target
+    (option_map view c.in_ok-item-in-Ok.item) (option_to_list c.chosen_by-chosen.result) c.take_effect.new.wrote.items (g.K.Keeper.told c.args.keeper.now) (g.K.Keeper.told c.take_effect.new.keeper) c.take_effect.result
+    c.in-Ok.is c.in_ok-item-in-Ok.ensures c.choose.ensures c.chosen_by-chosen.ensures c.take_effect.ensures.cut
+
+pub returns-in_err-item-in-Ok-clause-cut : goal.returns-in_err-item-in-Ok-clause-cut
+returns-in_err-item-in-Ok-clause-cut g c =
+    on_err _
+    (cut_none (IsLost (g.K.Keeper.marks c.args.keeper.now) (g.K.Keeper.marks c.args.keeper.now)) (TargetWrites c.args.app.now c.args.moment c.args.session (value_of c.args.cache.now) c.args.verdict) c.args.wrote.now.items (g.K.Keeper.told c.args.keeper.now) c.requires.wrote)

@@ -20,6 +20,8 @@ use Rattle.session_requests.proofs.Giving.{input_but, input_source}
 use Rattle.session_requests.proofs.Posted.{given_of, has_input, taker_of}
 use Rattle.session_requests.proofs.Writable.{only_given, only_none}
 use Rattle.session_requests.specs.Writable.{GivenMayWrite}
+use Rattle.session_requests.proofs.WholeSent.{cut_given, cut_none, on_err}
+use Rattle.session_requests.specs.Whole.{InputGivenWrites}
 use Rattle.session_requests.proofs.acting.end_input.Goals as goal
 
 pub give-requires : goal.give-requires
@@ -82,3 +84,14 @@ returns-in_ok-trigger-in-Ok-clause-only g c =
 pub returns-in_err-trigger-in-Ok-clause-only : goal.returns-in_err-trigger-in-Ok-clause-only
 returns-in_err-trigger-in-Ok-clause-only g c =
     only_none (IsLost (g.K.Keeper.marks c.args.keeper.now) (g.K.Keeper.marks c.args.keeper.now)) (GivenMayWrite c.args.app.now c.args.verdict) c.args.wrote.now.items (g.K.Keeper.told c.args.keeper.now) c.requires.wrote
+
+pub returns-in_ok-trigger-in-Ok-clause-cut : goal.returns-in_ok-trigger-in-Ok-clause-cut
+returns-in_ok-trigger-in-Ok-clause-cut g c =
+    let given : Given = (c.in-Ok.control, c.in-Ok.given) in
+    cut_given (IsLost (g.K.Keeper.marks c.args.keeper.now) (g.K.Keeper.marks c.take_effect.new.keeper)) c.args.app.now c.args.moment c.args.session c.give.new.session (value_of c.args.cache.now) c.args.verdict given c.in_ok-trigger-in-Ok.trigger
+    c.take_effect.new.wrote.items (g.K.Keeper.told c.args.keeper.now) (g.K.Keeper.told c.take_effect.new.keeper) c.take_effect.result c.in-Ok.is c.in_ok-trigger-in-Ok.ensures c.give.ensures c.take_effect.ensures.cut
+
+pub returns-in_err-trigger-in-Ok-clause-cut : goal.returns-in_err-trigger-in-Ok-clause-cut
+returns-in_err-trigger-in-Ok-clause-cut g c =
+    on_err _
+    (cut_none (IsLost (g.K.Keeper.marks c.args.keeper.now) (g.K.Keeper.marks c.args.keeper.now)) (InputGivenWrites c.args.app.now c.args.moment c.args.session (value_of c.args.cache.now) c.args.verdict) c.args.wrote.now.items (g.K.Keeper.told c.args.keeper.now) c.requires.wrote)

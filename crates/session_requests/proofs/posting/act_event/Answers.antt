@@ -21,6 +21,8 @@ use Rattle.session_requests.proofs.Posted.{event_lost, stays_lost}
 use Rattle.fx_base.proofs.Silences.{later_then}
 use Rattle.session_requests.proofs.Writable.{event_may, only_after, only_left}
 use Rattle.session_requests.specs.Writable.{EventMayWrite, TargetMayWrite}
+use Rattle.session_requests.proofs.WholeSent.{cut_left, event_cut, on_err, stays_two}
+use Rattle.session_requests.specs.Whole.{EventPerforms}
 use Rattle.session_requests.proofs.posting.act_event.Goals as goal
 
 pub returns-clause-done : goal.returns-clause-done
@@ -133,3 +135,43 @@ returns-clause-only g c =
     c.look_for_event.ensures.read.later (later_then (marks second) (marks third) (marks last) c.judge_event.ensures.read.later c.end_event.ensures.cause.later) c.look_for_event.ensures.read.told
     (only_after (marks second) (marks third) (marks last) (TargetMayWrite app verdict) (EventMayWrite c.args.app.now c.args.event.now) c.end_event.new.wrote.items (told second) (told third) (told last)
     (λ x may. event_may p app c.args.session values c.args.event.now verdict x judged may) c.judge_event.ensures.read.later c.end_event.ensures.cause.later c.judge_event.ensures.read.told c.end_event.ensures.only)
+
+pub returns-in_err-look_for_event-clause-cut : goal.returns-in_err-look_for_event-clause-cut
+returns-in_err-look_for_event-clause-cut g c =
+    on_err _
+    (cut_left (IsLost (g.K.Keeper.marks c.args.keeper.now) (g.K.Keeper.marks c.look_for_event.new.keeper)) (λ t. EventPerforms c.args.app.now c.args.moment c.args.name.now c.args.event.now t c.args.sessions.now.items) c.args.wrote.now.items
+    (g.K.Keeper.told c.args.keeper.now) (g.K.Keeper.told c.look_for_event.new.keeper) c.requires.wrote c.look_for_event.ensures.read.told)
+
+pub returns-in_err-verdict-clause-cut : goal.returns-in_err-verdict-clause-cut
+returns-in_err-verdict-clause-cut g c =
+    let told = g.K.Keeper.told in
+    let marks = g.K.Keeper.marks in
+    let first = c.args.keeper.now in
+    let second = c.look_for_event.new.keeper in
+    let third = c.judge_event.new.keeper in
+    on_err _
+    (cut_left (IsLost (marks first) (marks third)) (λ t. EventPerforms c.args.app.now c.args.moment c.args.name.now c.args.event.now t c.args.sessions.now.items) c.args.wrote.now.items (told first) (told third) c.requires.wrote
+    (stays_two (marks first) (marks second) (marks third) (told first) (told second) (told third) c.look_for_event.ensures.read.later c.judge_event.ensures.read.later c.look_for_event.ensures.read.told c.judge_event.ensures.read.told))
+
+pub returns-clause-cut : goal.returns-clause-cut
+returns-clause-cut g c =
+    let told = g.K.Keeper.told in
+    let marks = g.K.Keeper.marks in
+    let app = c.args.app.now in
+    let first = c.args.keeper.now in
+    let second = c.look_for_event.new.keeper in
+    let third = c.judge_event.new.keeper in
+    let last = c.end_event.new.keeper in
+    let before : Keeping = keeping (told second) (g.K.Keeper.began second) (g.K.Keeper.shaped second) (g.K.Keeper.in_transaction second) (marks second) (g.K.Keeper.visited second) (g.K.Keeper.loan second) in
+    let after : Keeping = keeping (told third) (g.K.Keeper.began third) (g.K.Keeper.shaped third) (g.K.Keeper.in_transaction third) (marks third) (g.K.Keeper.visited third) (g.K.Keeper.loan third) in
+    let seen = rows_told (told third) in
+    let verdict = c.in_ok-verdict.verdict in
+    event_cut c.fitting_holds.ensures c.one_fresh_at.ensures (marks first) (marks third) (marks last) app c.args.moment c.args.name.now c.args.session (value_of c.look_for_event.new.cache) c.args.sessions.now.items c.end_event.new.wrote.items
+    (told first) (told third) (told last) c.end_event.result c.requires.sound c.requires.fits c.requires.found c.requires.rows
+    (later_then (marks first) (marks second) (marks third) c.look_for_event.ensures.read.later c.judge_event.ensures.read.later) c.end_event.ensures.cause.later
+    (stays_two (marks first) (marks second) (marks third) (told first) (told second) (told third) c.look_for_event.ensures.read.later c.judge_event.ensures.read.later c.look_for_event.ensures.read.told c.judge_event.ensures.read.told)
+    c.one_value.ensures c.args.event.now verdict
+    (∥∥₁_map c.in_ok-look_for_event.ensures.fresh (λ f. f seen (heard_before before after c.in_ok-verdict.ensures.read seen (heard_told (told third)))))
+    (subst (λ (w : Values). IsVerdict (present app c.args.session seen c.args.moment) (cells.value_of w) (event_target app.names c.args.session (cells.value_of w) c.args.event.now) verdict) c.valued.ensures
+    (c.in_ok-verdict.ensures.judged c.args.moment (subst (λ (w : Values). IsToday c.args.moment w.day) (sym c.valued.ensures) c.look_for_event.ensures.cached.day)))
+    c.end_event.ensures.cut

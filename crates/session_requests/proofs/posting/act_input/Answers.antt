@@ -15,6 +15,8 @@ use Rattle.session_requests.proofs.Written.{input_writes_lost, ok_both}
 use Rattle.session_requests.proofs.Posted.{input_lost, input_over, stays_lost}
 use Rattle.session_requests.proofs.Writable.{input_may, only_after, only_left}
 use Rattle.session_requests.specs.Writable.{GivenMayWrite, InputMayWrite}
+use Rattle.session_requests.proofs.WholeSent.{cut_left, input_cut, on_err}
+use Rattle.session_requests.specs.Whole.{InputPerforms}
 use Rattle.session_requests.proofs.posting.act_input.Goals as goal
 
 pub end_input-requires-clause-verdict : goal.end_input-requires-clause-verdict
@@ -95,3 +97,23 @@ returns-clause-only g c =
     let is = input_over app.names c.args.session c.args.input c.as_slice-values.result.now c.look_for_input.new.cache.values c.input_target-verdict.result (c.as_slice-values.ensures ∙ ap (λ (w : Values). w.cells) c.valued.ensures) (c.input_target-verdict.ensures.is c.args.session (sym c.screen.ensures)) in
     only_after (marks first) (marks second) (marks last) (GivenMayWrite app c.input_target-verdict.result) (InputMayWrite c.args.app.now c.args.input) c.end_input.new.wrote.items (told first) (told second) (told last)
     (λ x may. input_may app c.args.session (value_of c.look_for_input.new.cache) c.args.input c.input_target-verdict.result x is may) c.look_for_input.ensures.read.later c.end_input.ensures.cause.later c.look_for_input.ensures.read.told c.end_input.ensures.only
+
+pub returns-in_err-look_for_input-clause-cut : goal.returns-in_err-look_for_input-clause-cut
+returns-in_err-look_for_input-clause-cut g c =
+    on_err _
+    (cut_left (IsLost (g.K.Keeper.marks c.args.keeper.now) (g.K.Keeper.marks c.look_for_input.new.keeper)) (λ t. InputPerforms c.args.app.now c.args.moment c.args.name.now c.args.input t c.args.sessions.now.items) c.args.wrote.now.items
+    (g.K.Keeper.told c.args.keeper.now) (g.K.Keeper.told c.look_for_input.new.keeper) c.requires.wrote c.look_for_input.ensures.read.told)
+
+pub returns-clause-cut : goal.returns-clause-cut
+returns-clause-cut g c =
+    let told = g.K.Keeper.told in
+    let marks = g.K.Keeper.marks in
+    let app = c.args.app.now in
+    let first = c.args.keeper.now in
+    let second = c.look_for_input.new.keeper in
+    let last = c.end_input.new.keeper in
+    let is = input_over app.names c.args.session c.args.input c.as_slice-values.result.now c.look_for_input.new.cache.values c.input_target-verdict.result (c.as_slice-values.ensures ∙ ap (λ (w : Values). w.cells) c.valued.ensures) (c.input_target-verdict.ensures.is c.args.session (sym c.screen.ensures)) in
+    input_cut c.fitting_holds.ensures c.one_fresh_at.ensures (marks first) (marks second) (marks last) app c.args.moment c.args.name.now c.args.session (value_of c.look_for_input.new.cache) c.args.sessions.now.items c.end_input.new.wrote.items
+    (told first) (told second) (told last) c.end_input.result c.requires.sound c.requires.fits c.requires.found c.requires.rows
+    c.look_for_input.ensures.read.later c.end_input.ensures.cause.later c.look_for_input.ensures.read.told c.args.input c.input_target-verdict.result
+    (∥∥₁_map c.in_ok-look_for_input.ensures.fresh (λ f. f (rows_told (told second)) (heard_told (told second)))) is c.end_input.ensures.cut
