@@ -8,9 +8,15 @@ use std::marker::Model;
 
 /// A row test whose constants stand in a list beside it.
 #[cycle(pattern)]
-#[derive(Drop)]
 pub struct Pattern {
     pub node: PatternNode,
+}
+
+// By hand, so that it is called: what is derived is opened wherever a value may end, which costs proofs seconds each time.
+impl Drop for Pattern {
+    fn drop(self) {
+        let Pattern { node: _ } = self;
+    }
 }
 
 /// What stands at the top of a pattern. Columns go by number, and `ID` is column 0. The last number of a

@@ -42,10 +42,16 @@ pub enum Op {
 /// begins.
 // A struct round an enum, since contracts can see a struct, and no enum, as plain data.
 #[cycle(expr)]
-#[derive(Drop)]
 pub struct Expr {
     pub at: u32,
     pub node: Node,
+}
+
+// By hand, so that it is called: what is derived is opened wherever a value may end, which costs proofs seconds each time.
+impl Drop for Expr {
+    fn drop(self) {
+        let Expr { at: _, node: _ } = self;
+    }
 }
 
 /// What stands at the top of a tree.

@@ -14,9 +14,15 @@ use std::marker::Model;
 /// A typed tree.
 // A struct round an enum, since contracts can see a struct, and no enum, as plain data.
 #[cycle(core)]
-#[derive(Drop)]
 pub struct Core {
     pub node: CoreNode,
+}
+
+// By hand, so that it is called: what is derived is opened wherever a value may end, which costs proofs seconds each time.
+impl Drop for Core {
+    fn drop(self) {
+        let Core { node: _ } = self;
+    }
 }
 
 /// What stands at the top of a typed tree.
