@@ -3,6 +3,7 @@ use Rattle.fx_base.specs.Silence.{IsLost}
 use Rattle.fx_data.specs.ValueView.{view}
 use Rattle.fx_semantics.specs.Rows.{rows_in}
 use Rattle.fx_trees.specs.declared.sources.Source.TheVariants as source
+use Rattle.fx_deeds.proofs.Passing.{passed_staying}
 use Rattle.fx_deeds.proofs.Told.{held_there, rows_read_fit, state_holds, state_stays}
 use Rattle.fx_deeds.specs.Collections.{rows_held}
 use Rattle.fx_deeds.proofs.session.rows_held.Goals as goal
@@ -34,3 +35,21 @@ returns-in_err-with_table-clause-stays g c =
 pub returns-clause-stays : goal.returns-clause-stays
 returns-clause-stays g c =
     state_stays (IsLost (g.W.Env.marks c.args.world.now) (g.W.Env.marks c.read.new.self)) (g.W.Env.told c.args.world.now) (g.W.Env.told c.read.new.self) (g.W.World.state c.args.world.now) (g.W.World.state c.read.new.self) (g.met.W.World.keeps c.args.world.now c.read.new.self) (g.met.W.World.lost c.args.world.now) (g.met.W.World.lost c.read.new.self) c.read.ensures.told
+
+pub returns-in_err-value-clause-passed : goal.returns-in_err-value-clause-passed
+returns-in_err-value-clause-passed g c =
+    passed_staying _ _ c.read.ensures.fixed
+    (state_stays _ (g.W.Env.told c.args.world.now) (g.W.Env.told c.read.new.self) _ _ (g.met.W.World.keeps c.args.world.now c.read.new.self) (g.met.W.World.lost c.args.world.now) (g.met.W.World.lost c.read.new.self) c.read.ensures.told)
+    c.read.ensures.marks c.read.ensures.visited
+
+pub returns-in_err-with_table-clause-passed : goal.returns-in_err-with_table-clause-passed
+returns-in_err-with_table-clause-passed g c =
+    passed_staying _ _ c.read.ensures.fixed
+    (state_stays _ (g.W.Env.told c.args.world.now) (g.W.Env.told c.read.new.self) _ _ (g.met.W.World.keeps c.args.world.now c.read.new.self) (g.met.W.World.lost c.args.world.now) (g.met.W.World.lost c.read.new.self) c.read.ensures.told)
+    c.read.ensures.marks c.read.ensures.visited
+
+pub returns-clause-passed : goal.returns-clause-passed
+returns-clause-passed g c =
+    passed_staying _ _ c.read.ensures.fixed
+    (state_stays _ (g.W.Env.told c.args.world.now) (g.W.Env.told c.read.new.self) _ _ (g.met.W.World.keeps c.args.world.now c.read.new.self) (g.met.W.World.lost c.args.world.now) (g.met.W.World.lost c.read.new.self) c.read.ensures.told)
+    c.read.ensures.marks c.read.ensures.visited
