@@ -1,5 +1,5 @@
 -- Rows for a collection.
-use Rattle.std.proofs.Common.{◌≡◌, ℕ, List, [], ◌∷◌, ◌++◌, true, Some, refl, ap, sym, subst, ◌∙◌, append_assoc}
+use Rattle.std.proofs.Common.{◌≡◌, ℕ, List, [], ◌∷◌, ◌++◌, true, Some, refl, ap, sym, subst, ◌∙◌}
 use Rattle.std.specs.List.{find}
 use Rattle.fx_data.specs.Types.{Shape, ColumnList, records, tables}
 use Rattle.fx_data.specs.Values.{Data, blank, number, text, boolean, date, rec, tab, fault}
@@ -75,8 +75,8 @@ parted_fits cs rows all before after left r p f e h =
     subst (λ z. fits_in (table_of z) (tables cs) ≡ true) (sym e)
     (table_fits cs (before ++ after) (without_one cs before after r (subst (RowsFit cs) (sym p ∙ f.parted) (fit_table cs rows h))))
 
-pub put_fits : (cs : ColumnList) (rows all before after first made : List Row) (r q : Row) → all ≡ rows → IsFirst r all before after → first ≡ before ++ q ∷ [] → made ≡ first ++ after → fits_in (record_of q) (records cs) ≡ true →
-    fits_in (table_of rows) (tables cs) ≡ true → fits_in (table_of made) (tables cs) ≡ true
-put_fits cs rows all before after first made r q p f e m g h =
-    subst (λ z. fits_in (table_of z) (tables cs) ≡ true) (sym (m ∙ ap (λ z. z ++ after) e ∙ append_assoc before (q ∷ []) after))
+pub put_fits : (cs : ColumnList) (rows all before after put : List Row) (r q : Row) → all ≡ rows → IsFirst r all before after → put ≡ before ++ q ∷ after → fits_in (record_of q) (records cs) ≡ true →
+    fits_in (table_of rows) (tables cs) ≡ true → fits_in (table_of put) (tables cs) ≡ true
+put_fits cs rows all before after put r q p f e g h =
+    subst (λ z. fits_in (table_of z) (tables cs) ≡ true) (sym e)
     (table_fits cs (before ++ q ∷ after) (with_other cs before after r q (subst (RowsFit cs) (sym p ∙ f.parted) (fit_table cs rows h)) g))

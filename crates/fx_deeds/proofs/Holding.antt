@@ -1,5 +1,5 @@
 -- Rows of a collection that were read, and then rows that it is given.
-use Rattle.std.proofs.Common.{◌≡◌, ℕ, List, [], ◌∷◌, ◌++◌, true, false, Option, None, Result, Ok, Err, refl, ap, sym, subst, ◌∙◌}
+use Rattle.std.proofs.Common.{◌≡◌, ℕ, List, [], ◌∷◌, ◌++◌, true, false, Option, None, Result, Ok, Err, refl, ap, sym, subst, ◌∙◌, inl}
 use Rattle.std.specs.Prelude.{IfOk}
 use Rattle.std.specs.List.{find}
 use Rattle.std.proofs.lemmas.Bool.{and_from}
@@ -11,6 +11,7 @@ use Rattle.fx_data.specs.Types.{ColumnList, no_columns, column, records, tables}
 use Rattle.fx_data.specs.Values.{Data, blank, number, text, boolean, date, rec, tab, fault, FieldList, no_fields, field, field_list}
 use Rattle.fx_data.specs.ValueView.{view}
 use Rattle.fx_semantics.proofs.Tables.{RowsFit, fit_table}
+use Rattle.fx_semantics.specs.Around.{record_of}
 use Rattle.fx_semantics.specs.Rows.{fields_of, rows_in, table_of}
 use Rattle.fx_value.specs.Columns.{Row}
 use Rattle.fx_tables.specs.Unions.{is_fault}
@@ -22,7 +23,7 @@ use Rattle.fx_typing.specs.LawfulTypes.{AreLawfulColumns}
 use Rattle.fx_deeds.proofs.Deeding.{by_none}
 use Rattle.fx_deeds.proofs.Gathering.{HeldRows}
 use Rattle.fx_deeds.proofs.Joins.{can_change}
-use Rattle.fx_deeds.specs.Collections.{AreLeft, AreTakenIf, AreUpdatedIn, AreWith, IsPatchedIn, PatchesRow, rows_held}
+use Rattle.fx_deeds.specs.Collections.{AreLeft, AreTakenIf, AreUpdatedIn, AreWith, IsFirst, IsPatchedIn, PatchesRow, PutsFor, rows_held}
 use Rattle.fx_deeds.specs.Deeds.{Makes, OrError}
 use Rattle.fx_deeds.specs.Fitting.{AreOfSome, CanChange, CanChangeAll, IsOfColumns, SourceTypes}
 use Rattle.fx_deeds.specs.RowValues.{blank_row, changed_row, columns_in, row_named, rows_among, values_among}
@@ -30,7 +31,7 @@ use Rattle.fx_deeds.specs.State.{State}
 
 -- ---- a call of the world after the rows were read
 
-held_then : {A E : Type 0} (r : Result Value E) (k l m : Marks) (x y z : Option (State A)) (n : ℕ) (rows made : List Row) (taken : Data) (R : State A → Data → State A → Type 0) → IsLater k l → IsLater l m →
+pub held_then : {A E : Type 0} (r : Result Value E) (k l m : Marks) (x y z : Option (State A)) (n : ℕ) (rows made : List Row) (taken : Data) (R : State A → Data → State A → Type 0) → IsLater k l → IsLater l m →
     ((s : State A) (v : Data) (t : State A) → rows ≡ rows_held n s → Makes (change.Gather n (Tab made)) taken s v t → R s v t) →
     Goes (IsLost k l) (HeldRows n rows) x y → IfOk r (λ v. Goes (IsLost l m) (λ s t. Makes (change.Gather n (Tab made)) taken s (view v) t) y z) → IfOk r (λ v. Goes (IsLost k m) (λ s t. R s (view v) t) x z)
 held_then (Ok v) k l m x y z n rows made taken R a b f h j =
@@ -58,6 +59,11 @@ pub taken_if : {A E : Type 0} (r : Result Value E) (k l m : Marks) (x y z : Opti
     IfOk r (λ v. Goes (IsLost k m) (λ s t. OrError d (AreTakenIf n (rows_in d) s (view v) t) s (view v) t) x z)
 taken_if r k l m x y z n rows left kept d a b e f h =
     held_then r k l m x y z n rows left (boolean true) (λ s v t. OrError d (AreTakenIf n (rows_in d) s v t) s v t) a b (takes_if n rows left kept d e f h)
+
+-- a row in the place of another
+pub puts_there : {A : Type 0} (n : ℕ) (r q : Row) (rows all put before after : List Row) → all ≡ rows → IsFirst r all before after → put ≡ before ++ q ∷ after → (s : State A) (x : Data) (t : State A) → rows ≡ rows_held n s →
+    Makes (change.Gather n (Tab put)) (record_of q) s x t → PutsFor n r q s x t
+puts_there n r q rows all put before after p f e s x t h j = inl (before, after, subst (λ zs. IsFirst r zs before after) (p ∙ h) f, (Tab put, ap table_of e, j))
 
 -- `UpdateIf`
 pub updates_in : {A : Type 0} (n : ℕ) (types : SourceTypes) (cs : ColumnList) (rows made kept again : List Row) (ds : List Data) → IsOfColumns types n cs → again ≡ kept → AreWith cs rows again ds made → (s : State A) (x : Data) (t : State A) →

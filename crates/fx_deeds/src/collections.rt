@@ -1,5 +1,5 @@
 //! Rows of a collection that are taken out, changed, or put behind the others.
-ghost use Rattle.std.specs.Prelude.{◌≡◌, ◌↔◌, ◌∷◌, [], false, true, IfOk, IfSome, IsErrOf, IsTrue, MatchOption, map, OnErr, take};
+ghost use Rattle.std.specs.Prelude.{◌≡◌, ◌↔◌, ◌++◌, ◌∷◌, List, [], false, true, IfOk, IfSome, IsErrOf, IsTrue, MatchOption, map, OnErr, take};
 ghost use Rattle.fx_base.specs.Faults.{Rose};
 ghost use Rattle.fx_base.specs.Silence.{Goes, IsLost};
 ghost use Rattle.fx_base.specs.Telling.{Stays};
@@ -103,6 +103,42 @@ fn part(alloc: Global, rows: &[Fields], sought: &Value) -> Result<Option<Parted>
     Ok(None)
 }
 
+// Rows as they stand around the first that is this one, if it is among them.
+fn part_at(alloc: Global, rows: &[Fields], row: Fields) -> Result<Option<Parted>, Memory>
+    ensures { IfOk result (λ o. MatchOption o (Lacks row rows.now) (λ p. IsFirst row rows.now p.before p.after)) }
+{
+    part(alloc, rows, &Value::Rec(row))
+}
+
+// Rows without the first that is this one, if it is among them.
+fn without_first(alloc: Global, rows: &[Fields], row: Fields) -> Result<Option<Rows>, Memory>
+    ensures { IfOk result (λ o. MatchOption o (Lacks row rows.now) (λ left. (before : List Row) × (after : List Row) × IsFirst row rows.now before after × (left ≡ before ++ after))) }
+{
+    let Some(parted) = part_at(alloc, rows, row)? else {
+        return Ok(None);
+    };
+    let left = with_copies(alloc, parted.before, parted.after.as_slice())?;
+    Ok(Some(left))
+}
+
+// Rows with another in the place of the first that is this one, if it is among them.
+fn with_another(
+    alloc: Global,
+    rows: &[Fields],
+    row: Fields,
+    another: &Fields,
+) -> Result<Option<Rows>, Memory>
+    ensures { IfOk result (λ o. MatchOption o (Lacks row rows.now) (λ put. (before : List Row) × (after : List Row) × IsFirst row rows.now before after × (put ≡ before ++ another.now ∷ after))) }
+{
+    let Some(parted) = part_at(alloc, rows, row)? else {
+        return Ok(None);
+    };
+    let Parted { mut before, after } = parted;
+    before.push(another.copy(alloc)?)?;
+    let put = with_copies(alloc, before, after.as_slice())?;
+    Ok(Some(put))
+}
+
 // Takes the first row that is this one out of a collection. None where it was there, and else what is answered.
 fn take_row<W: World, L: Ledger>(
     alloc: Global,
@@ -122,10 +158,9 @@ fn take_row<W: World, L: Ledger>(
     ensures fits { IfOk result (λ o. IfSome o (λ x. fits_in (view x) booleans ≡ true)) }
 {
     let rows = rows_held(alloc, world, collection, steps)?;
-    let Some(parted) = part(alloc, rows.as_slice(), &Value::Rec(row))? else {
+    let Some(left) = without_first(alloc, rows.as_slice(), row)? else {
         return Ok(Some(error(alloc, Kind::NotFound)?));
     };
-    let left = with_copies(alloc, parted.before, parted.after.as_slice())?;
     if change(world, Change::Gather(collection, Value::Tab(left)))? {
         Ok(None)
     } else {
@@ -234,18 +269,14 @@ fn put_for<W: World, L: Ledger>(
     ensures fits { (cs : ColumnList) → fits_in (record_of changed) (records cs) ≡ true → IfOk result (λ x. fits_in (view x) (records cs) ≡ true) }
 {
     let rows = rows_held(alloc, world, collection, steps)?;
-    let Some(parted) = part(alloc, rows.as_slice(), &Value::Rec(row))? else {
+    let Some(put) = with_another(alloc, rows.as_slice(), row, &changed)? else {
         return Ok(error(alloc, Kind::NotFound)?);
     };
-    let answer = Value::Rec(changed.copy(alloc)?);
-    let Parted { mut before, after } = parted;
-    before.push(changed)?;
-    let rows = with_copies(alloc, before, after.as_slice())?;
     make(
         alloc,
         world,
-        Change::Gather(collection, Value::Tab(rows)),
-        answer,
+        Change::Gather(collection, Value::Tab(put)),
+        Value::Rec(changed),
     )
 }
 

@@ -1,12 +1,15 @@
-use Rattle.std.proofs.Common.{◌≡◌, ◌++◌, ◌∙◌, ◌∷◌, [], true, refl, ap, subst, sym}
+use Rattle.std.proofs.Common.{◌≡◌, ◌++◌, ◌∷◌, [], subst, List}
 use Rattle.std.specs.Prelude.{MatchOption}
 use Rattle.fx_data.specs.Types.{records}
 use Rattle.fx_semantics.specs.Around.{record_of}
-use Rattle.fx_value.specs.Fits.{fits_in}
 use Rattle.fx_trees.specs.declared.sources.Source.TheVariants as source
+use Rattle.fx_value.specs.Columns.{Row}
 use Rattle.fx_deeds.proofs.Adding.{gathers_rows, put_fits}
 use Rattle.fx_deeds.proofs.Allowing.{only_behind, only_staying}
-use Rattle.fx_deeds.specs.Collections.{IsFirst, Lacks}
+use Rattle.fx_deeds.proofs.CutUpdates.{held_cut}
+use Rattle.fx_deeds.proofs.Holding.{held_then, puts_there}
+use Rattle.fx_deeds.proofs.Passing.{passed_on}
+use Rattle.fx_deeds.specs.Collections.{IsFirst, Lacks, PutsFor}
 use Rattle.fx_deeds.specs.Writable.{IsOneOf}
 use Rattle.fx_deeds.proofs.collections.put_for.Goals as goal
 
@@ -14,20 +17,33 @@ pub make-requires : goal.make-requires
 make-requires g c =
     let cs = c.requires.0 in
     let all = c.as_slice.result.now in
-    let first = subst (λ o. MatchOption o (Lacks c.args.row all) (λ p. IsFirst c.args.row all p.before p.after)) c.in-Some.is (c.in_ok-parted.ensures c.args.row refl) in
+    let first = subst (λ o. MatchOption o (Lacks c.args.row all) (λ p. (before : List Row) × (after : List Row) × IsFirst c.args.row all before after × (p ≡ before ++ c.args.changed ∷ after))) c.in-Some.is c.in_ok-put.ensures in
     gathers_rows (g.W.Env.fixed c.args.world.now) (g.W.Env.fixed c.rows_held.new.world) (g.W.World.names c.rows_held.new.world) c.args.collection cs _ c.rows_held.ensures.passed.fixed (g.met.W.World.typed c.rows_held.new.world) c.requires.1
-    (put_fits cs c.in_ok-rows.rows all c.in-Some.parted.before c.in-Some.parted.after c.push.new.self c.in_ok-rows-2.rows c.args.row c.args.changed c.as_slice.ensures first c.in_ok-push.ensures.ok
-    (c.in_ok-rows-2.ensures ∙ ap (λ z. c.push.new.self ++ z) c.as_slice-2.ensures) c.requires.2 (c.in_ok-rows.ensures.fits cs c.requires.1))
+    (put_fits cs c.in_ok-rows.rows all first.0 first.1 c.in-Some.put c.args.row c.args.changed c.as_slice.ensures first.2 first.3 c.requires.2 (c.in_ok-rows.ensures.fits cs c.requires.1))
 
 pub returns-clause-fits : goal.returns-clause-fits
-returns-clause-fits g c = λ cs h. c.make.ensures.fits (records cs) (subst (λ z. fits_in (record_of z) (records cs) ≡ true) (sym c.in_ok-copy.ensures) h)
+returns-clause-fits g c = λ cs h. c.make.ensures.fits (records cs) h
+
+pub returns-clause-done : goal.returns-clause-done
+returns-clause-done g c =
+    let all = c.as_slice.result.now in
+    let first = subst (λ o. MatchOption o (Lacks c.args.row all) (λ p. (before : List Row) × (after : List Row) × IsFirst c.args.row all before after × (p ≡ before ++ c.args.changed ∷ after))) c.in-Some.is c.in_ok-put.ensures in
+    held_then c.make.result (g.W.Env.marks c.args.world.now) (g.W.Env.marks c.rows_held.new.world) (g.W.Env.marks c.make.new.world) (g.W.World.state c.args.world.now) (g.W.World.state c.rows_held.new.world) (g.W.World.state c.make.new.world) c.args.collection c.in_ok-rows.rows c.in-Some.put (record_of c.args.changed) (PutsFor c.args.collection c.args.row c.args.changed) c.rows_held.ensures.passed.later c.make.ensures.passed.later
+    (puts_there c.args.collection c.args.row c.args.changed c.in_ok-rows.rows all c.in-Some.put first.0 first.1 c.as_slice.ensures first.2 first.3) c.in_ok-rows.ensures.held c.make.ensures.done
+
+pub returns-clause-cut : goal.returns-clause-cut
+returns-clause-cut g c =
+    let all = c.as_slice.result.now in
+    let first = subst (λ o. MatchOption o (Lacks c.args.row all) (λ p. (before : List Row) × (after : List Row) × IsFirst c.args.row all before after × (p ≡ before ++ c.args.changed ∷ after))) c.in-Some.is c.in_ok-put.ensures in
+    held_cut c.make.result (g.W.Env.marks c.args.world.now) (g.W.Env.marks c.rows_held.new.world) (g.W.Env.marks c.make.new.world) (g.W.World.state c.args.world.now) (g.W.World.state c.rows_held.new.world) (g.W.World.state c.make.new.world) c.args.collection c.in_ok-rows.rows c.in-Some.put (record_of c.args.changed) (PutsFor c.args.collection c.args.row c.args.changed) c.rows_held.ensures.passed.later c.make.ensures.passed.later
+    (puts_there c.args.collection c.args.row c.args.changed c.in_ok-rows.rows all c.in-Some.put first.0 first.1 c.as_slice.ensures first.2 first.3) c.in_ok-rows.ensures.held c.make.ensures.cut
 
 pub returns-in_err-rows-clause-only : goal.returns-in_err-rows-clause-only
 returns-in_err-rows-clause-only g c =
     only_staying (IsOneOf (source.Gathered c.args.collection ∷ [])) _ _ c.rows_held.ensures.passed c.rows_held.ensures.stays
 
-pub returns-in_err-parted-clause-only : goal.returns-in_err-parted-clause-only
-returns-in_err-parted-clause-only g c =
+pub returns-in_err-put-clause-only : goal.returns-in_err-put-clause-only
+returns-in_err-put-clause-only g c =
     only_staying (IsOneOf (source.Gathered c.args.collection ∷ [])) _ _ c.rows_held.ensures.passed c.rows_held.ensures.stays
 
 pub returns-in_default-clause-only : goal.returns-in_default-clause-only
@@ -38,18 +54,9 @@ pub returns-in_err-error-clause-only : goal.returns-in_err-error-clause-only
 returns-in_err-error-clause-only g c =
     only_staying (IsOneOf (source.Gathered c.args.collection ∷ [])) _ _ c.rows_held.ensures.passed c.rows_held.ensures.stays
 
-pub returns-in_err-copy-clause-only : goal.returns-in_err-copy-clause-only
-returns-in_err-copy-clause-only g c =
-    only_staying (IsOneOf (source.Gathered c.args.collection ∷ [])) _ _ c.rows_held.ensures.passed c.rows_held.ensures.stays
-
-pub returns-in_err-push-clause-only : goal.returns-in_err-push-clause-only
-returns-in_err-push-clause-only g c =
-    only_staying (IsOneOf (source.Gathered c.args.collection ∷ [])) _ _ c.rows_held.ensures.passed c.rows_held.ensures.stays
-
-pub returns-in_err-rows-2-clause-only : goal.returns-in_err-rows-2-clause-only
-returns-in_err-rows-2-clause-only g c =
-    only_staying (IsOneOf (source.Gathered c.args.collection ∷ [])) _ _ c.rows_held.ensures.passed c.rows_held.ensures.stays
-
 pub returns-clause-only : goal.returns-clause-only
 returns-clause-only g c =
     only_behind (IsOneOf (source.Gathered c.args.collection ∷ [])) _ _ _ c.rows_held.ensures.passed c.make.ensures.passed c.rows_held.ensures.stays c.make.ensures.only
+
+pub returns-clause-passed : goal.returns-clause-passed
+returns-clause-passed g c = passed_on _ _ _ c.rows_held.ensures.passed c.make.ensures.passed
