@@ -1,12 +1,13 @@
 //! Rows of tables that are made or changed.
-ghost use Rattle.std.specs.Prelude.{◌≡◌, ◌∷◌, [], false, true, IfOk, IfSome, IsErrOf, IsSome, OnErr, map, option_map, slice_get, take};
+ghost use Rattle.std.specs.Prelude.{◌≡◌, ◌≤◌, ◌∷◌, [], false, true, IfOk, IfSome, IsErrOf, IsSome, OnErr, map, option_map, slice_get, take};
 ghost use Rattle.std.specs.List.{find};
 ghost use Rattle.fx_base.specs.Faults.{Rose};
-ghost use Rattle.fx_base.specs.Silence.{Goes, IsLost};
+ghost use Rattle.fx_base.specs.Silence.{Goes, IsLater, IsLost};
 ghost use Rattle.fx_base.specs.Telling.{Stays};
 ghost use Rattle.fx_data.specs.Types.{booleans, records};
 ghost use Rattle.fx_data.specs.ValueView.{view};
 ghost use Rattle.fx_data.specs.Values.{blank as blank_data};
+ghost use Rattle.fx_env.specs.Telling.{tables_told};
 ghost use Rattle.fx_semantics.specs.Around.{record_of as data_of};
 ghost use Rattle.fx_tables.specs.Unions.{is_fault};
 ghost use Rattle.fx_semantics.specs.Rows.{rows_in};
@@ -15,6 +16,8 @@ ghost use Rattle.fx_value.specs.Fits.{fits_in};
 ghost use Rattle.fx_value.specs.Keys.{key_bytes};
 ghost use Rattle.fx_value.specs.Order.{IsScalar};
 ghost use Rattle.fx_trees.specs.declared.sources.Source.TheVariants as source;
+ghost use Rattle.row_queries.specs.Answers.{IsScanValue};
+ghost use Rattle.row_queries.specs.Queries.{IsQuery};
 ghost use Rattle.row_queries.specs.TableRows.{AreCellsOf};
 ghost use Rattle.row_keeper.specs.Numbered.{one_row as one_row_query};
 ghost use Rattle.row_keeper.specs.Rules.{only_key};
@@ -98,6 +101,20 @@ fn one_row(alloc: Global, table: u16, id: u32) -> Result<Query, Memory>
     })
 }
 
+// Scans a table for the row of a number.
+fn scan_row<W: World>(alloc: Global, world: &mut W, table: u16, id: u32) -> Result<Value, Stop>
+    requires { IsQuery (W.fixed world.old).schema.tables (one_row_query table id) }
+    ensures fixed { W.fixed world.new ≡ W.fixed world.old }
+    ensures told { Goes (IsLost (W.marks world.old) (W.marks world.new)) Stays (W.told world.old) (W.told world.new) }
+    ensures value { IfOk result (λ v. IsScanValue (W.fixed world.old).schema.tables (tables_told (W.told world.new)) (one_row_query table id) (view v)) }
+    ensures marks { IsLater (W.marks world.old) (W.marks world.new) }
+    ensures keeper { IsErrOf result Stop.Keeper → Rose (W.marks world.old).faults (W.marks world.new).faults }
+    ensures visited { W.visited world.old ≤ W.visited world.new }
+{
+    let query = one_row(alloc, table, id)?;
+    world.scan(&query)
+}
+
 // The cells of the first record of a table, if there is one.
 fn first_cells(alloc: Global, columns: &[Column], table: &Value) -> Result<Option<Cells>, Memory>
     ensures { IfOk result (λ o. o ≡ first_cells_of columns.now (rows_in (view table.now))) }
@@ -130,8 +147,7 @@ fn find_cells<W: World>(
 {
     // Called for what it says: rows that stand by rising numbers are asked in that order.
     asked_once();
-    let query = one_row(alloc, table, id)?;
-    let found = world.scan(&query)?;
+    let found = scan_row(alloc, world, table, id)?;
     Ok(first_cells(alloc, shape.columns.as_slice(), &found)?)
 }
 

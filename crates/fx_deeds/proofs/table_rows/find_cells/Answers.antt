@@ -1,79 +1,71 @@
-use Rattle.std.proofs.Common.{◌≡◌, ◌∙◌, ap, subst, sym}
+use Rattle.std.proofs.Common.{◌≡◌, ◌∙◌, ap}
 use Rattle.std.specs.Prelude.{option_map}
 use Rattle.fx_base.specs.Silence.{IsLost}
 use Rattle.fx_data.specs.ValueView.{view}
 use Rattle.fx_env.specs.Telling.{tables_told}
 use Rattle.fx_semantics.specs.Rows.{rows_in}
-use Rattle.row_queries.specs.Answers.{IsScanValue}
-use Rattle.row_queries.specs.Queries.{IsQuery}
 use Rattle.row_queries.specs.declared.rows.Row.{Row}
 use Rattle.fx_deeds.proofs.Finding.{is_query}
-use Rattle.fx_deeds.proofs.Passing.{passed_staying, same_state}
+use Rattle.fx_deeds.proofs.Passing.{passed_staying}
 use Rattle.fx_deeds.proofs.Tabling.{cells_found, found_there}
 use Rattle.fx_deeds.proofs.Told.{state_holds, state_stays}
 use Rattle.fx_deeds.specs.Deeds.{row_at}
 use Rattle.fx_deeds.specs.Finding.{first_cells}
 use Rattle.fx_deeds.proofs.table_rows.find_cells.Goals as goal
 
-pub scan-requires : goal.scan-requires
-scan-requires g c =
-    let tables = (g.W.Env.fixed c.args.world.now).schema.tables in
-    subst (IsQuery tables) (sym c.in_ok-query.ensures) (is_query tables c.args.shape.now c.args.table c.args.id c.requires.0)
+pub scan_row-requires : goal.scan_row-requires
+scan_row-requires g c = is_query (g.W.Env.fixed c.args.world.now).schema.tables c.args.shape.now c.args.table c.args.id c.requires.0
 
 pub returns-clause-found : goal.returns-clause-found
 returns-clause-found g c =
     let old = c.args.world.now in
-    let new = c.scan.new.self in
+    let new = c.scan_row.new.world in
     let schema = (g.W.Env.fixed old).schema in
     let told = g.W.Env.told new in
     let d = view c.in_ok-found.found in
     let o = c.in_ok-first_cells.field-0 in
     let found = cells_found c.asked_once.ensures schema (tables_told told) c.args.table c.args.id c.args.shape.now d o c.requires
-    (subst (λ q. IsScanValue schema.tables (tables_told told) q d) c.in_ok-query.ensures c.in_ok-found.ensures.value)
+    c.in_ok-found.ensures.value
     (c.in_ok-first_cells.ensures ∙ ap (λ z. first_cells z (rows_in d)) c.as_slice.ensures) in
     state_holds _ _ _ (λ s. o ≡ option_map (λ (r : Row). r.cells) (row_at c.args.table c.args.id s))
-    (state_stays _ (g.W.Env.told old) told _ _ (g.met.W.World.keeps old new) (g.met.W.World.lost old) (g.met.W.World.lost new) c.scan.ensures.told)
+    (state_stays _ (g.W.Env.told old) told _ _ (g.met.W.World.keeps old new) (g.met.W.World.lost old) (g.met.W.World.lost new) c.scan_row.ensures.told)
     (found_there (g.W.World.state new) told c.args.shape.now c.args.table c.args.id o (g.met.W.World.lost new) (g.met.W.World.rows new) found)
 
 pub returns-clause-fit : goal.returns-clause-fit
 returns-clause-fit g c =
     let schema = (g.W.Env.fixed c.args.world.now).schema in
-    let told = g.W.Env.told c.scan.new.self in
+    let told = g.W.Env.told c.scan_row.new.world in
     let d = view c.in_ok-found.found in
     let found = cells_found c.asked_once.ensures schema (tables_told told) c.args.table c.args.id c.args.shape.now d c.in_ok-first_cells.field-0 c.requires
-    (subst (λ q. IsScanValue schema.tables (tables_told told) q d) c.in_ok-query.ensures c.in_ok-found.ensures.value)
+    c.in_ok-found.ensures.value
     (c.in_ok-first_cells.ensures ∙ ap (λ z. first_cells z (rows_in d)) c.as_slice.ensures) in found.fit
 
 pub returns-in_err-found-clause-passed : goal.returns-in_err-found-clause-passed
 returns-in_err-found-clause-passed g c =
-    passed_staying _ _ c.scan.ensures.fixed
-    (state_stays _ (g.W.Env.told c.args.world.now) (g.W.Env.told c.scan.new.self) _ _ (g.met.W.World.keeps c.args.world.now c.scan.new.self) (g.met.W.World.lost c.args.world.now) (g.met.W.World.lost c.scan.new.self) c.scan.ensures.told)
-    c.scan.ensures.marks c.scan.ensures.visited
+    passed_staying _ _ c.scan_row.ensures.fixed
+    (state_stays _ (g.W.Env.told c.args.world.now) (g.W.Env.told c.scan_row.new.world) _ _ (g.met.W.World.keeps c.args.world.now c.scan_row.new.world) (g.met.W.World.lost c.args.world.now) (g.met.W.World.lost c.scan_row.new.world) c.scan_row.ensures.told)
+    c.scan_row.ensures.marks c.scan_row.ensures.visited
 
 pub returns-in_err-first_cells-clause-passed : goal.returns-in_err-first_cells-clause-passed
 returns-in_err-first_cells-clause-passed g c =
-    passed_staying _ _ c.scan.ensures.fixed
-    (state_stays _ (g.W.Env.told c.args.world.now) (g.W.Env.told c.scan.new.self) _ _ (g.met.W.World.keeps c.args.world.now c.scan.new.self) (g.met.W.World.lost c.args.world.now) (g.met.W.World.lost c.scan.new.self) c.scan.ensures.told)
-    c.scan.ensures.marks c.scan.ensures.visited
+    passed_staying _ _ c.scan_row.ensures.fixed
+    (state_stays _ (g.W.Env.told c.args.world.now) (g.W.Env.told c.scan_row.new.world) _ _ (g.met.W.World.keeps c.args.world.now c.scan_row.new.world) (g.met.W.World.lost c.args.world.now) (g.met.W.World.lost c.scan_row.new.world) c.scan_row.ensures.told)
+    c.scan_row.ensures.marks c.scan_row.ensures.visited
 
 pub returns-clause-passed : goal.returns-clause-passed
 returns-clause-passed g c =
-    passed_staying _ _ c.scan.ensures.fixed
-    (state_stays _ (g.W.Env.told c.args.world.now) (g.W.Env.told c.scan.new.self) _ _ (g.met.W.World.keeps c.args.world.now c.scan.new.self) (g.met.W.World.lost c.args.world.now) (g.met.W.World.lost c.scan.new.self) c.scan.ensures.told)
-    c.scan.ensures.marks c.scan.ensures.visited
+    passed_staying _ _ c.scan_row.ensures.fixed
+    (state_stays _ (g.W.Env.told c.args.world.now) (g.W.Env.told c.scan_row.new.world) _ _ (g.met.W.World.keeps c.args.world.now c.scan_row.new.world) (g.met.W.World.lost c.args.world.now) (g.met.W.World.lost c.scan_row.new.world) c.scan_row.ensures.told)
+    c.scan_row.ensures.marks c.scan_row.ensures.visited
 
 pub returns-in_err-found-clause-stays : goal.returns-in_err-found-clause-stays
 returns-in_err-found-clause-stays g c =
-    state_stays (IsLost (g.W.Env.marks c.args.world.now) (g.W.Env.marks c.scan.new.self)) (g.W.Env.told c.args.world.now) (g.W.Env.told c.scan.new.self) (g.W.World.state c.args.world.now) (g.W.World.state c.scan.new.self) (g.met.W.World.keeps c.args.world.now c.scan.new.self) (g.met.W.World.lost c.args.world.now) (g.met.W.World.lost c.scan.new.self) c.scan.ensures.told
+    state_stays (IsLost (g.W.Env.marks c.args.world.now) (g.W.Env.marks c.scan_row.new.world)) (g.W.Env.told c.args.world.now) (g.W.Env.told c.scan_row.new.world) (g.W.World.state c.args.world.now) (g.W.World.state c.scan_row.new.world) (g.met.W.World.keeps c.args.world.now c.scan_row.new.world) (g.met.W.World.lost c.args.world.now) (g.met.W.World.lost c.scan_row.new.world) c.scan_row.ensures.told
 
 pub returns-in_err-first_cells-clause-stays : goal.returns-in_err-first_cells-clause-stays
 returns-in_err-first_cells-clause-stays g c =
-    state_stays (IsLost (g.W.Env.marks c.args.world.now) (g.W.Env.marks c.scan.new.self)) (g.W.Env.told c.args.world.now) (g.W.Env.told c.scan.new.self) (g.W.World.state c.args.world.now) (g.W.World.state c.scan.new.self) (g.met.W.World.keeps c.args.world.now c.scan.new.self) (g.met.W.World.lost c.args.world.now) (g.met.W.World.lost c.scan.new.self) c.scan.ensures.told
+    state_stays (IsLost (g.W.Env.marks c.args.world.now) (g.W.Env.marks c.scan_row.new.world)) (g.W.Env.told c.args.world.now) (g.W.Env.told c.scan_row.new.world) (g.W.World.state c.args.world.now) (g.W.World.state c.scan_row.new.world) (g.met.W.World.keeps c.args.world.now c.scan_row.new.world) (g.met.W.World.lost c.args.world.now) (g.met.W.World.lost c.scan_row.new.world) c.scan_row.ensures.told
 
 pub returns-clause-stays : goal.returns-clause-stays
 returns-clause-stays g c =
-    state_stays (IsLost (g.W.Env.marks c.args.world.now) (g.W.Env.marks c.scan.new.self)) (g.W.Env.told c.args.world.now) (g.W.Env.told c.scan.new.self) (g.W.World.state c.args.world.now) (g.W.World.state c.scan.new.self) (g.met.W.World.keeps c.args.world.now c.scan.new.self) (g.met.W.World.lost c.args.world.now) (g.met.W.World.lost c.scan.new.self) c.scan.ensures.told
-
-pub returns-in_err-query-clause-stays : goal.returns-in_err-query-clause-stays
-returns-in_err-query-clause-stays g c =
-    same_state (IsLost (g.W.Env.marks c.args.world.now) (g.W.Env.marks c.args.world.now)) (g.W.World.state c.args.world.now)
+    state_stays (IsLost (g.W.Env.marks c.args.world.now) (g.W.Env.marks c.scan_row.new.world)) (g.W.Env.told c.args.world.now) (g.W.Env.told c.scan_row.new.world) (g.W.World.state c.args.world.now) (g.W.World.state c.scan_row.new.world) (g.met.W.World.keeps c.args.world.now c.scan_row.new.world) (g.met.W.World.lost c.args.world.now) (g.met.W.World.lost c.scan_row.new.world) c.scan_row.ensures.told
