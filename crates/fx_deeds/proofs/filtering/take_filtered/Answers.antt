@@ -15,6 +15,7 @@ use Rattle.fx_deeds.specs.Collections.{AreLeft, AreTakenIf}
 use Rattle.fx_deeds.specs.Deeds.{OrError}
 use Rattle.fx_deeds.specs.Lefts.{rows_by}
 use Rattle.fx_deeds.specs.Writable.{IsOneOf}
+use Rattle.fx_deeds.proofs.Passing.{passed_on}
 use Rattle.fx_deeds.proofs.filtering.take_filtered.Goals as goal
 
 pub rows_left-requires : goal.rows_left-requires
@@ -65,3 +66,6 @@ returns-in_ok-left-in-Ok-clause-cut g c =
     held_cut c.make.result _ _ _ _ _ _ c.args.collection c.in_ok-rows-in-Ok.rows c.in_ok-left-in-Ok.left (boolean true) (λ s x t. OrError d (AreTakenIf c.args.collection (rows_in d) s x t) s x t) c.rows_held.ensures.passed.later c.make.ensures.passed.later
     (takes_if c.args.collection c.in_ok-rows-in-Ok.rows c.in_ok-left-in-Ok.left (rows_by vs) d c.in-Ok.ensures.1 kept
     (subst (λ z. AreLeft z (rows_by vs) c.in_ok-left-in-Ok.left) c.as_slice-in-Ok.ensures c.in_ok-left-in-Ok.ensures)) c.in_ok-rows-in-Ok.ensures.held c.make.ensures.cut
+
+pub returns-in_ok-left-in-Ok-clause-passed : goal.returns-in_ok-left-in-Ok-clause-passed
+returns-in_ok-left-in-Ok-clause-passed g c = passed_on _ _ _ c.rows_held.ensures.passed c.make.ensures.passed

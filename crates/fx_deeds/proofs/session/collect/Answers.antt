@@ -7,6 +7,7 @@ use Rattle.fx_trees.specs.declared.sources.Source.TheVariants as source
 use Rattle.fx_deeds.proofs.Adding.{error_fits, gathers}
 use Rattle.fx_deeds.proofs.Allowing.{only_behind, only_nowhere, only_staying}
 use Rattle.fx_deeds.specs.Writable.{IsOneOf}
+use Rattle.fx_deeds.proofs.Passing.{passed_on}
 use Rattle.fx_deeds.proofs.session.collect.Goals as goal
 
 pub returns-in-Some-clause-fits : goal.returns-in-Some-clause-fits
@@ -38,3 +39,6 @@ returns-in_err-rows-2-clause-only g c =
 pub returns-clause-only : goal.returns-clause-only
 returns-clause-only g c =
     only_behind (IsOneOf (source.Gathered c.args.collection ∷ [])) _ _ _ c.rows_held.ensures.passed c.make.ensures.passed c.rows_held.ensures.stays c.make.ensures.only
+
+pub returns-clause-passed : goal.returns-clause-passed
+returns-clause-passed g c = passed_on _ _ _ c.rows_held.ensures.passed c.make.ensures.passed

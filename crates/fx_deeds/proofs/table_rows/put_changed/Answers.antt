@@ -12,6 +12,7 @@ use Rattle.fx_deeds.specs.RowValues.{changed_cells}
 use Rattle.fx_deeds.specs.Writable.{IsOneOf}
 use Rattle.fx_deeds.proofs.CutOff.{on_any}
 use Rattle.fx_deeds.proofs.CutUpdates.{stays_on}
+use Rattle.fx_deeds.proofs.Passing.{passed_on}
 use Rattle.fx_deeds.proofs.table_rows.put_changed.Goals as goal
 
 pub returns-in_default-clause-done : goal.returns-in_default-clause-done
@@ -70,3 +71,9 @@ returns-in_err-cells-clause-stops g c = on_any _ c.find_cells.ensures.stays
 pub returns-in_err-put-clause-stops : goal.returns-in_err-put-clause-stops
 returns-in_err-put-clause-stops g c =
     on_any _ (stays_on _ _ _ _ _ _ c.find_cells.ensures.passed.later c.replace.ensures.passed.later c.find_cells.ensures.stays c.in_err-put.ensures.stops)
+
+pub returns-clause-passed : goal.returns-clause-passed
+returns-clause-passed g c = passed_on _ _ _ c.find_cells.ensures.passed c.replace.ensures.passed
+
+pub returns-in_err-put-clause-passed : goal.returns-in_err-put-clause-passed
+returns-in_err-put-clause-passed g c = passed_on _ _ _ c.find_cells.ensures.passed c.replace.ensures.passed

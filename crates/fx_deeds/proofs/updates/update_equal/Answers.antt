@@ -14,6 +14,7 @@ use Rattle.fx_deeds.specs.Fitting.{CanChangeAll}
 use Rattle.fx_deeds.specs.Lefts.{rows_by}
 use Rattle.fx_deeds.specs.RowValues.{columns_in}
 use Rattle.fx_deeds.specs.Writable.{IsOneOf}
+use Rattle.fx_deeds.proofs.Passing.{passed_on}
 use Rattle.fx_deeds.proofs.updates.update_equal.Goals as goal
 
 pub rows_with-requires-clause-records : goal.rows_with-requires-clause-records
@@ -66,3 +67,6 @@ returns-clause-cut g c =
     c.rows_held.ensures.passed.later c.make.ensures.passed.later
     (updates_in c.args.collection types cs c.in_ok-rows.rows c.in_ok-made.made c.args.kept.now (rows_by c.as_slice-2.result.now) (map view c.args.changes.now) c.in_ok-columns.ensures (rows_back c.as_slice-2.result.now c.args.kept.now e)
     (subst (λ z. AreWith cs z (rows_by c.as_slice-2.result.now) (map view c.args.changes.now) c.in_ok-made.made) c.as_slice.ensures c.in_ok-made.ensures.with)) c.in_ok-rows.ensures.held c.make.ensures.cut
+
+pub returns-clause-passed : goal.returns-clause-passed
+returns-clause-passed g c = passed_on _ _ _ c.rows_held.ensures.passed c.make.ensures.passed
