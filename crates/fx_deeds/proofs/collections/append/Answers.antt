@@ -7,7 +7,7 @@ use Rattle.fx_trees.specs.declared.sources.Source.TheVariants as source
 use Rattle.fx_deeds.proofs.Adding.{appended_fits, gathers_rows}
 use Rattle.fx_deeds.proofs.Allowing.{only_behind, only_nowhere, only_staying}
 use Rattle.fx_deeds.specs.Writable.{IsOneOf}
-use Rattle.fx_deeds.proofs.Passing.{passed_on}
+use Rattle.fx_deeds.proofs.Passing.{passed_nowhere, passed_on}
 use Rattle.fx_deeds.proofs.collections.append.Goals as goal
 
 pub make-requires : goal.make-requires
@@ -37,3 +37,6 @@ returns-clause-only g c =
 
 pub returns-clause-passed : goal.returns-clause-passed
 returns-clause-passed g c = passed_on _ _ _ c.rows_held.ensures.passed c.make.ensures.passed
+
+pub returns-in_err-copy-clause-passed : goal.returns-in_err-copy-clause-passed
+returns-in_err-copy-clause-passed g c = passed_nowhere _

@@ -14,6 +14,7 @@ use Rattle.fx_deeds.proofs.Allowing.{only_nowhere}
 use Rattle.fx_deeds.specs.Collections.{IsPatchedIn, PatchesRow}
 use Rattle.fx_deeds.specs.RowValues.{changed_row, columns_in, values_among}
 use Rattle.fx_deeds.specs.Writable.{IsOneOf}
+use Rattle.fx_deeds.proofs.Passing.{passed_nowhere}
 use Rattle.fx_deeds.proofs.collections.patch_equal.Goals as goal
 
 pub returns-in-Some-clause-fits : goal.returns-in-Some-clause-fits
@@ -59,3 +60,21 @@ returns-clause-cut g c =
     (λ s n d t. patches_in c.args.collection (g.W.Env.fixed c.args.world.now).types cs (view c.args.base.now) (map view c.args.changes.now) c.new.result c.in_ok-changes.changes c.in_ok-row.row c.in_ok-changed.changed c.in_ok-columns.ensures c.new.ensures c.in_ok-changes.ensures
     (subst (λ z. find is_fault (values_among z) ≡ None) c.as_slice.ensures (no_error c.in_ok-error.field-0 _ c.in_ok-error.ensures c.in_default.not-Some)) c.in_ok-row.ensures
     (c.in_ok-changed.ensures.row ∙ ap (λ z. changed_row cs z c.in_ok-row.row) c.as_slice-2.ensures) s d t) c.patch_row.ensures.cut
+
+pub returns-in_err-changes-clause-passed : goal.returns-in_err-changes-clause-passed
+returns-in_err-changes-clause-passed g c = passed_nowhere _
+
+pub returns-in_err-error-clause-passed : goal.returns-in_err-error-clause-passed
+returns-in_err-error-clause-passed g c = passed_nowhere _
+
+pub returns-in-Some-clause-passed : goal.returns-in-Some-clause-passed
+returns-in-Some-clause-passed g c = passed_nowhere _
+
+pub returns-in_err-columns-clause-passed : goal.returns-in_err-columns-clause-passed
+returns-in_err-columns-clause-passed g c = passed_nowhere _
+
+pub returns-in_err-row-clause-passed : goal.returns-in_err-row-clause-passed
+returns-in_err-row-clause-passed g c = passed_nowhere _
+
+pub returns-in_err-changed-clause-passed : goal.returns-in_err-changed-clause-passed
+returns-in_err-changed-clause-passed g c = passed_nowhere _

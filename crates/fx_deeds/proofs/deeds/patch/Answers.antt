@@ -21,6 +21,7 @@ use Rattle.fx_deeds.proofs.CutRows.{cut_among, cut_as}
 use Rattle.fx_deeds.proofs.Deeding.{no_error}
 use Rattle.fx_deeds.specs.Collections.{IsPatchedIn}
 use Rattle.fx_deeds.specs.Deeds.{IsPatched}
+use Rattle.fx_deeds.proofs.Passing.{passed_nowhere}
 use Rattle.fx_deeds.proofs.deeds.patch.Goals as goal
 
 pub returns-in-Some-clause-fits : goal.returns-in-Some-clause-fits
@@ -84,3 +85,9 @@ returns-in-Gathered-clause-cut g c =
     let none = ap (λ (z : List Value). find is_fault (map view z)) (sym c.in-Some-split_first.ensures.cases.0) ∙ no_error c.in_ok-error.field-0 _ c.in_ok-error.ensures c.in_default.not-Some in
     cut_as c.patch_equal.result (IsLost (g.W.Env.marks c.args.world.now) (g.W.Env.marks c.patch_equal.new.world)) (g.W.World.state c.args.world.now) (g.W.World.state c.patch_equal.new.world) (frame_of (g.W.Env.fixed c.args.world.now)) (deed.Patch c.args.target) (deed.Patch (target.Gathered k)) c.args.values.now (c.in-Some-split_first.base.now ∷ c.in-Some-split_first.changes.now) (ap deed.Patch c.in-Gathered.is) c.in-Some-split_first.ensures.cases.0
     (cut_among c.patch_equal.result (IsLost (g.W.Env.marks c.args.world.now) (g.W.Env.marks c.patch_equal.new.world)) (g.W.World.state c.args.world.now) (g.W.World.state c.patch_equal.new.world) (b ∷ ys) (λ s n x t. IsPatchedIn (columns_in ((g.W.Env.fixed c.args.world.now).types (source.Gathered k))) k b ys s x t) none c.patch_equal.ensures.cut)
+
+pub returns-in_err-error-clause-passed : goal.returns-in_err-error-clause-passed
+returns-in_err-error-clause-passed g c = passed_nowhere _
+
+pub returns-in-Some-clause-passed : goal.returns-in-Some-clause-passed
+returns-in-Some-clause-passed g c = passed_nowhere _

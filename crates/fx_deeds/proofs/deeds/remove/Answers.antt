@@ -15,6 +15,7 @@ use Rattle.fx_deeds.proofs.Deeding.{no_error}
 use Rattle.fx_deeds.specs.Collections.{AreTaken}
 use Rattle.fx_deeds.specs.Deeds.{AreRemoved}
 use Rattle.fx_deeds.specs.RowValues.{columns_in}
+use Rattle.fx_deeds.proofs.Passing.{passed_nowhere}
 use Rattle.fx_deeds.proofs.deeds.remove.Goals as goal
 
 pub returns-in-Some-clause-fits : goal.returns-in-Some-clause-fits
@@ -48,3 +49,9 @@ returns-in-Gathered-clause-cut g c =
     let k = c.in-Gathered.collection in
     cut_as c.remove_equal.result (IsLost (g.W.Env.marks c.args.world.now) (g.W.Env.marks c.remove_equal.new.world)) (g.W.World.state c.args.world.now) (g.W.World.state c.remove_equal.new.world) (frame_of (g.W.Env.fixed c.args.world.now)) (deed.Remove c.args.target) (deed.Remove (target.Gathered k)) c.args.values.now c.args.values.now (ap deed.Remove c.in-Gathered.is) refl
     (cut_among c.remove_equal.result (IsLost (g.W.Env.marks c.args.world.now) (g.W.Env.marks c.remove_equal.new.world)) (g.W.World.state c.args.world.now) (g.W.World.state c.remove_equal.new.world) ys (λ s n x t. AreTaken (columns_in ((g.W.Env.fixed c.args.world.now).types (source.Gathered k))) k (take n ys) s x t) (no_error c.in_ok-error.field-0 _ c.in_ok-error.ensures c.in_default.not-Some) c.remove_equal.ensures.cut)
+
+pub returns-in_err-error-clause-passed : goal.returns-in_err-error-clause-passed
+returns-in_err-error-clause-passed g c = passed_nowhere _
+
+pub returns-in-Some-clause-passed : goal.returns-in-Some-clause-passed
+returns-in-Some-clause-passed g c = passed_nowhere _

@@ -17,6 +17,7 @@ use Rattle.fx_deeds.proofs.CutOff.{cut_nowhere, on_any}
 use Rattle.fx_deeds.proofs.CutUpdates.{cut_update, cut_update_in}
 use Rattle.fx_deeds.specs.CutOff.{IsUpdateBegun}
 use Rattle.fx_deeds.specs.State.{frame_of}
+use Rattle.fx_deeds.proofs.Passing.{passed_nowhere}
 use Rattle.fx_deeds.proofs.deeds.update.Goals as goal
 
 pub returns-in-Some-clause-fits : goal.returns-in-Some-clause-fits
@@ -62,3 +63,9 @@ pub returns-in-Gathered-clause-cut : goal.returns-in-Gathered-clause-cut
 returns-in-Gathered-clause-cut g c =
     cut_update_in c.update_equal.result (IsLost (g.W.Env.marks c.args.world.now) (g.W.Env.marks c.update_equal.new.world)) (g.W.World.state c.args.world.now) (g.W.World.state c.update_equal.new.world) (frame_of (g.W.Env.fixed c.args.world.now)) c.args.target c.in-Gathered.collection c.args.rows.now (map view c.args.changes.now) c.in-Gathered.is
     (no_error c.in_ok-error.field-0 _ c.in_ok-error.ensures c.in_default.not-Some) c.update_equal.ensures.cut
+
+pub returns-in_err-error-clause-passed : goal.returns-in_err-error-clause-passed
+returns-in_err-error-clause-passed g c = passed_nowhere _
+
+pub returns-in-Some-clause-passed : goal.returns-in-Some-clause-passed
+returns-in-Some-clause-passed g c = passed_nowhere _

@@ -15,7 +15,7 @@ use Rattle.fx_deeds.specs.Collections.{AreLeft, AreTakenIf}
 use Rattle.fx_deeds.specs.Deeds.{OrError}
 use Rattle.fx_deeds.specs.Lefts.{rows_by}
 use Rattle.fx_deeds.specs.Writable.{IsOneOf}
-use Rattle.fx_deeds.proofs.Passing.{passed_on}
+use Rattle.fx_deeds.proofs.Passing.{passed_nowhere, passed_on}
 use Rattle.fx_deeds.proofs.filtering.take_filtered.Goals as goal
 
 pub rows_left-requires : goal.rows_left-requires
@@ -69,3 +69,9 @@ returns-in_ok-left-in-Ok-clause-cut g c =
 
 pub returns-in_ok-left-in-Ok-clause-passed : goal.returns-in_ok-left-in-Ok-clause-passed
 returns-in_ok-left-in-Ok-clause-passed g c = passed_on _ _ _ c.rows_held.ensures.passed c.make.ensures.passed
+
+pub returns-in_err-kept-in-Ok-clause-passed : goal.returns-in_err-kept-in-Ok-clause-passed
+returns-in_err-kept-in-Ok-clause-passed g c = passed_nowhere _
+
+pub returns-in-Err-clause-passed : goal.returns-in-Err-clause-passed
+returns-in-Err-clause-passed g c = passed_nowhere _

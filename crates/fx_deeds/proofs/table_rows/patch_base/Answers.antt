@@ -8,6 +8,7 @@ use Rattle.fx_deeds.proofs.Allowing.{only_nowhere}
 use Rattle.fx_deeds.specs.Deeds.{PatchesBase}
 use Rattle.fx_deeds.specs.Writable.{IsOneOf}
 use Rattle.fx_deeds.proofs.CutRows.{cut_base}
+use Rattle.fx_deeds.proofs.Passing.{passed_nowhere}
 use Rattle.fx_deeds.proofs.table_rows.patch_base.Goals as goal
 
 pub returns-in-Rec-clause-done : goal.returns-in-Rec-clause-done
@@ -30,3 +31,9 @@ returns-in_err-error-in_default-clause-only g c =
 
 pub returns-in-Rec-clause-cut : goal.returns-in-Rec-clause-cut
 returns-in-Rec-clause-cut g c = cut_base c.patch_numbered.result (IsLost (g.W.Env.marks c.args.world.now) (g.W.Env.marks c.patch_numbered.new.world)) (g.W.World.state c.args.world.now) (g.W.World.state c.patch_numbered.new.world) c.args.shape.now c.args.table c.args.changes.now c.args.base.now _ c.in-Rec.is c.patch_numbered.ensures.cut
+
+pub returns-in_ok-error-in_default-clause-passed : goal.returns-in_ok-error-in_default-clause-passed
+returns-in_ok-error-in_default-clause-passed g c = passed_nowhere _
+
+pub returns-in_err-error-in_default-clause-passed : goal.returns-in_err-error-in_default-clause-passed
+returns-in_err-error-in_default-clause-passed g c = passed_nowhere _

@@ -6,6 +6,7 @@ use Rattle.fx_deeds.proofs.Cells.{blanks_fit, changed_cells_fit}
 use Rattle.fx_deeds.proofs.Allowing.{only_nowhere}
 use Rattle.fx_deeds.specs.RowValues.{blank_cells, changed_cells}
 use Rattle.fx_deeds.specs.Writable.{IsOneOf}
+use Rattle.fx_deeds.proofs.Passing.{passed_nowhere}
 use Rattle.fx_deeds.proofs.table_rows.patch_new.Goals as goal
 
 pub make_row-requires-clause-cells : goal.make_row-requires-clause-cells
@@ -22,3 +23,9 @@ returns-in_err-blanks-clause-only g c =
 pub returns-in_err-cells-clause-only : goal.returns-in_err-cells-clause-only
 returns-in_err-cells-clause-only g c =
     only_nowhere (IsOneOf (source.Table c.args.table ∷ [])) (IsLost (g.W.Env.marks c.args.world.now) (g.W.Env.marks c.args.world.now)) (g.W.World.state c.args.world.now)
+
+pub returns-in_err-blanks-clause-passed : goal.returns-in_err-blanks-clause-passed
+returns-in_err-blanks-clause-passed g c = passed_nowhere _
+
+pub returns-in_err-cells-clause-passed : goal.returns-in_err-cells-clause-passed
+returns-in_err-cells-clause-passed g c = passed_nowhere _

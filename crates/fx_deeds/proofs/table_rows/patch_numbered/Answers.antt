@@ -9,6 +9,7 @@ use Rattle.fx_deeds.specs.Deeds.{PatchesById, id_of}
 use Rattle.fx_deeds.specs.Found.{IsNamed}
 use Rattle.fx_deeds.specs.Writable.{IsOneOf}
 use Rattle.fx_deeds.proofs.CutRows.{cut_new, cut_numbered}
+use Rattle.fx_deeds.proofs.Passing.{passed_nowhere}
 use Rattle.fx_deeds.proofs.table_rows.patch_numbered.Goals as goal
 
 pub returns-then-branch-clause-done : goal.returns-then-branch-clause-done
@@ -48,3 +49,12 @@ pub returns-in-Ok-clause-cut : goal.returns-in-Ok-clause-cut
 returns-in-Ok-clause-cut g c =
     cut_numbered c.patch_row.result (IsLost (g.W.Env.marks c.args.world.now) (g.W.Env.marks c.patch_row.new.world)) (g.W.World.state c.args.world.now) (g.W.World.state c.patch_row.new.world) c.args.shape.now c.args.table c.in-Ok.id c.args.changes.now (id_of (view c.args.base.now)) (c.in_ok-has_blank_number.ensures.other c.if-branch.false)
     (subst (IsNamed (view c.args.base.now)) c.in-Ok.is c.in_ok-named.ensures) c.patch_row.ensures.cut
+
+pub returns-in_err-has_blank_number-clause-passed : goal.returns-in_err-has_blank_number-clause-passed
+returns-in_err-has_blank_number-clause-passed g c = passed_nowhere _
+
+pub returns-in_err-named-clause-passed : goal.returns-in_err-named-clause-passed
+returns-in_err-named-clause-passed g c = passed_nowhere _
+
+pub returns-in-Err-clause-passed : goal.returns-in-Err-clause-passed
+returns-in-Err-clause-passed g c = passed_nowhere _

@@ -17,6 +17,7 @@ use Rattle.fx_deeds.specs.Finding.{CanPatchRows}
 use Rattle.fx_deeds.specs.RowValues.{rows_among, values_among}
 use Rattle.fx_deeds.specs.Writable.{IsOneOf}
 use Rattle.fx_deeds.proofs.CutRows.{cut_patched}
+use Rattle.fx_deeds.proofs.Passing.{passed_nowhere}
 use Rattle.fx_deeds.proofs.table_rows.patch_table.Goals as goal
 
 pub returns-in-Some-clause-done : goal.returns-in-Some-clause-done
@@ -86,3 +87,15 @@ returns-clause-cut g c =
     let first = c.as_slice.ensures ∙ c.in_ok-changes.ensures ∙ ap (λ z. z ++ rows_among ys) c.new.ensures in
     let none = ap (λ z. find is_fault (id_of b ∷ values_among z)) (sym first) ∙ no_error c.in_ok-error.field-0 _ c.in_ok-error.ensures c.in_default.not-Some in
     cut_patched c.patch_base.result (IsLost (g.W.Env.marks c.args.world.now) (g.W.Env.marks c.patch_base.new.world)) (g.W.World.state c.args.world.now) (g.W.World.state c.patch_base.new.world) (g.W.Env.fixed c.args.world.now).schema c.args.table c.in_ok-shape.shape b ys c.as_slice-2.result.now c.in_ok-shape.ensures rows none c.patch_base.ensures.cut
+
+pub returns-in_err-shape-clause-passed : goal.returns-in_err-shape-clause-passed
+returns-in_err-shape-clause-passed g c = passed_nowhere _
+
+pub returns-in_err-changes-clause-passed : goal.returns-in_err-changes-clause-passed
+returns-in_err-changes-clause-passed g c = passed_nowhere _
+
+pub returns-in_err-error-clause-passed : goal.returns-in_err-error-clause-passed
+returns-in_err-error-clause-passed g c = passed_nowhere _
+
+pub returns-in-Some-clause-passed : goal.returns-in-Some-clause-passed
+returns-in-Some-clause-passed g c = passed_nowhere _

@@ -14,6 +14,7 @@ use Rattle.fx_deeds.specs.Writable.{IsOneOf}
 use Rattle.fx_deeds.proofs.CutOff.{cut_nowhere, cut_staying, on_any}
 use Rattle.fx_deeds.proofs.CutUpdates.{cut_put}
 use Rattle.fx_deeds.specs.Deeds.{AreUpdated}
+use Rattle.fx_deeds.proofs.Passing.{passed_nowhere}
 use Rattle.fx_deeds.proofs.table_rows.update_row.Goals as goal
 
 pub returns-in-Err-clause-done : goal.returns-in-Err-clause-done
@@ -63,3 +64,12 @@ returns-in_err-end-in-Ok-clause-cut g c =
     on_any _
     (cut_put (IsLost (g.W.Env.marks c.args.world.now) (g.W.Env.marks c.put_changed.new.world)) (g.W.World.state c.args.world.now) (g.W.World.state c.put_changed.new.world) c.args.shape.now c.args.table c.in-Ok.id c.args.row.now (view c.args.change.now) c.as_slice.result.now c.in_ok-patched-in-Ok.patched.cells c.in_ok-patched-in-Ok.patched.put
     (subst (IsNamed (record_of c.args.row.now)) c.in-Ok.is c.in_ok-named.ensures) rows c.in_ok-patched-in-Ok.ensures.done)
+
+pub returns-in_err-named-clause-passed : goal.returns-in_err-named-clause-passed
+returns-in_err-named-clause-passed g c = passed_nowhere _
+
+pub returns-in_err-changes-clause-passed : goal.returns-in_err-changes-clause-passed
+returns-in_err-changes-clause-passed g c = passed_nowhere _
+
+pub returns-in-Err-clause-passed : goal.returns-in-Err-clause-passed
+returns-in-Err-clause-passed g c = passed_nowhere _

@@ -10,6 +10,7 @@ use Rattle.std.specs.Prelude.{take}
 use Rattle.fx_deeds.proofs.CutOff.{cut_nowhere, on_any}
 use Rattle.fx_deeds.proofs.CutUpdates.{cut_of_table}
 use Rattle.fx_deeds.specs.Deeds.{AreUpdated, OfTable}
+use Rattle.fx_deeds.proofs.Passing.{passed_nowhere}
 use Rattle.fx_deeds.proofs.table_rows.update_table.Goals as goal
 
 pub update_rows-requires-clause-can : goal.update_rows-requires-clause-can
@@ -28,3 +29,6 @@ returns-in_err-shape-clause-cut g c =
 pub returns-clause-cut : goal.returns-clause-cut
 returns-clause-cut g c =
     cut_of_table c.update_rows.result (IsLost (g.W.Env.marks c.args.world.now) (g.W.Env.marks c.update_rows.new.world)) (g.W.World.state c.args.world.now) (g.W.World.state c.update_rows.new.world) (g.W.Env.fixed c.args.world.now).schema c.args.table c.in_ok-shape.shape c.args.rows.now (map view c.args.changes.now) c.in_ok-shape.ensures c.update_rows.ensures.cut
+
+pub returns-in_err-shape-clause-passed : goal.returns-in_err-shape-clause-passed
+returns-in_err-shape-clause-passed g c = passed_nowhere _

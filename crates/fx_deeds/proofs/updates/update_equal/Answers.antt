@@ -14,7 +14,7 @@ use Rattle.fx_deeds.specs.Fitting.{CanChangeAll}
 use Rattle.fx_deeds.specs.Lefts.{rows_by}
 use Rattle.fx_deeds.specs.RowValues.{columns_in}
 use Rattle.fx_deeds.specs.Writable.{IsOneOf}
-use Rattle.fx_deeds.proofs.Passing.{passed_on}
+use Rattle.fx_deeds.proofs.Passing.{passed_nowhere, passed_on}
 use Rattle.fx_deeds.proofs.updates.update_equal.Goals as goal
 
 pub rows_with-requires-clause-records : goal.rows_with-requires-clause-records
@@ -70,3 +70,9 @@ returns-clause-cut g c =
 
 pub returns-clause-passed : goal.returns-clause-passed
 returns-clause-passed g c = passed_on _ _ _ c.rows_held.ensures.passed c.make.ensures.passed
+
+pub returns-in_err-columns-clause-passed : goal.returns-in_err-columns-clause-passed
+returns-in_err-columns-clause-passed g c = passed_nowhere _
+
+pub returns-in_err-kept-clause-passed : goal.returns-in_err-kept-clause-passed
+returns-in_err-kept-clause-passed g c = passed_nowhere _
