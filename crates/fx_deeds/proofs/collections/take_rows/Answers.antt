@@ -3,11 +3,14 @@ use Rattle.fx_base.specs.Silence.{IsLost}
 use Rattle.fx_data.specs.ValueView.{view}
 use Rattle.fx_data.specs.Types.{column_list}
 use Rattle.fx_trees.specs.declared.sources.Source.TheVariants as source
-use Rattle.fx_deeds.proofs.CutOff.{CutTaken, carried, cut_where, on_any, taken_goes}
+use Rattle.fx_deeds.proofs.CutOff.{CutTaken, carried, cut_where, on_any, taken_goes, carries_nowhere}
 use Rattle.fx_deeds.proofs.Gathering.{take_goes, take_stops, taking}
-use Rattle.fx_deeds.proofs.Passing.{passed_on}
-use Rattle.fx_deeds.proofs.Allowing.{only_on}
+use Rattle.fx_deeds.proofs.Passing.{passed_on, passed_nowhere}
+use Rattle.fx_deeds.proofs.Allowing.{only_on, only_nowhere}
 use Rattle.fx_deeds.specs.Writable.{IsOneOf}
+use Rattle.fx_deeds.proofs.Deeding.{goes_nowhere}
+use Rattle.fx_deeds.specs.Lefts.{Decides}
+use Rattle.fx_deeds.proofs.Steps.{Whole}
 use Rattle.fx_deeds.proofs.collections.take_rows.Goals as goal
 
 pub returns-in_err-answer-clause-passed : goal.returns-in_err-answer-clause-passed
@@ -45,3 +48,18 @@ pub returns-in_err-row-clause-cut : goal.returns-in_err-row-clause-cut
 returns-in_err-row-clause-cut g c =
     on_any _
     (cut_where (IsLost (g.W.Env.marks c.args.world.now) (g.W.Env.marks c.loop-sought.world)) (g.W.World.state c.args.world.now) (g.W.World.state c.loop-sought.world) (CutTaken (column_list c.args.columns.now) c.args.collection (map view c.loop-sought.rest.now)) (CutTaken (column_list c.args.columns.now) c.args.collection (map view c.args.rows.now)) (λ s. inl refl) c.loop-sought.invariant.cut)
+
+pub loop-sought-init : goal.loop-sought-init
+loop-sought-init g c =
+    let m = g.W.Env.marks c.args.world.now in
+    let s = g.W.World.state c.args.world.now in
+    let W : Whole (g.W.World.App) = taking (column_list c.args.columns.now) c.args.collection c.args.rows.now in
+    record {
+      passed = passed_nowhere _;
+      only = only_nowhere (IsOneOf (source.Gathered c.args.collection ∷ [])) (IsLost m m) s;
+      done = goes_nowhere (IsLost m m) (Decides W W) s (λ a x t h. h);
+      cut = carries_nowhere (IsLost m m) s (CutTaken (column_list c.args.columns.now) c.args.collection (map view c.args.rows.now));
+    }
+
+pub returns-in-Some-2-clause-passed : goal.returns-in-Some-2-clause-passed
+returns-in-Some-2-clause-passed g c = passed_on _ _ _ c.loop-sought.invariant.passed c.take_row.ensures.passed

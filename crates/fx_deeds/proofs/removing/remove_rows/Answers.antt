@@ -1,11 +1,14 @@
 use Rattle.std.proofs.Common.{◌∷◌, [], inl, map, refl}
 use Rattle.fx_data.specs.ValueView.{view}
 use Rattle.fx_trees.specs.declared.sources.Source.TheVariants as source
-use Rattle.fx_deeds.proofs.CutOff.{CutRemoved, carried, on_any, removed_goes}
-use Rattle.fx_deeds.proofs.Passing.{passed_on}
-use Rattle.fx_deeds.proofs.Steps.{remove_goes, remove_stops, removing}
-use Rattle.fx_deeds.proofs.Allowing.{only_on}
+use Rattle.fx_deeds.proofs.CutOff.{CutRemoved, carried, on_any, removed_goes, carries_nowhere}
+use Rattle.fx_deeds.proofs.Passing.{passed_on, passed_nowhere}
+use Rattle.fx_deeds.proofs.Steps.{remove_goes, remove_stops, removing, Whole}
+use Rattle.fx_deeds.proofs.Allowing.{only_on, only_nowhere}
 use Rattle.fx_deeds.specs.Writable.{IsOneOf}
+use Rattle.fx_base.specs.Silence.{IsLost}
+use Rattle.fx_deeds.proofs.Deeding.{goes_nowhere}
+use Rattle.fx_deeds.specs.Lefts.{Decides}
 use Rattle.fx_deeds.proofs.removing.remove_rows.Goals as goal
 
 pub returns-in_err-answer-clause-passed : goal.returns-in_err-answer-clause-passed
@@ -39,3 +42,18 @@ returns-in_err-answer-clause-cut g c =
     on_any c.from_residual.result
     (carried _ _ _ _ _ _ (CutRemoved c.args.table (map view c.loop-row.rest.now)) (CutRemoved c.args.table (map view c.args.rows.now)) c.loop-row.invariant.passed.later c.remove_row.ensures.passed.later (λ s. inl refl)
     c.loop-row.invariant.cut c.in_err-answer.ensures.stops)
+
+pub loop-row-init : goal.loop-row-init
+loop-row-init g c =
+    let m = g.W.Env.marks c.args.world.now in
+    let s = g.W.World.state c.args.world.now in
+    let W : Whole (g.W.World.App) = removing c.args.table c.args.rows.now in
+    record {
+      passed = passed_nowhere _;
+      only = only_nowhere (IsOneOf (source.Table c.args.table ∷ [])) (IsLost m m) s;
+      done = goes_nowhere (IsLost m m) (Decides W W) s (λ a x t h. h);
+      cut = carries_nowhere (IsLost m m) s (CutRemoved c.args.table (map view c.args.rows.now));
+    }
+
+pub returns-in-Some-2-clause-passed : goal.returns-in-Some-2-clause-passed
+returns-in-Some-2-clause-passed g c = passed_on _ _ _ c.loop-row.invariant.passed c.remove_row.ensures.passed

@@ -2,12 +2,14 @@ use Rattle.std.proofs.lemmas.List.{nil_from_length}
 use Rattle.session_state.specs.declared.change.Change.TheVariants as change
 use Rattle.std.proofs.Common.{inl, map, refl}
 use Rattle.fx_data.specs.ValueView.{view}
-use Rattle.fx_deeds.proofs.CutOff.{CutSet, carried, cut_where, on_any, refused_stays, set_goes_on}
+use Rattle.fx_deeds.proofs.CutOff.{CutSet, carried, cut_where, on_any, refused_stays, set_goes_on, carries_nowhere}
 use Rattle.fx_base.specs.Silence.{IsLost}
-use Rattle.fx_deeds.proofs.Passing.{passed_on}
-use Rattle.fx_deeds.proofs.Steps.{can_rest, set_ends, set_goes, set_refused, setting}
-use Rattle.fx_deeds.proofs.Allowing.{first_among, only_over, others_among}
+use Rattle.fx_deeds.proofs.Passing.{passed_on, passed_nowhere}
+use Rattle.fx_deeds.proofs.Steps.{can_rest, set_ends, set_goes, set_refused, setting, Whole}
+use Rattle.fx_deeds.proofs.Allowing.{first_among, only_over, others_among, only_nowhere}
 use Rattle.fx_deeds.specs.Writable.{IsOneOf}
+use Rattle.fx_deeds.proofs.Deeding.{goes_nowhere}
+use Rattle.fx_deeds.specs.Lefts.{Decides}
 use Rattle.fx_deeds.proofs.session.set_all.Goals as goal
 
 pub returns-in_err-change-clause-passed : goal.returns-in_err-change-clause-passed
@@ -61,3 +63,23 @@ returns-in_err-error-clause-cut g c =
     (carried _ _ _ _ _ _ (CutSet c.loop-value.names.now (map view c.loop-value.rest.now)) (CutSet c.args.variables.now (map view c.args.values.now)) c.loop-value.invariant.passed.later c.change.ensures.passed.later (λ s. inl refl)
     c.loop-value.invariant.cut
     (refused_stays (IsLost (g.W.Env.marks c.loop-value.world) (g.W.Env.marks c.change.new.world)) (change.Context c.first_variable-number.result.0 c.in_ok-copy.field-0) _ (g.W.World.state c.loop-value.world) (g.W.World.state c.change.new.world) c.if-not-branch.true c.in_ok-change.ensures.done))
+
+pub loop-value-init : goal.loop-value-init
+loop-value-init g c =
+    let m = g.W.Env.marks c.args.world.now in
+    let s = g.W.World.state c.args.world.now in
+    let W : Whole (g.W.World.App) = setting c.args.variables.now c.args.values.now in
+    record {
+      passed = passed_nowhere _;
+      allowed = λ x h. h;
+      only = only_nowhere (IsOneOf c.args.variables.now) (IsLost m m) s;
+      can = c.requires;
+      done = goes_nowhere (IsLost m m) (Decides W W) s (λ a x t h. h);
+      cut = carries_nowhere (IsLost m m) s (CutSet c.args.variables.now (map view c.args.values.now));
+    }
+
+pub returns-then-not-branch-clause-passed : goal.returns-then-not-branch-clause-passed
+returns-then-not-branch-clause-passed g c = passed_on _ _ _ c.loop-value.invariant.passed c.change.ensures.passed
+
+pub returns-in_err-error-clause-passed : goal.returns-in_err-error-clause-passed
+returns-in_err-error-clause-passed g c = passed_on _ _ _ c.loop-value.invariant.passed c.change.ensures.passed

@@ -4,13 +4,16 @@ use Rattle.fx_base.specs.Silence.{IsLost}
 use Rattle.fx_data.specs.ValueView.{view}
 use Rattle.fx_env.specs.Scopes.{Fixed}
 use Rattle.fx_trees.specs.declared.sources.Source.TheVariants as source
-use Rattle.fx_deeds.proofs.Passing.{passed_on}
+use Rattle.fx_deeds.proofs.Passing.{passed_on, passed_nowhere}
 use Rattle.fx_deeds.proofs.Patching.{update_ends, update_goes, update_stops, updating}
-use Rattle.fx_deeds.proofs.Allowing.{only_on}
+use Rattle.fx_deeds.proofs.Allowing.{only_on, only_nowhere}
 use Rattle.fx_deeds.specs.Finding.{CanChangeEach, IsShape}
 use Rattle.fx_deeds.specs.Writable.{IsOneOf}
-use Rattle.fx_deeds.proofs.CutOff.{on_any}
+use Rattle.fx_deeds.proofs.CutOff.{on_any, carries_nowhere}
 use Rattle.fx_deeds.proofs.CutUpdates.{CutUpdated, updated_cut, updated_goes}
+use Rattle.fx_deeds.proofs.Deeding.{goes_nowhere}
+use Rattle.fx_deeds.specs.Lefts.{Decides}
+use Rattle.fx_deeds.proofs.Steps.{Whole}
 use Rattle.fx_deeds.proofs.table_rows.update_rows.Goals as goal
 
 pub update_row-requires-clause-shape : goal.update_row-requires-clause-shape
@@ -67,3 +70,16 @@ pub returns-in_err-answer-clause-cut : goal.returns-in_err-answer-clause-cut
 returns-in_err-answer-clause-cut g c =
     on_any _
     (updated_cut _ _ _ _ _ _ (CutUpdated c.args.shape.now c.args.table c.args.rows.now (map view c.args.changes.now)) c.args.shape.now c.args.table c.in-Some.row.now c.in-Some.others.now c.loop-row.rest.now c.in-Some-split_first.change.now c.in-Some-split_first.more.now c.loop-row.left.now c.loop-row.invariant.passed.later c.update_row.ensures.passed.later c.in-Some.ensures.cases.0 c.in-Some-split_first.ensures.cases.0 c.loop-row.invariant.cut c.in_err-answer.ensures.cut)
+
+pub loop-row-init : goal.loop-row-init
+loop-row-init g c =
+    let m = g.W.Env.marks c.args.world.now in
+    let s = g.W.World.state c.args.world.now in
+    let W : Whole (g.W.World.App) = updating c.args.shape.now c.args.table c.args.rows.now c.args.changes.now in
+    record {
+      passed = passed_nowhere _;
+      only = only_nowhere (IsOneOf (source.Table c.args.table ∷ [])) (IsLost m m) s;
+      can = c.requires.can;
+      done = goes_nowhere (IsLost m m) (Decides W W) s (λ a x t h. h);
+      cut = carries_nowhere (IsLost m m) s (CutUpdated c.args.shape.now c.args.table c.args.rows.now (map view c.args.changes.now));
+    }
