@@ -1,10 +1,10 @@
 //! A desk edits a formula.
-ghost use Rattle.std.specs.Prelude.{◌≡◌, ℕ, IfOk, OnErr, Option};
+ghost use Rattle.std.specs.Prelude.{◌≡◌, ℕ, IfOk, OnErr, OnOk, Option};
 ghost use Rattle.app_loader.specs.app_edits.Frames.{frame_of};
 ghost use Rattle.app_loader.specs.Edits.{IsLoaded};
 ghost use Rattle.app_loader.specs.app_semantics.Sound.{IsSound};
 ghost use Rattle.office.specs.Caches.{AreEach, AreKept, WentOver};
-ghost use Rattle.office.specs.DeskEdits.{MakesEdit, PostsEdit};
+ghost use Rattle.office.specs.DeskEdits.{MakesEdit, PostsEdit, all_carried};
 ghost use Rattle.office.specs.Ready.{AreFit};
 ghost use Rattle.request_checks.specs.Checked.{SessionsKeepReplies};
 ghost use Rattle.request_checks.specs.Replies.{IsReply, KeepReplies, said};
@@ -105,15 +105,40 @@ fn make_edit(
     desks.reserve(1)?;
     match edit(alloc, app, asked.cell.as_str(), asked.text.as_str()) {
         Ok(edited) => {
-            let cells = old_cells(alloc, app, &edited)?;
-            make_rooms(caches, &edited)?;
-            make_room(sessions, &edited.names)?;
-            carry(sessions, &app.names, &edited.names);
-            carry_all(caches, app, &edited, &cells);
+            go_over(alloc, app, &edited, sessions, caches)?;
             *app = edited;
             Ok(keep(alloc, desks, asked.seq, accepted))
         }
         Err(AppEnd::Refused(breaks)) => refuse(alloc, &breaks),
         Err(AppEnd::Memory) => Err(Memory),
     }
+}
+
+/// Sessions and caches go over to an edited app; or there is no memory, and the sessions and what the caches keep are as before. All
+/// memory is taken before anything goes over.
+fn go_over(
+    alloc: Global,
+    app: &App,
+    edited: &App,
+    sessions: &mut Vec<Named<Session>>,
+    caches: &mut Vec<Named<Cache>>,
+) -> Result<(), Memory>
+    requires sound { IsSound app.now }
+    requires edited { IsSound edited.now }
+    requires frame { frame_of edited.now ≡ frame_of app.now }
+    requires fit { AreFit app.now.names sessions.old.items }
+    requires cached { (told : Option Tables) × (moment : ℕ) × AreKept app.now told moment sessions.old.items caches.old.items }
+    ensures sessions { OnOk result (sessions.new.items ≡ all_carried app.now.names edited.now.names sessions.old.items) }
+    ensures stopped { OnErr result (sessions.new.items ≡ sessions.old.items) }
+    ensures kept { OnOk result ((told : Option Tables) (moment : ℕ) → AreKept app.now told moment sessions.old.items caches.old.items → AreKept edited.now told moment sessions.new.items caches.new.items) }
+    ensures stayed { OnErr result ((told : Option Tables) (moment : ℕ) → AreKept app.now told moment sessions.old.items caches.old.items → AreKept app.now told moment sessions.new.items caches.new.items) }
+    ensures over { OnOk result (AreEach (λ k. WentOver app.now edited.now) caches.old.items caches.new.items) }
+    ensures left { OnErr result (AreEach (λ k. WentOver app.now app.now) caches.old.items caches.new.items) }
+{
+    let cells = old_cells(alloc, app, edited)?;
+    make_rooms(caches, edited)?;
+    make_room(sessions, &edited.names)?;
+    carry(sessions, &app.names, &edited.names);
+    carry_all(caches, app, edited, &cells);
+    Ok(())
 }
