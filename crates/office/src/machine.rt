@@ -169,7 +169,7 @@ impl<K: Keeper + Drop> Office<K> {
     {
         match self.routes.route(self.alloc, request) {
             Ok(route) => match self.turn(moment) {
-                Ok(()) => self.take(route, request, steps),
+                Ok(()) => self.take(&route, request, steps),
                 Err(Memory) => Err(KeeperEnd::Memory),
             },
             Err(RouteEnd::NoRoute) => Ok(Reply::fixed_refusal(self.alloc, 7, 404)),
@@ -198,19 +198,19 @@ impl<K: Keeper + Drop> Office<K> {
     #[tactic(auto, unfolding(crate::specs::Step::Does, crate::specs::Step::Reaches, crate::specs::Costs::CostsBy, crate::specs::Leaving::LeavesBy, crate::specs::Leaving::ActsClean))]
     fn take<L: Ledger>(
         &mut self,
-        route: Route,
+        route: &Route,
         request: &Request,
         steps: &mut Steps<L>,
     ) -> Result<Reply, KeeperEnd>
-        ensures step { IfOk result (λ r. Does (IsLost self.old.marks self.new.marks) self.old.moment route request.now.body.items self.old.state (said r) self.new.state) }
+        ensures step { IfOk result (λ r. Does (IsLost self.old.marks self.new.marks) self.old.moment route.now request.now.body.items self.old.state (said r) self.new.state) }
         ensures whole { IfOk result IsReply }
         ensures stopped { OnErr result (Left (IsLost self.old.marks self.new.marks) self.old.state self.new.state) }
-        ensures reached { IsErrOf result Failed → Reaches route request.now.body.items self.old.state }
+        ensures reached { IsErrOf result Failed → Reaches route.now request.now.body.items self.old.state }
         ensures cause { HasCause self.old.marks self.new.marks result }
-        ensures clean { LeavesBy route nothing request.now.body.items self.old.state self.new.state self.old.caches self.new.caches }
-        ensures acted { IfOk result (λ r. ActsClean (IsLost self.old.marks self.new.marks) self.old.moment route nothing request.now.body.items self.old.state (said r) self.new.state self.old.caches self.new.caches) }
-        ensures costs { IfOk result (λ r. CostsBy route self.old.moment self.old.state (said r) self.new.state self.old.caches self.new.caches (counts steps.old self.old.visited) (counts steps.new self.new.visited)) }
-        ensures cut { OnErr result (StopsClean self.old.moment route nothing request.now.body.items self.old.state self.new.state self.old.caches self.new.caches) }
+        ensures clean { LeavesBy route.now nothing request.now.body.items self.old.state self.new.state self.old.caches self.new.caches }
+        ensures acted { IfOk result (λ r. ActsClean (IsLost self.old.marks self.new.marks) self.old.moment route.now nothing request.now.body.items self.old.state (said r) self.new.state self.old.caches self.new.caches) }
+        ensures costs { IfOk result (λ r. CostsBy route.now self.old.moment self.old.state (said r) self.new.state self.old.caches self.new.caches (counts steps.old self.old.visited) (counts steps.new self.new.visited)) }
+        ensures cut { OnErr result (StopsClean self.old.moment route.now nothing request.now.body.items self.old.state self.new.state self.old.caches self.new.caches) }
         ensures loan { self.new.loan ≡ self.old.loan }
     {
         let moment = self.moment;
@@ -226,7 +226,7 @@ impl<K: Keeper + Drop> Office<K> {
                 steps,
             ),
             Route::End(name) => {
-                match end(self.alloc, &mut self.sessions, &mut self.caches, &name) {
+                match end(self.alloc, &mut self.sessions, &mut self.caches, name) {
                     Ok(reply) => Ok(reply),
                     Err(Memory) => Err(KeeperEnd::Memory),
                 }
@@ -237,7 +237,7 @@ impl<K: Keeper + Drop> Office<K> {
                 &self.sessions,
                 &mut self.caches,
                 &mut self.keeper,
-                &name,
+                name,
                 moment,
                 steps,
             ),
@@ -247,7 +247,7 @@ impl<K: Keeper + Drop> Office<K> {
                 &self.sessions,
                 &mut self.caches,
                 &mut self.keeper,
-                &name,
+                name,
                 moment,
                 steps,
             ),
@@ -257,9 +257,9 @@ impl<K: Keeper + Drop> Office<K> {
                 &self.sessions,
                 &mut self.caches,
                 &mut self.keeper,
-                &name,
-                &gallery,
-                from,
+                name,
+                gallery,
+                *from,
                 moment,
                 steps,
             ),
@@ -269,7 +269,7 @@ impl<K: Keeper + Drop> Office<K> {
                 &mut self.sessions,
                 &mut self.caches,
                 &mut self.keeper,
-                &name,
+                name,
                 &request.body,
                 moment,
                 steps,
@@ -280,7 +280,7 @@ impl<K: Keeper + Drop> Office<K> {
                 &mut self.sessions,
                 &mut self.caches,
                 &mut self.keeper,
-                &name,
+                name,
                 &request.body,
                 moment,
                 steps,
@@ -291,7 +291,7 @@ impl<K: Keeper + Drop> Office<K> {
                 &mut self.caches,
                 &mut self.keeper,
                 &mut self.desks,
-                &name,
+                name,
                 &request.body,
             ),
             Route::Edit(name) => match post_edit(
@@ -300,7 +300,7 @@ impl<K: Keeper + Drop> Office<K> {
                 &mut self.sessions,
                 &mut self.caches,
                 &mut self.desks,
-                &name,
+                name,
                 &request.body,
             ) {
                 Ok(reply) => Ok(reply),
@@ -310,8 +310,8 @@ impl<K: Keeper + Drop> Office<K> {
                 self.alloc,
                 &mut self.keeper,
                 schema_of(&self.app),
-                &table,
-                after,
+                table,
+                *after,
             ),
             Route::Plan => match show_plan(self.alloc, &self.app) {
                 Ok(reply) => Ok(reply),

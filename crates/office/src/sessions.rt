@@ -1,5 +1,5 @@
 //! Sessions: they begin, end, and are shown what they ask for.
-ghost use Rattle.std.specs.Prelude.{◌≡◌, [], ℕ, false, IfOk, IsErrOf, List, OnErr, OnOk, Option, Some};
+ghost use Rattle.std.specs.Prelude.{◌≡◌, ◌<◌, [], ℕ, false, IfOk, IfSome, IsErrOf, List, OnErr, OnOk, Option, Some, option_map, vec_capacity, vec_len};
 ghost use Rattle.app_wire.specs.ReplyBytes.{reply};
 ghost use Rattle.request_checks.specs.Checked.{SessionsKeepReplies};
 ghost use Rattle.request_checks.specs.Directory.{find};
@@ -12,7 +12,7 @@ ghost use Rattle.row_keeper.specs.Tables.{Tables};
 ghost use Rattle.app_views.specs.Galleries.{gallery_named};
 ghost use Rattle.app_views.specs.Shows.{ReachesItems, ReachesView, ShowsItems, ShowsView};
 ghost use Rattle.recalc.specs.Changes.{IsLeftBut};
-ghost use Rattle.office.specs.Caches.{AreEach, AreKept};
+ghost use Rattle.office.specs.Caches.{AreEach, AreKept, IsNew};
 ghost use Rattle.office.specs.Costs.{CostOfItems, CostOfNamed, CostOfView, CostsTo, counts};
 ghost use Rattle.office.specs.Leaving.{AreLeft, AreLeftBeside, BeginLeaves, any_table, nothing};
 ghost use Rattle.office.specs.Ready.{AreFit};
@@ -54,7 +54,7 @@ pub(crate) fn begin<K: Keeper, L: Ledger>(
     sessions: &mut Vec<Named<Session>>,
     caches: &mut Vec<Named<Cache>>,
     keeper: &mut K,
-    name: Words,
+    name: &Words,
     moment: u64,
     steps: &mut Steps<L>,
 ) -> Result<Reply, KeeperEnd>
@@ -66,16 +66,16 @@ pub(crate) fn begin<K: Keeper, L: Ledger>(
     requires shaped { K.shaped keeper.old ≡ Some app.now.names.schema }
     requires rows { AreSound app.now.names.schema (K.told keeper.old) }
     requires idle { K.in_transaction keeper.old ≡ false }
-    ensures done { IfOk result (λ r. BeginsSession (IsLost (K.marks keeper.old) (K.marks keeper.new)) app.now moment name (K.told keeper.old) sessions.old.items (said r) (K.told keeper.new) sessions.new.items) }
+    ensures done { IfOk result (λ r. BeginsSession (IsLost (K.marks keeper.old) (K.marks keeper.new)) app.now moment name.now (K.told keeper.old) sessions.old.items (said r) (K.told keeper.new) sessions.new.items) }
     ensures whole { IfOk result IsReply }
-    ensures reached { IsErrOf result Failed → ReachesBegin name sessions.old.items }
+    ensures reached { IsErrOf result Failed → ReachesBegin name.now sessions.old.items }
     ensures stopped { OnErr result (sessions.new.items ≡ sessions.old.items) }
     ensures left { OnErr result (Goes (IsLost (K.marks keeper.old) (K.marks keeper.new)) Stays (K.told keeper.old) (K.told keeper.new)) }
     ensures fit { AreFit app.now.names sessions.new.items }
     ensures replies { SessionsKeepReplies sessions.new.items }
     ensures kept { AreKept app.now (K.told keeper.new) moment sessions.new.items caches.new.items }
-    ensures clean { AreLeftBeside app.now name any_table caches.old.items caches.new.items }
-    ensures others { IfOk result (λ r. BeginLeaves (IsLost (K.marks keeper.old) (K.marks keeper.new)) app.now moment name nothing (begin_checks name sessions.old.items) (K.told keeper.old) sessions.old.items (said r) (K.told keeper.new) sessions.new.items caches.old.items caches.new.items) }
+    ensures clean { AreLeftBeside app.now name.now any_table caches.old.items caches.new.items }
+    ensures others { IfOk result (λ r. BeginLeaves (IsLost (K.marks keeper.old) (K.marks keeper.new)) app.now moment name.now nothing (begin_checks name.now sessions.old.items) (K.told keeper.old) sessions.old.items (said r) (K.told keeper.new) sessions.new.items caches.old.items caches.new.items) }
     ensures cut { OnErr result (AreLeft app.now nothing caches.old.items caches.new.items) }
     ensures rows { AreSound app.now.names.schema (K.told keeper.new) }
     ensures shaped { K.shaped keeper.new ≡ Some app.now.names.schema }
@@ -83,24 +83,84 @@ pub(crate) fn begin<K: Keeper, L: Ledger>(
     ensures cause { HasCause (K.marks keeper.old) (K.marks keeper.new) result }
     ensures loan { K.loan keeper.new ≡ K.loan keeper.old }
 {
-    if is_among(sessions, &name) {
-        return Ok(Reply::accept(alloc, ok_json())?);
+    if let Some(reply) = said_unopened(alloc, sessions, name)? {
+        return Ok(reply);
+    }
+    let mut made = prepare(alloc, app, sessions, caches, name, moment)?;
+    let mut wrote = Vec::new(alloc);
+    let session = open_session(
+        alloc,
+        app,
+        &mut made.cache,
+        keeper,
+        moment,
+        &mut wrote,
+        steps,
+    )?;
+    touch_others(app, caches, None, &wrote);
+    put(sessions, made.name, session);
+    put(caches, made.copy, made.cache);
+    Ok(made.reply)
+}
+
+/// The reply where no session is opened: it is live already, or as many live as may.
+fn said_unopened(
+    alloc: Global,
+    sessions: &[Named<Session>],
+    name: &Words,
+) -> Result<Option<Reply>, Memory>
+    ensures said { IfOk result (λ o. option_map said o ≡ begin_checks name.now sessions.now) }
+    ensures whole { IfOk result (λ o. IfSome o IsReply) }
+{
+    if is_among(sessions, name) {
+        return Ok(Some(Reply::accept(alloc, ok_json())?));
     }
     if sessions.len() >= MOST_SESSIONS {
-        return Ok(Reply::refuse_plain(alloc, 12)?);
+        return Ok(Some(Reply::refuse_plain(alloc, 12)?));
     }
-    // All memory is taken before the transaction ends, so that want of it opens none.
+    Ok(None)
+}
+
+/// What is made for a session before it is opened: the reply, its name for it and for its cache, and the cache.
+#[derive(Drop)]
+struct Prepared {
+    reply: Reply,
+    name: Words,
+    copy: Words,
+    cache: Cache,
+}
+
+/// Takes all memory for a session before its transaction ends, so that want of it opens none: room for it and for its cache too.
+fn prepare(
+    alloc: Global,
+    app: &App,
+    sessions: &mut Vec<Named<Session>>,
+    caches: &mut Vec<Named<Cache>>,
+    name: &Words,
+    moment: u64,
+) -> Result<Prepared, Memory>
+    ensures sessions { sessions.new.items ≡ sessions.old.items }
+    ensures caches { caches.new.items ≡ caches.old.items }
+    ensures room { OnOk result (vec_len sessions.new < vec_capacity sessions.new) }
+    ensures room_beside { OnOk result (vec_len caches.new < vec_capacity caches.new) }
+    ensures said { IfOk result (λ p. said p.reply ≡ reply 200 ok_text) }
+    ensures whole { IfOk result (λ p. IsReply p.reply) }
+    ensures name { IfOk result (λ p. p.name ≡ name.now) }
+    ensures copy { IfOk result (λ p. p.copy ≡ name.now) }
+    ensures cache { IfOk result (λ p. IsNew app.now moment p.cache) }
+{
     let reply = Reply::accept(alloc, ok_json())?;
     sessions.reserve(1)?;
     caches.reserve(1)?;
+    let name = name.copy(alloc)?;
     let copy = name.copy(alloc)?;
-    let mut cache = new_cache(alloc, app, moment)?;
-    let mut wrote = Vec::new(alloc);
-    let session = open_session(alloc, app, &mut cache, keeper, moment, &mut wrote, steps)?;
-    touch_others(app, caches, None, &wrote);
-    put(sessions, name, session);
-    put(caches, copy, cache);
-    Ok(reply)
+    let cache = new_cache(alloc, app, moment)?;
+    Ok(Prepared {
+        reply,
+        name,
+        copy,
+        cache,
+    })
 }
 
 /// Ends a session, if it is live, and its cache with it.

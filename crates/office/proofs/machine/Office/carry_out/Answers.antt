@@ -21,16 +21,16 @@ returns-in-Err-WrongMethod-clause-step g c =
     let is = rw c.in-Err-WrongMethod.field-0-is at c.in-Err-WrongMethod.ensures in
     wrong_method _ _ _ c.args.moment (asked c.args.request.now) _ is c.fixed_refusal-in-Err-WrongMethod.ensures.said refl
 
-pub returns-in-Err-Memory-clause-stopped : goal.returns-in-Err-Memory-clause-stopped
-returns-in-Err-Memory-clause-stopped g c = left_all _ _ _ refl
+pub returns-clause-stopped : goal.returns-clause-stopped
+returns-clause-stopped g c = left_all _ _ _ refl
 
 pub returns-in-Ok-turn-clause-clean : goal.returns-in-Ok-turn-clause-clean
 returns-in-Ok-turn-clause-clean g c =
     leaves_then c.args.self.now.state c.turn.new.self.state c.take.new.self.state c.args.self.now.moment c.args.moment (asked c.args.request.now) c.in-Ok.route c.args.self.now.caches c.turn.new.self.caches c.take.new.self.caches c.in-Ok.ensures c.turn.ensures.state
     c.turn.ensures.clean c.take.ensures.clean
 
-pub returns-in-Err-clause-clean : goal.returns-in-Err-clause-clean
-returns-in-Err-clause-clean g c = leaves_unrouted c.args.self.now.state c.turn.new.self.state c.args.self.now.moment c.args.moment (asked c.args.request.now) c.args.self.now.caches c.turn.new.self.caches c.turn.ensures.clean
+pub returns-in-Ok-clause-clean : goal.returns-in-Ok-clause-clean
+returns-in-Ok-clause-clean g c = leaves_unrouted c.args.self.now.state c.turn.new.self.state c.args.self.now.moment c.args.moment (asked c.args.request.now) c.args.self.now.caches c.turn.new.self.caches c.turn.ensures.clean
 
 pub returns-in-Err-NoRoute-clause-clean : goal.returns-in-Err-NoRoute-clause-clean
 returns-in-Err-NoRoute-clause-clean g c = leaves_same c.args.self.now.state c.args.self.now.state c.args.self.now.moment c.args.moment (asked c.args.request.now) c.args.self.now.caches
@@ -38,8 +38,8 @@ returns-in-Err-NoRoute-clause-clean g c = leaves_same c.args.self.now.state c.ar
 pub returns-in-Err-WrongMethod-clause-clean : goal.returns-in-Err-WrongMethod-clause-clean
 returns-in-Err-WrongMethod-clause-clean g c = leaves_same c.args.self.now.state c.args.self.now.state c.args.self.now.moment c.args.moment (asked c.args.request.now) c.args.self.now.caches
 
-pub returns-in-Err-Memory-clause-clean : goal.returns-in-Err-Memory-clause-clean
-returns-in-Err-Memory-clause-clean g c = leaves_same c.args.self.now.state c.args.self.now.state c.args.self.now.moment c.args.moment (asked c.args.request.now) c.args.self.now.caches
+pub returns-clause-clean : goal.returns-clause-clean
+returns-clause-clean g c = leaves_same c.args.self.now.state c.args.self.now.state c.args.self.now.moment c.args.moment (asked c.args.request.now) c.args.self.now.caches
 
 pub returns-in-Ok-turn-clause-acted : goal.returns-in-Ok-turn-clause-acted
 returns-in-Ok-turn-clause-acted g c =
@@ -71,8 +71,8 @@ returns-in-Ok-turn-clause-cut g c =
     stops_then c.args.self.now.state c.turn.new.self.state c.take.new.self.state c.args.self.now.moment _ c.args.moment (asked c.args.request.now) c.in-Ok.route c.args.self.now.caches c.turn.new.self.caches c.take.new.self.caches c.in-Ok.ensures c.turn.ensures.state
     c.in-Ok-turn.ensures.moment c.turn.ensures.clean stopped) c.take.ensures.cut
 
-pub returns-in-Err-clause-cut : goal.returns-in-Err-clause-cut
-returns-in-Err-clause-cut g c = stops_unrouted c.args.self.now.state c.turn.new.self.state c.args.self.now.moment c.args.moment (asked c.args.request.now) c.args.self.now.caches c.turn.new.self.caches c.turn.ensures.clean
+pub returns-in-Ok-clause-cut : goal.returns-in-Ok-clause-cut
+returns-in-Ok-clause-cut g c = stops_unrouted c.args.self.now.state c.turn.new.self.state c.args.self.now.moment c.args.moment (asked c.args.request.now) c.args.self.now.caches c.turn.new.self.caches c.turn.ensures.clean
 
-pub returns-in-Err-Memory-clause-cut : goal.returns-in-Err-Memory-clause-cut
-returns-in-Err-Memory-clause-cut g c = stops_same c.args.self.now.state c.args.self.now.state c.args.self.now.moment c.args.moment (asked c.args.request.now) c.args.self.now.caches
+pub returns-clause-cut : goal.returns-clause-cut
+returns-clause-cut g c = stops_same c.args.self.now.state c.args.self.now.state c.args.self.now.moment c.args.moment (asked c.args.request.now) c.args.self.now.caches
