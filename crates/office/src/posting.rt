@@ -105,8 +105,7 @@ fn make_edit(
     desks.reserve(1)?;
     match edit(alloc, app, asked.cell.as_str(), asked.text.as_str()) {
         Ok(edited) => {
-            go_over(alloc, app, &edited, sessions, caches)?;
-            *app = edited;
+            go_over(alloc, app, edited, sessions, caches)?;
             Ok(keep(alloc, desks, asked.seq, accepted))
         }
         Err(AppEnd::Refused(breaks)) => refuse(alloc, &breaks),
@@ -114,9 +113,35 @@ fn make_edit(
     }
 }
 
+/// The app becomes an edited one, and sessions and caches go over to it; or there is no memory, and the app, the sessions and what the
+/// caches keep are as before.
+fn go_over(
+    alloc: Global,
+    app: &mut App,
+    edited: App,
+    sessions: &mut Vec<Named<Session>>,
+    caches: &mut Vec<Named<Cache>>,
+) -> Result<(), Memory>
+    requires sound { IsSound app.old }
+    requires edited { IsSound edited }
+    requires frame { frame_of edited ≡ frame_of app.old }
+    requires fit { AreFit app.old.names sessions.old.items }
+    requires cached { (told : Option Tables) × (moment : ℕ) × AreKept app.old told moment sessions.old.items caches.old.items }
+    ensures app { OnOk result (app.new ≡ edited) }
+    ensures sessions { OnOk result (sessions.new.items ≡ all_carried app.old.names edited.names sessions.old.items) }
+    ensures stopped { OnErr result (app.new ≡ app.old) }
+    ensures stayed { OnErr result (sessions.new.items ≡ sessions.old.items) }
+    ensures kept { (told : Option Tables) (moment : ℕ) → AreKept app.old told moment sessions.old.items caches.old.items → AreKept app.new told moment sessions.new.items caches.new.items }
+    ensures over { AreEach (λ k. WentOver app.old app.new) caches.old.items caches.new.items }
+{
+    carry_over(alloc, app, &edited, sessions, caches)?;
+    *app = edited;
+    Ok(())
+}
+
 /// Sessions and caches go over to an edited app; or there is no memory, and the sessions and what the caches keep are as before. All
 /// memory is taken before anything goes over.
-fn go_over(
+fn carry_over(
     alloc: Global,
     app: &App,
     edited: &App,
