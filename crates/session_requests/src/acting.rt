@@ -283,7 +283,10 @@ pub(crate) fn end_event<K: Keeper, L: Ledger>(
                 trigger, item, wrote, steps,
             )
         }
-        Err(refusal) => Ok(Reply::refuse(alloc, &refusal)?),
+        Err(refusal) => {
+            drop(session);
+            Ok(Reply::refuse(alloc, &refusal)?)
+        }
     }
 }
 
@@ -296,6 +299,41 @@ fn session_of<'a>(sessions: &'a [Named<Session>], name: &Words) -> &'a Session
         Some(place) => &sessions[place].it,
         None => unreachable!(),
     }
+}
+
+/// What an accepted request is kept by: the name of its session, and its body.
+#[derive(Drop)]
+struct Entry {
+    name: Words,
+    body: Vec<u8>,
+}
+
+/// Takes the memory that an accepted request is kept in, so that keeping it takes none, and tells the cache of what was given or
+/// chosen.
+fn make_room(
+    alloc: Global,
+    app: &App,
+    sessions: &mut Vec<Named<Session>>,
+    cache: &mut Cache,
+    name: &Words,
+    body: &[u8],
+    wrote: &mut Vec<Source>,
+    given: Option<Source>,
+) -> Result<Entry, Memory>
+    requires { IfSome given (λ x. place_of_source x < length cache.old.versions) }
+    ensures name { IfOk result (λ e. e.name ≡ name.now) }
+    ensures body { IfOk result (λ e. e.body.items ≡ body.now) }
+    ensures sessions { sessions.new.items ≡ sessions.old.items }
+    ensures room { OnOk result (vec_len sessions.new < vec_capacity sessions.new) }
+    ensures wrote { OnOk result (wrote.new.items ≡ wrote.old.items ++ option_to_list given) }
+    ensures told { OnOk result ((a : AnApp) → IsTouchedIf a given cache.old cache.new) }
+    ensures stopped { OnErr result ((wrote.new.items ≡ wrote.old.items) × (cache.new ≡ cache.old)) }
+{
+    let name = name.copy(alloc)?;
+    let body = Vec::from_slice(alloc, body)?;
+    sessions.reserve(1)?;
+    tell(app, cache, wrote, given)?;
+    Ok(Entry { name, body })
 }
 
 /// Does what an accepted request does to its session, in which what is given or chosen stands already: it acts, is answered and
@@ -348,15 +386,12 @@ fn take_effect<K: Keeper, L: Ledger>(
     ensures cut { OnErr result (Goes (IsLost (K.marks keeper.old) (K.marks keeper.new)) (λ t u. AreAll (IsInAll (GivenAndWrites app.now moment trigger (option_map view item) (option_to_list given) session t)) wrote.new.items) (K.told keeper.old) (K.told keeper.new)) }
     ensures loan { K.loan keeper.new ≡ K.loan keeper.old }
 {
-    let body = Vec::from_slice(alloc, body)?;
-    let kept = name.copy(alloc)?;
-    sessions.reserve(1)?;
-    tell(app, cache, wrote, given)?;
+    let entry = make_room(alloc, app, sessions, cache, name, body, wrote, given)?;
     let before = session_of(sessions.as_slice(), name);
     match accept_request(
         alloc, app, before, session, cache, keeper, moment, trigger, item, seq, wrote, steps,
     ) {
-        Ok(accepted) => Ok(keep(sessions, kept, seq, body, accepted)),
+        Ok(accepted) => Ok(keep(sessions, entry.name, seq, entry.body, accepted)),
         Err(end) => Err(end),
     }
 }

@@ -31,114 +31,87 @@ pub returns-in-Ok-clause-fit : goal.returns-in-Ok-clause-fit
 returns-in-Ok-clause-fit g c =
     let names = c.args.app.now.names in
     let accepted = c.in-Ok.accepted in
-    let end : SessionState = answered c.args.seq c.in_ok-body.body.items accepted.kept.items accepted.session in
+    let end : SessionState = answered c.args.seq c.in_ok-entry.entry.body.items accepted.kept.items accepted.session in
     subst (λ (l : List (Named SessionState)). SessionsFit names l) (sym c.keep.ensures.kept)
-    (put_fits names c.in_ok-kept.kept end c.reserve.new.self.items (subst (λ (l : List (Named SessionState)). SessionsFit names l) (sym c.in_ok-reserve.ensures.items) c.requires.fit)
-    (fits_answered names accepted.session c.args.seq c.in_ok-body.body.items accepted.kept.items c.in-Ok.ensures.accepts.fits))
+    (put_fits names c.in_ok-entry.entry.name end c.make_room.new.sessions.items (subst (λ (l : List (Named SessionState)). SessionsFit names l) (sym c.make_room.ensures.sessions) c.requires.fit)
+    (fits_answered names accepted.session c.args.seq c.in_ok-entry.entry.body.items accepted.kept.items c.in-Ok.ensures.accepts.fits))
 
 pub returns-in-Ok-clause-kept : goal.returns-in-Ok-clause-kept
 returns-in-Ok-clause-kept g c =
     let accepted = c.in-Ok.accepted in
-    let end : SessionState = answered c.args.seq c.in_ok-body.body.items accepted.kept.items accepted.session in
+    let end : SessionState = answered c.args.seq c.in_ok-entry.entry.body.items accepted.kept.items accepted.session in
     let h = c.in-Ok.ensures.accepts in
     subst SessionsKeepReplies (sym c.keep.ensures.kept)
-    (put_keeps c.in_ok-kept.kept end c.reserve.new.self.items (subst SessionsKeepReplies (sym c.in_ok-reserve.ensures.items) c.requires.kept)
+    (put_keeps c.in_ok-entry.entry.name end c.make_room.new.sessions.items (subst SessionsKeepReplies (sym c.make_room.ensures.sessions) c.requires.kept)
     (λ counted. (event_text h.end.notices c.args.seq h.value, c.in-Ok.ensures.kept ∙ h.said_is)))
 
 pub accept_request-requires-clause-cached : goal.accept_request-requires-clause-cached
 accept_request-requires-clause-cached g c =
-    given_told c.args.app.now c.args.given c.requires.before.before c.args.session (g.K.Keeper.told c.args.keeper.now) c.args.moment c.args.cache.now c.tell.new.cache c.requires.sound c.requires.given c.requires.before.but (c.in_ok-tell.ensures.told c.args.app.now) c.requires.before.cached
+    given_told c.args.app.now c.args.given c.requires.before.before c.args.session (g.K.Keeper.told c.args.keeper.now) c.args.moment c.args.cache.now c.make_room.new.cache c.requires.sound c.requires.given c.requires.before.but (c.in_ok-entry.ensures.told c.args.app.now) c.requires.before.cached
 
 pub accept_request-requires-clause-but : goal.accept_request-requires-clause-but
 accept_request-requires-clause-but g c =
     let names = c.args.app.now.names in
-    subst (λ (ws : List Source). AreSessionsBut names ws c.session_of-before.result.now c.args.session) (sym (c.in_ok-tell.ensures.wrote ∙ ap (λ (l : List Source). l ++ option_to_list c.args.given) c.requires.wrote))
-    (subst (λ (s : SessionState). AreSessionsBut names (option_to_list c.args.given) s c.args.session) (before_is c.args.name.now c.args.sessions.now.items c.reserve.new.self.items c.as_slice.result.now c.requires.before.before c.session_of-before.result.now c.requires.before.found c.as_slice.ensures.value c.in_ok-reserve.ensures.items c.session_of-before.ensures) c.requires.before.but)
+    subst (λ (ws : List Source). AreSessionsBut names ws c.session_of-before.result.now c.args.session) (sym (c.in_ok-entry.ensures.wrote ∙ ap (λ (l : List Source). l ++ option_to_list c.args.given) c.requires.wrote))
+    (subst (λ (s : SessionState). AreSessionsBut names (option_to_list c.args.given) s c.args.session) (before_is c.args.name.now c.args.sessions.now.items c.make_room.new.sessions.items c.as_slice.result.now c.requires.before.before c.session_of-before.result.now c.requires.before.found c.as_slice.ensures.value c.make_room.ensures.sessions c.session_of-before.ensures) c.requires.before.but)
 
 pub returns-in-Ok-clause-cached : goal.returns-in-Ok-clause-cached
 returns-in-Ok-clause-cached g c = λ s found.
     let accepted = c.in-Ok.accepted in
-    cached_kept c.args.app.now c.in_ok-kept.kept c.args.seq c.in_ok-body.body.items accepted.kept.items accepted.session (g.K.Keeper.told c.accept_request.new.keeper) c.args.moment c.accept_request.new.cache c.reserve.new.self.items c.keep.new.sessions.items
-    c.requires.sound c.keep.ensures.kept c.in-Ok.ensures.cached s (subst (λ n. find n c.keep.new.sessions.items ≡ Some s) (sym c.in_ok-kept.ensures) found)
+    cached_kept c.args.app.now c.in_ok-entry.entry.name c.args.seq c.in_ok-entry.entry.body.items accepted.kept.items accepted.session (g.K.Keeper.told c.accept_request.new.keeper) c.args.moment c.accept_request.new.cache c.make_room.new.sessions.items c.keep.new.sessions.items
+    c.requires.sound c.keep.ensures.kept c.in-Ok.ensures.cached s (subst (λ n. find n c.keep.new.sessions.items ≡ Some s) (sym c.in_ok-entry.ensures.name) found)
 
 pub returns-in-Err-clause-cached : goal.returns-in-Err-clause-cached
 returns-in-Err-clause-cached g c = λ s found.
-    cached_found c.args.app.now c.args.name.now c.requires.before.before (g.K.Keeper.told c.accept_request.new.keeper) c.args.moment c.accept_request.new.cache c.args.sessions.now.items c.reserve.new.self.items c.in_ok-reserve.ensures.items c.requires.before.found
-    (subst (λ (x : SessionState). IsCached c.args.app.now x (g.K.Keeper.told c.accept_request.new.keeper) c.args.moment c.accept_request.new.cache) (sym (before_is c.args.name.now c.args.sessions.now.items c.reserve.new.self.items c.as_slice.result.now c.requires.before.before c.session_of-before.result.now c.requires.before.found c.as_slice.ensures.value c.in_ok-reserve.ensures.items c.session_of-before.ensures)) c.in-Err.ensures.undone) s found
+    cached_found c.args.app.now c.args.name.now c.requires.before.before (g.K.Keeper.told c.accept_request.new.keeper) c.args.moment c.accept_request.new.cache c.args.sessions.now.items c.make_room.new.sessions.items c.make_room.ensures.sessions c.requires.before.found
+    (subst (λ (x : SessionState). IsCached c.args.app.now x (g.K.Keeper.told c.accept_request.new.keeper) c.args.moment c.accept_request.new.cache) (sym (before_is c.args.name.now c.args.sessions.now.items c.make_room.new.sessions.items c.as_slice.result.now c.requires.before.before c.session_of-before.result.now c.requires.before.found c.as_slice.ensures.value c.make_room.ensures.sessions c.session_of-before.ensures)) c.in-Err.ensures.undone) s found
 
-pub returns-in_err-tell-clause-clean : goal.returns-in_err-tell-clause-clean
-returns-in_err-tell-clause-clean g c =
-    subst (λ (z : Kept). IsLeftBut c.args.app.now c.tell.new.wrote.items c.args.cache.now z) (sym c.in_err-tell.ensures.stopped.1) (left_same c.args.app.now c.tell.new.wrote.items c.args.cache.now)
+pub returns-in_err-entry-clause-clean : goal.returns-in_err-entry-clause-clean
+returns-in_err-entry-clause-clean g c =
+    subst (λ (z : Kept). IsLeftBut c.args.app.now c.make_room.new.wrote.items c.args.cache.now z) (sym c.in_err-entry.ensures.stopped.1) (left_same c.args.app.now c.make_room.new.wrote.items c.args.cache.now)
 
 pub returns-in-Ok-clause-clean : goal.returns-in-Ok-clause-clean
 returns-in-Ok-clause-clean g c =
     c.accept_request.ensures.clean c.args.cache.now
-    (subst (λ (ws : List Source). IsLeftBut c.args.app.now ws c.args.cache.now c.tell.new.cache) (sym c.in_ok-tell.ensures.wrote)
-    (given_left c.args.app.now c.args.wrote.now.items c.args.given c.args.cache.now c.tell.new.cache c.requires.given (c.in_ok-tell.ensures.told c.args.app.now)))
+    (subst (λ (ws : List Source). IsLeftBut c.args.app.now ws c.args.cache.now c.make_room.new.cache) (sym c.in_ok-entry.ensures.wrote)
+    (given_left c.args.app.now c.args.wrote.now.items c.args.given c.args.cache.now c.make_room.new.cache c.requires.given (c.in_ok-entry.ensures.told c.args.app.now)))
 
 pub returns-in-Err-clause-clean : goal.returns-in-Err-clause-clean
 returns-in-Err-clause-clean g c =
     c.accept_request.ensures.clean c.args.cache.now
-    (subst (λ (ws : List Source). IsLeftBut c.args.app.now ws c.args.cache.now c.tell.new.cache) (sym c.in_ok-tell.ensures.wrote)
-    (given_left c.args.app.now c.args.wrote.now.items c.args.given c.args.cache.now c.tell.new.cache c.requires.given (c.in_ok-tell.ensures.told c.args.app.now)))
+    (subst (λ (ws : List Source). IsLeftBut c.args.app.now ws c.args.cache.now c.make_room.new.cache) (sym c.in_ok-entry.ensures.wrote)
+    (given_left c.args.app.now c.args.wrote.now.items c.args.given c.args.cache.now c.make_room.new.cache c.requires.given (c.in_ok-entry.ensures.told c.args.app.now)))
 
 pub returns-in-Ok-clause-wrote : goal.returns-in-Ok-clause-wrote
 returns-in-Ok-clause-wrote g c =
-    let us = c.tell.new.wrote.items in
+    let us = c.make_room.new.wrote.items in
     let ws = c.accept_request.new.wrote.items in (
       drop (length us) ws,
       front_then us ws c.accept_request.ensures.prefix
-          ∙ ap (λ (l : List Source). l ++ drop (length us) ws) (c.in_ok-tell.ensures.wrote ∙ ap (λ (l : List Source). l ++ option_to_list c.args.given) c.requires.wrote),
+          ∙ ap (λ (l : List Source). l ++ drop (length us) ws) (c.in_ok-entry.ensures.wrote ∙ ap (λ (l : List Source). l ++ option_to_list c.args.given) c.requires.wrote),
       c.in-Ok.ensures.wrote,
     )
 
 pub returns-in-Ok-clause-only : goal.returns-in-Ok-clause-only
 returns-in-Ok-clause-only g c =
-    only_effect (IsLost (g.K.Keeper.marks c.args.keeper.now) (g.K.Keeper.marks c.accept_request.new.keeper)) c.args.app.now c.args.given c.args.trigger c.args.wrote.now.items c.tell.new.wrote.items c.accept_request.new.wrote.items
-    (g.K.Keeper.told c.args.keeper.now) (g.K.Keeper.told c.accept_request.new.keeper) c.requires.wrote c.in_ok-tell.ensures.wrote c.accept_request.ensures.prefix c.accept_request.ensures.only
+    only_effect (IsLost (g.K.Keeper.marks c.args.keeper.now) (g.K.Keeper.marks c.accept_request.new.keeper)) c.args.app.now c.args.given c.args.trigger c.args.wrote.now.items c.make_room.new.wrote.items c.accept_request.new.wrote.items
+    (g.K.Keeper.told c.args.keeper.now) (g.K.Keeper.told c.accept_request.new.keeper) c.requires.wrote c.in_ok-entry.ensures.wrote c.accept_request.ensures.prefix c.accept_request.ensures.only
 
 pub returns-in-Err-clause-only : goal.returns-in-Err-clause-only
 returns-in-Err-clause-only g c =
-    only_effect (IsLost (g.K.Keeper.marks c.args.keeper.now) (g.K.Keeper.marks c.accept_request.new.keeper)) c.args.app.now c.args.given c.args.trigger c.args.wrote.now.items c.tell.new.wrote.items c.accept_request.new.wrote.items
-    (g.K.Keeper.told c.args.keeper.now) (g.K.Keeper.told c.accept_request.new.keeper) c.requires.wrote c.in_ok-tell.ensures.wrote c.accept_request.ensures.prefix c.accept_request.ensures.only
+    only_effect (IsLost (g.K.Keeper.marks c.args.keeper.now) (g.K.Keeper.marks c.accept_request.new.keeper)) c.args.app.now c.args.given c.args.trigger c.args.wrote.now.items c.make_room.new.wrote.items c.accept_request.new.wrote.items
+    (g.K.Keeper.told c.args.keeper.now) (g.K.Keeper.told c.accept_request.new.keeper) c.requires.wrote c.in_ok-entry.ensures.wrote c.accept_request.ensures.prefix c.accept_request.ensures.only
 
-pub returns-in_err-body-clause-only : goal.returns-in_err-body-clause-only
-returns-in_err-body-clause-only g c =
-    only_none (IsLost (g.K.Keeper.marks c.args.keeper.now) (g.K.Keeper.marks c.args.keeper.now)) (EffectMayWrite c.args.app.now (option_to_list c.args.given) c.args.trigger) c.args.wrote.now.items (g.K.Keeper.told c.args.keeper.now) c.requires.wrote
-
-pub returns-in_err-kept-clause-only : goal.returns-in_err-kept-clause-only
-returns-in_err-kept-clause-only g c =
-    only_none (IsLost (g.K.Keeper.marks c.args.keeper.now) (g.K.Keeper.marks c.args.keeper.now)) (EffectMayWrite c.args.app.now (option_to_list c.args.given) c.args.trigger) c.args.wrote.now.items (g.K.Keeper.told c.args.keeper.now) c.requires.wrote
-
-pub returns-in_err-reserve-clause-only : goal.returns-in_err-reserve-clause-only
-returns-in_err-reserve-clause-only g c =
-    only_none (IsLost (g.K.Keeper.marks c.args.keeper.now) (g.K.Keeper.marks c.args.keeper.now)) (EffectMayWrite c.args.app.now (option_to_list c.args.given) c.args.trigger) c.args.wrote.now.items (g.K.Keeper.told c.args.keeper.now) c.requires.wrote
-
-pub returns-in_err-tell-clause-only : goal.returns-in_err-tell-clause-only
-returns-in_err-tell-clause-only g c =
-    only_none (IsLost (g.K.Keeper.marks c.args.keeper.now) (g.K.Keeper.marks c.args.keeper.now)) (EffectMayWrite c.args.app.now (option_to_list c.args.given) c.args.trigger) c.tell.new.wrote.items (g.K.Keeper.told c.args.keeper.now) (c.in_err-tell.ensures.stopped.0 ∙ c.requires.wrote)
+pub returns-in_err-entry-clause-only : goal.returns-in_err-entry-clause-only
+returns-in_err-entry-clause-only g c =
+    only_none (IsLost (g.K.Keeper.marks c.args.keeper.now) (g.K.Keeper.marks c.args.keeper.now)) (EffectMayWrite c.args.app.now (option_to_list c.args.given) c.args.trigger) c.make_room.new.wrote.items (g.K.Keeper.told c.args.keeper.now) (c.in_err-entry.ensures.stopped.0 ∙ c.requires.wrote)
 
 pub returns-in-Err-clause-cut : goal.returns-in-Err-clause-cut
 returns-in-Err-clause-cut g c =
-    cut_effect (IsLost (g.K.Keeper.marks c.args.keeper.now) (g.K.Keeper.marks c.accept_request.new.keeper)) c.args.app.now c.args.moment c.args.trigger (option_map view c.args.item) c.args.given c.args.session c.args.wrote.now.items c.tell.new.wrote.items c.accept_request.new.wrote.items
-    (g.K.Keeper.told c.args.keeper.now) (g.K.Keeper.told c.accept_request.new.keeper) c.requires.wrote c.in_ok-tell.ensures.wrote c.accept_request.ensures.prefix c.in-Err.ensures.cut
+    cut_effect (IsLost (g.K.Keeper.marks c.args.keeper.now) (g.K.Keeper.marks c.accept_request.new.keeper)) c.args.app.now c.args.moment c.args.trigger (option_map view c.args.item) c.args.given c.args.session c.args.wrote.now.items c.make_room.new.wrote.items c.accept_request.new.wrote.items
+    (g.K.Keeper.told c.args.keeper.now) (g.K.Keeper.told c.accept_request.new.keeper) c.requires.wrote c.in_ok-entry.ensures.wrote c.accept_request.ensures.prefix c.in-Err.ensures.cut
 
-pub returns-in_err-body-clause-cut : goal.returns-in_err-body-clause-cut
-returns-in_err-body-clause-cut g c =
-    on_any _ (cut_none (IsLost (g.K.Keeper.marks c.args.keeper.now) (g.K.Keeper.marks c.args.keeper.now)) (λ (t : Tables). IsInAll (GivenAndWrites c.args.app.now c.args.moment c.args.trigger (option_map view c.args.item) (option_to_list c.args.given) c.args.session t)) c.args.wrote.now.items
-    (g.K.Keeper.told c.args.keeper.now) c.requires.wrote)
-
-pub returns-in_err-kept-clause-cut : goal.returns-in_err-kept-clause-cut
-returns-in_err-kept-clause-cut g c =
-    on_any _ (cut_none (IsLost (g.K.Keeper.marks c.args.keeper.now) (g.K.Keeper.marks c.args.keeper.now)) (λ (t : Tables). IsInAll (GivenAndWrites c.args.app.now c.args.moment c.args.trigger (option_map view c.args.item) (option_to_list c.args.given) c.args.session t)) c.args.wrote.now.items
-    (g.K.Keeper.told c.args.keeper.now) c.requires.wrote)
-
-pub returns-in_err-reserve-clause-cut : goal.returns-in_err-reserve-clause-cut
-returns-in_err-reserve-clause-cut g c =
-    on_any _ (cut_none (IsLost (g.K.Keeper.marks c.args.keeper.now) (g.K.Keeper.marks c.args.keeper.now)) (λ (t : Tables). IsInAll (GivenAndWrites c.args.app.now c.args.moment c.args.trigger (option_map view c.args.item) (option_to_list c.args.given) c.args.session t)) c.args.wrote.now.items
-    (g.K.Keeper.told c.args.keeper.now) c.requires.wrote)
-
-pub returns-in_err-tell-clause-cut : goal.returns-in_err-tell-clause-cut
-returns-in_err-tell-clause-cut g c =
-    on_any _ (cut_none (IsLost (g.K.Keeper.marks c.args.keeper.now) (g.K.Keeper.marks c.args.keeper.now)) (λ (t : Tables). IsInAll (GivenAndWrites c.args.app.now c.args.moment c.args.trigger (option_map view c.args.item) (option_to_list c.args.given) c.args.session t)) c.tell.new.wrote.items
-    (g.K.Keeper.told c.args.keeper.now) (c.in_err-tell.ensures.stopped.0 ∙ c.requires.wrote))
+pub returns-in_err-entry-clause-cut : goal.returns-in_err-entry-clause-cut
+returns-in_err-entry-clause-cut g c =
+    on_any _ (cut_none (IsLost (g.K.Keeper.marks c.args.keeper.now) (g.K.Keeper.marks c.args.keeper.now)) (λ (t : Tables). IsInAll (GivenAndWrites c.args.app.now c.args.moment c.args.trigger (option_map view c.args.item) (option_to_list c.args.given) c.args.session t)) c.make_room.new.wrote.items
+    (g.K.Keeper.told c.args.keeper.now) (c.in_err-entry.ensures.stopped.0 ∙ c.requires.wrote))
