@@ -30,7 +30,6 @@ pub struct CellInfo {
 }
 
 /// An accepted app.
-#[derive(Drop)]
 pub struct App {
     /// What its formulas may name, with the types that these have, and its tables, screens and controls.
     pub names: Names,
@@ -41,4 +40,16 @@ pub struct App {
     pub order: InOrder<u32>,
     /// The most rows of a query that isn't delegated: 1 to 2,000.
     pub limit: u32,
+}
+
+// By hand, so that it is called: what is derived is opened wherever a value may end, which costs proofs seconds each time.
+impl Drop for App {
+    fn drop(self) {
+        let App {
+            names: _,
+            cells: _,
+            order: _,
+            limit: _,
+        } = self;
+    }
 }

@@ -22,7 +22,6 @@ const KINDS: usize = 8;
 
 /// The values of the cells of an app for one session, as far as they are kept, with the numbers by which it is known which of
 /// them stand. Every change of a source is told it by `touched`.
-#[derive(Drop)]
 pub struct Cache {
     // Kept, so that `make_room` takes none.
     alloc: Global,
@@ -36,6 +35,23 @@ pub struct Cache {
     spare_versions: Vec<u64>,
     spare_stamps: Vec<Option<Stamp>>,
     spare_values: Vec<Value>,
+}
+
+// By hand, so that it is called: what is derived is opened wherever a value may end, which costs proofs seconds each time.
+impl Drop for Cache {
+    fn drop(self) {
+        let Cache {
+            alloc: _,
+            emptied: _,
+            last: _,
+            versions: _,
+            stamps: _,
+            valued: _,
+            spare_versions: _,
+            spare_stamps: _,
+            spare_values: _,
+        } = self;
+    }
 }
 
 impl Model for Cache {

@@ -12,11 +12,21 @@ use view_text::{Cause, Detail, Refusal, refusal_json};
 
 /// A whole HTTP reply: that of the refusal `fixed`, which takes no memory, where it is Some, else `bytes`. `status` is the
 /// status in its first line.
-#[derive(Drop)]
 pub struct Reply {
     pub status: u16,
     pub bytes: Vec<u8>,
     pub fixed: Option<u8>,
+}
+
+// By hand, so that it is called: what is derived is opened wherever a value may end, which costs proofs seconds each time.
+impl Drop for Reply {
+    fn drop(self) {
+        let Reply {
+            status: _,
+            bytes: _,
+            fixed: _,
+        } = self;
+    }
 }
 
 impl Reply {

@@ -20,7 +20,6 @@ use std::mem;
 const MOST_NOTICES: usize = 10;
 
 /// What is kept of one session. Numbers are places in the lists of the app's names, from 0.
-#[derive(Drop)]
 pub struct Session {
     // Kept, so that `copy` and `get` take none.
     alloc: Global,
@@ -39,6 +38,26 @@ pub struct Session {
     // Empty, with room for what an edited app has.
     spare_variables: Vec<Value>,
     spare_collections: Vec<Value>,
+}
+
+// By hand, so that it is called: what is derived is opened wherever a value may end, which costs proofs seconds each time.
+impl Drop for Session {
+    fn drop(self) {
+        let Session {
+            alloc: _,
+            screen: _,
+            navigated: _,
+            variables: _,
+            collections: _,
+            weight: _,
+            inputs: _,
+            chosen: _,
+            caller: _,
+            notices: _,
+            spare_variables: _,
+            spare_collections: _,
+        } = self;
+    }
 }
 
 impl Model for Session {
