@@ -13,7 +13,7 @@ use Rattle.session_state.specs.Carrying.{carried}
 use Rattle.session_state.specs.Changes.{FitsNames}
 use Rattle.session_state.specs.Sessions.{SessionState}
 use Rattle.office.specs.DeskEdits.{all_carried}
-use Rattle.office.specs.Ready.{AreFit}
+use Rattle.app_views.specs.Shows.{AreFit}
 use Rattle.office.specs.Sessions.{without}
 
 pub without_here : (T : Type 0) (name : List ℕ) (n : Named T) (ns : List (Named T)) → is_named name n ≡ true → without name (n ∷ ns) ≡ without name ns

@@ -22,7 +22,8 @@ use Rattle.request_checks.specs.declared.directory.Named.{Named}
 use Rattle.office.specs.Caches.{AreKept}
 use Rattle.office.specs.DeskEdits.{all_carried}
 use Rattle.office.specs.Editing.{KeepsApp}
-use Rattle.office.specs.Ready.{AreFit, IsReady}
+use Rattle.app_views.specs.Shows.{AreFit}
+use Rattle.office.specs.Ready.{IsReady}
 use Rattle.office.specs.State.{schema_of}
 use Rattle.session_requests.specs.Opening.{CanOpen}
 

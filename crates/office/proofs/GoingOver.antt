@@ -26,7 +26,7 @@ use Rattle.office.proofs.Places.{one_at, set_same, there_too}
 use Rattle.office.proofs.Rounds.{IsSoFar}
 use Rattle.office.specs.Caches.{AreEach, AreInOrder, AreKept, HaveRoomFor, IsButRoom, IsCacheOf, WentOver}
 use Rattle.office.specs.DeskEdits.{all_carried, one_carried}
-use Rattle.office.specs.Ready.{AreFit}
+use Rattle.app_views.specs.Shows.{AreFit}
 
 -- an edited app has the same frame
 pub edit_of : (a b : App) → frame_of b ≡ frame_of a → IsEditOf a b

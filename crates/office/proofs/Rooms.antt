@@ -4,7 +4,7 @@ use Rattle.fx_trees.specs.declared.names.Names.{Names}
 use Rattle.session_state.specs.Sessions.{HasRoom, Room, SessionState, room_with}
 use Rattle.request_checks.specs.declared.directory.Named.{Named}
 use Rattle.office.specs.DeskEdits.{all_carried, one_carried}
-use Rattle.office.specs.Ready.{AreFit}
+use Rattle.app_views.specs.Shows.{AreFit}
 use Rattle.office.specs.Rooms.{HaveNoRoom, HaveRoom, with_room, without_room}
 
 -- there is none beside sessions that fit an app

@@ -29,7 +29,8 @@ use Rattle.session_requests.specs.declared.input.Input.{Input as Given}
 use Rattle.session_requests.specs.declared.target.Target.{Target}
 use Rattle.office.specs.Answers.{Exchange, Plays}
 use Rattle.office.specs.Editing.{KeepsApp}
-use Rattle.office.specs.Ready.{AreFit, IsSettled}
+use Rattle.app_views.specs.Shows.{AreFit}
+use Rattle.office.specs.Ready.{IsSettled}
 use Rattle.office.specs.Sessions.{BeginsChecked, BeginsSession, begin_checks, without}
 use Rattle.office.specs.State.{State, started}
 use Rattle.office.specs.Step.{Answered, Does, DoesAt, parts_of}

@@ -1,15 +1,13 @@
 -- What is true of an office between two requests.
 use Rattle.std.specs.Prelude.{◌≡◌, ℕ, Bool, false, List, Option, Some}
-use Rattle.std.specs.List.{AllByRecursion}
 use Rattle.app_cells.specs.declared.app.App.{App}
 use Rattle.app_loader.specs.Edits.{IsLoaded}
 use Rattle.app_loader.specs.app_semantics.Sound.{IsSound}
-use Rattle.fx_trees.specs.declared.names.Names.{Names}
+use Rattle.app_views.specs.Shows.{AreFit}
 use Rattle.fx_trees.specs.declared.schema.Schema.{Schema}
 use Rattle.recalc.specs.Kept.{Kept as Values}
 use Rattle.row_keeper.specs.Tables.{Tables}
 use Rattle.session_requests.specs.Opening.{CanOpen}
-use Rattle.session_state.specs.Changes.{FitsNames}
 use Rattle.session_state.specs.Once.{Kept}
 use Rattle.session_state.specs.Sessions.{SessionState}
 use Rattle.request_checks.specs.Checked.{SessionsKeepReplies}
@@ -18,10 +16,6 @@ use Rattle.row_requests.specs.Sound.{AreSound}
 use Rattle.request_checks.specs.declared.directory.Named.{Named}
 use Rattle.office.specs.Caches.{AreKept}
 use Rattle.office.specs.State.{State, schema_of}
-
--- sessions fit the names of the app
-abbrev pub AreFit : Names → List (Named SessionState) → Type 0
-AreFit n sessions = AllByRecursion (λ (s : Named SessionState). FitsNames n s.it) sessions
 
 -- an office between two requests serves an accepted app, of which sessions can be opened, and which its sessions fit
 pub record IsSettled (s : State) : Type 0 where

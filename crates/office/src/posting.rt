@@ -5,7 +5,7 @@ ghost use Rattle.app_loader.specs.Edits.{IsLoaded};
 ghost use Rattle.app_loader.specs.app_semantics.Sound.{IsSound};
 ghost use Rattle.office.specs.Caches.{AreEach, AreKept, WentOver};
 ghost use Rattle.office.specs.DeskEdits.{MakesEdit, PostsEdit, all_carried};
-ghost use Rattle.office.specs.Ready.{AreFit};
+ghost use Rattle.app_views.specs.Shows.{AreFit};
 ghost use Rattle.request_checks.specs.Checked.{SessionsKeepReplies};
 ghost use Rattle.request_checks.specs.Replies.{IsReply, KeepReplies, said};
 ghost use Rattle.row_keeper.specs.Tables.{Tables};

@@ -22,7 +22,7 @@ ghost use Rattle.session_state.specs.Sessions.{SessionState};
 ghost use Rattle.row_requests.specs.Written.{IsNamedBy};
 ghost use Rattle.office.specs.Caches.{AreKept};
 ghost use Rattle.office.specs.Leaving.{AreEachLeft, AreLeftBeside, AreStopped, EventCutOff, EventLeaves, InputCutOff, InputLeaves, any_table, event_cut, input_cut, nothing};
-ghost use Rattle.office.specs.Ready.{AreFit};
+ghost use Rattle.app_views.specs.Shows.{AreFit};
 
 use crate::keeping::touch_others;
 use app_cells::App;

@@ -12,7 +12,7 @@ use Rattle.session_state.specs.Changes.{HoldsTables}
 use Rattle.session_state.specs.Once.{Kept}
 use Rattle.session_state.specs.Sessions.{SessionState}
 use Rattle.office.specs.DeskEdits.{seq_data}
-use Rattle.office.specs.Ready.{AreFit}
+use Rattle.app_views.specs.Shows.{AreFit}
 use Rattle.office.proofs.Desks.{kept_so}
 use Rattle.office.proofs.Directories.{put_all}
 use Rattle.office.proofs.Edits.{alike, carried_fit, carried_keep}

@@ -7,7 +7,7 @@ use Rattle.request_checks.specs.declared.directory.Named.{Named}
 use Rattle.session_state.specs.Changes.{FitsNames}
 use Rattle.session_state.specs.Sessions.{SessionState, opened}
 use Rattle.office.specs.Caches.{AreEach, AreKept, IsToldAside, tables_in}
-use Rattle.office.specs.Ready.{AreFit}
+use Rattle.app_views.specs.Shows.{AreFit}
 use Rattle.office.specs.Leaving.{AreLeft, AreLeftBeside, any_table, nothing}
 use Rattle.office.specs.Sessions.{BeginsChecked, begin_checks}
 use Rattle.request_checks.specs.Directory.{put}

@@ -3,7 +3,7 @@ use Rattle.request_checks.specs.Checked.{KeepsReply, SessionsKeepReplies}
 use Rattle.request_checks.specs.declared.directory.Named.{Named}
 use Rattle.session_state.specs.Changes.{FitsNames}
 use Rattle.session_state.specs.Sessions.{SessionState}
-use Rattle.office.specs.Ready.{AreFit}
+use Rattle.app_views.specs.Shows.{AreFit}
 use Rattle.office.specs.Sessions.{without}
 use Rattle.recalc.specs.Kept.{Kept}
 use Rattle.office.specs.Caches.{AreKept}
