@@ -3,7 +3,7 @@ use Rattle.std.proofs.Common.{◌≡◌, ℕ, zero, suc, ◌+◌, ◌<◌, ◌�
 use Rattle.std.specs.Prelude.{filter_map, flat_map, slice_get}
 use Rattle.std.specs.List.{cons_option}
 use Rattle.std.specs.Str.{IsAscii}
-use Rattle.std.proofs.lemmas.Bool.{eq-eqb, eqb-true}
+use Rattle.std.proofs.lemmas.Bool.{and_parts, eq-eqb, eqb-true}
 use Rattle.std.proofs.lemmas.Slice.Eq.{bytes_eq-Decides}
 use Rattle.std.proofs.lemmas.Str.{chars-IsAscii}
 use Rattle.fx_data.specs.Words.{scalars_of}
@@ -237,17 +237,13 @@ among_places k f is =
 abbrev StandsAt : Spot → Cell → Type 0
 StandsAt s c = c.spot ≡ s
 
-both : (a b : Bool) → (a && b) ≡ true → (a ≡ true) × (b ≡ true)
-both true b e = (refl, e)
-both false b e = absurd cc
-
 -- the same place is one
 pub same_is : (s r : Spot) → is_same s r ≡ true → r ≡ s
 same_is (spot.Formula x) (spot.Formula y) e = ap spot.Formula ((bytes_eq-Decides y x).0 e)
 same_is spot.OnStart spot.OnStart e = refl
 same_is (spot.OnVisible s) (spot.OnVisible r) e = ap spot.OnVisible (eqb-true r s e)
 same_is (spot.Property k p) (spot.Property j q) e =
-    let t = both (nat_eq j k) (bytes_eq q p) e in
+    let t = and_parts (nat_eq j k) (bytes_eq q p) e in
     (λ i. spot.Property (eqb-true j k t.0 i) ((bytes_eq-Decides q p).0 t.1 i))
 same_is (spot.Formula x) spot.OnStart e = absurd cc
 same_is (spot.Formula x) (spot.OnVisible s) e = absurd cc

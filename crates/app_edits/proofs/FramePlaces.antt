@@ -1,12 +1,9 @@
 -- All places of a frame are some.
-use Rattle.std.proofs.Common.{◌≡◌, ℕ, zero, suc, ◌+◌, ◌≤◌, Bool, true, false, List, [], ◌∷◌, ◌++◌, Option, Some, None, IfSome, codes, cond, length, map, refl, ap, sym, ◌∙◌, subst, arith, All, append_assoc, length-append, rules}
+use Rattle.std.proofs.Common.{◌≡◌, ℕ, suc, ◌+◌, ◌≤◌, Bool, true, false, List, [], ◌∷◌, ◌++◌, Option, Some, None, IfSome, codes, cond, length, map, refl, ap, sym, ◌∙◌, subst, arith, All, append_assoc, length-append}
 use Rattle.std.specs.Prelude.{encode_utf8_all, find, flat_map, nat_eq, slice_get}
-use Rattle.std.specs.Str.{IsUtf8}
 use Rattle.std.proofs.lemmas.List.Elements.{All-nil, All-cons, All-head, All-tail, All-append}
 use Rattle.fx_data.proofs.Texts.{encodes_chars}
 use Rattle.fx_data.specs.Words.{scalars_of}
-use Rattle.fx_data.specs.declared.controls.Control.{Control}
-use Rattle.fx_data.specs.declared.controls.Control.TheVariants as control
 use Rattle.fx_trees.specs.Controls.{has_property}
 use Rattle.fx_trees.specs.Lawful.{Has}
 use Rattle.fx_trees.specs.declared.names.ControlName.{ControlName}
@@ -17,31 +14,14 @@ use Rattle.app_cells.specs.declared.cell.Spot.{Spot}
 use Rattle.app_cells.specs.declared.cell.Spot.TheVariants as spot
 use Rattle.app_cells.specs.declared.frame.Frame.{Frame}
 use Rattle.app_cells.specs.Spots.{IsSpot}
+use Rattle.app_texts.proofs.Formed.{AreProperties, own_properties}
+use Rattle.app_texts.proofs.Galleries.{slice_behind}
 use Rattle.app_edits.specs.Frames.{frame_of}
 use Rattle.app_edits.specs.Places.{control_spots, has_address, named_spot, property_spots, screen_spots, spot_of, spots, spots_in}
 
 -- the place of a property
 abbrev pub as_property : ℕ → List ℕ → Spot
 as_property number p = spot.Property number (scalars_of p)
-
--- each property of a kind is one of it
-abbrev AreProperties : Control → List (List ℕ) → Type 0
-AreProperties k [] = Unit {0}
-AreProperties k (x ∷ xs) = IsUtf8 x × (has_property k x ≡ true) × AreProperties k xs
-
-own_properties : (k : Control) → AreProperties k (property_names k)
-own_properties control.Label = (search rules, refl, (search rules, refl, (search rules, refl, tt)))
-own_properties control.Button = (search rules, refl, (search rules, refl, (search rules, refl, tt)))
-own_properties control.TextInput = (search rules, refl, (search rules, refl, (search rules, refl, tt)))
-own_properties control.Slider = (search rules, refl, (search rules, refl, (search rules, refl, (search rules, refl, (search rules, refl, tt)))))
-own_properties control.Checkbox = (search rules, refl, (search rules, refl, (search rules, refl, (search rules, refl, (search rules, refl, tt)))))
-own_properties control.DatePicker = (search rules, refl, (search rules, refl, (search rules, refl, tt)))
-own_properties control.Gallery = (search rules, refl, (search rules, refl, (search rules, refl, tt)))
-
-slice_behind : {A : Type 0} (xs ys : List A) (k m : ℕ) → m ≡ length xs + k → slice_get (xs ++ ys) m ≡ slice_get ys k
-slice_behind [] ys k m e = ap (slice_get ys) (omega (arith, e))
-slice_behind (x ∷ xs) ys k zero e = absurd (omega (arith, e))
-slice_behind (x ∷ xs) ys k (suc m) e = slice_behind xs ys k m (omega (arith, e))
 
 these_properties : (f : Frame) (number : ℕ) (c : ControlName) (xs : List (List ℕ)) → slice_get f.controls number ≡ Some c → AreProperties c.kind xs → All (IsSpot f) (map (as_property number) xs)
 these_properties f number c [] e h = All-nil (IsSpot f)

@@ -1,5 +1,5 @@
 -- What holds of the formulas that an edit leaves.
-use Rattle.std.proofs.Common.{◌≡◌, ℕ, Bool, true, false, List, [], ◌∷◌, ◌++◌, Option, Some, None, IfSome, cond, refl, ap, sym, ◌∙◌, subst, All, append_assoc}
+use Rattle.std.proofs.Common.{ℕ, Bool, true, false, List, [], ◌∷◌, Option, Some, None, IfSome, cond, refl, ap, sym, ◌∙◌, subst, All}
 use Rattle.std.specs.Prelude.{filter_map}
 use Rattle.std.specs.List.{cons_option}
 use Rattle.std.proofs.lemmas.List.Elements.{All-nil, All-cons}
@@ -10,11 +10,6 @@ use Rattle.app_edits.specs.Edits.{standing, with_cell, written_at}
 use Rattle.app_edits.specs.Frames.{written}
 use Rattle.app_edits.specs.Places.{is_same, spots}
 use Rattle.app_edits.proofs.FramePlaces.{found}
-
--- one more is put behind
-pub one_behind : {A : Type 0} (now : List A) (o : Option A) (more : List A) → (now ++ cons_option o []) ++ more ≡ now ++ cons_option o more
-one_behind now None more = append_assoc now [] more
-one_behind now (Some x) more = append_assoc now (x ∷ []) more
 
 stands : (P : Cell → Type 0) (cells : List Cell) (s here : Spot) (given : Option Cell) → All P cells → IfSome given P → IfSome (standing cells s given here) P
 stands P cells s here given h k = by (is_same here s)

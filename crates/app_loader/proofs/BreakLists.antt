@@ -1,7 +1,6 @@
 -- Lists of breaks, thing by thing.
 use Rattle.std.proofs.Common.{inl, inr, ◌≡◌, ℕ, ◌+◌, ◌<◌, ◌≤◌, zero, suc, ◌++◌, List, [], ◌∷◌, true, false, nat_eq, length, get_or, take, Result, Ok, Err, MatchResult, append_assoc, refl, ap, sym, subst, ◌∙◌, arith}
-use Rattle.std.proofs.lemmas.Bool.{eqb-true}
-use Rattle.std.proofs.lemmas.List.{take_more, append-nil}
+use Rattle.std.proofs.lemmas.List.{take_more, append-nil, nil_from_length}
 use Rattle.std.specs.List.{AllZip}
 use Rattle.fx_trees.specs.declared.broken.Broken.{Broken}
 use Rattle.fx_trees.specs.declared.names.Names.{Names}
@@ -46,12 +45,8 @@ same_length R (x ∷ xs) (y ∷ ys) h = ap suc (same_length R xs ys h.1)
 pub as_many : (m : Names) (cs : List Cell) (ts : List Typed) → AreTyped m cs ts → length cs ≡ length ts
 as_many m cs ts h = same_length (λ c t. judged m c ≡ Ok (typed t)) cs ts h
 
-none_left : {A : Type 0} (xs : List A) → length xs ≡ 0 → xs ≡ []
-none_left [] e = refl
-none_left (x ∷ xs) e = absurd (omega (arith, e))
-
 pub all_elaborated : (m : Names) (most : ℕ) (cs : List Cell) (is : List CellInfo) (rest : List Cell) → length rest ≡ 0 → ((more : List CellInfo) → AreElaborated m most rest more → AreElaborated m most cs (is ++ more)) → AreElaborated m most cs is
-all_elaborated m most cs is rest e go = subst (AreElaborated m most cs) (append-nil is) (go [] (subst (λ (r : List Cell). AreElaborated m most r []) (sym (none_left rest e)) tt))
+all_elaborated m most cs is rest e go = subst (AreElaborated m most cs) (append-nil is) (go [] (subst (λ (r : List Cell). AreElaborated m most r []) (sym (nil_from_length rest e)) tt))
 
 -- one formula more with its typed tree
 pub still_typed : (m : Names) (old rest : List Cell) (trees left : List Typed) (c : Cell) (t : Typed) → old ≡ c ∷ rest → trees ≡ t ∷ left → AreTyped m old trees → AreTyped m rest left
@@ -101,13 +96,6 @@ all_taken [] zero l = refl
 all_taken [] (suc i) l = refl
 all_taken (x ∷ xs) zero l = absurd (omega (arith, l))
 all_taken (x ∷ xs) (suc i) l = ap (λ us. x ∷ us) (all_taken xs i (omega (arith, l)))
-
-pub no_breaks : (bs : List Broken) → nat_eq (length bs) 0 ≡ true → bs ≡ []
-no_breaks [] e = refl
-no_breaks (b ∷ bs) e = let past : length (b ∷ bs) ≡ 0 = eqb-true (length (b ∷ bs)) 0 e in absurd (omega (arith, past))
-
-pub are_typed : (m : Names) (cs : List Cell) (i : ℕ) (ts : List Typed) (bs : List Broken) → AreJudgedSo m (take i cs) ts bs → length cs ≤ i → nat_eq (length bs) 0 ≡ true → AreTyped m cs ts
-are_typed m cs i ts bs so l e = subst (λ (ks : List Cell). AreTyped m ks ts) (all_taken cs i l) (so.typed (no_breaks bs e))
 
 pub some_breaks : (P : List Broken → Type 0) (bs : List Broken) → P bs → nat_eq (length bs) 0 ≡ false → AreSome P bs
 some_breaks P [] h e = let past : true ≡ false = e in absurd cc

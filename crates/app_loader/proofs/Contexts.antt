@@ -1,7 +1,5 @@
 -- What is around formulas has lawful types.
-use Rattle.std.proofs.Common.{◌≡◌, ℕ, zero, suc, List, [], ◌∷◌, Bool, true, false, All, Option, Some, None, option_map, nat_eq, subst, slice_get, if◌then◌else◌, encode_utf8_all, bytes_eq, codes, Ordering, Less, Equal, Greater, nat_cmp}
-use Rattle.std.specs.Cmp.Lexicographic.{slice_cmp}
-use Rattle.std.specs.Ordering.{match_ordering}
+use Rattle.std.proofs.Common.{◌≡◌, ℕ, zero, suc, List, [], ◌∷◌, Bool, true, false, All, Option, Some, None, option_map, nat_eq, subst, slice_get, if◌then◌else◌, encode_utf8_all, bytes_eq, codes}
 use Rattle.std.proofs.lemmas.List.Elements.{All-head, All-tail}
 use Rattle.std.specs.Prelude.{option_and_then, ◌||◌}
 use Rattle.fx_data.specs.TypeView.{shape}
@@ -10,10 +8,7 @@ use Rattle.fx_data.specs.declared.controls.Control.{Control}
 use Rattle.fx_data.specs.declared.controls.Control.TheVariants as control
 use Rattle.fx_data.specs.declared.types.Ty.{Ty}
 use Rattle.fx_data.specs.declared.types.Ty.TheVariants as ty
-use Rattle.fx_semantics.proofs.Lawful.{AreInner, inner_of, lawful_by}
-use Rattle.fx_semantics.proofs.Columns.{rises_of}
 use Rattle.fx_semantics.specs.Sound.{AreLawfulColumns, IsLawfulContext, IsLawfulType}
-use Rattle.fx_tables.proofs.FitColumns.{rises_put}
 use Rattle.fx_trees.specs.Controls.{input_type, is_items, own_type}
 use Rattle.fx_trees.specs.Lawful.{IsColumnType, IsLawful, IsLawfulTable, id_name}
 use Rattle.fx_trees.specs.SourceTypes.{chosen_of, columns_of, formula_cell, if_context, if_global, item_columns, item_type, property_cell, property_of, put_column, put_columns, sources}
@@ -28,6 +23,7 @@ use Rattle.fx_trees.specs.declared.schema.TableShape.{TableShape}
 use Rattle.fx_trees.specs.declared.sources.Source.{Source}
 use Rattle.fx_trees.specs.declared.sources.Source.TheVariants as source
 use Rattle.fx_typing.specs.Typing.{item_of}
+use Rattle.fx_semantics.proofs.Lawful.{put_lawful}
 use Rattle.app_semantics.specs.Sound.{context_at}
 use Rattle.app_loader.specs.Types.{AreLawfullyTyped}
 
@@ -102,18 +98,6 @@ chosen_lawful control.Label t l = tt
 chosen_lawful control.Button t l = tt
 
 -- ---- tables
-inner_put : (n : List ℕ) (u : Shape) (cs : ColumnList) → IsLawfulType u → AreInner cs → AreInner (put_column n u cs)
-inner_put n u no_columns l i = (l, tt)
-inner_put n u (column m t cs) l i = by (slice_cmp nat_cmp n m) (inner_put n u cs l i.1)
-  where
-    by : (o : Ordering) → AreInner (put_column n u cs) → AreInner (match_ordering o (column n u (column m t cs)) (column m u cs) (column m t (put_column n u cs)))
-    by Less z = (l, i)
-    by Equal z = (l, i.1)
-    by Greater z = (i.0, z)
-
-put_lawful : (n : List ℕ) (u : Shape) (cs : ColumnList) → IsLawfulType u → AreLawfulColumns cs → AreLawfulColumns (put_column n u cs)
-put_lawful n u cs k l = lawful_by (put_column n u cs) (rises_put n u cs (rises_of cs l)) (inner_put n u cs k (inner_of cs l))
-
 column_lawful : (t : Ty) → IsColumnType t → IsLawfulType (shape t)
 column_lawful ty.Number h = tt
 column_lawful ty.Text h = tt

@@ -16,7 +16,7 @@ use Rattle.app_loader.specs.Edits.{IsLoaded, JudgedEdit}
 use Rattle.app_loader.specs.Judged.{JudgedFormulas}
 use Rattle.app_loader.proofs.FitToJudge.{left_shallow, left_single}
 use Rattle.app_loader.proofs.Framed.{framed, judged_parts, loaded, without_again}
-use Rattle.app_loader.proofs.Loads.{tells_this, tells_weaker}
+use Rattle.app_loader.proofs.Loads.{err_weaker, ok_weaker, tells_this}
 
 -- these formulas are left beside this frame
 pub record AreLeft (a : App) (address text : List ℕ) (f : Frame) (cells : List Cell) : Type 0 where
@@ -38,14 +38,6 @@ left_frame a f h e = subst IsFrame (sym e) h.frame
 
 pub left_placed : (a : App) (f : Frame) (cells : List Cell) → f ≡ frame_of a → All (IsPlaced (frame_of a)) cells → All (IsPlaced f) cells
 left_placed a f cells e h = subst (λ (g : Frame). All (IsPlaced g) cells) (sym e) h
-
-ok_weaker : (P Q : App → Type 0) → ((a : App) → P a → Q a) → (r : Result App AppEnd) → IfOk r P → IfOk r Q
-ok_weaker P Q f (Ok a) h = f a h
-ok_weaker P Q f (Err e) h = tt
-
-err_weaker : (P Q : List Broken → Type 0) → ((bs : List Broken) → P bs → Q bs) → (r : Result App AppEnd) → IfErr r (Tells P) → IfErr r (Tells Q)
-err_weaker P Q f (Ok a) h = tt
-err_weaker P Q f (Err e) h = tells_weaker P Q f e h
 
 module _ (a : App) (address text : List ℕ) (f : Frame) (cells : List Cell) (h : AreLeft a address text f cells) where
   abbrev Judges : App → Type 0

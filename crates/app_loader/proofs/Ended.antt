@@ -3,7 +3,6 @@ use Rattle.std.proofs.Common.{◌≡◌, ℕ, List, [], ◌∷◌, length, map, 
 use Rattle.depend_graph.specs.Order.{IsClosedPath, IsOrder}
 use Rattle.fx_infer.specs.Limit.{IsRoundsLimit}
 use Rattle.fx_trees.specs.declared.app_end.AppEnd.{AppEnd}
-use Rattle.fx_trees.specs.declared.app_end.AppEnd.TheVariants.{Refused, Memory}
 use Rattle.fx_trees.specs.declared.broken.Broken.{Broken}
 use Rattle.fx_trees.specs.declared.names.Names.{Names}
 use Rattle.fx_trees.specs.Lawful.{IsLawful}
@@ -23,10 +22,7 @@ use Rattle.app_loader.specs.Types.{HaveLawfulTrees}
 use Rattle.app_loader.proofs.Below.{still_numbered}
 use Rattle.app_loader.proofs.Elaborated.{still_elaborated, still_lawful}
 use Rattle.app_loader.proofs.Reaching.{same_count, same_edges, supports_too}
-
-pub tells_weaker : (P Q : List Broken → Type 0) → ((bs : List Broken) → P bs → Q bs) → (e : AppEnd) → Tells P e → Tells Q e
-tells_weaker P Q f (Refused all) h = f all.items h
-tells_weaker P Q f Memory h = tt
+use Rattle.app_loader.proofs.Loads.{tells_weaker}
 
 limit_is : (b : Broken) → IsRoundsLimit b → b ≡ unsettled
 limit_is b h = λ i. record { cell = h.0 i; rule = h.1 i; at = h.2 i; detail = h.3 i }
@@ -95,11 +91,6 @@ module _ (first : Names) (limit : ℕ) (cells : List Cell) where
         supports = o.supports;
         limit = o.limit;
       })
-
--- what holds of the names and of the formulas of an app
-pub names_ok : (P : Names → Type 0) (m : Names) (limit : ℕ) (is : List CellInfo) → P m → (r : Result App AppEnd) → IfOk r (IsOrdered m limit is) → IfOk r (λ a. P a.names)
-names_ok P m limit is h (Ok a) o = subst P (sym o.names) h
-names_ok P m limit is h (Err e) o = tt
 
 pub trees_ok : (m : Names) (limit : ℕ) (is : List CellInfo) → HaveLawfulTrees is → (r : Result App AppEnd) → IfOk r (IsOrdered m limit is) → IfOk r (λ a. HaveLawfulTrees a.cells)
 trees_ok m limit is h (Ok a) o = still_lawful is a.cells (sym o.cells) h

@@ -19,7 +19,7 @@ use Rattle.fx_trees.specs.Term.{Term}
 use Rattle.fx_trees.specs.Tree.{Tree, node, Forest, none, more, Head}
 use Rattle.fx_trees.specs.Tree as tree
 use Rattle.fx_typing.proofs.Built.{within_limit}
-use Rattle.fx_typing.proofs.Deeds.{by_name_ok, if_known_ok}
+use Rattle.fx_typing.proofs.Deeds.{by_name_ok, if_known_ok, joins_rows}
 use Rattle.fx_typing.proofs.Frame.{at_node_ok, onward_ok, put_one}
 use Rattle.fx_typing.proofs.Operators.{then_ok}
 use Rattle.fx_typing.proofs.RelatedSteps.{as_part_ok}
@@ -41,15 +41,6 @@ use Rattle.app_names.specs.declared.declarations.Thing.TheVariants as thing
 use Rattle.app_loader.proofs.Declared.{call_holds, gathers}
 
 -- ---- a value that is gathered makes its collection's type that of a table
-joins_rows : (t : Shape) (ds : ColumnList) → joins_to t (tables ds) ≡ true → (cs : ColumnList) × (t ≡ tables cs)
-joins_rows (tables cs) ds e = (cs, refl)
-joins_rows blanks ds e = absurd cc
-joins_rows numbers ds e = absurd cc
-joins_rows texts ds e = absurd cc
-joins_rows booleans ds e = absurd cc
-joins_rows dates ds e = absurd cc
-joins_rows (records cs) ds e = absurd cc
-
 rows_are : (c : Term) (t : Shape) → (ds : ColumnList) × ((rows_of (c, t)).1 ≡ tables ds)
 rows_are c (tables cs) = (cs, refl)
 rows_are c blanks = (_, refl)

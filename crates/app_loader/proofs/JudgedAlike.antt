@@ -60,9 +60,6 @@ module _ (m : Names) (s t : Bor (List Signature)) (same : map entry s.now ≡ ma
     pub deep_alike : (u : Setting) (h : Head) (qs : List Part) → is_too_deep here u h qs ≡ is_too_deep there u h qs
     deep_alike u h qs = ap (λ b. b && nat_lt 2 (depth_of u.scopes)) (opens_alike u.grant h (length qs) [] qs)
 
-    by_alike : (u : Setting) (k : SigShape) (qs : List Part) → called_by here u k qs ≡ called_by there u k qs
-    by_alike u k qs = refl
-
     called_alike : (u : Setting) (o r : Option Signature) (qs : List Part) → option_map entry o ≡ option_map entry r → called_with here u o qs ≡ called_with there u r qs
     called_alike u None None qs e = refl
     called_alike u None (Some g) qs e = absurd cc

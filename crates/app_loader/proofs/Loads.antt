@@ -1,7 +1,7 @@
 -- What formulas, files and texts are judged as, stage by stage.
-use Rattle.std.proofs.Common.{◌≡◌, ℕ, ◌<◌, ◌≤◌, List, [], ◌∷◌, Bool, true, false, nat_eq, All, length, map, Result, Ok, Err, IfErr, IfOk, refl, ap, sym, subst, ◌∙◌, arith}
+use Rattle.std.proofs.Common.{◌≡◌, ℕ, ◌<◌, ◌≤◌, List, [], ◌∷◌, true, false, nat_eq, All, length, map, Result, Ok, Err, IfErr, IfOk, refl, ap, sym, subst, ◌∙◌, arith}
 use Rattle.std.specs.Prelude.{codes}
-use Rattle.std.proofs.lemmas.Bool.{eqb-true}
+use Rattle.std.proofs.lemmas.Bool.{both_ways, eqb-true}
 use Rattle.std.specs.Str.{IsUtf8, chars}
 use Rattle.fx_sig.specs.Entries.{entries, entry}
 use Rattle.fx_trees.specs.Lawful.{IsLawful}
@@ -39,21 +39,18 @@ tells_weaker P Q f end.Memory h = tt
 pub tells_this : (P : List Broken → Type 0) (a b : Broken) → a ≡ b → P (b ∷ []) → (e : AppEnd) → Tells (λ bs. bs ≡ a ∷ []) e → Tells P e
 tells_this P a b same h = tells_weaker (λ bs. bs ≡ a ∷ []) P (λ bs is. subst P (sym (is ∙ ap (λ x. x ∷ []) same)) h)
 
-ok_weaker : (P Q : App → Type 0) → ((a : App) → P a → Q a) → (r : Result App AppEnd) → IfOk r P → IfOk r Q
+pub ok_weaker : (P Q : App → Type 0) → ((a : App) → P a → Q a) → (r : Result App AppEnd) → IfOk r P → IfOk r Q
 ok_weaker P Q f (Ok a) h = f a h
 ok_weaker P Q f (Err e) h = tt
 
-err_weaker : (P Q : List Broken → Type 0) → ((bs : List Broken) → P bs → Q bs) → (r : Result App AppEnd) → IfErr r (Tells P) → IfErr r (Tells Q)
+pub err_weaker : (P Q : List Broken → Type 0) → ((bs : List Broken) → P bs → Q bs) → (r : Result App AppEnd) → IfErr r (Tells P) → IfErr r (Tells Q)
 err_weaker P Q f (Ok a) h = tt
 err_weaker P Q f (Err e) h = tells_weaker P Q f e h
 
 -- ---- formulas beside a frame
-nonempty : (b : Bool) → b ≡ false → b ≡ true → ⊥
-nonempty b e k = let q : true ≡ false = sym k ∙ e in absurd cc
-
 pub misnamed_by : (f : Frame) (cells : List Cell) (functions : List Signature) (bs : List Broken) → map entry functions ≡ entries → bs ≡ name_breaks functions f cells →
     nat_eq (length bs) 0 ≡ false → JudgedFormulas f cells (Err bs)
-misnamed_by f cells functions [] e is k = absurd (nonempty true k refl)
+misnamed_by f cells functions [] e is k = absurd (both_ways true k refl)
 misnamed_by f cells functions (b ∷ bs) e is k = judge.misnamed f cells functions b bs e (sym is)
 
 pub none_by : (bs : List Broken) → nat_eq (length bs) 0 ≡ true → bs ≡ []

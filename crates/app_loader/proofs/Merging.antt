@@ -5,8 +5,8 @@ use Rattle.std.specs.declared.cmp.Ordering.{Ordering}
 use Rattle.std.specs.declared.cmp.Ordering.TheVariants.{Less, Equal, Greater}
 use Rattle.fx_trees.specs.Reads.{AreRising, IsAmong, IsBelowAll, source_order}
 use Rattle.fx_trees.specs.declared.sources.Source.{Source}
+use Rattle.fx_trees.proofs.Ordered.{below_more, order_flips, order_tells}
 use Rattle.app_cells.specs.Reach.{is_cell}
-use Rattle.app_loader.proofs.SourceOrder.{below_more, order_flips, order_tells}
 
 -- one list with x at its head, in one with another; `on` is the rest of it with a list
 abbrev pub step : Source → List Source → (List Source → List Source) → List Source → List Source

@@ -1,6 +1,6 @@
 -- No gallery of a file has two formulas of its items.
-use Rattle.std.proofs.Common.{inl, inr, ◌⊎◌, ◌≡◌, ℕ, zero, suc, ◌+◌, ◌≤◌, ◌++◌, List, [], ◌∷◌, Bool, true, false, codes, length, map, All, Option, Some, None, Result, Ok, Err, refl, ap, sym, subst, take, ◌∙◌, arith, rules, if◌then◌else◌}
-use Rattle.std.specs.Prelude.{encode_utf8_all, option_map, slice_get, unwrap_or}
+use Rattle.std.proofs.Common.{inl, inr, ◌⊎◌, ◌≡◌, ℕ, zero, suc, ◌+◌, ◌≤◌, ◌++◌, List, [], ◌∷◌, Bool, true, false, codes, length, map, All, Option, Some, None, Result, Ok, Err, refl, ap, sym, subst, ◌∙◌, arith, rules, if◌then◌else◌}
+use Rattle.std.specs.Prelude.{encode_utf8_all, option_map, slice_get}
 use Rattle.std.specs.List.{cons_option, filter, filter_map}
 use Rattle.std.specs.Str.{IsAscii}
 use Rattle.std.proofs.lemmas.List.{map-append}
@@ -17,7 +17,7 @@ use Rattle.app_file.specs.declared.file.AppFile.{AppFile}
 use Rattle.app_file.specs.declared.file.ControlShape.{ControlShape}
 use Rattle.app_file.specs.declared.file.PropertyText.{PropertyText}
 use Rattle.app_file.specs.declared.file.ScreenShape.{ScreenShape}
-use Rattle.app_file.specs.Contents.{all, all_behind, app_of, at, control_shape, kind_at, properties, property, screen, words}
+use Rattle.app_file.specs.Contents.{all, app_of, at, control_shape, kind_at, properties, property, screen, words}
 use Rattle.app_file.specs.Files.{IsRead, IsReadOf, app, bad_part, json, no_json, passed, too_long}
 use Rattle.app_file.specs.FormOfApp.{property_names}
 use Rattle.app_file.specs.Forms.{elements}
@@ -25,11 +25,11 @@ use Rattle.app_cells.specs.declared.cell.Cell.{Cell}
 use Rattle.app_cells.specs.declared.cell.Spot.{Spot}
 use Rattle.app_cells.specs.declared.cell.Spot.TheVariants as spot
 use Rattle.app_cells.specs.declared.frame.Frame.{Frame}
-use Rattle.app_texts.proofs.Held.{all_hold}
 use Rattle.app_texts.specs.declared.file_texts.Text.{Text}
 use Rattle.app_texts.specs.Files.{control_texts, frame_of, is_written, property_texts, screen_texts, text_at, texts_of}
 use Rattle.app_texts.specs.Texts.{AreFormulasOf, AreNamedAt, AreNamedCells, AreReadAt, IsNamedReading, IsReading, bare, broken, formulas, named_broken, named_formulas}
 use Rattle.fx_parser.specs.declared.entries.Named.{Named}
+use Rattle.app_texts.proofs.Formed.{any_at, any_list}
 use Rattle.app_loader.proofs.Cells.{items_ascii}
 use Rattle.app_loader.specs.Accepted.{AreSingle}
 
@@ -148,14 +148,6 @@ properties_rise number control.Gallery d =
 -- ---- the controls of a file
 abbrev HasOneItems : ControlShape → Type 0
 HasOneItems c = (number : ℕ) → Rise number (suc number) (text_spots (property_texts number c))
-
-any_list : {A : Type 0} (h : List Data → Data → A) (P : A → Type 0) (o : Option (List Data)) → ((before : List Data) (x : Data) → P (h before x)) → All P (all_behind h [] (unwrap_or o []))
-any_list h P (Some ds) f = all_hold h P [] ds (λ k x e. f (take k ds) x)
-any_list h P None f = All-nil P
-
-any_at : {A : Type 0} (h : Data → List A) (P : List A → Type 0) (o : Option Data) → P [] → ((x : Data) → P (h x)) → P (unwrap_or (option_map h o) [])
-any_at h P (Some x) none f = f x
-any_at h P None none f = none
 
 control_once : (before : List Data) (d : Data) → HasOneItems (control_shape before d)
 control_once before d number =

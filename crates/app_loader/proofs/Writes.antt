@@ -1,6 +1,6 @@
 -- Formulas as inference takes them.
-use Rattle.std.proofs.Common.{◌≡◌, ℕ, ◌+◌, ◌<◌, ◌≤◌, ◌++◌, List, [], ◌∷◌, length, get_or, map, take, option_map, Err, refl, ap, sym, subst, ◌∙◌}
-use Rattle.std.proofs.lemmas.List.{take_more}
+use Rattle.std.proofs.Common.{◌≡◌, ℕ, ◌+◌, ◌<◌, ◌≤◌, ◌++◌, List, [], ◌∷◌, length, get_or, map, take, option_map, Err, ap, sym, subst, ◌∙◌}
+use Rattle.std.proofs.lemmas.List.{map_push, take_more}
 use Rattle.fx_data.specs.TypeView.{shape}
 use Rattle.fx_infer.specs.Below.{tree_depth}
 use Rattle.fx_infer.specs.CellView.{cell}
@@ -17,16 +17,12 @@ use Rattle.app_loader.specs.Admitted.{Breaks, in_cell}
 use Rattle.app_loader.specs.Cells.{AreShallow, cell_of, judged}
 use Rattle.app_loader.specs.Written.{IsWritten}
 
-map_behind : {A B : Type 0} (f : A → B) (xs : List A) (x : A) → map f (xs ++ x ∷ []) ≡ map f xs ++ f x ∷ []
-map_behind f [] x = refl
-map_behind f (y ∷ xs) x = ap (λ ys. f y ∷ ys) (map_behind f xs x)
-
 -- one more
 pub cells_more : (cs : List Cell) (i : ℕ) (c : Cell) (all : List Written) (w : Written) → i < length cs → c ≡ get_or cs i c → map cell all ≡ map cell_of (take i cs) → IsWritten c w →
     map cell (all ++ w ∷ []) ≡ map cell_of (take (i + 1) cs)
 cells_more cs i c all w l e k h =
-    map_behind cell all w ∙ ap (λ ds. ds ++ cell w ∷ []) k ∙ ap (λ d. map cell_of (take i cs) ++ d ∷ []) h.seen
-    ∙ sym (map_behind cell_of (take i cs) c) ∙ ap (map cell_of) (sym (take_more cs i c l ∙ ap (λ x. take i cs ++ x ∷ []) (sym e)))
+    map_push cell all w ∙ ap (λ ds. ds ++ cell w ∷ []) k ∙ ap (λ d. map cell_of (take i cs) ++ d ∷ []) h.seen
+    ∙ sym (map_push cell_of (take i cs) c) ∙ ap (map cell_of) (sym (take_more cs i c l ∙ ap (λ x. take i cs ++ x ∷ []) (sym e)))
 
 pub shallow_at : (cs : List Cell) (i : ℕ) (c : Cell) → AreShallow cs → i < length cs → c ≡ get_or cs i c → tree_depth c.expr ≤ 256
 shallow_at cs i c h l e = subst (λ (k : Cell). tree_depth k.expr ≤ 256) (sym e) (h i c l)

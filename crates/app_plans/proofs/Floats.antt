@@ -4,15 +4,12 @@ use Rattle.std.specs.Prelude.{flat_map, ◌||◌}
 use Rattle.serde_json.specs.Data.{Data}
 use Rattle.serde_json.specs.View.{items_of}
 use Rattle.serde_json.specs.Written.{has_float, items_have_float}
+use Rattle.std.proofs.lemmas.Bool.{or_from}
 use Rattle.app_cells.specs.declared.app.App.{App}
 use Rattle.app_cells.specs.declared.app.CellInfo.{CellInfo}
 use Rattle.app_plans.specs.Plans.{cell_data, plan_data, site_data}
 use Rattle.fx_trees.specs.declared.sites.Site.{Site}
 use Rattle.fx_trees.specs.declared.schema.TableShape.{TableShape}
-
-both_false : (a b : Bool) → a ≡ false → b ≡ false → (a || b) ≡ false
-both_false true b h k = absurd cc
-both_false false b h k = k
 
 first_false : (a b : Bool) → (a || b) ≡ false → a ≡ false
 first_false true b h = h
@@ -26,15 +23,15 @@ second_false false b h = h
 behind : (ds es : List Data) → items_have_float (items_of ds) ≡ false → items_have_float (items_of es) ≡ false → items_have_float (items_of (ds ++ es)) ≡ false
 behind [] es h k = k
 behind (d ∷ ds) es h k =
-    both_false (has_float d) (items_have_float (items_of (ds ++ es))) (first_false (has_float d) (items_have_float (items_of ds)) h) (behind ds es (second_false (has_float d) (items_have_float (items_of ds)) h) k)
+    or_from (has_float d) (items_have_float (items_of (ds ++ es))) (first_false (has_float d) (items_have_float (items_of ds)) h) (behind ds es (second_false (has_float d) (items_have_float (items_of ds)) h) k)
 
 sites_have_none : (ts : List TableShape) (cell : List ℕ) (ss : List Site) → items_have_float (items_of (map (site_data ts cell) ss)) ≡ false
 sites_have_none ts cell [] = refl
-sites_have_none ts cell (s ∷ ss) = both_false (has_float (site_data ts cell s)) (items_have_float (items_of (map (site_data ts cell) ss))) refl (sites_have_none ts cell ss)
+sites_have_none ts cell (s ∷ ss) = or_from (has_float (site_data ts cell s)) (items_have_float (items_of (map (site_data ts cell) ss))) refl (sites_have_none ts cell ss)
 
 cells_have_none : (ts : List TableShape) (cs : List CellInfo) → items_have_float (items_of (flat_map (cell_data ts) cs)) ≡ false
 cells_have_none ts [] = refl
 cells_have_none ts (c ∷ cs) = behind (cell_data ts c) (flat_map (cell_data ts) cs) (sites_have_none ts c.cell.name c.sites) (cells_have_none ts cs)
 
 pub plan_has_none : (a : App) → has_float (plan_data a) ≡ false
-plan_has_none a = both_false (items_have_float (items_of (flat_map (cell_data a.names.schema.tables) a.cells))) false (cells_have_none a.names.schema.tables a.cells) refl
+plan_has_none a = or_from (items_have_float (items_of (flat_map (cell_data a.names.schema.tables) a.cells))) false (cells_have_none a.names.schema.tables a.cells) refl

@@ -1,6 +1,7 @@
 -- What a file of the form holds: columns of types that columns may have, galleries, and properties of their controls' kinds.
+use Rattle.std.specs.Cmp.{second_so}
 use Rattle.std.proofs.Common.{◌≡◌, ℕ, zero, suc, ◌+◌, ◌<◌, ◌≤◌, Bool, true, false, List, [], ◌∷◌, ◌++◌, Option, Some, None, IfSome, codes, cond, length, take, refl, ap, sym, ◌∙◌, subst, arith, All, append_assoc, bytes_eq, rules, if◌then◌else◌}
-use Rattle.std.specs.Prelude.{◌&&◌, encode_utf8_all, is_some, option_map, option_and_then, slice_get, unwrap_or}
+use Rattle.std.specs.Prelude.{encode_utf8_all, is_some, option_map, option_and_then, slice_get, unwrap_or}
 use Rattle.std.specs.List.{cons_option, filter_map, position_from}
 use Rattle.std.specs.Str.{IsUtf8}
 use Rattle.std.proofs.lemmas.List.{append-nil}
@@ -65,11 +66,11 @@ tables_typed d fine =
     (λ x k. list_holds (λ b. members table_fields) table HasTypes x k table_typed)
 
 -- ---- what holds of every part
-any_list : {A : Type 0} (h : List Data → Data → A) (P : A → Type 0) (o : Option (List Data)) → ((before : List Data) (x : Data) → P (h before x)) → All P (all_behind h [] (unwrap_or o []))
+pub any_list : {A : Type 0} (h : List Data → Data → A) (P : A → Type 0) (o : Option (List Data)) → ((before : List Data) (x : Data) → P (h before x)) → All P (all_behind h [] (unwrap_or o []))
 any_list h P (Some ds) f = all_hold h P [] ds (λ k x e. f (take k ds) x)
 any_list h P None f = All-nil P
 
-any_at : {A : Type 0} (h : Data → List A) (P : List A → Type 0) (o : Option Data) → P [] → ((x : Data) → P (h x)) → P (unwrap_or (option_map h o) [])
+pub any_at : {A : Type 0} (h : Data → List A) (P : List A → Type 0) (o : Option Data) → P [] → ((x : Data) → P (h x)) → P (unwrap_or (option_map h o) [])
 any_at h P (Some x) none f = f x
 any_at h P None none f = none
 
@@ -82,12 +83,8 @@ is_gallery_kind (Some x) e = go (as_str x) e
     go None f = absurd cc
     go (Some t) f = subst (λ u. unwrap_or (kind_named u) control.Label ≡ control.Gallery) (sym ((bytes_eq-Decides t (codes "Gallery")).0 f)) refl
 
-both_true : (a b : Bool) → (a && b) ≡ true → b ≡ true
-both_true true b e = e
-both_true false b e = absurd cc
-
 gallery_kind : (x : List ℕ) (d : Data) → is_gallery x d ≡ true → kind_at d ≡ control.Gallery
-gallery_kind x d e = is_gallery_kind (get (codes "kind") d) (both_true (is_text_at (codes "name") x d) (is_text_at (codes "kind") (codes "Gallery") d) e)
+gallery_kind x d e = is_gallery_kind (get (codes "kind") d) (second_so (is_text_at (codes "name") x d) (is_text_at (codes "kind") (codes "Gallery") d) e)
 
 -- a place that is found is that of something that meets the test
 record IsFound {A : Type 0} (p : A → Bool) (n : ℕ) (xs : List A) (g : ℕ) : Type 0 where
@@ -160,11 +157,12 @@ pub galleries_right : (d : Data) → All HasGalleries (at (all screen) (codes "s
 galleries_right d = any_at (all screen) (All HasGalleries) (get (codes "screens") d) (All-nil HasGalleries) (λ x. any_list screen HasGalleries (elements x) screen_galleries)
 
 -- ---- properties
-abbrev AreProperties : Control → List (List ℕ) → Type 0
+-- each property of a kind is one of it
+abbrev pub AreProperties : Control → List (List ℕ) → Type 0
 AreProperties k [] = Unit {0}
 AreProperties k (x ∷ xs) = IsUtf8 x × (has_property k x ≡ true) × AreProperties k xs
 
-own_properties : (k : Control) → AreProperties k (property_names k)
+pub own_properties : (k : Control) → AreProperties k (property_names k)
 own_properties control.Label = (search rules, refl, (search rules, refl, (search rules, refl, tt)))
 own_properties control.Button = (search rules, refl, (search rules, refl, (search rules, refl, tt)))
 own_properties control.TextInput = (search rules, refl, (search rules, refl, (search rules, refl, tt)))

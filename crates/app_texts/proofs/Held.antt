@@ -1,5 +1,5 @@
 -- What holds of what a part of a file holds, where the part is of its form.
-use Rattle.std.proofs.Common.{◌≡◌, ℕ, zero, suc, ◌+◌, ◌<◌, ◌≤◌, Bool, true, false, List, [], ◌∷◌, ◌++◌, Option, Some, None, IfSome, length, take, refl, ap, sym, ◌∙◌, subst, arith, All, append_assoc}
+use Rattle.std.proofs.Common.{◌≡◌, ℕ, zero, suc, ◌+◌, ◌<◌, ◌≤◌, Bool, true, false, List, [], ◌∷◌, ◌++◌, Option, Some, None, IfSome, take, refl, ap, sym, ◌∙◌, subst, arith, All, append_assoc}
 use Rattle.std.specs.Prelude.{is_some, option_map, option_and_then, slice_get, unwrap_or}
 use Rattle.std.proofs.lemmas.List.{append-nil}
 use Rattle.std.proofs.lemmas.List.Elements.{All-nil, All-cons}
@@ -28,10 +28,6 @@ all_hold h P before [] f = All-nil P
 all_hold h P before (d ∷ ds) f =
     All-cons P (h before d) (all_behind h (before ++ d ∷ []) ds) (subst (λ b. P (h b d)) (append-nil before) (f 0 d refl))
     (all_hold h P (before ++ d ∷ []) ds (λ k x e. subst (λ b. P (h b x)) (sym (append_assoc before (d ∷ []) (take k ds))) (f (suc k) x e)))
-
-pub many_held : {A : Type 0} (h : List Data → Data → A) (before ds : List Data) → length (all_behind h before ds) ≡ length ds
-many_held h before [] = refl
-many_held h before (d ∷ ds) = ap suc (many_held h (before ++ d ∷ []) ds)
 
 pub element_fine : (f : List Data → Form) (d x : Data) (ds : List Data) (k : ℕ) → IsFine (in_turn f) d → elements d ≡ Some ds → slice_get ds k ≡ Some x → IsFine (f (take k ds)) x
 element_fine f d x ds k fine is e path bad = fine (Element k ∷ path) (bad_element f d x ds k path is e bad)

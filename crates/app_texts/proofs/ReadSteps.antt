@@ -77,9 +77,6 @@ texts_end f all old now former here h = record {
 abbrev pub AreNamedOnward : Frame → List Named → List Named → List Cell → Type 0
 AreNamedOnward f all rest cs = (ds : List Cell) → AreNamedCells f rest ds → AreNamedCells f all (cs ++ ds)
 
-pub named_begin : (f : Frame) (all : List Named) (cs : List Cell) → IsPut (AreNamedOnward f all all) cs cs
-named_begin f all cs = record { more = []; behind = sym (append-nil cs); holds = λ ds h. h }
-
 pub named_step : (f : Frame) (all rest : List Named) (n : Named) (old now next : List Cell) (c : Cell)
     → IsPut (AreNamedOnward f all (n ∷ rest)) old now → next ≡ now ++ c ∷ [] → IsNamedCell f n c → IsPut (AreNamedOnward f all rest) old next
 named_step f all rest n old now next c h e k = record {

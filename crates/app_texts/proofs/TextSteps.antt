@@ -1,12 +1,11 @@
 -- Texts and controls, one after another.
-use Rattle.std.proofs.Common.{◌≡◌, ℕ, zero, suc, ◌+◌, ◌<◌, ◌≤◌, Bool, List, [], ◌∷◌, ◌++◌, Option, Some, None, IfSome, slice_get, get_or, drop, length, map, append_assoc, ap, sym, ◌∙◌, arith, refl, length-append}
+use Rattle.std.proofs.Common.{◌≡◌, ℕ, suc, ◌+◌, ◌<◌, ◌≤◌, Bool, List, [], ◌∷◌, ◌++◌, get_or, drop, length, map, append_assoc, ap, sym, ◌∙◌, arith, refl, length-append}
 use Rattle.std.specs.List.{filter}
 use Rattle.std.proofs.Math.Seq.{drop-cons}
 use Rattle.std.proofs.lemmas.List.{length-map}
 use Rattle.std.proofs.lemmas.List.Elements.{filter-append}
 use Rattle.app_file.specs.declared.file.ScreenShape.{ScreenShape}
-use Rattle.app_file.specs.declared.file.ControlShape.{ControlShape}
-use Rattle.app_texts.specs.Files.{IsGalleryAt, IsGalleryShape, control_of, controls_from}
+use Rattle.app_texts.specs.Files.{control_of, controls_from}
 
 -- what is chosen of a part is put behind, and more follows
 pub more : {A : Type 0} (p : A → Bool) (now next old all a rest whole : List A) → next ≡ now ++ filter p a → whole ≡ a ++ rest → now ++ filter p whole ≡ old ++ all → next ++ filter p rest ≡ old ++ all
@@ -33,13 +32,3 @@ within ss i first s below is kept few =
     let n : count (drop i ss) ≡ length s.controls + count (drop (suc i) ss) = ap count e in
     let m = counts 0 0 ss in
     omega (arith, n, m, kept, few)
-
--- a place that lies within a screen is told by a small number
-place_within : (cs : List ControlShape) (g : ℕ) → IsGalleryShape (slice_get cs g) → g < length cs
-place_within [] g h = absurd h
-place_within (c ∷ cs) zero h = omega arith
-place_within (c ∷ cs) (suc g) h = let l = place_within cs g h in omega (arith, l)
-
-pub near : (cs : List ControlShape) (o : Option ℕ) (first : ℕ) → IsGalleryAt cs o → first + length cs ≤ 500 → IfSome o (λ g. first + g < 500)
-near cs (Some g) first h l = let k = place_within cs g h in omega (arith, k, l)
-near cs None first h l = tt

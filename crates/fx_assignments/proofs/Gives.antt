@@ -1,5 +1,5 @@
 -- Variables of a screen that are given values, one after another.
-use Rattle.std.proofs.Common.{◌≡◌, ℕ, List, [], ◌∷◌, Option, Result, Ok, refl, sym, ap, subst, ◌∙◌}
+use Rattle.std.proofs.Common.{◌≡◌, ℕ, List, [], ◌∷◌, Option, Result, Ok, sym, ap, subst, ◌∙◌}
 use Rattle.fx_data.specs.Types.{Shape}
 use Rattle.fx_trees.specs.declared.sources.Source.{Source}
 use Rattle.fx_trees.specs.declared.names.Names.{Names}
@@ -36,10 +36,3 @@ gave_all n s view kept ms xs whole none h =
 
 pub no_name : (n : Names) (s : Option ℕ) (ms : List (List ℕ)) (xs : List (Term × Shape)) → ms ≡ [] → give_all n s ms xs ≡ Ok []
 no_name n s ms xs e = ap (λ l. give_all n s l xs) e
-
-pub no_value : (n : Names) (s : Option ℕ) (ms : List (List ℕ)) (xs : List (Term × Shape)) → xs ≡ [] → give_all n s ms xs ≡ Ok []
-no_value n s ms xs e = ap (give_all n s ms) e ∙ by ms
-  where
-    by : (ms : List (List ℕ)) → give_all n s ms [] ≡ Ok []
-    by [] = refl
-    by (m ∷ ms) = refl

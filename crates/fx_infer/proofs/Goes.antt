@@ -18,9 +18,6 @@ pub record GoesOn (p : Place) (s : Setting) (h : Head) (n : ℕ) (ts : Forest) (
   pub told : (w rule : ℕ) (said : List ℕ) → HasToldBroken p s h n done (forest_from (length done) ts) w rule said
       → HasToldBroken p s h n [] ts w rule said
 
-pub begins : (p : Place) (s : Setting) (h : Head) (n : ℕ) (ts : Forest) → GoesOn p s h n ts []
-begins p s h n ts = record { judged = refl; told = λ w rule said x. x }
-
 pub goes_on : (p : Place) (s : Setting) (h : Head) (n : ℕ) (ts : Forest) (done : List Part) (k : Tree) (q : Part) →
     GoesOn p s h n ts done → forest_from (length done) ts ≡ more k (forest_from (suc (length done)) ts) →
     judge p (setting_at p.names s h n done) k ≡ Ok q → GoesOn p s h n ts (done ++ q ∷ [])

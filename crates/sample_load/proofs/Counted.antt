@@ -1,9 +1,6 @@
 -- How a keeper counts all rows of a table.
-use Rattle.std.proofs.Common.{◌≡◌, ℕ, zero, suc, Bool, true, cond, List, [], ◌∷◌, filter, length, Option, Some, None, refl, ap, ap₂, sym, ◌∙◌, subst}
-use Rattle.std.specs.Prelude.{IfSome}
-use Rattle.fx_base.specs.Silence.{Goes}
+use Rattle.std.proofs.Common.{◌≡◌, ℕ, zero, Bool, true, cond, List, [], ◌∷◌, filter, length, refl, ap, ap₂, sym, ◌∙◌, subst}
 use Rattle.std.proofs.lemmas.List.Sorted.{length_permutation}
-use Rattle.fx_trees.specs.declared.schema.TableShape.{TableShape}
 use Rattle.fx_value.specs.Keys.{key_bytes}
 use Rattle.row_queries.specs.Queries.{IsCounted, lies, outcome_on}
 use Rattle.row_queries.specs.RowTests.{is_met}
@@ -11,7 +8,7 @@ use Rattle.row_queries.specs.Ranges.{in_ranges}
 use Rattle.row_queries.specs.TableRows.{rows_at, value_at, values_of}
 use Rattle.row_queries.specs.declared.rows.Row.{Row}
 use Rattle.row_keeper.specs.Changes.{Counts}
-use Rattle.row_keeper.specs.Tables.{AreStatesOf, TableState, Tables, rows_of, state_at}
+use Rattle.row_keeper.specs.Tables.{TableState, Tables, rows_of, state_at}
 use Rattle.sample_load.specs.Counts.{HasRows, every_row}
 
 -- nothing is below no bytes
@@ -38,22 +35,3 @@ every_one rows n h =
 -- what a keeper counts of the first table
 pub counts_rows : (n : ℕ) (a b : Tables) → Counts every_row n a b → HasRows n a b
 counts_rows n a b h = (every_one (rows_at (rows_of a.states) 0) n h.0 ∙ ap length (first_rows a.states), h.1)
-
--- where there is no table there are no rows
-pub counts_none : (a : Tables) → AreStatesOf [] a.states → HasRows 0 a a
-counts_none a h = (none a.states h, refl)
-  where
-    none : (ss : List TableState) → AreStatesOf [] ss → 0 ≡ length (state_at ss 0).rows
-    none [] k = refl
-    none (s ∷ ss) k = absurd k
-
--- what is counted is so where tables are told
-pub goes_as : {A : Type 0} (lost : Type 0) (P R : A → A → Type 0) → ((a b : A) → P a b → R a b) → (x y : Option A) → Goes lost P x y → Goes lost R x y
-goes_as lost P R see None y h = h
-goes_as lost P R see (Some a) None h = h
-goes_as lost P R see (Some a) (Some b) h = see a b h
-
-pub nothing_told : (lost : Type 0) (tables : List TableShape) → 0 ≡ length tables → (x : Option Tables) → IfSome x (λ (t : Tables). AreStatesOf tables t.states) → Goes lost (HasRows 0) x x
-nothing_told lost tables e None h = refl
-nothing_told lost [] e (Some t) h = counts_none t h
-nothing_told lost (u ∷ us) e (Some t) h = absurd (let no : 0 ≡ suc (length us) = e in cc)

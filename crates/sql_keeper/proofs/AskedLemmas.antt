@@ -1,6 +1,5 @@
 -- Rows that were read, and what a query asks of them.
-use Rattle.std.proofs.Common.{◌≡◌, ◌∙◌, ◌+◌, ◌<◌, ◌≤◌, ℕ, zero, suc, Bool, true, cond, List, [], ◌∷◌, ◌++◌, filter, get_or, length, map, take, Option, None, Some, refl, ap, arith, subst, sym}
-use Rattle.std.specs.Prelude.{slice_get}
+use Rattle.std.proofs.Common.{◌≡◌, ◌∙◌, ◌+◌, ◌<◌, ◌≤◌, ℕ, zero, suc, Bool, true, cond, List, [], ◌∷◌, ◌++◌, filter, get_or, length, map, take, Option, None, refl, ap, arith, subst, sym}
 use Rattle.std.specs.List.{All, AllByRecursion}
 use Rattle.std.specs.List.Sorted.{IsPermutation, IsSorted}
 use Rattle.std.proofs.lemmas.List.{take_more}
@@ -20,9 +19,6 @@ use Rattle.sql_keeper.specs.Given.{IsGivenOf}
 use Rattle.sql_keeper.proofs.RowLemmas.{all_more}
 
 -- ---- a pass over rows
-
-pub all_on : (P : Row → Type 0) (rows : List Row) (i : ℕ) (r : Row) → AllByRecursion P (take i rows) → i < length rows → r ≡ get_or rows i r → P r → AllByRecursion P (take (i + 1) rows)
-all_on P rows i r h l e p = subst (AllByRecursion P) (sym (take_more rows i r l ∙ ap (λ x. take i rows ++ x ∷ []) (sym e))) (all_more P (take i rows) r h p)
 
 pub one_of : (P : Row → Type 0) (rows : List Row) (i : ℕ) (r : Row) → AllByRecursion P rows → i < length rows → r ≡ get_or rows i r → P r
 one_of P [] i r h l e = absurd (omega (arith, l))
@@ -65,13 +61,6 @@ asked_of t q read first last fit p rise lie m sorted = (
 )
 
 -- ---- what is answered of them, where no rows are told
-
-pub of_held : (shapes : List TableShape) (q : Query) (t : TableShape) (P : List Row → Type 0) → slice_get shapes q.table ≡ Some t → (held : List Row) × AreHeldRows t held × P held → OfRows shapes None q (λ x rows. P rows)
-of_held shapes q t P e h = (t, h.0, record { is_table = e; held = h.1; told_rows = tt }, h.2)
-
--- what holds of rows, of which another thing follows
-pub of_these : (shapes : List TableShape) (q : Query) (P R : List Row → Type 0) → ((rows : List Row) → P rows → R rows) → OfRows shapes None q (λ t rows. P rows) → OfRows shapes None q (λ t rows. R rows)
-of_these shapes q P R f h = (h.0, h.1, h.2, f h.1 h.3)
 
 pub scanned : (shapes : List TableShape) (q : Query) (asked : List Row) (a : RowList) → OfRows shapes None q (λ t held. AreAsked q held asked) → a ≡ rows_or_fault (given_of q asked) (first_fault (map (outcome_on q) asked)) → IsScanAnswer shapes None q a
 scanned shapes q asked a h e = (h.0, h.1, h.2, (asked, h.3, e))
