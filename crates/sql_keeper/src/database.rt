@@ -9,10 +9,19 @@ use row_keeper::KeeperEnd;
 use sqlite::{Connection, Error, ErrorCode, File, FileStore, MemStore, Row as Answer};
 use std::rt::HostRuntime;
 
-#[derive(Drop)]
 pub enum Database {
     InMemory(Connection<MemStore>),
     InFile(Connection<FileStore<File>>),
+}
+
+// By hand, so that it is called: what is derived is opened wherever a value may end, which costs proofs seconds each time.
+impl Drop for Database {
+    fn drop(self) {
+        match self {
+            Database::InMemory(_) => {}
+            Database::InFile(_) => {}
+        }
+    }
 }
 
 impl Database {

@@ -33,7 +33,6 @@ use std::rt::HostRuntime;
 
 /// Rows in a SQLite database: a new one in memory where the name attached is empty or `:memory:`, else that of a file.
 /// Each refusal of a statement for another cause than memory is a fault, and so is a line that is no row of the schema.
-#[derive(Drop)]
 pub struct SqlKeeper {
     rt: HostRuntime,
     database: Option<Database>,
@@ -44,6 +43,21 @@ pub struct SqlKeeper {
     changes: Option<Changes>,
     visited: u64,
     faults: u64,
+}
+
+// By hand, so that it is called: what is derived is opened wherever a value may end, which costs proofs seconds each time.
+impl Drop for SqlKeeper {
+    fn drop(self) {
+        let SqlKeeper {
+            rt: _,
+            database: _,
+            schema: _,
+            tallies: _,
+            changes: _,
+            visited: _,
+            faults: _,
+        } = self;
+    }
 }
 
 impl Model for SqlKeeper {

@@ -27,7 +27,6 @@ struct Rows {
 }
 
 /// A keeper of the table that the cases are about.
-#[derive(Drop)]
 pub struct PlainKeeper {
     alloc: Global,
     plan: FaultPlan,
@@ -35,6 +34,19 @@ pub struct PlainKeeper {
     now: Rows,
     /// The rows as the transaction began, where one is begun.
     then: Option<Rows>,
+}
+
+// By hand, so that it is called: what is derived is opened wherever a value may end, which costs proofs seconds each time.
+impl Drop for PlainKeeper {
+    fn drop(self) {
+        let PlainKeeper {
+            alloc: _,
+            plan: _,
+            is_shaped: _,
+            now: _,
+            then: _,
+        } = self;
+    }
 }
 
 impl PlainKeeper {

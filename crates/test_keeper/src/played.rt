@@ -19,7 +19,6 @@ use std::rt::HostRuntime;
 const FILE: &str = "stock.db";
 
 /// A keeper in memory, a plain one, and two over SQLite, in memory and in a file.
-#[derive(Drop)]
 pub struct Played {
     rt: HostRuntime,
     pub memory: Case<MemoryKeeper>,
@@ -28,6 +27,20 @@ pub struct Played {
     pub file: Case<SqlKeeper>,
     /// Whether SQLite isn't asked: its calls can't be planned to fail, and it passes over no numbers.
     is_alone: bool,
+}
+
+// By hand, so that it is called: what is derived is opened wherever a value may end, which costs proofs seconds each time.
+impl Drop for Played {
+    fn drop(self) {
+        let Played {
+            rt: _,
+            memory: _,
+            plain: _,
+            sql: _,
+            file: _,
+            is_alone: _,
+        } = self;
+    }
 }
 
 /// A keeper in memory, whose calls of these numbers fail.
