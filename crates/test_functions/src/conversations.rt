@@ -40,15 +40,18 @@ fn add_memory(page: &mut Page) -> Result<(), Memory> {
     let mut conversations = Vec::new(alloc);
     conversations.push(Vec::from_slice(alloc, b"PUT /s/a HTTP/1.1\r\n\r\nGE")?)?;
     let fails = Vec::from_slice(alloc, &[1])?;
-    let mut doors = MemoryDoors::new(alloc, conversations, 7, true, fails);
+    add_calls(
+        page,
+        &mut MemoryDoors::new(alloc, conversations, 7, true, fails),
+    )
+}
+
+// What doors answer of which the first call fails.
+fn add_calls(page: &mut Page, doors: &mut MemoryDoors) -> Result<(), Memory> {
     page.add_answer("the first call fails", doors.listen(80).is_err())?;
     page.add_answer("something is written", doors.written(0).is_some())?;
-    page.add_answer("a conversation comes", doors.next() == Ok(true))?;
-    page.add_answer("it ends after one reply", doors.one())?;
-    let mut framer = Framer::new(alloc);
-    add_found(page, &next_request(&mut framer, &mut doors))?;
-    add_found(page, &next_request(&mut framer, &mut doors))?;
-    page.add_answer("words are written", write_all(&mut doors, b"bye").is_ok())?;
+    add_requests(page, doors)?;
+    page.add_answer("words are written", write_all(doors, b"bye").is_ok())?;
     doors.hang_up();
     page.add_answer("another comes", doors.next() == Ok(true))?;
     page.add(text(doors.written(0).unwrap_or(b"nothing")))?;
@@ -56,6 +59,18 @@ fn add_memory(page: &mut Page) -> Result<(), Memory> {
         "something is written to a second",
         doors.written(1).is_some(),
     )
+}
+
+// A conversation that comes, and its first two requests.
+fn add_requests<D: Doors>(page: &mut Page, doors: &mut D) -> Result<(), Memory> {
+    page.add_answer("a conversation comes", doors.next() == Ok(true))?;
+    page.add_answer("it ends after one reply", doors.one())?;
+    add_both(page, &mut Framer::new(page.alloc), doors)
+}
+
+fn add_both<D: Doors>(page: &mut Page, framer: &mut Framer, doors: &mut D) -> Result<(), Memory> {
+    add_found(page, &next_request(framer, doors))?;
+    add_found(page, &next_request(framer, doors))
 }
 
 fn add_stream(page: &mut Page) -> Result<(), Memory> {

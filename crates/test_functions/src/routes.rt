@@ -36,15 +36,32 @@ pub fn write(page: &mut Page) -> Result<(), Memory> {
     page.add(
         "# Requests: the route of each with the parts of its path, or the code of its refusal",
     )?;
-    let routes = Routes::new(page.alloc)?;
+    add_all(page, &Routes::new(page.alloc)?)
+}
+
+fn add_all(page: &mut Page, routes: &Routes) -> Result<(), Memory> {
     for line in REQUESTS.lines() {
         let (method, path) = line.split_once(' ').unwrap_or((line, ""));
-        let answer = answer(page.alloc, &routes, method_of(method), path.as_bytes())?;
-        let line = format!(in page.alloc; "{line} = {answer}")?;
-        page.add(line.as_str())?;
+        add_route(page, routes, line, method_of(method), path.as_bytes())?;
     }
-    let answer = answer(page.alloc, &routes, Method::Get, b"/rows/\xc3%A9/0")?;
-    let line = format!(in page.alloc; "a path that is no text = {answer}")?;
+    add_route(
+        page,
+        routes,
+        "a path that is no text",
+        Method::Get,
+        b"/rows/\xc3%A9/0",
+    )
+}
+
+fn add_route(
+    page: &mut Page,
+    routes: &Routes,
+    said: &str,
+    method: Method,
+    path: &[u8],
+) -> Result<(), Memory> {
+    let answer = answer(page.alloc, routes, method, path)?;
+    let line = format!(in page.alloc; "{said} = {answer}")?;
     page.add(line.as_str())
 }
 

@@ -20,15 +20,22 @@ fn add_records(page: &mut Page) -> Result<(), Memory> {
     let record = Value::Rec(single(alloc, "A", one())?);
     let has_a = Ty::Rec(columns(alloc, "A", Ty::Number)?);
     let has_b = Ty::Rec(columns(alloc, "B", Ty::Text)?);
-    let copy = record.copy(alloc)?;
-    page.add_answer("a copy is the same", same(&record, &copy))?;
-    page.add_answer("another is the same", same(&record, &Value::Blank))?;
-    page.add_answer("a record fits its type", fits(&record, &has_a))?;
-    page.add_answer("it fits another type", fits(&record, &has_b))?;
-    let joined = join(alloc, &has_a, &Ty::Text)?;
-    page.add_answer("a record joins a text", joined.is_some())?;
-    add_weight(page, &record)?;
+    add_record(page, &record, &has_a, &has_b)?;
     add_joined(page, record, &has_a, &has_b)
+}
+
+// What a record of the first type is like.
+fn add_record(page: &mut Page, record: &Value, has_a: &Ty, has_b: &Ty) -> Result<(), Memory> {
+    page.add_answer(
+        "a copy is the same",
+        same(record, &record.copy(page.alloc)?),
+    )?;
+    page.add_answer("another is the same", same(record, &Value::Blank))?;
+    page.add_answer("a record fits its type", fits(record, has_a))?;
+    page.add_answer("it fits another type", fits(record, has_b))?;
+    let joins = join(page.alloc, has_a, &Ty::Text)?.is_some();
+    page.add_answer("a record joins a text", joins)?;
+    add_weight(page, record)
 }
 
 fn add_tables(page: &mut Page) -> Result<(), Memory> {
