@@ -18,24 +18,46 @@ use std::alloc::Global;
 
 /// What a function answers to arguments, which are coerced as its row says.
 pub fn apply_to(alloc: Global, fun: Fun, args: Vec<Typed>) -> Result<Typed, Stop> {
-    let row = row_of(fun);
-    if !row.takes_count(args.len()) {
+    if !row_of(fun).takes_count(args.len()) {
         return Err(Stop::NoRow);
     }
     let common = common_type(&args);
+    let values = take_all(alloc, fun, args, common)?;
+    answer(alloc, fun, &values, common)
+}
+
+// The arguments as their places take them.
+fn take_all(
+    alloc: Global,
+    fun: Fun,
+    args: Vec<Typed>,
+    common: Option<Scalar>,
+) -> Result<Vec<Value>, Stop> {
+    let row = row_of(fun);
     let count = args.len();
     let mut values = Vec::with_capacity(alloc, count)?;
     for (place, arg) in args.into_iter().enumerate() {
         values.push(take(alloc, row.takes(count, place), arg, common)?)?;
     }
-    if !can_apply(fun, &values) {
+    Ok(values)
+}
+
+// What a function answers to values of the arguments' common type.
+fn answer(
+    alloc: Global,
+    fun: Fun,
+    values: &[Value],
+    common: Option<Scalar>,
+) -> Result<Typed, Stop> {
+    // The type comes before the answer, since each end at which a value lives costs a proof a second.
+    let ty = match (row_of(fun).answer, common) {
+        (Answer::Scalar(ty), _) | (_, Some(ty)) => ty,
+        _ => return Err(Stop::NoRow),
+    };
+    if !can_apply(fun, values) {
         return Err(Stop::NoRow);
     }
-    let answer = apply(alloc, fun, &values)?;
-    match (row.answer, common) {
-        (Answer::Scalar(ty), _) | (_, Some(ty)) => Ok(Typed::new(answer, ty)),
-        _ => Err(Stop::NoRow),
-    }
+    Ok(Typed::new(apply(alloc, fun, values)?, ty))
 }
 
 // The common type of scalars: Text where one is, and else the one type that they have besides Blank.

@@ -15,13 +15,18 @@ use row_queries::{Cells, Held, Row, Test, TestNode, Tests, fault_of, meets};
 use std::alloc::Global;
 
 pub fn write(page: &mut Page) -> Result<(), Memory> {
-    page.add("# A condition, and one before an error, of the row 3")?;
+    page.add("# A condition, and one before an error, of the row 3");
     add_before_an_error(page, "that its number is 2, and an error", 20_000)?;
     add_before_an_error(page, "that its number is 3, and an error", 30_000)?;
     match number_is(30_000) {
         Some(test) => add_held(page, "that its number is 3", &row(page.alloc), &test),
-        None => page.add("no number"),
+        None => no_number(page),
     }
+}
+
+fn no_number(page: &mut Page) -> Result<(), Memory> {
+    page.add("no number");
+    Ok(())
 }
 
 // A row without cells.
@@ -68,7 +73,7 @@ fn both(alloc: Global, first: Test, second: Test) -> Result<Test, Memory>
 fn add_before_an_error(page: &mut Page, what: &str, units: i64) -> Result<(), Memory> {
     let alloc = page.alloc;
     let Some(first) = number_is(units) else {
-        return page.add("no number");
+        return no_number(page);
     };
     let error = division_by_zero(Words::of(alloc, "")?);
     let test = both(alloc, first, error)?;
@@ -86,7 +91,7 @@ fn add_held(page: &mut Page, what: &str, row: &Row, test: &Test) -> Result<(), M
         Held::Error => "is an error",
     };
     let kind = fault_of(alloc, test, row)?.map(|fault| fault.kind);
-    let line = format!(in alloc; "{what}: {held}")?;
-    page.add(line.as_str())?;
-    page.add_answer("by a division by zero", kind == Some(Kind::Div0))
+    page.add_made(format!(in alloc; "{what}: {held}"));
+    page.add_answer("by a division by zero", kind == Some(Kind::Div0));
+    Ok(())
 }

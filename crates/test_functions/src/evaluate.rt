@@ -7,7 +7,7 @@ use crate::typed::{Stop, Typed};
 use fx_data::{Value, Words};
 use fx_scalar::today;
 use fx_sig::signature;
-use fx_trees::expr::{Expr, FieldName, Node};
+use fx_trees::expr::{Expr, FieldName, Node, Op};
 use fx_trees::literals::{enumeration_of, with_literal};
 use fx_trees::rows::row_of;
 use fx_trees::{Fun, Scalar, SigShape};
@@ -34,12 +34,7 @@ pub fn evaluate(alloc: Global, tree: &Expr, depth: u32) -> Result<Typed, Stop> {
         Node::Not(part) => one(alloc, Fun::Not, part, depth - 1),
         Node::Percent(part) => one(alloc, Fun::Percent, part, depth - 1),
         Node::Pair(op, left, right) => {
-            let left = evaluate(alloc, left, depth - 1)?;
-            let right = evaluate(alloc, right, depth - 1)?;
-            match fun_of(*op, left.ty, right.ty) {
-                Some(fun) => two(alloc, fun, left, right),
-                None => Err(Stop::NoRow),
-            }
+            apply_operator(alloc, *op, both(alloc, left, right, depth - 1)?)
         }
         Node::Joined(parts) | Node::Woven(parts) => {
             let parts = each(alloc, parts.as_slice(), depth - 1)?;
@@ -57,11 +52,23 @@ fn one(alloc: Global, fun: Fun, part: &Expr, depth: u32) -> Result<Typed, Stop> 
     apply_to(alloc, fun, args)
 }
 
-fn two(alloc: Global, fun: Fun, left: Typed, right: Typed) -> Result<Typed, Stop> {
-    let mut args = Vec::new(alloc);
-    args.push(left)?;
-    args.push(right)?;
-    apply_to(alloc, fun, args)
+#[cycle(evaluate)]
+fn both(alloc: Global, left: &Expr, right: &Expr, depth: u32) -> Result<Vec<Typed>, Stop> {
+    let mut values = Vec::new(alloc);
+    values.push(evaluate(alloc, left, depth)?)?;
+    values.push(evaluate(alloc, right, depth)?)?;
+    Ok(values)
+}
+
+fn apply_operator(alloc: Global, op: Op, operands: Vec<Typed>) -> Result<Typed, Stop> {
+    let fun = match operands.as_slice() {
+        [left, right] => fun_of(op, left.ty, right.ty),
+        _ => None,
+    };
+    match fun {
+        Some(fun) => apply_to(alloc, fun, operands),
+        None => Err(Stop::NoRow),
+    }
 }
 
 #[cycle(evaluate)]
@@ -132,8 +139,8 @@ fn fields(
 ) -> Result<Vec<(Words, Value)>, Stop> {
     let mut fields = Vec::new(alloc);
     for (name, part) in parts {
-        let value = evaluate(alloc, part, depth)?.value;
-        fields.push((name.text.copy(alloc)?, value))?;
+        let name = name.text.copy(alloc)?;
+        fields.push((name, evaluate(alloc, part, depth)?.value))?;
     }
     Ok(fields)
 }

@@ -37,35 +37,45 @@ use fx_base::Memory;
 use std::io::{self, ErrorKind};
 
 fn main(rt: HostRuntime) -> io::Result<()> {
-    let mut page = Page::new(rt.alloc());
-    match write(&mut page) {
-        Ok(()) => print!(rt; "{}", page.text.as_str())?,
-        Err(Memory) => return Err(ErrorKind::OutOfMemory.into()),
-    }
+    write_libraries(rt)?;
     let is_now = SystemClock::new(&rt).now() > 1_700_000_000;
     println!(rt; "the system's clock is past 1700000000: {is_now}")?;
     for line in rt.lines(rt.alloc()) {
-        let row = row(rt.alloc(), line?.as_str())?;
-        println!(rt; "{row}")?;
+        write_row(rt, line?.as_str())?;
     }
     Ok(())
 }
 
 /// Writes what libraries answer.
-fn write(page: &mut Page) -> Result<(), Memory> {
+fn write_libraries(rt: HostRuntime) -> io::Result<()> {
+    let mut page = Page::new(rt.alloc());
+    if add_libraries(&mut page).is_err() || !page.is_whole() {
+        return Err(ErrorKind::OutOfMemory.into());
+    }
+    print!(rt; "{}", page.text.as_str())
+}
+
+/// Writes a line with its answer.
+fn write_row(rt: HostRuntime, line: &str) -> io::Result<()> {
+    let row = row(rt.alloc(), line)?;
+    println!(rt; "{row}")
+}
+
+/// Adds what libraries answer.
+fn add_libraries(page: &mut Page) -> Result<(), Memory> {
     keys::write(page)?;
     weights::write(page)?;
-    days::write(page)?;
+    days::write(page);
     forms::write(page)?;
     refused::write(page)?;
     reads::write(page)?;
-    numbers::write(page)?;
-    tokens::write(page)?;
+    numbers::write(page);
+    tokens::write(page);
     names::write(page)?;
     routes::write(page)?;
     conversations::write(page)?;
-    signatures::write(page)?;
-    orders::write(page)?;
+    signatures::write(page);
+    orders::write(page);
     conditions::write(page)?;
     sessions::write(page)
 }

@@ -7,21 +7,21 @@ use fx_trees::controls::{has_property, input_ty, is_behaviour};
 use fx_trees::names::{Variable, VariableList};
 
 pub fn write(page: &mut Page) -> Result<(), Memory> {
-    page.add("# Properties and names")?;
+    page.add("# Properties and names");
     let label_visible = has_property(Control::Label, "Visible");
     let gallery_items = has_property(Control::Gallery, "Items");
     let label_items = has_property(Control::Label, "Items");
     let button_default = has_property(Control::Button, "Default");
-    page.add_answer("a label has Visible", label_visible)?;
-    page.add_answer("a gallery has Items", gallery_items)?;
-    page.add_answer("a label has Items", label_items)?;
-    page.add_answer("a button has Default", button_default)?;
+    page.add_answer("a label has Visible", label_visible);
+    page.add_answer("a gallery has Items", gallery_items);
+    page.add_answer("a label has Items", label_items);
+    page.add_answer("a button has Default", button_default);
     let checkbox_unchecks = is_behaviour(Control::Checkbox, "OnUncheck");
     let slider_checks = is_behaviour(Control::Slider, "OnCheck");
-    page.add_answer("a checkbox acts on OnUncheck", checkbox_unchecks)?;
-    page.add_answer("a slider acts on OnCheck", slider_checks)?;
+    page.add_answer("a checkbox acts on OnUncheck", checkbox_unchecks);
+    page.add_answer("a slider acts on OnCheck", slider_checks);
     let gives_number = matches!(input_ty(Control::Slider), Some(Ty::Number));
-    page.add_answer("a slider gives a number", gives_number)?;
+    page.add_answer("a slider gives a number", gives_number);
     add_variables(page)
 }
 
@@ -33,7 +33,7 @@ fn add_variables(page: &mut Page) -> Result<(), Memory> {
         screen: None,
         ty: Ty::Number,
     })?;
-    let line = format!(in page.alloc; "variables: {}", variables.len())?;
-    page.add(line.as_str())?;
-    page.add_answer("there is a second one", variables.get(1).is_some())
+    page.add_made(format!(in page.alloc; "variables: {}", variables.len()));
+    page.add_answer("there is a second one", variables.get(1).is_some());
+    Ok(())
 }

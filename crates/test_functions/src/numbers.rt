@@ -9,14 +9,14 @@ use std::alloc::Global;
 /// The ten-thousandths of the greatest number.
 const MOST: i64 = i64::MAX;
 
-pub fn write(page: &mut Page) -> Result<(), Memory> {
-    page.add("# Numbers")?;
+pub fn write(page: &mut Page) {
+    page.add("# Numbers");
     let least = Num::from_units(i64::MIN);
-    page.add_answer("the least integer of 64 bits is a number", least.is_some())?;
-    page.add_answer("an empty text spells a number", read("").is_some())?;
-    page.add_answer("a space spells a number", read(" ").is_some())?;
-    page.add_answer("no numbers have an average", average(&[]).is_some())?;
-    page.add("# To so many digits: to the nearest, up, down, and to the lower number")?;
+    page.add_answer("the least integer of 64 bits is a number", least.is_some());
+    page.add_answer("an empty text spells a number", read("").is_some());
+    page.add_answer("a space spells a number", read(" ").is_some());
+    page.add_answer("no numbers have an average", average(&[]).is_some());
+    page.add("# To so many digits: to the nearest, up, down, and to the lower number");
     for (units, digits) in [
         (123_456_789, 5),
         (123_456_789, 4),
@@ -42,21 +42,19 @@ pub fn write(page: &mut Page) -> Result<(), Memory> {
         (-7, i64::MAX),
     ] {
         if let Some(number) = Num::from_units(units) {
-            add_rounded(page, number, digits)?;
+            page.add_made(rounded(page.alloc, number, digits));
         }
     }
-    Ok(())
 }
 
-fn add_rounded(page: &mut Page, number: Num, digits: i64) -> Result<(), Memory> {
-    let alloc = page.alloc;
+// A number rounded in each way.
+fn rounded(alloc: Global, number: Num, digits: i64) -> Result<String, Memory> {
     let shown = text(alloc, number)?;
     let near = rounding(alloc, number, digits, Way::Near)?;
     let up = rounding(alloc, number, digits, Way::Up)?;
     let down = rounding(alloc, number, digits, Way::Down)?;
     let floor = rounding(alloc, number, digits, Way::Floor)?;
-    let line = format!(in alloc; "{shown} to {digits}: {near}, {up}, {down}, {floor}")?;
-    page.add(line.as_str())
+    Ok(format!(in alloc; "{shown} to {digits}: {near}, {up}, {down}, {floor}")?)
 }
 
 fn rounding(alloc: Global, number: Num, digits: i64, way: Way) -> Result<String, Memory> {

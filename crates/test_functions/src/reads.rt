@@ -9,7 +9,7 @@ use fx_trees::trees::{Core, CoreArgs};
 use std::alloc::Global;
 
 pub fn write(page: &mut Page) -> Result<(), Memory> {
-    page.add("# What a tree reads, each source once and in their order")?;
+    page.add("# What a tree reads, each source once and in their order");
     let tree = tree(page.alloc)?;
     add_sources(page, &tree)
 }
@@ -26,8 +26,7 @@ fn tree(alloc: Global) -> Result<Core, Memory> {
 fn add_sources(page: &mut Page, tree: &Core) -> Result<(), Memory> {
     let sources = tree.reads(page.alloc)?;
     for source in &sources {
-        let line = format!(in page.alloc; "{source:?}")?;
-        page.add(line.as_str())?;
+        page.add_made(format!(in page.alloc; "{source:?}"));
     }
     Ok(())
 }

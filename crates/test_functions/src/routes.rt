@@ -35,7 +35,7 @@ POST /rows/T/4294967296";
 pub fn write(page: &mut Page) -> Result<(), Memory> {
     page.add(
         "# Requests: the route of each with the parts of its path, or the code of its refusal",
-    )?;
+    );
     add_all(page, &Routes::new(page.alloc)?)
 }
 
@@ -61,8 +61,8 @@ fn add_route(
     path: &[u8],
 ) -> Result<(), Memory> {
     let answer = answer(page.alloc, routes, method, path)?;
-    let line = format!(in page.alloc; "{said} = {answer}")?;
-    page.add(line.as_str())
+    page.add_made(format!(in page.alloc; "{said} = {answer}"));
+    Ok(())
 }
 
 fn method_of(word: &str) -> Method {

@@ -7,11 +7,15 @@ use session_state::{Change, Desk, Session, Turn};
 use std::alloc::Global;
 
 pub fn write(page: &mut Page) -> Result<(), Memory> {
-    page.add("# Sessions and desks")?;
-    let names = no_names(page.alloc);
-    add_session(page, &names)?;
+    page.add("# Sessions and desks");
+    add_all(page, &no_names(page.alloc))
+}
+
+// All of sessions and desks. The names are lent, since each place where they may end costs a proof seconds.
+fn add_all(page: &mut Page, names: &Names) -> Result<(), Memory> {
+    add_session(page, names)?;
     add_desk(page)?;
-    add_carried(page, &names)
+    add_carried(page, names)
 }
 
 // No names.
@@ -34,25 +38,27 @@ fn no_names(alloc: Global) -> Names {
 fn add_session(page: &mut Page, names: &Names) -> Result<(), Memory> {
     let alloc = page.alloc;
     let mut session = Session::new(alloc, names)?;
-    page.add_answer("it goes to a screen", session.change(Change::Screen(2))?)?;
+    page.add_answer("it goes to a screen", session.change(Change::Screen(2))?);
     session.keep(1, b"a".to_vec(alloc)?, b"r".to_vec(alloc)?);
     let mut copy = session.copy()?;
-    page.add_answer("its copy is there", copy.screen() == 2)?;
-    page.add_answer("it went there", copy.take_navigated())?;
-    page.add_answer("nothing is chosen", copy.chosen(0).is_none())?;
-    page.add_answer("its request comes again", copy.turn(1, b"a") == Turn::Again)?;
-    page.add_answer("its reply is kept", copy.kept() == b"r".as_slice())
+    page.add_answer("its copy is there", copy.screen() == 2);
+    page.add_answer("it went there", copy.take_navigated());
+    page.add_answer("nothing is chosen", copy.chosen(0).is_none());
+    page.add_answer("its request comes again", copy.turn(1, b"a") == Turn::Again);
+    page.add_answer("its reply is kept", copy.kept() == b"r".as_slice());
+    Ok(())
 }
 
 // Adds how the requests of a desk count, up to the last number.
 fn add_desk(page: &mut Page) -> Result<(), Memory> {
     let alloc = page.alloc;
     let mut desk = Desk::new(alloc);
-    page.add_answer("a first request is new", desk.turn(1, b"a") == Turn::New)?;
+    page.add_answer("a first request is new", desk.turn(1, b"a") == Turn::New);
     desk.keep(u32::MAX, b"a".to_vec(alloc)?, b"r".to_vec(alloc)?);
     let is_out_of_step = desk.turn(1, b"a") == Turn::OutOfStep(u32::MAX);
-    page.add_answer("behind the last one it is out of step", is_out_of_step)?;
-    page.add_answer("the last reply is kept", desk.kept() == b"r".as_slice())
+    page.add_answer("behind the last one it is out of step", is_out_of_step);
+    page.add_answer("the last reply is kept", desk.kept() == b"r".as_slice());
+    Ok(())
 }
 
 // Adds that a session stays where it is as it is carried to the same names.
@@ -65,5 +71,6 @@ fn add_carried(page: &mut Page, names: &Names) -> Result<(), Memory> {
     page.add_answer(
         "a carried session is on the first screen",
         session.screen() == 0,
-    )
+    );
+    Ok(())
 }

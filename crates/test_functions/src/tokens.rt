@@ -4,9 +4,10 @@ use crate::page::Page;
 use fx_base::Memory;
 use fx_grammar::{Marks, undouble};
 use fx_lexer::{LexEnd, Token, tokens};
+use std::alloc::Global;
 
-pub fn write(page: &mut Page) -> Result<(), Memory> {
-    page.add("# Tokens: the byte where each begins, what it is, and its text")?;
+pub fn write(page: &mut Page) {
+    page.add("# Tokens: the byte where each begins, what it is, and its text");
     for source in [
         "",
         "And Or Not in exactin As true false",
@@ -28,41 +29,47 @@ pub fn write(page: &mut Page) -> Result<(), Memory> {
         "'it''s' ''''",
         "And andy And1 exactin in",
     ] {
-        add_tokens(page, source)?;
+        add_tokens(page, source);
     }
-    page.add("# Texts whose marks were doubled")?;
-    add_undoubled(page, Marks::Quote, &['a', '"', '"'])?;
-    add_undoubled(page, Marks::Weave, &['a', '}'])
+    page.add("# Texts whose marks were doubled");
+    add_undoubled(page, Marks::Quote, &['a', '"', '"']);
+    add_undoubled(page, Marks::Weave, &['a', '}']);
 }
 
-fn add_tokens(page: &mut Page, source: &str) -> Result<(), Memory> {
+fn add_tokens(page: &mut Page, source: &str) {
     if source.len() >= 4_294_967_296 {
-        return page.add("too long");
+        page.add("too long");
+        return;
     }
     match tokens(page.alloc, source) {
-        Ok(found) => add_found(page, source, &found),
+        Ok(found) => page.add_made(token_texts(page.alloc, source, &found)),
         Err(LexEnd::Bad(_)) => page.add("no tokens"),
-        Err(LexEnd::Memory) => Err(Memory),
+        Err(LexEnd::Memory) => page.miss_line(),
     }
 }
 
-fn add_found(page: &mut Page, source: &str, found: &[Token]) -> Result<(), Memory> {
-    let mut line = format!(in page.alloc; "{source:?}")?;
+fn token_texts(alloc: Global, source: &str, found: &[Token]) -> Result<String, Memory> {
+    let mut line = format!(in alloc; "{source:?}")?;
     for token in found {
         let slice = source.get(token.at as usize..token.upto as usize);
         let text = slice.unwrap_or("no text");
-        line = format!(in page.alloc; "{line} | {} {:?} {text}", token.at, token.kind)?;
+        line = format!(in alloc; "{line} | {} {:?} {text}", token.at, token.kind)?;
     }
-    page.add(line.as_str())
+    Ok(line)
 }
 
-fn add_undoubled(page: &mut Page, marks: Marks, doubled: &[char]) -> Result<(), Memory> {
-    let Some(found) = undouble(page.alloc, marks, doubled)? else {
-        return page.add("a mark stands alone");
-    };
-    let mut line = String::new(page.alloc);
-    for character in &found {
+fn add_undoubled(page: &mut Page, marks: Marks, doubled: &[char]) {
+    match undouble(page.alloc, marks, doubled) {
+        Ok(Some(found)) => page.add_made(text_of(page.alloc, &found)),
+        Ok(None) => page.add("a mark stands alone"),
+        Err(Memory) => page.miss_line(),
+    }
+}
+
+fn text_of(alloc: Global, characters: &[char]) -> Result<String, Memory> {
+    let mut line = String::new(alloc);
+    for character in characters {
         line.push(*character)?;
     }
-    page.add(line.as_str())
+    Ok(line)
 }

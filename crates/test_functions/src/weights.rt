@@ -10,32 +10,37 @@ use std::alloc::Global;
 use view_text::plain;
 
 pub fn write(page: &mut Page) -> Result<(), Memory> {
-    page.add("# Types and weights")?;
+    page.add("# Types and weights");
     add_records(page)?;
-    add_tables(page)
+    add_tables(page)?;
+    add_nested(page)
 }
 
 fn add_records(page: &mut Page) -> Result<(), Memory> {
     let alloc = page.alloc;
-    let record = Value::Rec(single(alloc, "A", one())?);
-    let has_a = Ty::Rec(columns(alloc, "A", Ty::Number)?);
-    let has_b = Ty::Rec(columns(alloc, "B", Ty::Text)?);
-    add_record(page, &record, &has_a, &has_b)?;
-    add_joined(page, record, &has_a, &has_b)
+    let record = single(alloc, "A", one())?;
+    let has_a = columns(alloc, "A", Ty::Number)?;
+    let has_b = columns(alloc, "B", Ty::Text)?;
+    add_record(page, &Value::Rec(record), &Ty::Rec(has_a), &Ty::Rec(has_b))
 }
 
 // What a record of the first type is like.
 fn add_record(page: &mut Page, record: &Value, has_a: &Ty, has_b: &Ty) -> Result<(), Memory> {
-    page.add_answer(
-        "a copy is the same",
-        same(record, &record.copy(page.alloc)?),
-    )?;
-    page.add_answer("another is the same", same(record, &Value::Blank))?;
-    page.add_answer("a record fits its type", fits(record, has_a))?;
-    page.add_answer("it fits another type", fits(record, has_b))?;
-    let joins = join(page.alloc, has_a, &Ty::Text)?.is_some();
-    page.add_answer("a record joins a text", joins)?;
-    add_weight(page, record)
+    page.add_answer("a copy is the same", is_as_copy(page.alloc, record)?);
+    page.add_answer("another is the same", same(record, &Value::Blank));
+    page.add_answer("a record fits its type", fits(record, has_a));
+    page.add_answer("it fits another type", fits(record, has_b));
+    page.add_answer("a record joins a text", joins_text(page.alloc, has_a)?);
+    page.add_made(weight_text(page.alloc, record));
+    add_joined(page, record, has_a, has_b)
+}
+
+fn is_as_copy(alloc: Global, value: &Value) -> Result<bool, Memory> {
+    Ok(same(value, &value.copy(alloc)?))
+}
+
+fn joins_text(alloc: Global, ty: &Ty) -> Result<bool, Memory> {
+    Ok(join(alloc, ty, &Ty::Text)?.is_some())
 }
 
 fn add_tables(page: &mut Page) -> Result<(), Memory> {
@@ -43,11 +48,16 @@ fn add_tables(page: &mut Page) -> Result<(), Memory> {
     let mut rows = Rows::new(alloc);
     rows.push(single(alloc, "B", one())?)?;
     rows.push(single(alloc, "B", Value::Blank)?)?;
-    let has_b = Ty::Tab(columns(alloc, "B", Ty::Number)?);
-    let has_a = Ty::Tab(columns(alloc, "A", Ty::Date)?);
-    add_joined(page, Value::Tab(rows), &has_b, &has_a)?;
-    let nested = pair(alloc, Value::Boolean(true), Value::Tab(Rows::new(alloc)))?;
-    add_weight(page, &Value::Rec(nested))
+    let has_b = columns(alloc, "B", Ty::Number)?;
+    let has_a = columns(alloc, "A", Ty::Date)?;
+    add_joined(page, &Value::Tab(rows), &Ty::Tab(has_b), &Ty::Tab(has_a))
+}
+
+fn add_nested(page: &mut Page) -> Result<(), Memory> {
+    let empty = Value::Tab(Rows::new(page.alloc));
+    let nested = pair(page.alloc, Value::Boolean(true), empty)?;
+    page.add_made(weight_text(page.alloc, &Value::Rec(nested)));
+    Ok(())
 }
 
 /// The number 1.
@@ -62,21 +72,22 @@ fn columns(alloc: Global, name: &str, ty: Ty) -> Result<Columns, Memory> {
 }
 
 // A value of the first type as one of the join of both.
-fn add_joined(page: &mut Page, value: Value, ty: &Ty, other: &Ty) -> Result<(), Memory> {
-    if !fits(&value, ty) {
-        return page.add("no fit");
+fn add_joined(page: &mut Page, value: &Value, ty: &Ty, other: &Ty) -> Result<(), Memory> {
+    if !fits(value, ty) {
+        page.add("no fit");
+        return Ok(());
     }
     match join(page.alloc, ty, other)? {
         Some(joined) => {
-            let wide = coerce(page.alloc, value, &joined)?;
-            add_weight(page, &wide)
+            let wide = coerce(page.alloc, value.copy(page.alloc)?, &joined)?;
+            page.add_made(weight_text(page.alloc, &wide));
         }
         None => page.add("no join"),
     }
+    Ok(())
 }
 
-fn add_weight(page: &mut Page, value: &Value) -> Result<(), Memory> {
-    let shown = plain(page.alloc, value)?;
-    let line = format!(in page.alloc; "{shown} weighs {}", weigh(value))?;
-    page.add(line.as_str())
+fn weight_text(alloc: Global, value: &Value) -> Result<String, Memory> {
+    let shown = plain(alloc, value)?;
+    Ok(format!(in alloc; "{shown} weighs {}", weigh(value))?)
 }

@@ -7,6 +7,9 @@ decreases-evaluate l = 4 * l.depth
 abbrev pub decreases-one : goal.decreases-one
 decreases-one l = 4 * l.depth + 1
 
+abbrev pub decreases-both : goal.decreases-both
+decreases-both l = 4 * l.depth + 1
+
 abbrev pub decreases-each : goal.decreases-each
 decreases-each l = 4 * l.depth + 1
 

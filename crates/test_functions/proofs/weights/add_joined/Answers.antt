@@ -9,5 +9,5 @@ use Rattle.test_functions.proofs.weights.add_joined.Goals as goal
 pub coerce-requires : goal.coerce-requires
 coerce-requires c =
     let j : join_of (shape c.args.ty.now) (shape c.args.other.now) ≡ Some (shape c.in-Some.joined) = sym (rw c.in-Some.is at c.in_ok-joined.ensures.value) in
-    let f : fits_in (view c.args.value) (shape c.args.ty.now) ≡ true = search rules in
-    join_takes_both (shape c.args.ty.now) (shape c.args.other.now) (shape c.in-Some.joined) j (view c.args.value) f
+    let f : fits_in (view c.args.value.now) (shape c.args.ty.now) ≡ true = search rules in
+    rw c.in_ok-copy-in-Some.ensures (join_takes_both (shape c.args.ty.now) (shape c.args.other.now) (shape c.in-Some.joined) j (view c.args.value.now) f)
