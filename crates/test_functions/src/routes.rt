@@ -3,6 +3,7 @@
 use crate::page::Page;
 use app_wire::{Method, Request, Route, RouteEnd, Routes};
 use fx_base::Memory;
+use fx_data::Words;
 use std::alloc::Global;
 
 /// Requests of each route, and of none.
@@ -92,20 +93,29 @@ fn answer(alloc: Global, routes: &Routes, method: Method, path: &[u8]) -> Result
 
 // A route and the parts of its path.
 fn text(alloc: Global, route: &Route) -> Result<String, Memory> {
-    Ok(match route {
-        Route::Begin(name) => format!(in alloc; "Begin {}", name.as_str())?,
-        Route::End(name) => format!(in alloc; "End {}", name.as_str())?,
-        Route::View(name) => format!(in alloc; "View {}", name.as_str())?,
-        Route::Named(name) => format!(in alloc; "Named {}", name.as_str())?,
+    match route {
+        Route::Begin(name) => named(alloc, "Begin", name),
+        Route::End(name) => named(alloc, "End", name),
+        Route::View(name) => named(alloc, "View", name),
+        Route::Named(name) => named(alloc, "Named", name),
         Route::Items(name, gallery, from) => {
-            format!(in alloc; "Items {} {} {from}", name.as_str(), gallery.as_str())?
+            let text = named(alloc, "Items", name)?;
+            Ok(format!(in alloc; "{text} {} {from}", gallery.as_str())?)
         }
-        Route::Event(name) => format!(in alloc; "Event {}", name.as_str())?,
-        Route::Input(name) => format!(in alloc; "Input {}", name.as_str())?,
-        Route::Rows(name) => format!(in alloc; "Rows {}", name.as_str())?,
-        Route::Edit(name) => format!(in alloc; "Edit {}", name.as_str())?,
-        Route::Page(table, after) => format!(in alloc; "Page {} {after}", table.as_str())?,
-        Route::Plan => String::from_str(alloc, "Plan")?,
-        Route::Graph => String::from_str(alloc, "Graph")?,
-    })
+        Route::Event(name) => named(alloc, "Event", name),
+        Route::Input(name) => named(alloc, "Input", name),
+        Route::Rows(name) => named(alloc, "Rows", name),
+        Route::Edit(name) => named(alloc, "Edit", name),
+        Route::Page(table, after) => {
+            let text = named(alloc, "Page", table)?;
+            Ok(format!(in alloc; "{text} {after}")?)
+        }
+        Route::Plan => Ok(String::from_str(alloc, "Plan")?),
+        Route::Graph => Ok(String::from_str(alloc, "Graph")?),
+    }
+}
+
+// A kind of route and the first part of its path.
+fn named(alloc: Global, kind: &str, name: &Words) -> Result<String, Memory> {
+    Ok(format!(in alloc; "{kind} {}", name.as_str())?)
 }
