@@ -21,6 +21,7 @@ use crate::reading::ask;
 use crate::schemas::body_of;
 use crate::shaping::{kept_body, kept_tallies, new_tallies, other_schema};
 use crate::tallies::{Tally, end};
+use crate::writing::Writing;
 use fx_data::Totals;
 use fx_tables::totals;
 use fx_trees::Schema;
@@ -247,7 +248,11 @@ impl SqlKeeper {
         ) else {
             return Err(KeeperEnd::Failed);
         };
-        database.play(schema, changes, &self.tallies)
+        database.write(&Writing::Rows {
+            schema,
+            changes,
+            tallies: &self.tallies,
+        })
     }
 
     /// The rows that a query asks, in its order. They are counted as visited.

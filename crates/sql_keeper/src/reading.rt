@@ -10,7 +10,7 @@ use crate::changes::Changes;
 use crate::database::Database;
 use crate::lines::row_of;
 use crate::ranges::{lies_in, numbers_in};
-use crate::statements::{bytes_in, number_in};
+use crate::statements::{self, bytes_in, number_in};
 use fx_base::Memory;
 use fx_trees::{Column, TableShape};
 use row_keeper::KeeperEnd;
@@ -102,7 +102,7 @@ fn push_between(
     requires { AllByRecursion (IsHeldRow table.now) rows.old.items }
     ensures { AllByRecursion (IsHeldRow table.now) rows.new.items }
 {
-    let lines = database.lines(tab, low, high)?;
+    let lines = statements::lines(database, tab, low, high)?;
     push_all(alloc, rows, changes, table, tab, &lines)?;
     match changes {
         Some(changes) => push_changed_between(alloc, rows, changes, table, tab, low, high),
@@ -211,8 +211,8 @@ fn marks_in(
 ) -> Result<Vec<Answer>, KeeperEnd> {
     let from = range.from.as_bytes();
     match &range.upto {
-        Some(upto) => database.marks(tab, column, from, upto.as_bytes()),
-        None => database.marks(tab, column, from, &[2]),
+        Some(upto) => statements::marks(database, tab, column, from, upto.as_bytes()),
+        None => statements::marks(database, tab, column, from, &[2]),
     }
 }
 
@@ -235,7 +235,7 @@ fn push_marked(
     let Ok(id) = u32::try_from(number) else {
         return Err(KeeperEnd::Failed);
     };
-    let lines = database.lines(tab, id, id)?;
+    let lines = statements::lines(database, tab, id, id)?;
     // A mark is that of a row.
     if lines.is_empty() {
         return Err(KeeperEnd::Failed);
@@ -288,7 +288,7 @@ fn push_kept(
 {
     if !has_marks(table.columns.as_slice(), query.column) {
         // The ranges of a column without marks hold every key.
-        let lines = database.lines(query.table, 1, u32::MAX)?;
+        let lines = statements::lines(database, query.table, 1, u32::MAX)?;
         return push_all(alloc, rows, changes, table, query.table, &lines);
     }
     let ranges = query.ranges.as_slice();
@@ -372,7 +372,7 @@ pub fn body_now(
     if let Some(change) = changes.of(tab, id) {
         return Ok(copy_of(alloc, &change.now)?);
     }
-    let lines = database.lines(tab, id, id)?;
+    let lines = statements::lines(database, tab, id, id)?;
     match lines.first() {
         Some(line) => Ok(Some(stored_body(alloc, table, id, line)?)),
         None => Ok(None),

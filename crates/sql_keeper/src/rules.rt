@@ -6,7 +6,7 @@ ghost use Rattle.row_keeper.specs.Changes.{NamesItsColumn};
 use crate::changes::Changes;
 use crate::database::Database;
 use crate::pieces::piece_at;
-use crate::statements::number_in;
+use crate::statements::{self, number_in};
 use crate::tallies::{Count, is_full};
 use fx_base::Memory;
 use fx_trees::Column;
@@ -112,7 +112,7 @@ fn is_repeated(
         return Ok(false);
     }
     let upto = next_behind(alloc, key)?;
-    let marks = database.marks(tab, column, key, &upto)?;
+    let marks = statements::marks(database, tab, column, key, &upto)?;
     Ok(has_stored(&marks, changes, tab, id) || has_changed(changes, tab, place, key, id))
 }
 

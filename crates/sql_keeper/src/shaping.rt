@@ -5,8 +5,9 @@ ghost use Rattle.sql_keeper.specs.Bodies.{schema_bytes};
 use crate::database::Database;
 use crate::lines::row_of;
 use crate::schemas::schema_of;
-use crate::statements::{bytes_in, number_in};
+use crate::statements::{self, bytes_in, number_in};
 use crate::tallies::{Count, Tally, no_rows};
+use crate::writing::Writing;
 use fx_base::Memory;
 use fx_trees::{Schema, TableShape};
 use row_keeper::KeeperEnd;
@@ -15,7 +16,7 @@ use std::alloc::Global;
 
 /// The body of the schema that is kept, if one is.
 pub fn kept_body(alloc: Global, database: &mut Database) -> Result<Option<Vec<u8>>, KeeperEnd> {
-    let Some(answers) = database.kept_body()? else {
+    let Some(answers) = statements::kept_body(database)? else {
         return Ok(None);
     };
     let Some(answer) = answers.first() else {
@@ -51,8 +52,12 @@ pub fn new_tallies(
         return Err(KeeperEnd::Memory);
     };
     let tallies = no_rows(alloc, tables)?;
-    let has_tables = database.kept_body()?.is_some();
-    database.shape_anew(has_tables, body, count)?;
+    let has_tables = statements::kept_body(database)?.is_some();
+    database.write(&Writing::Schema {
+        has_tables,
+        body,
+        tables: count,
+    })?;
     Ok(tallies)
 }
 
@@ -62,7 +67,7 @@ pub fn kept_tallies(
     database: &mut Database,
     tables: &[TableShape],
 ) -> Result<Vec<Tally>, KeeperEnd> {
-    let lasts = database.lasts()?;
+    let lasts = statements::lasts(database)?;
     // Each table of the schema has a last number, and nothing else has one.
     if lasts.len() != tables.len() {
         return Err(KeeperEnd::Failed);
@@ -97,7 +102,7 @@ fn kept_count(
     if number != i64::from(tab) {
         return Err(KeeperEnd::Failed);
     }
-    let lines = database.lines(tab, 1, u32::MAX)?;
+    let lines = statements::lines(database, tab, 1, u32::MAX)?;
     if !are_rows(alloc, table, last, &lines)? {
         return Err(KeeperEnd::Failed);
     }

@@ -1,8 +1,9 @@
 // The statements, each with its text. A reading one is answered whole.
 
+use crate::database::Database;
 use row_keeper::KeeperEnd;
 use sqlite::types::ValueRef;
-use sqlite::{Alter, Connection, Error, ErrorCode, Row as Answer, Transaction, params};
+use sqlite::{Alter, Error, ErrorCode, Row as Answer, Transaction, params};
 
 /// Why a statement was refused: for want of memory, or for another cause.
 fn end_of(error: Error) -> KeeperEnd {
@@ -12,12 +13,12 @@ fn end_of(error: Error) -> KeeperEnd {
     }
 }
 
-fn ask<S: Alter>(
-    conn: &mut Connection<S>,
+fn ask(
+    database: &mut Database,
     text: &str,
     params: &[ValueRef<'_>],
 ) -> Result<Vec<Answer>, KeeperEnd> {
-    match conn.query_all(text, params) {
+    match database.query_all(text, params) {
         Ok(answers) => Ok(answers),
         Err(error) => Err(end_of(error)),
     }
@@ -59,8 +60,8 @@ pub fn bytes_in(answer: &Answer, place: usize) -> Option<&[u8]> {
 }
 
 /// The body of the schema that is kept, if there is one; none where there are no tables yet.
-pub fn kept_body<S: Alter>(conn: &mut Connection<S>) -> Result<Option<Vec<Answer>>, KeeperEnd> {
-    match conn.query_all("SELECT body FROM shape WHERE one = 1", &[]) {
+pub fn kept_body(database: &mut Database) -> Result<Option<Vec<Answer>>, KeeperEnd> {
+    match database.query_all("SELECT body FROM shape WHERE one = 1", &[]) {
         Ok(answers) => Ok(Some(answers)),
         Err(Error::SqlInputError(_)) => Ok(None),
         Err(error) => Err(end_of(error)),
@@ -68,34 +69,34 @@ pub fn kept_body<S: Alter>(conn: &mut Connection<S>) -> Result<Option<Vec<Answer
 }
 
 /// The last numbers of the tables, by rising tables.
-pub fn lasts<S: Alter>(conn: &mut Connection<S>) -> Result<Vec<Answer>, KeeperEnd> {
-    ask(conn, "SELECT tab, last FROM tabs ORDER BY tab", &[])
+pub fn lasts(database: &mut Database) -> Result<Vec<Answer>, KeeperEnd> {
+    ask(database, "SELECT tab, last FROM tabs ORDER BY tab", &[])
 }
 
 /// The lines of a table with numbers from one up to another, by rising numbers.
-pub fn lines<S: Alter>(
-    conn: &mut Connection<S>,
+pub fn lines(
+    database: &mut Database,
     tab: u16,
     low: u32,
     high: u32,
 ) -> Result<Vec<Answer>, KeeperEnd> {
     ask(
-        conn,
+        database,
         "SELECT id, body FROM lines WHERE tab = ? AND id >= ? AND id <= ? ORDER BY id",
         params![u32::from(tab), low, high],
     )
 }
 
 /// The marks of a column with keys from one up to but without another, by rising keys.
-pub fn marks<S: Alter>(
-    conn: &mut Connection<S>,
+pub fn marks(
+    database: &mut Database,
     tab: u16,
     column: u16,
     from: &[u8],
     upto: &[u8],
 ) -> Result<Vec<Answer>, KeeperEnd> {
     ask(
-        conn,
+        database,
         "SELECT k, id FROM marks WHERE tab = ? AND col = ? AND k >= ? AND k < ? ORDER BY k, id",
         params![u32::from(tab), u32::from(column), from, upto],
     )

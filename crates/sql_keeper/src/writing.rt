@@ -11,23 +11,64 @@ use fx_trees::{Column, Schema};
 use row_keeper::KeeperEnd;
 use sqlite::{Alter, Connection, Transaction};
 
-/// Keeps a schema where none is kept, with so many tables without rows.
-pub fn shape_anew<S: Alter>(
-    conn: &mut Connection<S>,
-    has_tables: bool,
-    body: &[u8],
-    tables: u16,
-) -> Result<(), KeeperEnd> {
+/// What is written in one transaction.
+#[derive(Clone, Copy)]
+pub enum Writing<'a> {
+    /// The body of a schema where none is kept, with so many tables without rows.
+    Schema {
+        has_tables: bool,
+        body: &'a [u8],
+        tables: u16,
+    },
+    /// What a transaction has made of the rows.
+    Rows {
+        schema: &'a Schema,
+        changes: &'a Changes,
+        tallies: &'a [Tally],
+    },
+}
+
+/// Writes this in a transaction, all of it or nothing.
+pub fn write<S: Alter>(conn: &mut Connection<S>, writing: &Writing<'_>) -> Result<(), KeeperEnd> {
     if !conn.is_autocommit() {
         return Err(KeeperEnd::Failed);
     }
     let mut tx = conn.transaction();
-    if !has_tables {
-        make_tables(&mut tx)?;
-    }
-    put_shape(&mut tx, body)?;
-    put_tabs(&mut tx, tables)?;
+    play(&mut tx, writing)?;
     commit(tx)
+}
+
+/// Writes this.
+fn play<S: Alter>(tx: &mut Transaction<'_, S>, writing: &Writing<'_>) -> Result<(), KeeperEnd> {
+    match writing {
+        Writing::Schema {
+            has_tables,
+            body,
+            tables,
+        } => play_schema(tx, *has_tables, body, *tables),
+        Writing::Rows {
+            schema,
+            changes,
+            tallies,
+        } => {
+            play_changes(tx, schema, changes)?;
+            play_lasts(tx, tallies)
+        }
+    }
+}
+
+/// Writes a schema where none is kept, with so many tables without rows.
+fn play_schema<S: Alter>(
+    tx: &mut Transaction<'_, S>,
+    has_tables: bool,
+    body: &[u8],
+    tables: u16,
+) -> Result<(), KeeperEnd> {
+    if !has_tables {
+        make_tables(tx)?;
+    }
+    put_shape(tx, body)?;
+    put_tabs(tx, tables)
 }
 
 /// Keeps so many tables.
@@ -36,22 +77,6 @@ fn put_tabs<S: Alter>(tx: &mut Transaction<'_, S>, tables: u16) -> Result<(), Ke
         put_tab(tx, tab)?;
     }
     Ok(())
-}
-
-/// Writes what a transaction has made of the rows, all of it or nothing.
-pub fn play<S: Alter>(
-    conn: &mut Connection<S>,
-    schema: &Schema,
-    changes: &Changes,
-    tallies: &[Tally],
-) -> Result<(), KeeperEnd> {
-    if !conn.is_autocommit() {
-        return Err(KeeperEnd::Failed);
-    }
-    let mut tx = conn.transaction();
-    play_changes(&mut tx, schema, changes)?;
-    play_lasts(&mut tx, tallies)?;
-    commit(tx)
 }
 
 /// Writes the changed rows.
