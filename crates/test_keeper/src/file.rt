@@ -2,7 +2,7 @@
 
 use fx_base::Memory;
 use sqlite::types::ValueRef;
-use sqlite::{Connection, Error, File, FileStore, Row};
+use sqlite::{Alter, Connection, Error, Row};
 use std::alloc::Global;
 use std::rt::HostRuntime;
 
@@ -23,11 +23,7 @@ pub fn run(rt: &HostRuntime, name: &str, text: &str) -> Result<String, Memory> {
     }
 }
 
-fn ran(
-    alloc: Global,
-    conn: &mut Connection<FileStore<File>>,
-    text: &str,
-) -> Result<String, Memory> {
+fn ran<S: Alter>(alloc: Global, conn: &mut Connection<S>, text: &str) -> Result<String, Memory> {
     if !text.starts_with("SELECT") {
         return match conn.execute(text, &[]) {
             Ok(_) => Ok(String::from_str(alloc, "done")?),
