@@ -26,7 +26,7 @@ fn control_at(frame: &Frame, number: u32) -> Option<&ControlName>
 }
 
 // A name, quoted where it has to be, and what of it is meant behind a point.
-fn dotted(alloc: Global, name: &Words, part: &Words) -> Result<Words, Memory>
+fn dot(alloc: Global, name: &Words, part: &Words) -> Result<Words, Memory>
     ensures { IfOk result (λ w. w ≡ address_of name.now ++ (codes "." ++ part.now)) }
 {
     let quoted = address(alloc, name)?;
@@ -50,8 +50,8 @@ fn address_of_screen(alloc: Global, frame: &Frame, screen: u32) -> Result<Words,
 {
     let part = word(alloc, "OnVisible")?;
     match frame.screens.as_slice().get(screen as usize) {
-        Some(name) => dotted(alloc, name, &part),
-        None => dotted(alloc, &word(alloc, "")?, &part),
+        Some(name) => dot(alloc, name, &part),
+        None => dot(alloc, &word(alloc, "")?, &part),
     }
 }
 
@@ -65,8 +65,8 @@ fn address_of_property(
     ensures { IfOk result (λ w. w ≡ spots.address_of_property frame.now control property.now) }
 {
     match control_at(frame, control) {
-        Some(control) => dotted(alloc, &control.name, property),
-        None => dotted(alloc, &word(alloc, "")?, property),
+        Some(control) => dot(alloc, &control.name, property),
+        None => dot(alloc, &word(alloc, "")?, property),
     }
 }
 
@@ -155,7 +155,7 @@ fn wanted_by(alloc: Global, kind: Control, property: &Words) -> Option<Ty>
 }
 
 // The type that is wanted of the formula at a place.
-fn wanted(alloc: Global, frame: &Frame, spot: &Spot) -> Option<Ty>
+fn due_type(alloc: Global, frame: &Frame, spot: &Spot) -> Option<Ty>
     ensures { option_map shape result ≡ spots.wanted frame.now spot.now }
 {
     match spot {
@@ -184,7 +184,7 @@ pub fn cell_at(
         screen: screen_of(frame, &spot),
         item: item_of(frame, &spot),
         acts: acts(frame, &spot),
-        wanted: wanted(alloc, frame, &spot),
+        wanted: due_type(alloc, frame, &spot),
         spot,
         at,
         text,

@@ -78,7 +78,7 @@ fn given_cell(
         return read_cell(alloc, frame, spot, text);
     }
     if count > Limit::Formula.most() {
-        let broken = FileBreak::Passed(Limit::Formula, count).broken(alloc)?;
+        let broken = FileBreak::Passed(Limit::Formula, count).into_broken(alloc)?;
         return Err(OrMemory::Refused(broken));
     }
     if count == 0 {

@@ -77,7 +77,7 @@ fn passed_detail(alloc: Global, limit: Limit, count: usize) -> Result<Words, Mem
 
 impl FileBreak {
     /// The rule that is broken, of the whole app.
-    pub fn broken(self, alloc: Global) -> Result<Broken, Memory>
+    pub fn into_broken(self, alloc: Global) -> Result<Broken, Memory>
         ensures { IfOk result (λ b. b ≡ broken_of self) }
     {
         match self {

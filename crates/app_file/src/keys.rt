@@ -6,7 +6,7 @@ ghost use Rattle.serde_json.specs.View.{view};
 ghost use Rattle.app_file.specs.Keys.{is_one_of, keys_of};
 ghost use Rattle.app_file.specs.Readings.{HasOnlyKeys, IsBadObject, TellsPath};
 
-use crate::paths::{Unread, in_member, unread};
+use crate::paths::{Unread, in_member, unreadable};
 use fx_data::controls::Control;
 use serde_json::{Map, Value as Json};
 use std::alloc::Global;
@@ -98,9 +98,9 @@ pub fn check_keys(alloc: Global, part: &Json, object: Object) -> Result<(), Unre
 {
     match part.as_object() {
         Some(members) => match other_key(members, keys_of(object)) {
-            Some(key) => Err(in_member(alloc, key, unread(alloc))),
+            Some(key) => Err(in_member(alloc, key, unreadable(alloc))),
             None => Ok(()),
         },
-        None => Err(unread(alloc)),
+        None => Err(unreadable(alloc)),
     }
 }

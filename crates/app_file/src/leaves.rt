@@ -4,7 +4,7 @@ ghost use Rattle.serde_json.specs.View.{view};
 ghost use Rattle.app_file.specs.FormOfApp as form_of_app;
 
 use crate::parts::Part;
-use crate::paths::{Unread, unread};
+use crate::paths::{Unread, unreadable};
 use fx_data::controls::Control;
 use fx_data::types::Ty;
 use fx_data::words::Words;
@@ -37,7 +37,7 @@ impl Part for Words {
     fn read(alloc: Global, part: &Json) -> Result<Words, Unread> {
         match part.as_str() {
             Some(text) => Ok(Words::of(alloc, text)?),
-            None => Err(unread(alloc)),
+            None => Err(unreadable(alloc)),
         }
     }
 }
@@ -47,12 +47,12 @@ fn filled_text(part: &Json) -> Option<&str>
     ensures { option_map (λ s. s.now) result ≡ form_of_app.filled_text (view part.now) }
 {
     match part.as_str() {
-        Some(text) => filled(text),
+        Some(text) => unless_empty(text),
         None => None,
     }
 }
 
-fn filled(text: &str) -> Option<&str>
+fn unless_empty(text: &str) -> Option<&str>
     ensures { option_map (λ s. s.now) result ≡ form_of_app.filled text.now }
 {
     if text.is_empty() { None } else { Some(text) }
@@ -69,7 +69,7 @@ impl Part for Name {
     fn read(alloc: Global, part: &Json) -> Result<Name, Unread> {
         match filled_text(part) {
             Some(text) => Ok(Name(Words::of(alloc, text)?)),
-            None => Err(unread(alloc)),
+            None => Err(unreadable(alloc)),
         }
     }
 }
@@ -85,7 +85,7 @@ impl Part for bool {
     fn read(alloc: Global, part: &Json) -> Result<bool, Unread> {
         match part.as_bool() {
             Some(flag) => Ok(flag),
-            None => Err(unread(alloc)),
+            None => Err(unreadable(alloc)),
         }
     }
 }
@@ -120,7 +120,7 @@ impl Part for RowLimit {
     fn read(alloc: Global, part: &Json) -> Result<RowLimit, Unread> {
         match row_limit_of(part) {
             Some(limit) => Ok(RowLimit(limit)),
-            None => Err(unread(alloc)),
+            None => Err(unreadable(alloc)),
         }
     }
 }
@@ -156,7 +156,7 @@ impl Part for Format {
     fn read(alloc: Global, part: &Json) -> Result<Format, Unread> {
         match format_of(part) {
             Some(format) => Ok(format),
-            None => Err(unread(alloc)),
+            None => Err(unreadable(alloc)),
         }
     }
 }
@@ -197,7 +197,7 @@ impl Part for Ty {
     fn read(alloc: Global, part: &Json) -> Result<Ty, Unread> {
         match column_type_of(part) {
             Some(ty) => Ok(ty),
-            None => Err(unread(alloc)),
+            None => Err(unreadable(alloc)),
         }
     }
 }
@@ -244,7 +244,7 @@ impl Part for Control {
     fn read(alloc: Global, part: &Json) -> Result<Control, Unread> {
         match kind_of(part) {
             Some(kind) => Ok(kind),
-            None => Err(unread(alloc)),
+            None => Err(unreadable(alloc)),
         }
     }
 }

@@ -7,7 +7,7 @@ ghost use Rattle.app_file.specs.Contents.{all_behind, at};
 ghost use Rattle.app_file.specs.Forms.{Form, IsBad, IsFine};
 ghost use Rattle.app_file.specs.Readings.{AreFine, IsBadAmong, IsBadMember, IsFineMember, TellsPath};
 
-use crate::paths::{Unread, in_element, in_member, unread, unread_member};
+use crate::paths::{Unread, in_element, in_member, unread_member, unreadable};
 use fx_base::InOrder;
 use serde_json::Value as Json;
 use std::alloc::Global;
@@ -100,7 +100,7 @@ impl<T: Element + Drop> Part for InOrder<T> {
     fn read(alloc: Global, part: &Json) -> Result<InOrder<T>, Unread> {
         match part.as_array() {
             Some(items) => read_all(alloc, items.as_slice()),
-            None => Err(unread(alloc)),
+            None => Err(unreadable(alloc)),
         }
     }
 }

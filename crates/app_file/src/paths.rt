@@ -76,7 +76,7 @@ fn step_text(alloc: Global, step: &Step) -> Result<String, Memory>
 }
 
 /// That the part itself isn't of its form.
-pub fn unread(alloc: Global) -> Unread
+pub fn unreadable(alloc: Global) -> Unread
     ensures { result ≡ end.Refused [] }
 {
     OrMemory::Refused(Path::new(alloc))
@@ -116,5 +116,5 @@ pub fn in_element(place: usize, end: Unread) -> Unread
 pub fn unread_member(alloc: Global, key: &str) -> Unread
     ensures { TellsPath (λ path. path ≡ step.Member (scalars_of key.now) ∷ []) result }
 {
-    in_member(alloc, key, unread(alloc))
+    in_member(alloc, key, unreadable(alloc))
 }

@@ -13,7 +13,7 @@ use crate::file::{ControlShape, PropertyText, ScreenShape};
 use crate::keys::{Object, check_keys, keys_of};
 use crate::leaves::Name;
 use crate::parts::{Element, Part, read_member, read_member_or};
-use crate::paths::{Unread, in_member, unread, unread_member};
+use crate::paths::{Unread, in_member, unread_member, unreadable};
 use fx_base::{InOrder, Memory};
 use fx_data::controls::Control;
 use fx_data::words::Words;
@@ -221,7 +221,7 @@ impl Part for Screens {
 
     fn read(alloc: Global, part: &Json) -> Result<Screens, Unread> {
         if is_empty_list(part) {
-            return Err(unread(alloc));
+            return Err(unreadable(alloc));
         }
         let screens = <InOrder<ScreenShape> as Part>::read(alloc, part)?;
         Ok(Screens(screens))

@@ -14,18 +14,18 @@ pub(crate) fn source_name(alloc: Global, app: &App, source: Source) -> Result<St
 {
     let names = &app.names;
     match source {
-        Source::Cell(cell) => owned(alloc, address(app, cell)),
-        Source::Global(variable) => owned(alloc, variable_name(names, variable)),
+        Source::Cell(cell) => own(alloc, address(app, cell)),
+        Source::Global(variable) => own(alloc, variable_name(names, variable)),
         Source::Context(variable) => context_name(alloc, names, variable),
-        Source::Gathered(collection) => owned(alloc, collection_name(names, collection)),
+        Source::Gathered(collection) => own(alloc, collection_name(names, collection)),
         Source::Input(control) => behind(alloc, "input ", control_name(names, control)),
         Source::Chosen(gallery) => behind(alloc, "chosen ", control_name(names, gallery)),
-        Source::Table(table) => owned(alloc, table_name(names, table)),
-        Source::Today => owned(alloc, "Today()"),
+        Source::Table(table) => own(alloc, table_name(names, table)),
+        Source::Today => own(alloc, "Today()"),
     }
 }
 
-fn owned(alloc: Global, text: &str) -> Result<String, Memory>
+fn own(alloc: Global, text: &str) -> Result<String, Memory>
     ensures { IfOk result (λ s. string_bytes s ≡ text.now) }
 {
     Ok(String::from_str(alloc, text)?)
@@ -84,7 +84,7 @@ fn context_name(alloc: Global, names: &Names, variable: u32) -> Result<String, M
             let name = variable.name.as_str();
             Ok(format!(in alloc; "{screen}.{name}")?)
         }
-        None => owned(alloc, ""),
+        None => own(alloc, ""),
     }
 }
 

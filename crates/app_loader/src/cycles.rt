@@ -47,7 +47,7 @@ fn push_name(all: &mut String, place: usize, name: &Words) -> Result<(), Memory>
 }
 
 // Addresses with an arrow between each two.
-fn joined(alloc: Global, names: &[Words]) -> Result<Words, Memory>
+fn join_names(alloc: Global, names: &[Words]) -> Result<Words, Memory>
     ensures { IfOk result (λ w. w ≡ spec.joined names.now) }
 {
     let mut all = String::new(alloc);
@@ -76,6 +76,6 @@ pub fn cycle_break(alloc: Global, infos: &[CellInfo], path: &[u32]) -> Result<Br
         cell: first_of(alloc, &names)?,
         rule: Rule::Cycle,
         at: 0,
-        detail: joined(alloc, &names)?,
+        detail: join_names(alloc, &names)?,
     })
 }

@@ -15,7 +15,7 @@ use crate::admitting::typed_trees;
 use crate::cycles::cycle_break;
 use crate::edges::edges;
 use crate::infos::{in_order, infos_of, look_at_infos};
-use crate::supports::supported;
+use crate::supports::support_all;
 use crate::types::look_at_types;
 use crate::writing::written_cells;
 use app_cells::{App, Cell, CellInfo};
@@ -71,7 +71,7 @@ fn ordered_app(
     let edges = edges(alloc, &names, infos.as_slice())?;
     match order(alloc, count, &edges) {
         Ok(numbers) => {
-            let cells = supported(alloc, &names, infos, &numbers)?;
+            let cells = support_all(alloc, &names, infos, &numbers)?;
             Ok(App {
                 names,
                 cells,

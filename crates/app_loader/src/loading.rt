@@ -40,7 +40,7 @@ pub fn load(alloc: Global, bytes: &[u8]) -> Result<App, AppEnd>
     match app_file::read(alloc, bytes) {
         Ok(file) => load_file(alloc, file),
         Err(OrMemory::Refused(broken)) => {
-            let broken = broken.broken(alloc)?;
+            let broken = broken.into_broken(alloc)?;
             Err(only(alloc, broken))
         }
         Err(OrMemory::Memory) => Err(AppEnd::Memory),

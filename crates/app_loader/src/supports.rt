@@ -24,14 +24,14 @@ fn is_cell(source: Source) -> bool
 }
 
 // Which of two sources comes first.
-fn compared(left: Source, right: Source) -> Ordering
+fn compare(left: Source, right: Source) -> Ordering
     ensures { result ≡ source_order left right }
 {
     left.cmp(&right)
 }
 
 // The sources of both lists, each once.
-fn merged(alloc: Global, left: &[Source], right: &[Source]) -> Result<Vec<Source>, Memory>
+fn merge(alloc: Global, left: &[Source], right: &[Source]) -> Result<Vec<Source>, Memory>
     requires left { AreRising left.now }
     requires right { AreRising right.now }
     ensures once { IfOk result (λ r. AreRising r.items) }
@@ -45,7 +45,7 @@ fn merged(alloc: Global, left: &[Source], right: &[Source]) -> Result<Vec<Source
             all.extend_from_slice(left)?;
             return Ok(all);
         };
-        match compared(*one, *other) {
+        match compare(*one, *other) {
             Ordering::Less => {
                 all.push(*one)?;
                 left = ones;
@@ -91,7 +91,7 @@ fn with_behind(
         return Ok(sources);
     };
     match supports.get(cell as usize) {
-        Some(support) => merged(alloc, &sources, support.as_slice()),
+        Some(support) => merge(alloc, &sources, support.as_slice()),
         None => Ok(sources),
     }
 }
@@ -164,7 +164,7 @@ fn with_supports(
 }
 
 /// Formulas under names, of which this is an order, each with what it stands on.
-pub fn supported(
+pub fn support_all(
     alloc: Global,
     names: &Names,
     infos: InOrder<CellInfo>,

@@ -8,7 +8,7 @@ ghost use Rattle.app_texts.specs.Steps.{AreReadable, BeginsAt, HasSomeTree, IsFi
 
 use crate::file_texts::{Text, texts_of};
 use crate::frames::frame_of;
-use crate::unread::unread;
+use crate::unread::break_of_text;
 use app_cells::{Cell, Frame, Spot, address_at, cell_at};
 use app_file::AppFile;
 use fx_base::{InOrder, Memory, OrMemory};
@@ -70,7 +70,7 @@ pub fn read_text(
         }
         Err(end) => {
             let cell = address_at(alloc, frame, &spot)?;
-            Err(unread(alloc, cell, text.as_str(), end))
+            Err(break_of_text(alloc, cell, text.as_str(), end))
         }
     }
 }
@@ -169,14 +169,14 @@ fn put_unread(
     ensures { OnOk result (IsPut (λ bs. (b : Break) × (bs ≡ b ∷ []) × IsTold (codes "App.Formulas") source.now end b) breaks.old.items breaks.new.items) }
 {
     let cell = Words::of(alloc, "App.Formulas")?;
-    match unread(alloc, cell, source, end) {
+    match break_of_text(alloc, cell, source, end) {
         OrMemory::Refused(broken) => Ok(breaks.push(broken)?),
         OrMemory::Memory => Err(Memory),
     }
 }
 
 // A frame and formulas, if nothing is broken.
-fn unbroken(
+fn unless_broken(
     frame: Frame,
     cells: Vec<Cell>,
     breaks: Vec<Broken>,
@@ -213,7 +213,7 @@ pub fn read_texts(alloc: Global, file: AppFile) -> Result<(Frame, Vec<Cell>), Ap
     let mut breaks = Vec::new(alloc);
     put_formulas(alloc, &frame, formulas.as_str(), &mut cells, &mut breaks)?;
     put_texts(alloc, &frame, texts, &mut cells, &mut breaks)?;
-    unbroken(frame, cells, breaks)
+    unless_broken(frame, cells, breaks)
 }
 
 // An app without tables and screens.
@@ -243,5 +243,5 @@ pub fn read_named(alloc: Global, source: &str) -> Result<(Frame, Vec<Cell>), App
     let mut cells = Vec::new(alloc);
     let mut breaks = Vec::new(alloc);
     put_formulas(alloc, &frame, source, &mut cells, &mut breaks)?;
-    unbroken(frame, cells, breaks)
+    unless_broken(frame, cells, breaks)
 }

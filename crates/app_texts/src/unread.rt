@@ -31,7 +31,7 @@ fn in_text(alloc: Global, cell: Words, rule: Rule, at: u32, detail: &str) -> OrM
 }
 
 /// What is told of a text that has no tree, as this cell's.
-pub fn unread(alloc: Global, cell: Words, source: &str, end: ParseEnd) -> OrMemory<Broken>
+pub fn break_of_text(alloc: Global, cell: Words, source: &str, end: ParseEnd) -> OrMemory<Broken>
     requires { length source.now < 2 ^ 32 }
     ensures { TellsBreak (IsTold cell source.now end) result }
 {

@@ -209,7 +209,7 @@ fn text_shown(alloc: Global, names: &Names, valued: &Valued, control: u32) -> Re
 }
 
 /// The properties that a control shows, with their values.
-pub(crate) fn displayed(
+pub(crate) fn display(
     alloc: Global,
     names: &Names,
     session: &Session,

@@ -282,7 +282,7 @@ pub fn items_of<K: Keeper, L: Ledger>(
         app,
         session,
         keeper,
-        cache.valued(),
+        cache.values(),
         gallery,
         from,
         steps,

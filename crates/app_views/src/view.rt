@@ -20,7 +20,7 @@ ghost use Rattle.recalc.specs.Steps.{Leaves};
 ghost use Rattle.row_keeper.specs.Causes.{HasCause};
 
 use crate::app_cells::App;
-use crate::displaying::{displayed, is_seen};
+use crate::displaying::{display, is_seen};
 use crate::items::{is_gallery, items_from};
 use crate::roots::{Part, roots_of};
 use crate::templates::add;
@@ -70,7 +70,7 @@ pub fn view_of<K: Keeper, L: Ledger>(
     let part = Part::Screen(session.screen());
     let roots = roots_of(alloc, app, part)?;
     cache.refresh(alloc, app, session, keeper, moment, &roots, steps)?;
-    view_by(alloc, app, session, keeper, cache.valued(), steps)
+    view_by(alloc, app, session, keeper, cache.values(), steps)
 }
 
 // The same, by the values of cells.
@@ -204,7 +204,7 @@ fn shown_with<K: Keeper, L: Ledger>(
     ensures cause { HasCause (K.marks keeper.old) (K.marks keeper.new) result }
 {
     let items = shown_items(alloc, app, session, keeper, valued, number, control, steps)?;
-    let values = displayed(alloc, &app.names, session, valued, number, control)?;
+    let values = display(alloc, &app.names, session, valued, number, control)?;
     let name = control.name.copy(alloc)?;
     let kind = control.kind;
     Ok(Shown {

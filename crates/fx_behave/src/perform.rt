@@ -43,13 +43,18 @@ pub(crate) fn evaluate<W: World, L: Ledger>(
 {
     // A law, which is called for what it says.
     limited_types();
-    let taking = taking(alloc, world, scope, core)?;
+    let taking = limit_queries(alloc, world, scope, core)?;
     world.ready(&taking, steps)?;
     eval(alloc, world, scope, &taking, steps)
 }
 
 // The formula where it stands, in which query expressions that aren't taken whole give their first rows.
-fn taking<W: World>(alloc: Global, world: &W, scope: &Scope, core: &Core) -> Result<Core, Memory>
+fn limit_queries<W: World>(
+    alloc: Global,
+    world: &W,
+    scope: &Scope,
+    core: &Core,
+) -> Result<Core, Memory>
     ensures { IfOk result (λ c. c ≡ limited (W.fixed world.now).schema.tables (W.fixed world.now).limit (length scope.now.rows) false core.now) }
 {
     limit_queries_under(alloc, world.schema(), world.limit(), core, depth(scope)?)

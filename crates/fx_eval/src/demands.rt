@@ -21,7 +21,7 @@ use fx_builtins::quotient;
 use fx_data::{Fault, Kind, Totals, Value, Words};
 use fx_number::Num;
 use fx_plan::conditions::column_of;
-use fx_plan::sketches::filtered;
+use fx_plan::sketches::filter_sketch;
 use fx_plan::{Sketch, settled_call, settled_query, settled_search, sketch_under};
 use fx_tables::row_calls::first;
 use fx_trees::{Core, CoreNode, Fun, Scalar, Schema};
@@ -99,7 +99,7 @@ pub fn asked_under(
             first_row(alloc, schema, rows, parts.as_slice(), depth)
         }
         CoreNode::Over(Fun::LookUp, rows, parts) => {
-            found(alloc, schema, rows, parts.as_slice(), depth)
+            look_up(alloc, schema, rows, parts.as_slice(), depth)
         }
         CoreNode::Over(Fun::SumRows, rows, parts) => {
             total(alloc, schema, Fold::Sum, rows, parts.as_slice(), depth)
@@ -213,7 +213,7 @@ fn first_row(
 }
 
 // The row that `LookUp` finds: the first of the rows that meet its condition besides.
-fn found(
+fn look_up(
     alloc: Global,
     schema: &Schema,
     rows: &Core,
@@ -249,7 +249,7 @@ fn filtered_under(
     ensures { IfOk result (λ s. s ≡ sketch_of schema.now.tables depth (over_query fun.Filter rows.now (cons condition.now nil))) }
 {
     match sketch_under(alloc, schema, rows, depth)? {
-        Some(rows) => filtered(alloc, schema, rows, slice::from_ref(condition), depth),
+        Some(rows) => filter_sketch(alloc, schema, rows, slice::from_ref(condition), depth),
         None => Ok(None),
     }
 }
@@ -327,7 +327,7 @@ fn number_column(schema: &Schema, sketch: &Sketch, column: &Core, depth: u32) ->
 }
 
 /// A tree that takes this of a query expression, with these values in the places of the constants of that.
-pub(crate) fn settled(
+pub(crate) fn settle(
     alloc: Global,
     demand: Demand,
     core: &Core,

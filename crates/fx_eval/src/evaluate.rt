@@ -521,7 +521,7 @@ fn over_table<E: Env, L: Ledger>(
         (moment (E.fixed env.new) (E.told env.new) (E.marks env.new) (E.ticked env.new) (E.visited env.new) scope.new steps.new)) }
 {
     values_fit();
-    match searched(fun, parts) {
+    match search_parts(fun, parts) {
         Some((condition, formula)) => {
             let condition = slice::from_ref(condition);
             let found = call_over(alloc, env, scope, fun, table, condition, steps)?;
@@ -532,7 +532,7 @@ fn over_table<E: Env, L: Ledger>(
 }
 
 // The condition of `LookUp`, and the formula for the row that it finds, where one stands behind it.
-fn searched(fun: Fun, parts: &[Core]) -> Option<(&Core, &Core)>
+fn search_parts(fun: Fun, parts: &[Core]) -> Option<(&Core, &Core)>
     ensures { MatchOption result
         (fun ≡ LookUp → length parts.now ≡ 2 → ⊥)
         (λ p. (fun ≡ LookUp) × (parts.now ≡ p.0.now ∷ p.1.now ∷ [])) }

@@ -13,7 +13,7 @@ ghost use Rattle.row_queries.specs.Queries.{IsQuery};
 ghost use Rattle.row_queries.specs.RowTests.{HasNoFaults};
 ghost use Rattle.row_queries.specs.Visits.{VisitsTold};
 
-use crate::demands::{Asked, Demand, asked_under, count_value, first_in, fold_value, settled};
+use crate::demands::{Asked, Demand, asked_under, count_value, first_in, fold_value, settle};
 use crate::scope::Scope;
 use fx_base::Memory;
 use fx_data::Value;
@@ -52,7 +52,7 @@ pub(crate) fn settled_here(
     ensures { IfOk result (λ t. t ≡ settled_in demand (length scope.now.rows) (map view constants.now) core.now) }
 {
     match u32::try_from(scope.rows.len()) {
-        Ok(depth) => settled(alloc, demand, core, depth, constants),
+        Ok(depth) => settle(alloc, demand, core, depth, constants),
         Err(_) => Err(Memory),
     }
 }
@@ -77,12 +77,12 @@ pub fn answer<E: Env>(
     ensures visits { IfOk result (λ _. (w : Told E.Beside) → E.told env.new ≡ Some w →
         AtMost (InRanges (asked_tables (E.fixed env.old) w) asked.now.sketch (map view constants.now)) (E.visited env.old) (E.visited env.new)) }
 {
-    let query = planned(alloc, env, asked, constants)?;
+    let query = plan_query(alloc, env, asked, constants)?;
     by_query(alloc, env, asked.demand, &query)
 }
 
 // The query that answers it.
-fn planned<E: Env>(
+fn plan_query<E: Env>(
     alloc: Global,
     env: &E,
     asked: &Asked,

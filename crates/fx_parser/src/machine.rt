@@ -7,7 +7,7 @@ use fx_base::Memory;
 use fx_grammar::Meaning;
 use fx_lexer::{Symbol, Word};
 
-fn beginning(meaning: &Meaning) -> Begin
+fn begin_kind(meaning: &Meaning) -> Begin
     ensures { result ≡ begin_of meaning.now }
 {
     match meaning {
@@ -47,7 +47,7 @@ fn symbol_following(symbol: Symbol) -> Follow
     }
 }
 
-fn following(meaning: &Meaning) -> Follow
+fn follow_kind(meaning: &Meaning) -> Follow
     ensures { result ≡ follow_of meaning.now }
 {
     match meaning {
@@ -233,8 +233,8 @@ fn in_weave(meaning: &Meaning) -> Move
 pub fn turn_at(whole: Whole, state: State, innermost: Option<Frame>, meaning: &Meaning) -> Move
     ensures { result ≡ turn whole state innermost meaning.now }
 {
-    let begin = beginning(meaning);
-    let follow = following(meaning);
+    let begin = begin_kind(meaning);
+    let follow = follow_kind(meaning);
     match state {
         State::Start => either(begin_operand(begin), equal_before(meaning, State::Operand)),
         State::Operand => begin_operand(begin),

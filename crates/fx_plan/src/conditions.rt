@@ -52,7 +52,7 @@ pub fn pattern_of(
             negation(alloc, table, parts.as_slice(), scope, constants)
         }
         CoreNode::Call(fun, parts) => {
-            called(alloc, table, *fun, parts.as_slice(), scope, constants)
+            call_pattern(alloc, table, *fun, parts.as_slice(), scope, constants)
         }
         CoreNode::Dot(_, _) => {
             let column = column_of(table, condition, Scalar::Boolean, scope);
@@ -102,13 +102,13 @@ fn negation(
 {
     match parts {
         [] => Ok(None),
-        [part] => negated(alloc, pattern_of(alloc, table, part, scope, constants)?),
+        [part] => negate(alloc, pattern_of(alloc, table, part, scope, constants)?),
         [_, _, ..] => Ok(None),
     }
 }
 
 // What isn't met where the pattern is.
-fn negated(alloc: Global, pattern: Option<Pattern>) -> Result<Option<Pattern>, Memory>
+fn negate(alloc: Global, pattern: Option<Pattern>) -> Result<Option<Pattern>, Memory>
     ensures { IfOk result (λ r. r ≡ option_map opposite pattern) }
 {
     match pattern {
@@ -120,7 +120,7 @@ fn negated(alloc: Global, pattern: Option<Pattern>) -> Result<Option<Pattern>, M
 }
 
 // The pattern of a call of a column, or of a column and a constant.
-fn called(
+fn call_pattern(
     alloc: Global,
     table: &TableShape,
     fun: Fun,
@@ -182,7 +182,7 @@ fn called_with(
             }
             None => Ok(None),
         },
-        _ => compared(
+        _ => comparison_pattern(
             alloc,
             table,
             comparison_by(fun),
@@ -195,7 +195,7 @@ fn called_with(
 }
 
 // A column compared with a constant, which stands on either side.
-fn compared(
+fn comparison_pattern(
     alloc: Global,
     table: &TableShape,
     comparison: Option<(Cmp, Scalar)>,
@@ -213,15 +213,7 @@ fn compared(
     if is_constant(right, scope) {
         compared_with(alloc, table, (op, ty), left, right, scope, constants)
     } else {
-        compared_with(
-            alloc,
-            table,
-            (turned(op), ty),
-            right,
-            left,
-            scope,
-            constants,
-        )
+        compared_with(alloc, table, (turn(op), ty), right, left, scope, constants)
     }
 }
 
@@ -391,7 +383,7 @@ fn comparison_by(fun: Fun) -> Option<(Cmp, Scalar)>
 }
 
 // A comparison with its sides changed over.
-fn turned(op: Cmp) -> Cmp
+fn turn(op: Cmp) -> Cmp
     ensures { result ≡ turned_of op }
 {
     match op {

@@ -7,7 +7,7 @@ ghost use Rattle.fx_trees.specs.Term.{all, parts_of};
 
 use crate::call_names::{deed_name, form_name, function_name};
 use crate::conditions::column_of;
-use crate::sketches::{filtered, sketch_under};
+use crate::sketches::{filter_sketch, sketch_under};
 use fx_base::Memory;
 use fx_data::Words;
 use fx_trees::rows::{Takes, row_of};
@@ -72,7 +72,7 @@ impl Place {
     }
 
     // The same in one more scope, if there is one.
-    fn opened(&self, opens: bool) -> Result<Place, Memory>
+    fn open(&self, opens: bool) -> Result<Place, Memory>
         ensures { IfOk result (λ p. position p ≡ opened_in opens (position self.now)) }
     {
         if !opens {
@@ -197,7 +197,7 @@ fn list_parts(
         CoreNode::With(record, formula) => {
             let inside = place.within(Some("With"));
             list(alloc, schema, record, &inside, sites)?;
-            list(alloc, schema, formula, &inside.opened(true)?, sites)
+            list(alloc, schema, formula, &inside.open(true)?, sites)
         }
         CoreNode::Rec(fields) => {
             list_fields(alloc, schema, fields.as_slice(), &place.within(None), sites)
@@ -271,7 +271,7 @@ fn list_among(
     ensures { OnOk result (sites.new.items ≡ listed sites.old.items (uses_among schema.now.tables (stand_at scoped (position place.now)) 0 (all parts.now))) }
 {
     for (at, part) in parts.iter().enumerate() {
-        let stand = place.opened(scoped.opens(at))?;
+        let stand = place.open(scoped.opens(at))?;
         list(alloc, schema, part, &stand, sites)?;
     }
     Ok(())
@@ -344,7 +344,7 @@ fn is_filter(
     ensures { IfOk result (λ b. b ≡ is_filter_in schema.now.tables depth rows.now (all conditions.now)) }
 {
     match sketch_under(alloc, schema, rows, depth)? {
-        Some(rows) => Ok(filtered(alloc, schema, rows, conditions, depth)?.is_some()),
+        Some(rows) => Ok(filter_sketch(alloc, schema, rows, conditions, depth)?.is_some()),
         None => Ok(false),
     }
 }

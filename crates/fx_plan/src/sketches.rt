@@ -39,13 +39,13 @@ pub fn sketch_under(
         CoreNode::Read(Source::Table(table)) => Ok(whole_table(alloc, schema, *table)),
         CoreNode::Over(Fun::Filter, rows, conditions) => {
             match sketch_under(alloc, schema, rows, depth)? {
-                Some(rows) => filtered(alloc, schema, rows, conditions.as_slice(), depth),
+                Some(rows) => filter_sketch(alloc, schema, rows, conditions.as_slice(), depth),
                 None => Ok(None),
             }
         }
         CoreNode::Over(Fun::Sort(order), rows, keys) => {
             match sketch_under(alloc, schema, rows, depth)? {
-                Some(rows) => Ok(sorted(schema, rows, *order, keys.as_slice(), depth)),
+                Some(rows) => Ok(sort_sketch(schema, rows, *order, keys.as_slice(), depth)),
                 None => Ok(None),
             }
         }
@@ -71,7 +71,7 @@ fn whole_table(alloc: Global, schema: &Schema, table: u16) -> Option<Sketch>
 }
 
 /// The rows that meet all conditions besides; none where one isn't delegable.
-pub fn filtered(
+pub fn filter_sketch(
     alloc: Global,
     schema: &Schema,
     rows: Sketch,
@@ -106,7 +106,7 @@ pub fn filtered(
 }
 
 // Rows that have no order yet in the order of the one key, which is a plain column.
-fn sorted(
+fn sort_sketch(
     schema: &Schema,
     rows: Sketch,
     order: SortOrder,

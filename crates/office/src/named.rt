@@ -107,7 +107,7 @@ fn kept_list<K: Keeper, L: Ledger>(
 {
     let roots = named_roots(alloc, app)?;
     cache.refresh(alloc, app, session, keeper, moment, &roots, steps)?;
-    Ok(name_values(alloc, app, cache.valued())?)
+    Ok(name_values(alloc, app, cache.values())?)
 }
 
 /// The body of the reply that shows each named formula with its value. What is kept is right afterwards, also where it stops; the

@@ -22,7 +22,7 @@ ghost use Rattle.recalc.specs.Steps.{IsBrought, IsBroughtIf, IsCutOff, Leaves, M
 use crate::Steps;
 use crate::app_cells::{App, CellInfo};
 use crate::cache::Cache;
-use crate::needing::{is_due, needed};
+use crate::needing::{is_due, needs_of};
 use fx_data::values::Value;
 use fx_value::same;
 use row_keeper::{Keeper, KeeperEnd};
@@ -36,12 +36,12 @@ impl Cache {
         requires { cell < length self.now.values.cells }
         ensures { IsTrue result ↔ (value_of self.now cell ≡ view value.now) }
     {
-        same(&self.valued().as_slice()[cell as usize], value)
+        same(&self.values().as_slice()[cell as usize], value)
     }
 
     // Since when a value that a cell gets is what it is: since when the kept one is, if that is the same, and else from the
     // next number on.
-    fn moved(&self, cell: u32, value: &Value) -> u64
+    fn since(&self, cell: u32, value: &Value) -> u64
         requires room { self.now.last + 1 < 2 ^ 64 }
         requires there { cell < length self.now.values.cells }
         ensures { WasMoved self.now cell (view value.now) result }
@@ -60,7 +60,7 @@ impl Cache {
     }
 
     // Since when a kept value is what it is, where nothing moved that its formula names.
-    fn unmoved(&self, app: &App, cell: u32, info: &CellInfo) -> Option<u64>
+    fn still_since(&self, app: &App, cell: u32, info: &CellInfo) -> Option<u64>
         requires { slice_get app.now.cells cell ≡ Some info.now }
         ensures some { IfSome result (λ n. (e : Stamp) × (stamp_of self.now cell ≡ Some e) × (n ≡ e.moved) × IsUnmoved app.now self.now info.now e.checked) }
         ensures none { IsNone result → IsCutOff app.now self.now self.now cell → ⊥ }
@@ -109,9 +109,9 @@ impl Cache {
         ensures reached { IsErrOf result Failed → ReadsNone app.now → ⊥ }
     {
         let value = self
-            .valued()
+            .values()
             .by_itself(alloc, app, session, keeper, info, steps)?;
-        let moved = self.moved(cell, &value);
+        let moved = self.since(cell, &value);
         self.keep(cell, value, moved);
         Ok(())
     }
@@ -153,7 +153,7 @@ impl Cache {
         ensures idle { OnOk result (steps.new ≡ steps.old → keeper.new ≡ keeper.old) }
         ensures reached { IsErrOf result Failed → ReadsNone app.now → ⊥ }
     {
-        match self.unmoved(app, cell, info) {
+        match self.still_since(app, cell, info) {
             Some(moved) => {
                 self.confirm(cell, moved);
                 Ok(())
@@ -307,7 +307,7 @@ impl Cache {
             return Ok(());
         }
         self.make_numbers();
-        let marks = needed(alloc, app, self, roots)?;
+        let marks = needs_of(alloc, app, self, roots)?;
         self.bring_all(alloc, app, session, keeper, moment, roots, &marks, steps)
     }
 }

@@ -6,7 +6,7 @@ ghost use Rattle.recalc.specs.Kept.{IsSourceOf, place_of};
 
 use crate::app_cells::App;
 use crate::stamps::Stamp;
-use crate::valued::{Valued, blanked, blanks};
+use crate::valued::{Valued, blank_first, blanks};
 use fx_base::Memory;
 use fx_data::values::Value;
 use fx_trees::{Names, Source};
@@ -104,7 +104,7 @@ fn drop_versions(versions: &mut [u64])
 }
 
 // Stamps of so many cells, of which none is kept, where those were.
-fn unstamped(mut stamps: Vec<Option<Stamp>>, count: usize) -> Vec<Option<Stamp>>
+fn clear_stamps(mut stamps: Vec<Option<Stamp>>, count: usize) -> Vec<Option<Stamp>>
     requires { count ≤ length stamps.items }
     ensures long { length result.items ≡ count }
     ensures none { (k : ℕ) → slice_index_or result.items k None ≡ None }
@@ -125,7 +125,7 @@ fn is_mark(stamp: Option<Stamp>) -> bool
 }
 
 // A stamp, and none for a mark.
-fn unmarked(stamp: Option<Stamp>) -> Option<Stamp>
+fn without_mark(stamp: Option<Stamp>) -> Option<Stamp>
     ensures { result ≡ unmarked_of stamp }
 {
     if is_mark(stamp) { None } else { stamp }
@@ -137,12 +137,12 @@ fn unmark(stamps: &mut [Option<Stamp>])
     ensures each { (k : ℕ) → slice_index_or stamps.new k None ≡ unmarked_of (slice_index_or stamps.old k None) }
 {
     for stamp in stamps.iter_mut() {
-        *stamp = unmarked(*stamp);
+        *stamp = without_mark(*stamp);
     }
 }
 
 // The first versions, where those were.
-fn unversioned(mut versions: Vec<u64>) -> Vec<u64>
+fn reset_versions(mut versions: Vec<u64>) -> Vec<u64>
     ensures long { length result.items ≡ length versions.items }
     ensures zero { (p : ℕ) → slice_index result.items p ≡ 0 }
 {
@@ -253,7 +253,7 @@ impl Cache {
     }
 
     /// The values of all cells, and the day.
-    pub fn valued(&self) -> &Valued
+    pub fn values(&self) -> &Valued
         ensures { result.now ≡ self.now.values }
     {
         &self.valued
@@ -358,9 +358,9 @@ impl Cache {
             alloc,
             emptied: self.emptied,
             last: self.last,
-            versions: mem::replace(&mut self.versions, unversioned(versions)),
-            stamps: mem::replace(&mut self.stamps, unstamped(stamps, count)),
-            valued: self.valued.exchange(blanked(values, count)),
+            versions: mem::replace(&mut self.versions, reset_versions(versions)),
+            stamps: mem::replace(&mut self.stamps, clear_stamps(stamps, count)),
+            valued: self.valued.exchange(blank_first(values, count)),
             spare_versions: Vec::new(alloc),
             spare_stamps: Vec::new(alloc),
             spare_values: Vec::new(alloc),

@@ -12,7 +12,7 @@ use std::alloc::Global;
 
 /// The chosen row of these items, or blank where there is none. An error in their place is the answer.
 #[tactic(auto, using(crate::proofs::Selecting::selected_is))]
-pub(crate) fn selected(
+pub(crate) fn selection(
     alloc: Global,
     chosen: Option<(u32, Option<u32>)>,
     items: &Value,

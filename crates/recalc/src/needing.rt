@@ -113,7 +113,7 @@ fn mark_needed(app: &App, cache: &Cache, marks: &mut [bool])
 }
 
 /// Marks these cells, and all that have to be up to date before them.
-pub(crate) fn needed(
+pub(crate) fn needs_of(
     alloc: Global,
     app: &App,
     cache: &Cache,

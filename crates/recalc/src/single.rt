@@ -66,6 +66,6 @@ impl Cache {
     {
         let roots = [cell];
         self.refresh(alloc, app, session, keeper, moment, &roots, steps)?;
-        Ok(self.valued().value(alloc, cell)?)
+        Ok(self.values().value(alloc, cell)?)
     }
 }

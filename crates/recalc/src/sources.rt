@@ -8,7 +8,7 @@ ghost use Rattle.recalc.specs.Reading.{cell_value};
 ghost use Rattle.session_state.specs.Sessions.{Holds};
 ghost use Rattle.fx_trees.specs.declared.sources.Source.TheVariants as source;
 
-use crate::choosing::selected;
+use crate::choosing::selection;
 use fx_base::Memory;
 use fx_data::controls::Control;
 use fx_data::values::{Rows, Value};
@@ -59,7 +59,7 @@ fn default_cell(names: &Names, control: u32) -> Option<u32>
 }
 
 // The value of an input of this kind to which neither a user nor a formula gave one.
-fn unset(kind: Control) -> Value
+fn initial_value(kind: Control) -> Value
     ensures { view result ≡ spec.unset kind }
 {
     match kind {
@@ -77,7 +77,7 @@ fn unset_at(names: &Names, control: u32) -> Value
     ensures { view result ≡ spec.unset_at (slice_get names.now.controls control) }
 {
     match names.controls.get(control as usize) {
-        Some(control) => unset(control.kind),
+        Some(control) => initial_value(control.kind),
         None => Value::Blank,
     }
 }
@@ -148,5 +148,5 @@ pub(crate) fn chosen_item(
     ensures { IfOk result (λ v. view v ≡ spec.selected_of names.now session.now (cell_value (map view values.now)) gallery) }
 {
     let items = items(alloc, names, values, gallery)?;
-    selected(alloc, session.chosen(gallery), &items)
+    selection(alloc, session.chosen(gallery), &items)
 }

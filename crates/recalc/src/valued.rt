@@ -319,7 +319,7 @@ pub(crate) fn blanks(alloc: Global, count: usize) -> Result<Vec<Value>, Memory>
 }
 
 /// The first of these values, so many, all made blank.
-pub(crate) fn blanked(mut values: Vec<Value>, count: usize) -> Vec<Value>
+pub(crate) fn blank_first(mut values: Vec<Value>, count: usize) -> Vec<Value>
     requires { count ≤ length values.items }
     ensures long { length result.items ≡ count }
     ensures blank { (k : ℕ) → cell_value (map view result.items) k ≡ blank }

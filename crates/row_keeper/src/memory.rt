@@ -63,7 +63,7 @@ impl MemoryKeeper {
     }
 
     /// How many rows have been visited.
-    pub fn visited(&self) -> u64
+    pub fn visits(&self) -> u64
         ensures { result ≡ self.now.visited }
     {
         self.visited

@@ -31,7 +31,7 @@ pub(crate) enum Changed {
 }
 
 /// That a change is refused, without a detail.
-fn refused(code: u8) -> Changed
+fn refuse(code: u8) -> Changed
     ensures { result ≡ Changed.Refused (plain code) }
 {
     Changed::Refused(Refusal {
@@ -57,7 +57,7 @@ fn came(alloc: Global, at: u32, columns: &[Column], put: Put) -> Result<Changed,
 {
     match put {
         Put::Id(id) => Ok(Changed::Id(id)),
-        Put::NoRow => Ok(refused(22)),
+        Put::NoRow => Ok(refuse(22)),
         Put::Refused(rule) => Ok(Changed::Refused(kept_refusal(alloc, at, columns, rule)?)),
     }
 }
@@ -124,7 +124,7 @@ fn replace_row<K: Keeper>(
     let columns = columns_of(schema, table);
     let row = match find_row(alloc, keeper, table, id)? {
         Some(row) => row,
-        None => return Ok(refused(22)),
+        None => return Ok(refuse(22)),
     };
     let judged = judge(alloc, at, columns, given)?;
     match judged {
@@ -159,7 +159,7 @@ fn remove_row<K: Keeper>(
 {
     match keeper.remove(table, id) {
         Ok(true) => Ok(Changed::Id(id)),
-        Ok(false) => Ok(refused(22)),
+        Ok(false) => Ok(refuse(22)),
         Err(end) => Err(end),
     }
 }
@@ -239,6 +239,6 @@ pub(crate) fn change_one<K: Keeper>(
 {
     match table_place(schema, change.table()) {
         Some(table) => change_table(alloc, keeper, schema, at, table, change),
-        None => Ok(refused(21)),
+        None => Ok(refuse(21)),
     }
 }

@@ -45,7 +45,7 @@ fn rule_of_given(columns: &[Column], name: &Words, value: &Option<Value>) -> Opt
 }
 
 /// The refusal of a rule that breaks.
-fn broken(alloc: Global, at: u32, column: &str, rule: Rule) -> Result<Refusal, Memory>
+fn refuse_cell(alloc: Global, at: u32, column: &str, rule: Rule) -> Result<Refusal, Memory>
     ensures is { IfOk result (λ r. r ≡ broken_of at (scalars_of column.now) rule) }
     ensures detail { IfOk result HasItsDetail }
 {
@@ -70,7 +70,7 @@ pub(crate) fn judge(
 {
     for (name, value) in given.as_slice() {
         if let Some(rule) = rule_of_given(columns, name, value) {
-            return Ok(Some(broken(alloc, at, name.as_str(), rule)?));
+            return Ok(Some(refuse_cell(alloc, at, name.as_str(), rule)?));
         }
     }
     Ok(None)
@@ -99,7 +99,7 @@ pub(crate) fn kept_refusal(
     ensures is { IfOk result (λ r. r ≡ kept_refusal_of at columns.now refusal) }
     ensures detail { IfOk result HasItsDetail }
 {
-    broken(
+    refuse_cell(
         alloc,
         at,
         name_at(columns, refusal.column),

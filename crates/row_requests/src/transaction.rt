@@ -109,7 +109,7 @@ fn outcome_reply(alloc: Global, seq: u32, outcome: &Outcome) -> Result<Reply, Me
 }
 
 /// The reply to an outcome, and a copy of it to keep.
-fn replied(alloc: Global, seq: u32, outcome: Outcome) -> Result<Prepared, Memory>
+fn prepare_reply(alloc: Global, seq: u32, outcome: Outcome) -> Result<Prepared, Memory>
     requires { HaveDetail outcome }
     ensures is { IfOk result (λ p. p.outcome ≡ outcome) }
     ensures prepared { IfOk result (IsPrepared seq) }
@@ -145,7 +145,7 @@ fn prepare_rows<K: Keeper>(
     ensures loan { K.loan keeper.new ≡ K.loan keeper.old }
 {
     match change_rows(alloc, keeper, schema, posted.changes.as_slice()) {
-        Ok(outcome) => match replied(alloc, posted.seq, outcome) {
+        Ok(outcome) => match prepare_reply(alloc, posted.seq, outcome) {
             Ok(prepared) => Ok(prepared),
             Err(Memory) => Err(KeeperEnd::Memory),
         },

@@ -21,7 +21,7 @@ pub fn table(alloc: Global, shape: &TableShape, rows: &[Row]) -> Result<Value, M
     ensures { IfOk result (λ v. view v ≡ table_of shape.now rows.now) }
 {
     let columns = shape.columns.as_slice();
-    let mut records = numbered(alloc, rows)?;
+    let mut records = number_rows(alloc, rows)?;
     for (place, column) in columns.iter().enumerate() {
         let cells = cells_at(alloc, rows, place)?;
         records = add_column(alloc, records, column.name.as_str(), cells)?;
@@ -30,7 +30,7 @@ pub fn table(alloc: Global, shape: &TableShape, rows: &[Row]) -> Result<Value, M
 }
 
 // A record of its number alone for each row.
-fn numbered(alloc: Global, rows: &[Row]) -> Result<Rows, Memory>
+fn number_rows(alloc: Global, rows: &[Row]) -> Result<Rows, Memory>
     ensures { IfOk result (λ records. records ≡ map (λ r. (id_name, id_value r.id) ∷ []) rows.now) }
 {
     let mut records = Vec::with_capacity(alloc, rows.len())?;

@@ -121,7 +121,7 @@ fn input_trigger(
     requires { Holds session.now (source.Input control) }
     ensures { IfOk result (λ t. t ≡ input_trigger_of names.now session.now (value_of cache.now) control) }
 {
-    let value = cache.valued().input(alloc, names, session, control)?;
+    let value = cache.values().input(alloc, names, session, control)?;
     let checked = is_true(Some(&value));
     match names.controls.get(control as usize) {
         Some(found) => Ok(trigger_of(found.kind, control, checked)),
@@ -159,7 +159,7 @@ fn item_seen(
 ) -> Result<Option<Value>, Memory>
     ensures { IfOk result (λ o. option_map view o ≡ item_seen_of names.now (value_of cache.now) item) }
 {
-    row_of(alloc, names, cache.valued().as_slice(), item)
+    row_of(alloc, names, cache.values().as_slice(), item)
 }
 
 /// Ends an input of a session whose formulas have these values: what is accepted acts, and what is refused leaves all.

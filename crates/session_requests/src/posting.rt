@@ -187,7 +187,7 @@ fn act_input<K: Keeper, L: Ledger>(
     one_fresh_at();
     look_for_input(alloc, app, &session, cache, keeper, &input, moment, steps)?;
     let seq = input.seq;
-    let values = cache.valued().as_slice();
+    let values = cache.values().as_slice();
     let verdict = input_target(&app.names, session.screen(), values, input);
     end_input(
         alloc, app, sessions, cache, keeper, name, body, seq, session, verdict, moment, wrote,
@@ -337,7 +337,7 @@ fn act_event<K: Keeper, L: Ledger>(
     one_fresh_at();
     one_value();
     look_for_event(alloc, app, &session, cache, keeper, event, moment, steps)?;
-    let verdict = judge_event(alloc, app, &session, keeper, cache.valued(), event, steps)?;
+    let verdict = judge_event(alloc, app, &session, keeper, cache.values(), event, steps)?;
     end_event(
         alloc, app, sessions, cache, keeper, name, body, event.seq, session, verdict, moment,
         wrote, steps,

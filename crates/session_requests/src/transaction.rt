@@ -103,11 +103,16 @@ fn prepare<K: Keeper, L: Ledger>(
         wrote,
         steps,
     )?;
-    Ok(replied(alloc, session, seq, &value)?)
+    Ok(accept_reply(alloc, session, seq, &value)?)
 }
 
 /// The reply to a request whose formula had this value, and what is left of its session.
-fn replied(alloc: Global, mut session: Session, seq: u32, value: &Value) -> Result<Accepted, Memory>
+fn accept_reply(
+    alloc: Global,
+    mut session: Session,
+    seq: u32,
+    value: &Value,
+) -> Result<Accepted, Memory>
     ensures said { IfOk result (λ r. said r.reply ≡ accepted_reply seq (view value.now) session) }
     ensures kept { IfOk result (λ r. r.kept.items ≡ said r.reply) }
     ensures whole { IfOk result (λ r. IsReply r.reply) }

@@ -22,7 +22,7 @@ ghost use Rattle.session_requests.specs.Worlds.{fixed_in, told_in};
 use crate::accepted::SoundApp;
 use crate::behind::refresh_behind;
 use crate::start::Start;
-use crate::writing::{note, when, written, written_by};
+use crate::writing::{note, source_of, when, written_by};
 use fx_base::Memory;
 use fx_data::{Totals, Value};
 use fx_deeds::World;
@@ -99,7 +99,7 @@ impl<A: SoundApp, K: Keeper, S: Start> Env for SessionWorld<'_, A, K, S> {
                 self.alloc,
                 &app.names,
                 self.session,
-                self.cache.valued().as_slice(),
+                self.cache.values().as_slice(),
                 self.day,
                 source,
             )?),
@@ -175,7 +175,7 @@ impl<A: SoundApp, K: Keeper, S: Start> World for SessionWorld<'_, A, K, S> {
     fn change(&mut self, change: Change) -> Result<bool, Stop> {
         // Called for what it says: the app is sound.
         self.app.is_sound();
-        let source = written(&change);
+        let source = source_of(&change);
         self.wrote.reserve(1)?;
         match self.session.change(change) {
             Ok(done) => {

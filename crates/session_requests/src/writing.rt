@@ -15,7 +15,7 @@ use row_keeper::Put;
 use session_state::Change;
 
 /// The source that a change of a session writes, if it writes one.
-pub(crate) fn written(change: &Change) -> Option<Source>
+pub(crate) fn source_of(change: &Change) -> Option<Source>
     ensures { option_to_list result ≡ sources_of change.now }
 {
     match change {

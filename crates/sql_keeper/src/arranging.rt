@@ -52,7 +52,7 @@ fn all_lie(alloc: Global, rows: &[Row], table: &TableShape, query: &Query) -> Re
 
 /// Rows that were read for a query, in its order. Where two have one number, or one lies outside the query's ranges, the
 /// database has other marks than those of its lines, which is a fault.
-pub fn arranged(
+pub fn arrange(
     alloc: Global,
     mut rows: Vec<Row>,
     table: &TableShape,

@@ -91,7 +91,7 @@ impl SqlKeeper {
     }
 
     /// How many rows have been visited.
-    pub fn visited(&self) -> u64
+    pub fn visits(&self) -> u64
         ensures { result ≡ self.now.visited }
     {
         self.visited
@@ -120,7 +120,7 @@ impl SqlKeeper {
     }
 
     /// Counts a fault where a call failed, and gives its answer on.
-    fn counted<T>(&mut self, given: Result<T, KeeperEnd>) -> Result<T, KeeperEnd>
+    fn count_fault<T>(&mut self, given: Result<T, KeeperEnd>) -> Result<T, KeeperEnd>
         ensures answer { result ≡ given }
         ensures same { self.new ≡ record self.old { faults = self.new.faults } }
         ensures counted { self.new.faults ≡ faults_after self.old.faults (end_of given) }
@@ -369,12 +369,12 @@ impl Keeper for SqlKeeper {
 
     fn attach(&mut self, name: &str) -> Result<(), KeeperEnd> {
         let opened = self.open(name);
-        self.counted(opened)
+        self.count_fault(opened)
     }
 
     fn shape(&mut self, schema: &Schema) -> Result<Option<Schema>, KeeperEnd> {
         let kept = self.keep(schema);
-        self.counted(kept)
+        self.count_fault(kept)
     }
 
     fn begin(&mut self) -> Result<(), KeeperEnd> {
@@ -384,24 +384,24 @@ impl Keeper for SqlKeeper {
 
     fn insert(&mut self, table: u16, cells: &Cells) -> Result<Put, KeeperEnd> {
         let put = self.put_new(table, cells);
-        self.counted(put)
+        self.count_fault(put)
     }
 
     fn replace(&mut self, table: u16, id: u32, cells: &Cells) -> Result<Put, KeeperEnd> {
         let put = self.put_over(table, id, cells);
-        self.counted(put)
+        self.count_fault(put)
     }
 
     fn remove(&mut self, table: u16, id: u32) -> Result<bool, KeeperEnd> {
         let was = self.take_out(table, id);
-        self.counted(was)
+        self.count_fault(was)
     }
 
     fn commit(&mut self) -> Result<(), KeeperEnd> {
         let played = self.play();
         end(&mut self.tallies, played.is_ok());
         self.changes = None;
-        self.counted(played)
+        self.count_fault(played)
     }
 
     fn back(&mut self) {
@@ -411,12 +411,12 @@ impl Keeper for SqlKeeper {
 
     fn scan(&mut self, query: &Query) -> Result<RowList, KeeperEnd> {
         let answer = self.answer(query);
-        self.counted(answer)
+        self.count_fault(answer)
     }
 
     fn count(&mut self, query: &Query) -> Result<u32, KeeperEnd> {
         let count = self.tell_count(query);
-        self.counted(count)
+        self.count_fault(count)
     }
 
     fn total(&mut self, query: &Query, column: u16) -> Result<Totals, KeeperEnd> {

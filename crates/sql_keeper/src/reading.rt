@@ -5,7 +5,7 @@ ghost use Rattle.row_queries.specs.Queries.{AreAsked};
 ghost use Rattle.row_queries.specs.TableRows.{AreHeldRows, IsHeldRow, IsRowOf};
 ghost use Rattle.row_queries.specs.declared.rows.Row.{Row as RowValue};
 
-use crate::arranging::arranged;
+use crate::arranging::arrange;
 use crate::changes::Changes;
 use crate::database::Database;
 use crate::lines::row_of;
@@ -357,7 +357,7 @@ pub fn ask(
     } else {
         push_keyed(alloc, &mut rows, database, changes, table, query)?;
     }
-    arranged(alloc, rows, table, query)
+    arrange(alloc, rows, table, query)
 }
 
 /// The body of a row's line, if there is one now.

@@ -41,7 +41,7 @@ fn answer(alloc: Global, file: &str) -> Result<String, Memory> {
     read_is_sound();
     match app_file::read(alloc, file.as_bytes()) {
         Ok(app) => whole(alloc, app),
-        Err(OrMemory::Refused(broken)) => said(alloc, broken),
+        Err(OrMemory::Refused(broken)) => say_break(alloc, broken),
         Err(OrMemory::Memory) => Err(Memory),
     }
 }
@@ -52,8 +52,8 @@ fn whole(alloc: Global, app: AppFile) -> Result<String, Memory>
 {
     let mut text = short_summary(alloc, &app)?;
     let formulas = match read_texts(alloc, app) {
-        Ok((frame, cells)) => named(alloc, frame, &cells)?,
-        Err(AppEnd::Refused(breaks)) => told(alloc, &breaks)?,
+        Ok((frame, cells)) => say_cells(alloc, frame, &cells)?,
+        Err(AppEnd::Refused(breaks)) => say_breaks(alloc, &breaks)?,
         Err(AppEnd::Memory) => return Err(Memory),
     };
     text.push_str(formulas.as_str())?;
@@ -61,14 +61,14 @@ fn whole(alloc: Global, app: AppFile) -> Result<String, Memory>
 }
 
 /// What is broken among the names of an app, or its formulas and its names.
-fn named(alloc: Global, frame: Frame, cells: &[Cell]) -> Result<String, Memory>
+fn say_cells(alloc: Global, frame: Frame, cells: &[Cell]) -> Result<String, Memory>
     requires frame { IsFrame frame }
     requires placed { All (IsPlaced frame) cells.now }
 {
     let functions = fx_sig::all();
     let breaks = name_breaks(alloc, functions, &frame, cells)?;
     if !breaks.is_empty() {
-        return told(alloc, &breaks);
+        return say_breaks(alloc, &breaks);
     }
     let names = names_of(alloc, functions, frame, cells)?;
     let mut text = formulas(alloc, cells)?;
@@ -105,7 +105,7 @@ fn formulas(alloc: Global, cells: &[Cell]) -> Result<String, Memory> {
 }
 
 /// Breaks, one behind another.
-fn told(alloc: Global, breaks: &[Broken]) -> Result<String, Memory> {
+fn say_breaks(alloc: Global, breaks: &[Broken]) -> Result<String, Memory> {
     let mut text = String::new(alloc);
     for broken in breaks {
         text.push_str("; ")?;
@@ -124,8 +124,8 @@ fn short_summary(alloc: Global, app: &AppFile) -> Result<String, Memory> {
     }
 }
 
-fn said(alloc: Global, broken: FileBreak) -> Result<String, Memory> {
-    let broken = broken.broken(alloc)?;
+fn say_break(alloc: Global, broken: FileBreak) -> Result<String, Memory> {
+    let broken = broken.into_broken(alloc)?;
     line(alloc, &broken)
 }
 

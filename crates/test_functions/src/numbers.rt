@@ -42,13 +42,13 @@ pub fn write(page: &mut Page) {
         (-7, i64::MAX),
     ] {
         if let Some(number) = Num::from_units(units) {
-            page.add_made(rounded(page.alloc, number, digits));
+            page.add_made(round_text(page.alloc, number, digits));
         }
     }
 }
 
 // A number rounded in each way.
-fn rounded(alloc: Global, number: Num, digits: i64) -> Result<String, Memory> {
+fn round_text(alloc: Global, number: Num, digits: i64) -> Result<String, Memory> {
     let shown = text(alloc, number)?;
     let near = rounding(alloc, number, digits, Way::Near)?;
     let up = rounding(alloc, number, digits, Way::Up)?;

@@ -19,15 +19,15 @@ fn add_order(page: &mut Page, count: u32, edges: &[(u32, u32)])
     requires { AreBelow count edges.now }
 {
     match order(page.alloc, count, edges) {
-        Ok(numbers) => page.add_made(listed(page.alloc, "in order:", numbers.as_slice())),
+        Ok(numbers) => page.add_made(list_numbers(page.alloc, "in order:", numbers.as_slice())),
         Err(OrderEnd::Cycle(path)) => {
-            page.add_made(listed(page.alloc, "in a circle:", path.as_slice()));
+            page.add_made(list_numbers(page.alloc, "in a circle:", path.as_slice()));
         }
         Err(OrderEnd::Memory) => page.miss_line(),
     }
 }
 
-fn listed(alloc: Global, what: &str, numbers: &[u32]) -> Result<String, Memory> {
+fn list_numbers(alloc: Global, what: &str, numbers: &[u32]) -> Result<String, Memory> {
     let mut line = String::from_str(alloc, what)?;
     for number in numbers {
         line.push_str(format!(in alloc; " {number}")?.as_str())?;

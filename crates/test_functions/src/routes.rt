@@ -94,20 +94,20 @@ fn answer(alloc: Global, routes: &Routes, method: Method, path: &[u8]) -> Result
 // A route and the parts of its path.
 fn text(alloc: Global, route: &Route) -> Result<String, Memory> {
     match route {
-        Route::Begin(name) => named(alloc, "Begin", name),
-        Route::End(name) => named(alloc, "End", name),
-        Route::View(name) => named(alloc, "View", name),
-        Route::Named(name) => named(alloc, "Named", name),
+        Route::Begin(name) => with_name(alloc, "Begin", name),
+        Route::End(name) => with_name(alloc, "End", name),
+        Route::View(name) => with_name(alloc, "View", name),
+        Route::Named(name) => with_name(alloc, "Named", name),
         Route::Items(name, gallery, from) => {
-            let text = named(alloc, "Items", name)?;
+            let text = with_name(alloc, "Items", name)?;
             Ok(format!(in alloc; "{text} {} {from}", gallery.as_str())?)
         }
-        Route::Event(name) => named(alloc, "Event", name),
-        Route::Input(name) => named(alloc, "Input", name),
-        Route::Rows(name) => named(alloc, "Rows", name),
-        Route::Edit(name) => named(alloc, "Edit", name),
+        Route::Event(name) => with_name(alloc, "Event", name),
+        Route::Input(name) => with_name(alloc, "Input", name),
+        Route::Rows(name) => with_name(alloc, "Rows", name),
+        Route::Edit(name) => with_name(alloc, "Edit", name),
         Route::Page(table, after) => {
-            let text = named(alloc, "Page", table)?;
+            let text = with_name(alloc, "Page", table)?;
             Ok(format!(in alloc; "{text} {after}")?)
         }
         Route::Plan => Ok(String::from_str(alloc, "Plan")?),
@@ -116,6 +116,6 @@ fn text(alloc: Global, route: &Route) -> Result<String, Memory> {
 }
 
 // A kind of route and the first part of its path.
-fn named(alloc: Global, kind: &str, name: &Words) -> Result<String, Memory> {
+fn with_name(alloc: Global, kind: &str, name: &Words) -> Result<String, Memory> {
     Ok(format!(in alloc; "{kind} {}", name.as_str())?)
 }

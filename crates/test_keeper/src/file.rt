@@ -18,30 +18,34 @@ pub fn forget(rt: &HostRuntime, name: &str) {
 pub fn run(rt: &HostRuntime, name: &str, text: &str) -> Result<String, Memory> {
     let alloc = rt.alloc();
     match Connection::open(rt, name) {
-        Ok(mut conn) => ran(alloc, &mut conn, text),
-        Err(error) => refused(alloc, error),
+        Ok(mut conn) => run_over(alloc, &mut conn, text),
+        Err(error) => say_error(alloc, error),
     }
 }
 
-fn ran<S: Alter>(alloc: Global, conn: &mut Connection<S>, text: &str) -> Result<String, Memory> {
+fn run_over<S: Alter>(
+    alloc: Global,
+    conn: &mut Connection<S>,
+    text: &str,
+) -> Result<String, Memory> {
     if !text.starts_with("SELECT") {
         return match conn.execute(text, &[]) {
             Ok(_) => Ok(String::from_str(alloc, "done")?),
-            Err(error) => refused(alloc, error),
+            Err(error) => say_error(alloc, error),
         };
     }
     match conn.query_all(text, &[]) {
-        Ok(rows) => listed(alloc, &rows),
-        Err(error) => refused(alloc, error),
+        Ok(rows) => list_rows(alloc, &rows),
+        Err(error) => say_error(alloc, error),
     }
 }
 
-fn refused(alloc: Global, error: Error) -> Result<String, Memory> {
+fn say_error(alloc: Global, error: Error) -> Result<String, Memory> {
     Ok(format!(in alloc; "{error}")?)
 }
 
 /// Rows in a line.
-fn listed(alloc: Global, rows: &[Row]) -> Result<String, Memory> {
+fn list_rows(alloc: Global, rows: &[Row]) -> Result<String, Memory> {
     let mut line = format!(in alloc; "{} rows", rows.len())?;
     for row in rows {
         line.push(';')?;

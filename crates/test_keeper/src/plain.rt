@@ -3,7 +3,7 @@
 ghost use Rattle.std.specs.Prelude.{◌≤◌, length};
 
 use crate::calls::{Ask, Asked, Call};
-use crate::stage::{done, end, listed, put};
+use crate::stage::{end, list_rows, put, say_done};
 use crate::stock::cells;
 use fx_base::Memory;
 use fx_base::plan::FaultPlan;
@@ -120,7 +120,7 @@ impl PlainKeeper {
             rows: copies(self.alloc, &self.now.rows)?,
             last: self.now.last,
         });
-        done(self.alloc, Ok(()))
+        say_done(self.alloc, Ok(()))
     }
 
     fn commit(&mut self) -> Result<String, Memory> {
@@ -131,7 +131,7 @@ impl PlainKeeper {
             self.now = then;
             return end(self.alloc, KeeperEnd::Failed);
         }
-        done(self.alloc, Ok(()))
+        say_done(self.alloc, Ok(()))
     }
 
     fn back(&mut self) -> Result<String, Memory> {
@@ -139,7 +139,7 @@ impl PlainKeeper {
             return self.say("not now");
         };
         self.now = then;
-        done(self.alloc, Ok(()))
+        say_done(self.alloc, Ok(()))
     }
 
     /// Passes over the numbers up to this one.
@@ -192,12 +192,12 @@ impl PlainKeeper {
         if self.plan.next_fails() {
             return end(self.alloc, KeeperEnd::Failed);
         }
-        let mut rows = self.now.asked(self.alloc, ask)?;
+        let mut rows = self.now.rows_for(self.alloc, ask)?;
         if let Some(most) = ask.most {
             rows.truncate(most as usize);
         }
         match ask.of {
-            Asked::Rows | Asked::Page | Asked::Blanks => listed(self.alloc, &rows),
+            Asked::Rows | Asked::Page | Asked::Blanks => list_rows(self.alloc, &rows),
             Asked::Count => Ok(format!(in self.alloc; "{}", rows.len())?),
             Asked::Total => total(self.alloc, &rows),
         }
@@ -207,7 +207,7 @@ impl PlainKeeper {
 impl Rows {
     /// Puts a new row under the next number.
     fn insert(&mut self, name: &str, cells: Cells) -> Result<Put, Memory> {
-        if let Some(refusal) = self.broken(None, name) {
+        if let Some(refusal) = self.refusal_of(None, name) {
             return Ok(Put::Refused(refusal));
         }
         self.last = self.last.saturating_add(1);
@@ -223,7 +223,7 @@ impl Rows {
         let Some(place) = self.rows.iter().position(|row| row.id == id) else {
             return Put::NoRow;
         };
-        if let Some(refusal) = self.broken(Some(id), name) {
+        if let Some(refusal) = self.refusal_of(Some(id), name) {
             return Put::Refused(refusal);
         }
         self.rows[place].cells = cells;
@@ -242,7 +242,7 @@ impl Rows {
     }
 
     /// The first rule that a name breaks in the row of a number, or in a new one.
-    fn broken(&self, id: Option<u32>, name: &str) -> Option<RowRefusal> {
+    fn refusal_of(&self, id: Option<u32>, name: &str) -> Option<RowRefusal> {
         let (column, rule) = if name.is_empty() {
             (Some(1), RowRule::Required)
         } else if is_taken(&self.rows, id, name) {
@@ -258,7 +258,7 @@ impl Rows {
     }
 
     /// The rows that are asked, in the order of the question.
-    fn asked(&self, alloc: Global, ask: Ask) -> Result<Vec<Row>, Memory> {
+    fn rows_for(&self, alloc: Global, ask: Ask) -> Result<Vec<Row>, Memory> {
         let mut asked = Vec::new(alloc);
         for row in &self.rows {
             if is_asked(row, ask) {

@@ -7,7 +7,7 @@ use crate::calls::{Call, numbers};
 use crate::cases::Case;
 use crate::file::{forget, run};
 use crate::plain::PlainKeeper;
-use crate::stage::{done, end};
+use crate::stage::{end, say_done};
 use fx_base::Memory;
 use fx_base::plan::FaultPlan;
 use row_keeper::{Keeper, MemoryKeeper};
@@ -61,7 +61,7 @@ fn over_sql(rt: HostRuntime, name: &str) -> Case<SqlKeeper>
 
 /// What one more keeper answers that is attached to a name.
 fn attach(rt: HostRuntime, name: &str) -> Result<String, Memory> {
-    done(rt.alloc(), SqlKeeper::new(rt).attach(name))
+    say_done(rt.alloc(), SqlKeeper::new(rt).attach(name))
 }
 
 impl Played {
@@ -94,7 +94,7 @@ impl Played {
                 Ok(String::new(self.rt.alloc()))
             }
             Call::Skip(number) => self.skip(number),
-            Call::Seen => self.seen(),
+            Call::Seen => self.see(),
             Call::Reopen => {
                 self.reopen();
                 Ok(String::new(self.rt.alloc()))
@@ -136,12 +136,12 @@ impl Played {
         self.is_alone = true;
         self.memory.keeper.skip_to(number);
         self.plain.skip_to(number);
-        done(alloc, Ok(()))
+        say_done(alloc, Ok(()))
     }
 
     /// How many rows have been visited in memory, how many calls have failed there, and how many over SQLite.
-    fn seen(&self) -> Result<String, Memory> {
-        let (visited, faults) = (self.memory.keeper.visited(), self.memory.keeper.faults());
+    fn see(&self) -> Result<String, Memory> {
+        let (visited, faults) = (self.memory.keeper.visits(), self.memory.keeper.faults());
         let others = self
             .sql
             .keeper

@@ -29,7 +29,7 @@ pub fn end(alloc: Global, end: KeeperEnd) -> Result<String, Memory> {
 }
 
 /// Which rule a row breaks.
-fn refused(alloc: Global, refusal: RowRefusal) -> Result<String, Memory> {
+fn say_refusal(alloc: Global, refusal: RowRefusal) -> Result<String, Memory> {
     let rule = match refusal.rule {
         RowRule::Required => "required",
         RowRule::Unique => "unique",
@@ -47,13 +47,13 @@ pub fn put(alloc: Global, put: Result<Put, KeeperEnd>) -> Result<String, Memory>
     match put {
         Ok(Put::Id(id)) => Ok(format!(in alloc; "row {id}")?),
         Ok(Put::NoRow) => Ok(String::from_str(alloc, "no row")?),
-        Ok(Put::Refused(refusal)) => refused(alloc, refusal),
+        Ok(Put::Refused(refusal)) => say_refusal(alloc, refusal),
         Err(why) => end(alloc, why),
     }
 }
 
 /// How a call ended that answers nothing.
-pub fn done(alloc: Global, done: Result<(), KeeperEnd>) -> Result<String, Memory> {
+pub fn say_done(alloc: Global, done: Result<(), KeeperEnd>) -> Result<String, Memory> {
     match done {
         Ok(()) => Ok(String::from_str(alloc, "done")?),
         Err(why) => end(alloc, why),
@@ -61,7 +61,7 @@ pub fn done(alloc: Global, done: Result<(), KeeperEnd>) -> Result<String, Memory
 }
 
 /// That another schema is kept, with its tables and columns.
-fn kept(alloc: Global, schema: &Schema) -> Result<String, Memory> {
+fn say_schema(alloc: Global, schema: &Schema) -> Result<String, Memory> {
     let mut text = String::from_str(alloc, "another is kept:")?;
     let tables = schema.tables.as_slice();
     for table in tables {
@@ -96,7 +96,7 @@ pub fn shape<K: Keeper>(alloc: Global, keeper: &mut K, stage: &mut Stage) -> Res
             stage.is_shaped = true;
             Ok(String::from_str(alloc, "kept")?)
         }
-        Ok(Some(other)) => kept(alloc, &other),
+        Ok(Some(other)) => say_schema(alloc, &other),
         Err(why) => end(alloc, why),
     }
 }
@@ -119,7 +119,7 @@ pub fn shape_other<K: Keeper>(
             stage.is_shaped = false;
             Ok(String::from_str(alloc, "kept")?)
         }
-        Ok(Some(other)) => kept(alloc, &other),
+        Ok(Some(other)) => say_schema(alloc, &other),
         Err(why) => end(alloc, why),
     }
 }
@@ -134,7 +134,7 @@ pub fn begin<K: Keeper>(alloc: Global, keeper: &mut K, stage: &mut Stage) -> Res
     }
     let begun = keeper.begin();
     stage.is_begun = begun.is_ok();
-    done(alloc, begun)
+    say_done(alloc, begun)
 }
 
 /// Ends a transaction with its changes.
@@ -147,7 +147,7 @@ pub fn commit<K: Keeper>(alloc: Global, keeper: &mut K, stage: &mut Stage) -> Re
     }
     let ended = keeper.commit();
     stage.is_begun = false;
-    done(alloc, ended)
+    say_done(alloc, ended)
 }
 
 /// Ends a transaction without its changes.
@@ -160,7 +160,7 @@ pub fn back<K: Keeper>(alloc: Global, keeper: &mut K, stage: &mut Stage) -> Resu
     }
     keeper.back();
     stage.is_begun = false;
-    done(alloc, Ok(()))
+    say_done(alloc, Ok(()))
 }
 
 /// Puts a new row.
@@ -236,7 +236,7 @@ pub fn rows<K: Keeper>(
         return Ok(String::from_str(alloc, "not now")?);
     }
     match keeper.scan(&query) {
-        Ok(answer) => listed(alloc, answer.rows.as_slice()),
+        Ok(answer) => list_rows(alloc, answer.rows.as_slice()),
         Err(why) => end(alloc, why),
     }
 }
@@ -258,7 +258,7 @@ pub fn pages<K: Keeper>(
         return Ok(String::from_str(alloc, "not now")?);
     }
     match keeper.scan(&query) {
-        Ok(answer) => listed(alloc, answer.rows.as_slice()),
+        Ok(answer) => list_rows(alloc, answer.rows.as_slice()),
         Err(why) => end(alloc, why),
     }
 }
@@ -309,7 +309,7 @@ pub fn total<K: Keeper>(
 }
 
 /// Rows in a line.
-pub fn listed(alloc: Global, rows: &[Row]) -> Result<String, Memory> {
+pub fn list_rows(alloc: Global, rows: &[Row]) -> Result<String, Memory> {
     let mut line = format!(in alloc; "{} rows", rows.len())?;
     for row in rows {
         line.push_str("; ")?;

@@ -33,7 +33,7 @@ impl<K: Keeper> AskedKeeper<K> {
     }
 
     /// The questions, as `count 0, scan 1`: each with the number of its table.
-    pub fn asked(&self, alloc: Global) -> Result<String, AllocError> {
+    pub fn questions(&self, alloc: Global) -> Result<String, AllocError> {
         let mut text = String::new(alloc);
         for question in &self.asked {
             if !text.is_empty() {

@@ -51,8 +51,8 @@ pub fn run_row(alloc: Global, row: &Row) -> Result<Ended, AllocError> {
         status,
         said: Vec::from_slice(alloc, out.written())?,
         answered: answers(alloc, &doors, row.earlier.len())?,
-        visited: row.counts_visits.then_some(keeper.keeper.visited()),
-        asked: row.writes_asked.then_some(keeper.asked(alloc)?),
+        visited: row.counts_visits.then_some(keeper.keeper.visits()),
+        asked: row.writes_asked.then_some(keeper.questions(alloc)?),
     })
 }
 

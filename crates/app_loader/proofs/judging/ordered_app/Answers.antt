@@ -4,8 +4,8 @@ use Rattle.depend_graph.specs.Order.{IsOrder}
 use Rattle.app_loader.proofs.Ended.{ordered, right_order}
 use Rattle.app_loader.proofs.judging.ordered_app.Goals as goal
 
-pub supported-requires-clause-order : goal.supported-requires-clause-order
-supported-requires-clause-order c =
+pub support_all-requires-clause-order : goal.support_all-requires-clause-order
+support_all-requires-clause-order c =
     let count : c.in-Ok.count ≡ length c.args.infos = search rules in
     let edges : c.deref.result.now ≡ edges_of c.args.names c.args.infos = c.deref.ensures.value ∙ c.in_ok-edges.ensures ∙ ap (edges_of c.args.names) c.as_slice.ensures in
     subst (λ (ns : List ℕ). IsOrder (length c.args.infos) (edges_of c.args.names c.args.infos) ns) (sym c.deref-in-Ok-order.ensures.value)

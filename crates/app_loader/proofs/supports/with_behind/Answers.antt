@@ -18,8 +18,8 @@ pub returns-in-Some-get-clause-exact : goal.returns-in-Some-get-clause-exact
 returns-in-Some-get-clause-exact c =
     let there : slice_get c.args.supports.now c.in-Some.cell ≡ Some c.in-Some-get.support.now =
     slice_get_read c.args.supports.now (length c.args.supports.now) c.in-Some.cell c.in-Some-get.support.now refl c.in-Some-get.ensures.lookup.3.0 c.in-Some-get.ensures.lookup.1 in
-    IfOk-weaker c.merged.result (λ r. (s : Source) → IsAmong s r.items ↔ (IsAmong s c.deref.result.now ⊎ IsAmong s c.as_slice.result.now))
+    IfOk-weaker c.merge.result (λ r. (s : Source) → IsAmong s r.items ↔ (IsAmong s c.deref.result.now ⊎ IsAmong s c.as_slice.result.now))
     (λ r. (s : Source) → IsAmong s r.items ↔ (IsAmong s c.args.sources.items ⊎ IsBehind c.args.names.now c.args.supports.now c.args.source s))
     (λ r h. behind_there c.args.names.now c.args.supports.now c.args.source c.in-Some.cell c.in-Some-get.support.now c.as_slice.result.now c.args.sources.items c.deref.result.now r.items (sym c.cell_behind.ensures ∙ c.in-Some.is) there
     c.as_slice.ensures c.deref.ensures.value h)
-    c.merged.ensures.exact
+    c.merge.ensures.exact

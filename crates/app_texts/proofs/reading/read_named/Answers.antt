@@ -10,7 +10,7 @@ returns-clause-formulas c =
     let breaks = c.put_formulas.new.breaks.items in
     let all : AreNamedAt bare c.args.source.now cells breaks =
     all_named f c.args.source.now c.new-cells.result.items cells c.new-breaks.result.items breaks c.bare-frame.ensures c.new-cells.ensures.items c.new-breaks.ensures.items c.in_ok-put_formulas.ensures in
-    IfOk-weaker c.unbroken.result _ _ (λ r h. named_ok c.args.source.now f r.0 cells r.1.items breaks all c.bare-frame.ensures h.0 h.1 h.2) c.unbroken.ensures.ok
+    IfOk-weaker c.unless_broken.result _ _ (λ r h. named_ok c.args.source.now f r.0 cells r.1.items breaks all c.bare-frame.ensures h.0 h.1 h.2) c.unless_broken.ensures.ok
 
 pub returns-clause-placed : goal.returns-clause-placed
 returns-clause-placed c =
@@ -19,7 +19,7 @@ returns-clause-placed c =
     let breaks = c.put_formulas.new.breaks.items in
     let all : AreNamedAt bare c.args.source.now cells breaks =
     all_named f c.args.source.now c.new-cells.result.items cells c.new-breaks.result.items breaks c.bare-frame.ensures c.new-cells.ensures.items c.new-breaks.ensures.items c.in_ok-put_formulas.ensures in
-    IfOk-weaker c.unbroken.result _ _ (λ r h. named_ok_placed c.args.source.now f r.0 cells r.1.items breaks all c.bare-frame.ensures h.0 h.1) c.unbroken.ensures.ok
+    IfOk-weaker c.unless_broken.result _ _ (λ r h. named_ok_placed c.args.source.now f r.0 cells r.1.items breaks all c.bare-frame.ensures h.0 h.1) c.unless_broken.ensures.ok
 
 pub returns-clause-broken : goal.returns-clause-broken
 returns-clause-broken c =
@@ -28,4 +28,4 @@ returns-clause-broken c =
     let breaks = c.put_formulas.new.breaks.items in
     let all : AreNamedAt bare c.args.source.now cells breaks =
     all_named f c.args.source.now c.new-cells.result.items cells c.new-breaks.result.items breaks c.bare-frame.ensures c.new-cells.ensures.items c.new-breaks.ensures.items c.in_ok-put_formulas.ensures in
-    IfErr-weaker c.unbroken.result _ _ (λ e. tells_all_weaker e _ _ (λ bs h. named_err c.args.source.now cells breaks bs all h.0 h.1)) c.unbroken.ensures.broken
+    IfErr-weaker c.unless_broken.result _ _ (λ e. tells_all_weaker e _ _ (λ bs h. named_err c.args.source.now cells breaks bs all h.0 h.1)) c.unless_broken.ensures.broken

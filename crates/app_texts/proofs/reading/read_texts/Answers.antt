@@ -24,13 +24,13 @@ returns-clause-formulas c =
     let all : AreFormulasOf a (frame_of a) cells breaks =
     all_formulas a f c.in_ok-texts.texts.items c.new-cells.result.items c.put_formulas.new.cells.items cells c.new-breaks.result.items c.put_formulas.new.breaks.items breaks e c.in_ok-texts.ensures
     c.new-cells.ensures.items c.new-breaks.ensures.items (rw c.as_str.ensures.bytes at c.in_ok-put_formulas.ensures) c.in_ok-put_texts.ensures in
-    IfOk-weaker c.unbroken.result _ _ (λ r h. file_ok a f r.0 cells r.1.items breaks all e h.0 h.1 h.2) c.unbroken.ensures.ok
+    IfOk-weaker c.unless_broken.result _ _ (λ r h. file_ok a f r.0 cells r.1.items breaks all e h.0 h.1 h.2) c.unless_broken.ensures.ok
 
 pub returns-clause-frame : goal.returns-clause-frame
 returns-clause-frame c =
     let a = c.args.file in
     let e : c.in_ok-frame.frame ≡ frame_of a = c.in_ok-frame.ensures ∙ ap (frame_by a.schema a.row_limit) c.as_slice.ensures in
-    IfOk-weaker c.unbroken.result _ _ (λ r h. subst IsFrame (sym (h.0 ∙ e)) (sound_frame a c.requires)) c.unbroken.ensures.ok
+    IfOk-weaker c.unless_broken.result _ _ (λ r h. subst IsFrame (sym (h.0 ∙ e)) (sound_frame a c.requires)) c.unless_broken.ensures.ok
 
 pub returns-clause-placed : goal.returns-clause-placed
 returns-clause-placed c =
@@ -42,7 +42,7 @@ returns-clause-placed c =
     let all : AreFormulasOf a (frame_of a) cells breaks =
     all_formulas a f c.in_ok-texts.texts.items c.new-cells.result.items c.put_formulas.new.cells.items cells c.new-breaks.result.items c.put_formulas.new.breaks.items breaks e c.in_ok-texts.ensures
     c.new-cells.ensures.items c.new-breaks.ensures.items (rw c.as_str.ensures.bytes at c.in_ok-put_formulas.ensures) c.in_ok-put_texts.ensures in
-    IfOk-weaker c.unbroken.result _ _ (λ r h. file_placed a f r.0 cells r.1.items breaks all e h.0 h.1) c.unbroken.ensures.ok
+    IfOk-weaker c.unless_broken.result _ _ (λ r h. file_placed a f r.0 cells r.1.items breaks all e h.0 h.1) c.unless_broken.ensures.ok
 
 pub returns-clause-broken : goal.returns-clause-broken
 returns-clause-broken c =
@@ -54,4 +54,4 @@ returns-clause-broken c =
     let all : AreFormulasOf a (frame_of a) cells breaks =
     all_formulas a f c.in_ok-texts.texts.items c.new-cells.result.items c.put_formulas.new.cells.items cells c.new-breaks.result.items c.put_formulas.new.breaks.items breaks e c.in_ok-texts.ensures
     c.new-cells.ensures.items c.new-breaks.ensures.items (rw c.as_str.ensures.bytes at c.in_ok-put_formulas.ensures) c.in_ok-put_texts.ensures in
-    IfErr-weaker c.unbroken.result _ _ (λ x. tells_all_weaker x _ _ (λ bs h. file_err a cells breaks bs all h.0 h.1)) c.unbroken.ensures.broken
+    IfErr-weaker c.unless_broken.result _ _ (λ x. tells_all_weaker x _ _ (λ bs h. file_err a cells breaks bs all h.0 h.1)) c.unless_broken.ensures.broken

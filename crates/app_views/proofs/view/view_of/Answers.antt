@@ -17,13 +17,13 @@ returns-clause-shows g c =
     let before : Keeping = keeping (g.K.Keeper.told c.refresh.new.keeper) (g.K.Keeper.began c.refresh.new.keeper) (g.K.Keeper.shaped c.refresh.new.keeper) (g.K.Keeper.in_transaction c.refresh.new.keeper) (g.K.Keeper.marks c.refresh.new.keeper) (g.K.Keeper.visited c.refresh.new.keeper) (g.K.Keeper.loan c.refresh.new.keeper) in
     let after : Keeping = keeping (g.K.Keeper.told c.view_by.new.keeper) (g.K.Keeper.began c.view_by.new.keeper) (g.K.Keeper.shaped c.view_by.new.keeper) (g.K.Keeper.in_transaction c.view_by.new.keeper) (g.K.Keeper.marks c.view_by.new.keeper) (g.K.Keeper.visited c.view_by.new.keeper) (g.K.Keeper.loan c.view_by.new.keeper) in
     let looked : AreLookedAt c.args.app.now (is_on c.args.app.now.names c.args.session.now.screen) c.in_ok-roots.roots.items = looked_on c.args.app.now c.screen.result c.args.session.now.screen c.in_ok-roots.roots.items c.screen.ensures c.in_ok-roots.ensures in
-    let today : IsToday c.args.moment c.valued.result.now.day = subst (λ (v : Values). IsToday c.args.moment v.day) (sym c.valued.ensures) (subst (IsToday c.args.moment) (sym c.refresh.ensures.day) c.requires.day) in
+    let today : IsToday c.args.moment c.values.result.now.day = subst (λ (v : Values). IsToday c.args.moment v.day) (sym c.values.ensures) (subst (IsToday c.args.moment) (sym c.refresh.ensures.day) c.requires.day) in
     IfOk-weaker c.view_by.result _ _ (λ v h right tables heard.
     let p : Present = present c.args.app.now c.args.session.now tables c.args.moment in
     let fresh = c.in_ok-refresh.ensures.fresh right in
     record {
-      values = value_of c.valued.result.now;
-      fresh = subst (λ (v : Values). AreFreshFor p (value_of v) (is_on c.args.app.now.names c.args.session.now.screen)) (sym c.valued.ensures)
+      values = value_of c.values.result.now;
+      fresh = subst (λ (v : Values). AreFreshFor p (value_of v) (is_on c.args.app.now.names c.args.session.now.screen)) (sym c.values.ensures)
           (fresh_for p c.refresh.new.self (is_on c.args.app.now.names c.args.session.now.screen) c.in_ok-roots.roots.items c.refresh.ensures.order looked (λ k among. fresh tables k (heard_before before after c.view_by.ensures.read tables heard) (subst (λ ks. Contains ks k) (sym c.deref.ensures.value) among)));
       shows = h c.args.moment tables today heard;
     })
@@ -52,7 +52,7 @@ returns-clause-visits g c =
     let before : Keeping = keeping (g.K.Keeper.told c.refresh.new.keeper) (g.K.Keeper.began c.refresh.new.keeper) (g.K.Keeper.shaped c.refresh.new.keeper) (g.K.Keeper.in_transaction c.refresh.new.keeper) (g.K.Keeper.marks c.refresh.new.keeper) (g.K.Keeper.visited c.refresh.new.keeper) (g.K.Keeper.loan c.refresh.new.keeper) in
     let after : Keeping = keeping (g.K.Keeper.told c.view_by.new.keeper) (g.K.Keeper.began c.view_by.new.keeper) (g.K.Keeper.shaped c.view_by.new.keeper) (g.K.Keeper.in_transaction c.view_by.new.keeper) (g.K.Keeper.marks c.view_by.new.keeper) (g.K.Keeper.visited c.view_by.new.keeper) (g.K.Keeper.loan c.view_by.new.keeper) in
     let looked : AreLookedAt c.args.app.now (is_on c.args.app.now.names c.args.session.now.screen) c.in_ok-roots.roots.items = looked_on c.args.app.now c.screen.result c.args.session.now.screen c.in_ok-roots.roots.items c.screen.ensures c.in_ok-roots.ensures in
-    let today : IsToday c.args.moment c.valued.result.now.day = subst (λ (v : Values). IsToday c.args.moment v.day) (sym c.valued.ensures) (subst (IsToday c.args.moment) (sym c.refresh.ensures.day) c.requires.day) in
+    let today : IsToday c.args.moment c.values.result.now.day = subst (λ (v : Values). IsToday c.args.moment v.day) (sym c.values.ensures) (subst (IsToday c.args.moment) (sym c.refresh.ensures.day) c.requires.day) in
     IfOk-weaker c.view_by.result _ _ (λ v h right room t told.
     let p : Present = present c.args.app.now c.args.session.now (Some (rows_of t.states)) c.args.moment in
     let fresh = c.in_ok-refresh.ensures.fresh right in
@@ -62,8 +62,8 @@ returns-clause-visits g c =
       between = c.refresh.new.steps;
       mid = g.K.Keeper.visited c.refresh.new.keeper;
       cells = c.in_ok-refresh.ensures.visits right room t (told_back before after c.view_by.ensures.read t told);
-      values = value_of c.valued.result.now;
-      fresh = subst (λ (v : Values). AreFreshFor p (value_of v) (is_on c.args.app.now.names c.args.session.now.screen)) (sym c.valued.ensures)
+      values = value_of c.values.result.now;
+      fresh = subst (λ (v : Values). AreFreshFor p (value_of v) (is_on c.args.app.now.names c.args.session.now.screen)) (sym c.values.ensures)
           (fresh_for p c.refresh.new.self (is_on c.args.app.now.names c.args.session.now.screen) c.in_ok-roots.roots.items c.refresh.ensures.order looked
           (λ k among. fresh (Some (rows_of t.states)) k (heard_before before after c.view_by.ensures.read (Some (rows_of t.states)) (ap rows_told told)) (subst (λ ks. Contains ks k) (sym c.deref.ensures.value) among)));
       items = h c.args.moment today t told;

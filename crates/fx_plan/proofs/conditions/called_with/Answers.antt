@@ -6,7 +6,7 @@ use Rattle.fx_plan.specs.QueryExpressions.{compared}
 
 pub returns-in_default : goal.returns-in_default
 returns-in_default c =
-    IfOk-weaker c.compared.result _ _
+    IfOk-weaker c.comparison_pattern.result _ _
     (λ r h. h ∙ ap (λ m. compared c.args.table.now c.args.scope m c.args.left.now c.args.right.now c.args.constants.now) c.comparison_by.ensures
     ∙ compared_else c.args.table.now c.args.scope c.args.fun c.args.left.now c.args.right.now c.args.constants.now c.in_default.not-StartsWith c.in_default.not-In)
-    c.compared.ensures
+    c.comparison_pattern.ensures

@@ -60,14 +60,14 @@ list_parts-returns-in_ok-list-in-Over t c =
     table (cc (c.formulas_of-scoped.ensures, c.as_slice-behind.ensures)) (cc (h, c.as_slice-behind.ensures)))
     c.list_among-in-Over.ensures
 
-pub list_parts-returns-in_ok-opened-in-With : goal.list_parts-returns-in_ok-opened-in-With
-list_parts-returns-in_ok-opened-in-With t c =
+pub list_parts-returns-in_ok-open-in-With : goal.list_parts-returns-in_ok-open-in-With
+list_parts-returns-in_ok-open-in-With t c =
     let ts = c.args.schema.now.tables in
     let p = position c.args.place.now in
     let around = position c.within-inside-in-With.result in
-    let behind = position c.in_ok-opened-in-With.field-0 in
+    let behind = position c.in_ok-open-in-With.field-0 in
     let scope : c.list-in-With.new.sites.items ≡ listed c.args.sites.now.items (uses_in ts around c.in-With.record.value) = cc (c.in_ok-list-in-With.ensures) in
     on_ok_weaker c.list-in-With-2.result
     (λ h. with_listed ts p c.in-With.record.value c.in-With.formula.value c.args.core.now around behind c.args.sites.now.items c.list-in-With.new.sites.items _
-    (sym (ap branch c.in-With.is) ∙ c.core.view_is) c.within-inside-in-With.ensures c.in_ok-opened-in-With.ensures scope (cc h))
+    (sym (ap branch c.in-With.is) ∙ c.core.view_is) c.within-inside-in-With.ensures c.in_ok-open-in-With.ensures scope (cc h))
     c.list-in-With-2.ensures

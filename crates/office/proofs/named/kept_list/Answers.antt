@@ -16,8 +16,8 @@ pub returns-clause-list : goal.returns-clause-list
 returns-clause-list g c = λ right tables heard.
     let p : Present = present c.args.app.now c.args.session.now tables c.args.moment in
     let fresh = c.in_ok-refresh.ensures.fresh right in (
-      value_of c.valued.result.now,
-      subst (λ (v : Values). AreNamedFresh p (value_of v)) (sym c.valued.ensures)
+      value_of c.values.result.now,
+      subst (λ (v : Values). AreNamedFresh p (value_of v)) (sym c.values.ensures)
           (named_fresh p (value_of c.refresh.new.self.values) (λ k among. fresh tables k heard (subst (λ ks. Contains ks k) (sym (c.deref.ensures.value ∙ c.in_ok-roots.ensures)) among))),
       c.in_ok-name_values.ensures,
     )

@@ -15,6 +15,6 @@ returns-in-Some-clause-done g c =
 
 pub returns-in-None-clause-done : goal.returns-in-None-clause-done
 returns-in-None-clause-done g c =
-    unplaced_goes c.args.schema.now.tables c.args.at c.args.change.now None c.refused.result
+    unplaced_goes c.args.schema.now.tables c.args.at c.args.change.now None c.refuse.result
     (IsLost (g.K.Keeper.marks c.args.keeper.now) (g.K.Keeper.marks c.args.keeper.now)) (g.K.Keeper.told c.args.keeper.now)
-    (c.in-None.ensures.place ∙ ap (λ n. place_of n c.args.schema.now.tables) c.table.ensures) refl c.refused.ensures
+    (c.in-None.ensures.place ∙ ap (λ n. place_of n c.args.schema.now.tables) c.table.ensures) refl c.refuse.ensures

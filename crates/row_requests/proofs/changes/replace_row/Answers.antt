@@ -24,7 +24,7 @@ returns-in-None-clause-done g c =
     let now = g.K.Keeper.told c.find_row.new.keeper in
     let columns = columns_at c.args.schema.now.tables c.args.table in
     let ordered = rows_in_order c.args.schema.now c.args.table c.requires.table before c.requires.sound in
-    unfound_goes columns c.args.at c.args.table c.args.id c.args.given.now lost before now c.in_ok-row.field-0 c.refused.result c.in-None.is c.refused.ensures ordered c.in_ok-row.ensures.found
+    unfound_goes columns c.args.at c.args.table c.args.id c.args.given.now lost before now c.in_ok-row.field-0 c.refuse.result c.in-None.is c.refuse.ensures ordered c.in_ok-row.ensures.found
 
 pub returns-in-Some-judged-clause-done : goal.returns-in-Some-judged-clause-done
 returns-in-Some-judged-clause-done g c =

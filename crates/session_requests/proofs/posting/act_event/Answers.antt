@@ -47,8 +47,8 @@ returns-clause-done g c =
       values = values;
       fresh = ∥∥₁_map c.in_ok-look_for_event.ensures.fresh (λ f. f (rows_told seen) (heard_before second third c.in_ok-verdict.ensures.read (rows_told seen) (heard_told seen)));
       verdict = c.in_ok-verdict.verdict;
-      judged = subst (λ (w : Values). IsVerdict (present app c.args.session (rows_told seen) c.args.moment) (cells.value_of w) (event_target app.names c.args.session (cells.value_of w) c.args.event.now) c.in_ok-verdict.verdict) c.valued.ensures
-          (c.in_ok-verdict.ensures.judged c.args.moment (subst (λ (w : Values). IsToday c.args.moment w.day) (sym c.valued.ensures) c.look_for_event.ensures.cached.day));
+      judged = subst (λ (w : Values). IsVerdict (present app c.args.session (rows_told seen) c.args.moment) (cells.value_of w) (event_target app.names c.args.session (cells.value_of w) c.args.event.now) c.in_ok-verdict.verdict) c.values.ensures
+          (c.in_ok-verdict.ensures.judged c.args.moment (subst (λ (w : Values). IsToday c.args.moment w.day) (sym c.values.ensures) c.look_for_event.ensures.cached.day));
       ends = event_lost before judged now app c.args.moment c.args.name.now c.args.body.now c.args.event.now.seq c.args.session values c.in_ok-verdict.verdict seen (told c.end_event.new.keeper) c.args.sessions.now.items c.end_event.new.sessions.items (said r) read.later h;
     }) c.end_event.ensures.done
 
@@ -96,8 +96,8 @@ returns-clause-wrote g c =
         values = values;
         fresh = ∥∥₁_map c.in_ok-look_for_event.ensures.fresh (λ f. f (rows_told seen) (heard_before second third c.in_ok-verdict.ensures.read (rows_told seen) (heard_told seen)));
         verdict = c.in_ok-verdict.verdict;
-        judged = subst (λ (w : Values). IsVerdict (present app c.args.session (rows_told seen) c.args.moment) (cells.value_of w) (event_target app.names c.args.session (cells.value_of w) c.args.event.now) c.in_ok-verdict.verdict) c.valued.ensures
-            (c.in_ok-verdict.ensures.judged c.args.moment (subst (λ (w : Values). IsToday c.args.moment w.day) (sym c.valued.ensures) c.look_for_event.ensures.cached.day));
+        judged = subst (λ (w : Values). IsVerdict (present app c.args.session (rows_told seen) c.args.moment) (cells.value_of w) (event_target app.names c.args.session (cells.value_of w) c.args.event.now) c.in_ok-verdict.verdict) c.values.ensures
+            (c.in_ok-verdict.ensures.judged c.args.moment (subst (λ (w : Values). IsToday c.args.moment w.day) (sym c.values.ensures) c.look_for_event.ensures.cached.day));
         ends = event_lost before judged now app c.args.moment c.args.name.now c.args.body.now c.args.event.now.seq c.args.session values c.in_ok-verdict.verdict seen (told c.end_event.new.keeper) c.args.sessions.now.items c.end_event.new.sessions.items (said r) read.later both.0;
       },
       event_writes_lost before judged now app c.args.moment c.args.session values c.in_ok-verdict.verdict seen (told c.end_event.new.keeper) c.end_event.new.wrote.items read.later both.1,
@@ -129,8 +129,8 @@ returns-clause-only g c =
     let values = value_of c.look_for_event.new.cache in
     let verdict = c.in_ok-verdict.verdict in
     let p = present app c.args.session (rows_told (told third)) c.args.moment in
-    let judged = subst (λ (w : Values). IsVerdict p (cells.value_of w) (event_target app.names c.args.session (cells.value_of w) c.args.event.now) verdict) c.valued.ensures
-    (c.in_ok-verdict.ensures.judged c.args.moment (subst (λ (w : Values). IsToday c.args.moment w.day) (sym c.valued.ensures) c.look_for_event.ensures.cached.day)) in
+    let judged = subst (λ (w : Values). IsVerdict p (cells.value_of w) (event_target app.names c.args.session (cells.value_of w) c.args.event.now) verdict) c.values.ensures
+    (c.in_ok-verdict.ensures.judged c.args.moment (subst (λ (w : Values). IsToday c.args.moment w.day) (sym c.values.ensures) c.look_for_event.ensures.cached.day)) in
     only_after (marks first) (marks second) (marks last) (EventMayWrite c.args.app.now c.args.event.now) (EventMayWrite c.args.app.now c.args.event.now) c.end_event.new.wrote.items (told first) (told second) (told last) (λ x h. h)
     c.look_for_event.ensures.read.later (later_then (marks second) (marks third) (marks last) c.judge_event.ensures.read.later c.end_event.ensures.cause.later) c.look_for_event.ensures.read.told
     (only_after (marks second) (marks third) (marks last) (TargetMayWrite app verdict) (EventMayWrite c.args.app.now c.args.event.now) c.end_event.new.wrote.items (told second) (told third) (told last)
@@ -172,6 +172,6 @@ returns-clause-cut g c =
     (stays_two (marks first) (marks second) (marks third) (told first) (told second) (told third) c.look_for_event.ensures.read.later c.judge_event.ensures.read.later c.look_for_event.ensures.read.told c.judge_event.ensures.read.told)
     c.one_value.ensures c.args.event.now verdict
     (∥∥₁_map c.in_ok-look_for_event.ensures.fresh (λ f. f seen (heard_before before after c.in_ok-verdict.ensures.read seen (heard_told (told third)))))
-    (subst (λ (w : Values). IsVerdict (present app c.args.session seen c.args.moment) (cells.value_of w) (event_target app.names c.args.session (cells.value_of w) c.args.event.now) verdict) c.valued.ensures
-    (c.in_ok-verdict.ensures.judged c.args.moment (subst (λ (w : Values). IsToday c.args.moment w.day) (sym c.valued.ensures) c.look_for_event.ensures.cached.day)))
+    (subst (λ (w : Values). IsVerdict (present app c.args.session seen c.args.moment) (cells.value_of w) (event_target app.names c.args.session (cells.value_of w) c.args.event.now) verdict) c.values.ensures
+    (c.in_ok-verdict.ensures.judged c.args.moment (subst (λ (w : Values). IsToday c.args.moment w.day) (sym c.values.ensures) c.look_for_event.ensures.cached.day)))
     c.end_event.ensures.cut

@@ -21,7 +21,7 @@ use Rattle.session_requests.proofs.posting.act_input.Goals as goal
 
 pub end_input-requires-clause-verdict : goal.end_input-requires-clause-verdict
 end_input-requires-clause-verdict g c =
-    (c.args.input, input_over c.args.app.now.names c.args.session c.args.input c.as_slice-values.result.now c.look_for_input.new.cache.values c.input_target-verdict.result (c.as_slice-values.ensures ∙ ap (λ (w : Values). w.cells) c.valued.ensures) (c.input_target-verdict.ensures.is c.args.session (sym c.screen.ensures)))
+    (c.args.input, input_over c.args.app.now.names c.args.session c.args.input c.as_slice-values.result.now c.look_for_input.new.cache.values c.input_target-verdict.result (c.as_slice-values.ensures ∙ ap (λ (w : Values). w.cells) c.values.ensures) (c.input_target-verdict.ensures.is c.args.session (sym c.screen.ensures)))
 
 pub returns-clause-done : goal.returns-clause-done
 returns-clause-done g c =
@@ -34,7 +34,7 @@ returns-clause-done g c =
     let valued = marks c.look_for_input.new.keeper in
     let now = marks c.end_input.new.keeper in
     let read = c.look_for_input.ensures.read in
-    let is = input_over app.names c.args.session c.args.input c.as_slice-values.result.now c.look_for_input.new.cache.values c.input_target-verdict.result (c.as_slice-values.ensures ∙ ap (λ (w : Values). w.cells) c.valued.ensures) (c.input_target-verdict.ensures.is c.args.session (sym c.screen.ensures)) in
+    let is = input_over app.names c.args.session c.args.input c.as_slice-values.result.now c.look_for_input.new.cache.values c.input_target-verdict.result (c.as_slice-values.ensures ∙ ap (λ (w : Values). w.cells) c.values.ensures) (c.input_target-verdict.ensures.is c.args.session (sym c.screen.ensures)) in
     IfOk-weaker c.end_input.result _ _ (λ r h. record {
       session = c.args.session;
       found = c.requires.found;
@@ -66,7 +66,7 @@ returns-clause-wrote g c =
     let valued = marks c.look_for_input.new.keeper in
     let now = marks c.end_input.new.keeper in
     let read = c.look_for_input.ensures.read in
-    let is = input_over app.names c.args.session c.args.input c.as_slice-values.result.now c.look_for_input.new.cache.values c.input_target-verdict.result (c.as_slice-values.ensures ∙ ap (λ (w : Values). w.cells) c.valued.ensures) (c.input_target-verdict.ensures.is c.args.session (sym c.screen.ensures)) in
+    let is = input_over app.names c.args.session c.args.input c.as_slice-values.result.now c.look_for_input.new.cache.values c.input_target-verdict.result (c.as_slice-values.ensures ∙ ap (λ (w : Values). w.cells) c.values.ensures) (c.input_target-verdict.ensures.is c.args.session (sym c.screen.ensures)) in
     IfOk-weaker c.end_input.result _ _ (λ r both. (
       record {
         session = c.args.session;
@@ -94,7 +94,7 @@ returns-clause-only g c =
     let first = c.args.keeper.now in
     let second = c.look_for_input.new.keeper in
     let last = c.end_input.new.keeper in
-    let is = input_over app.names c.args.session c.args.input c.as_slice-values.result.now c.look_for_input.new.cache.values c.input_target-verdict.result (c.as_slice-values.ensures ∙ ap (λ (w : Values). w.cells) c.valued.ensures) (c.input_target-verdict.ensures.is c.args.session (sym c.screen.ensures)) in
+    let is = input_over app.names c.args.session c.args.input c.as_slice-values.result.now c.look_for_input.new.cache.values c.input_target-verdict.result (c.as_slice-values.ensures ∙ ap (λ (w : Values). w.cells) c.values.ensures) (c.input_target-verdict.ensures.is c.args.session (sym c.screen.ensures)) in
     only_after (marks first) (marks second) (marks last) (GivenMayWrite app c.input_target-verdict.result) (InputMayWrite c.args.app.now c.args.input) c.end_input.new.wrote.items (told first) (told second) (told last)
     (λ x may. input_may app c.args.session (value_of c.look_for_input.new.cache) c.args.input c.input_target-verdict.result x is may) c.look_for_input.ensures.read.later c.end_input.ensures.cause.later c.look_for_input.ensures.read.told c.end_input.ensures.only
 
@@ -112,7 +112,7 @@ returns-clause-cut g c =
     let first = c.args.keeper.now in
     let second = c.look_for_input.new.keeper in
     let last = c.end_input.new.keeper in
-    let is = input_over app.names c.args.session c.args.input c.as_slice-values.result.now c.look_for_input.new.cache.values c.input_target-verdict.result (c.as_slice-values.ensures ∙ ap (λ (w : Values). w.cells) c.valued.ensures) (c.input_target-verdict.ensures.is c.args.session (sym c.screen.ensures)) in
+    let is = input_over app.names c.args.session c.args.input c.as_slice-values.result.now c.look_for_input.new.cache.values c.input_target-verdict.result (c.as_slice-values.ensures ∙ ap (λ (w : Values). w.cells) c.values.ensures) (c.input_target-verdict.ensures.is c.args.session (sym c.screen.ensures)) in
     input_cut c.fitting_holds.ensures c.one_fresh_at.ensures (marks first) (marks second) (marks last) app c.args.moment c.args.name.now c.args.session (value_of c.look_for_input.new.cache) c.args.sessions.now.items c.end_input.new.wrote.items
     (told first) (told second) (told last) c.end_input.result c.requires.sound c.requires.fits c.requires.found c.requires.rows
     c.look_for_input.ensures.read.later c.end_input.ensures.cause.later c.look_for_input.ensures.read.told c.args.input c.input_target-verdict.result

@@ -38,15 +38,15 @@ returns-clause-accepts g c =
       runs = subst (λ (s : SessionState). Goes (IsLost (marks c.args.keeper.now) (marks c.run.new.keeper))
           (λ (t u : Tables). Runs c.args.app.now c.args.moment c.args.trigger (option_map view c.args.item) (scene t s) value (scene u end)) (told c.args.keeper.now) (told c.run.new.keeper))
           (is_begun c.args.session c.take_notices.new.self c.take_navigated.new.self c.take_notices.ensures.none c.take_navigated.ensures.taken) c.in_ok-value.ensures.done;
-      said_is = c.in_ok-replied.ensures.said;
-      left = c.in_ok-replied.ensures.left;
-      fits = fits_quiet c.args.app.now.names end c.in_ok-replied.field-0.session c.in_ok-replied.ensures.left c.in_ok-value.ensures.fits;
+      said_is = c.in_ok-accept_reply.ensures.said;
+      left = c.in_ok-accept_reply.ensures.left;
+      fits = fits_quiet c.args.app.now.names end c.in_ok-accept_reply.field-0.session c.in_ok-accept_reply.ensures.left c.in_ok-value.ensures.fits;
     }
 
 pub returns-clause-cached : goal.returns-clause-cached
 returns-clause-cached g c =
-    cached_as c.args.app.now c.run.new.session c.in_ok-replied.field-0.session (g.K.Keeper.told c.run.new.keeper) c.args.moment c.run.new.cache c.requires.sound
-    (quiet_but c.args.app.now.names [] c.run.new.session c.in_ok-replied.field-0.session c.in_ok-replied.ensures.left) c.in_ok-value.ensures.cached
+    cached_as c.args.app.now c.run.new.session c.in_ok-accept_reply.field-0.session (g.K.Keeper.told c.run.new.keeper) c.args.moment c.run.new.cache c.requires.sound
+    (quiet_but c.args.app.now.names [] c.run.new.session c.in_ok-accept_reply.field-0.session c.in_ok-accept_reply.ensures.left) c.in_ok-value.ensures.cached
 
 pub returns-clause-pending : goal.returns-clause-pending
 returns-clause-pending g c =
@@ -58,8 +58,8 @@ returns-in_err-value-clause-pending g c =
     pending_undone c.args.app.now c.run.new.wrote.items c.args.before.now c.run.new.session (g.K.Keeper.began c.run.new.keeper) (g.K.Keeper.told c.run.new.keeper) c.args.moment c.run.new.cache c.requires.sound
     c.run.ensures.but c.run.ensures.later (g.met.K.Keeper.quiet c.run.new.keeper) c.run.ensures.cached
 
-pub returns-in_err-replied-clause-pending : goal.returns-in_err-replied-clause-pending
-returns-in_err-replied-clause-pending g c =
+pub returns-in_err-accept_reply-clause-pending : goal.returns-in_err-accept_reply-clause-pending
+returns-in_err-accept_reply-clause-pending g c =
     pending_undone c.args.app.now c.run.new.wrote.items c.args.before.now c.run.new.session (g.K.Keeper.began c.run.new.keeper) (g.K.Keeper.told c.run.new.keeper) c.args.moment c.run.new.cache c.requires.sound
     c.run.ensures.but c.run.ensures.later (g.met.K.Keeper.quiet c.run.new.keeper) c.run.ensures.cached
 
@@ -84,8 +84,8 @@ returns-in_err-value-clause-cut g c =
     (λ (t u : Tables). AreAll (IsInAll (RequestWrites c.args.app.now c.args.moment c.args.trigger (option_map view c.args.item) (scene t s))) (drop (length c.args.wrote.now.items) c.run.new.wrote.items)) (told c.args.keeper.now) (told c.run.new.keeper))
     (is_begun c.args.session c.take_notices.new.self c.take_navigated.new.self c.take_notices.ensures.none c.take_navigated.ensures.taken) c.in_err-value.ensures.cut)
 
-pub returns-in_err-replied-clause-cut : goal.returns-in_err-replied-clause-cut
-returns-in_err-replied-clause-cut g c =
+pub returns-in_err-accept_reply-clause-cut : goal.returns-in_err-accept_reply-clause-cut
+returns-in_err-accept_reply-clause-cut g c =
     let told = g.K.Keeper.told in
     let marks = g.K.Keeper.marks in
     on_any _ (subst (λ (s : SessionState). Goes (IsLost (marks c.args.keeper.now) (marks c.run.new.keeper))

@@ -4,4 +4,4 @@ use Rattle.app_file.proofs.Fine.{told_leaf}
 use Rattle.app_file.proofs.leaves.BoolPart.read.Goals as goal
 
 pub returns-in-None-clause-bad : goal.returns-in-None-clause-bad
-returns-in-None-clause-bad c = told_leaf as_bool (view c.args.part.now) c.in-None.ensures c.unread.result c.unread.ensures
+returns-in-None-clause-bad c = told_leaf as_bool (view c.args.part.now) c.in-None.ensures c.unreadable.result c.unreadable.ensures

@@ -22,4 +22,4 @@ returns-in-Some-clause-bad g c =
     IfErr-weaker c.read_all.result _ _ (told_list g.T.Element.element_form d ds is) c.read_all.ensures.bad
 
 pub returns-in-None-clause-bad : goal.returns-in-None-clause-bad
-returns-in-None-clause-bad g c = told_no_list g.T.Element.element_form (view c.args.part.now) c.in-None.ensures c.unread.result c.unread.ensures
+returns-in-None-clause-bad g c = told_no_list g.T.Element.element_form (view c.args.part.now) c.in-None.ensures c.unreadable.result c.unreadable.ensures

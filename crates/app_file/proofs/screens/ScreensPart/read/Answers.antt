@@ -6,7 +6,7 @@ use Rattle.app_file.proofs.screens.ScreensPart.read.Goals as goal
 
 pub returns-then-is_empty_list-clause-bad : goal.returns-then-is_empty_list-clause-bad
 returns-then-is_empty_list-clause-bad c =
-    told_no_screen (view c.args.part.now) (sym c.is_empty_list.ensures ∙ c.if-is_empty_list.true) c.unread.result c.unread.ensures
+    told_no_screen (view c.args.part.now) (sym c.is_empty_list.ensures ∙ c.if-is_empty_list.true) c.unreadable.result c.unreadable.ensures
 
 pub returns-in_err-screens-clause-bad : goal.returns-in_err-screens-clause-bad
 returns-in_err-screens-clause-bad c =

@@ -27,8 +27,8 @@ returns-then-all_stand-clause-but g c = left_same c.args.app.now [] c.args.self.
 pub returns-then-all_stand-clause-ticks : goal.returns-then-all_stand-clause-ticks
 returns-then-all_stand-clause-ticks g c = λ room. no_ticks c.args.app.now c.args.roots.now c.args.self.now c.args.self.now c.args.steps.now
 
-pub needed-requires-clause-order : goal.needed-requires-clause-order
-needed-requires-clause-order g c = (c.make_numbers.ensures.numbers c.args.app.now).order c.requires.order
+pub needs_of-requires-clause-order : goal.needs_of-requires-clause-order
+needs_of-requires-clause-order g c = (c.make_numbers.ensures.numbers c.args.app.now).order c.requires.order
 
 pub returns-in_err-marks-clause-order : goal.returns-in_err-marks-clause-order
 returns-in_err-marks-clause-order g c = (c.make_numbers.ensures.numbers c.args.app.now).order c.requires.order

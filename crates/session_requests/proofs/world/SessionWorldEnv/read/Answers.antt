@@ -35,7 +35,7 @@ returns-in_ok-given_value-in_default-clause-value g c =
     other_given (view w.day.now) (grounds (g.A.SoundApp.app w.app.now) w.moment (g.K.Keeper.began w.keeper.now)) w.session.now w.cache.now.values.cells (drop w.earlier w.wrote.now.items) (g.K.Keeper.told w.keeper.now) c.args.source
     (view c.in_ok-given_value-in_default.field-0) (all_fit (g.A.SoundApp.app w.app.now) c.is_sound.ensures) w.fits w.order.fits w.today (λ k e. c.in_default.not-Table k e) c.requires
     (c.in_ok-given_value-in_default.ensures ∙ ap (λ (a : App). told_by (view w.day.now) a.names w.session.now (map view c.as_slice.result.now) c.args.source) c.get-app.ensures
-    ∙ ap (λ (vs : List Data). told_by (view w.day.now) (g.A.SoundApp.app w.app.now).names w.session.now vs c.args.source) (c.as_slice.ensures ∙ ap (λ (v : Values). v.cells) c.valued.ensures))
+    ∙ ap (λ (vs : List Data). told_by (view w.day.now) (g.A.SoundApp.app w.app.now).names w.session.now vs c.args.source) (c.as_slice.ensures ∙ ap (λ (v : Values). v.cells) c.values.ensures))
 
 pub invariant_of-self-clause-right : goal.invariant_of-self-clause-right
 invariant_of-self-clause-right g c =

@@ -1,6 +1,6 @@
 use Rattle.std.proofs.Common.{◌≡◌, ◌+◌, ◌++◌, length}
 use Rattle.app_loader.proofs.Merging.{merge}
-use Rattle.app_loader.proofs.supports.merged.Given as goal
+use Rattle.app_loader.proofs.supports.merge.Given as goal
 
 -- what is merged, before what is left merged, is all
 abbrev pub invariant-loop-one : goal.invariant-loop-one

@@ -1,22 +1,22 @@
 use Rattle.std.proofs.Common.{◌≡◌, sym, ◌∙◌}
 use Rattle.app_loader.proofs.Merging.{merge, merge_equal, merge_greater, merge_left, merge_less, merge_right, merged_has, merged_rises}
-use Rattle.app_loader.proofs.supports.merged.Goals as goal
-use Rattle.app_loader.proofs.supports.merged.Goals.{In_ok-extend_from_slice, In_ok-extend_from_slice-2}
+use Rattle.app_loader.proofs.supports.merge.Goals as goal
+use Rattle.app_loader.proofs.supports.merge.Goals.{In_ok-extend_from_slice, In_ok-extend_from_slice-2}
 
 pub loop-one-preserved-in-Less : goal.loop-one-preserved-in-Less
 loop-one-preserved-in-Less c =
     merge_less c.loop-one.all.items c.push.new.self.items c.loop-one.left.now c.loop-one.right.now c.in-Some.ones.now c.in-Some-split_first.others.now (merge c.args.left.now c.args.right.now) c.in-Some.one.now c.in-Some-split_first.other.now
-    c.in-Some.ensures.cases.0 c.in-Some-split_first.ensures.cases.0 c.loop-one.invariant (sym c.compared.ensures ∙ c.in-Less.is) c.in_ok-push-in-Less.ensures.items
+    c.in-Some.ensures.cases.0 c.in-Some-split_first.ensures.cases.0 c.loop-one.invariant (sym c.compare.ensures ∙ c.in-Less.is) c.in_ok-push-in-Less.ensures.items
 
 pub loop-one-preserved-in-Equal : goal.loop-one-preserved-in-Equal
 loop-one-preserved-in-Equal c =
     merge_equal c.loop-one.all.items c.loop-one.all.items c.loop-one.left.now c.loop-one.right.now c.in-Some.ones.now c.in-Some-split_first.others.now (merge c.args.left.now c.args.right.now) c.in-Some.one.now c.in-Some-split_first.other.now
-    c.in-Some.ensures.cases.0 c.in-Some-split_first.ensures.cases.0 c.loop-one.invariant (sym c.compared.ensures ∙ c.in-Equal.is)
+    c.in-Some.ensures.cases.0 c.in-Some-split_first.ensures.cases.0 c.loop-one.invariant (sym c.compare.ensures ∙ c.in-Equal.is)
 
 pub loop-one-preserved : goal.loop-one-preserved
 loop-one-preserved c =
     merge_greater c.loop-one.all.items c.push-in-Greater.new.self.items c.loop-one.left.now c.loop-one.right.now c.in-Some.ones.now c.in-Some-split_first.others.now (merge c.args.left.now c.args.right.now) c.in-Some.one.now c.in-Some-split_first.other.now
-    c.in-Some.ensures.cases.0 c.in-Some-split_first.ensures.cases.0 c.loop-one.invariant (sym c.compared.ensures ∙ c.in-Greater.is) c.in_ok-push-in-Greater.ensures.items
+    c.in-Some.ensures.cases.0 c.in-Some-split_first.ensures.cases.0 c.loop-one.invariant (sym c.compare.ensures ∙ c.in-Greater.is) c.in_ok-push-in-Greater.ensures.items
 
 whole_left : (c : In_ok-extend_from_slice) → c.extend_from_slice.new.self.items ≡ merge c.args.left.now c.args.right.now
 whole_left c =

@@ -1,5 +1,5 @@
 use Rattle.fx_eval.proofs.Demanding.{found_so, unsearched}
-use Rattle.fx_eval.proofs.demands.found.Goals as goal
+use Rattle.fx_eval.proofs.demands.look_up.Goals as goal
 
 pub returns-in_ok-sketch-in-len2 : goal.returns-in_ok-sketch-in-len2
 returns-in_ok-sketch-in-len2 c =

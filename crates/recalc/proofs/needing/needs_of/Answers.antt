@@ -3,7 +3,7 @@ use Rattle.std.specs.List.{Contains}
 use Rattle.recalc.proofs.Marking.{are_marked, none_marked, whole}
 use Rattle.recalc.proofs.Turns.{cell_below}
 use Rattle.recalc.specs.Needing.{AreMarked, is_marked}
-use Rattle.recalc.proofs.needing.needed.Goals as goal
+use Rattle.recalc.proofs.needing.needs_of.Goals as goal
 
 pub mark_all-requires : goal.mark_all-requires
 mark_all-requires c = λ k there.

@@ -3,7 +3,7 @@ use Rattle.std.proofs.lemmas.Result.{IfOk-weaker}
 use Rattle.std.proofs.lemmas.Str.{chars-append, chars-IsAscii}
 use Rattle.std.specs.Str.{IsAscii, IsUtf8, chars}
 use Rattle.fx_trees.specs.BrokenText.{address_of}
-use Rattle.app_cells.proofs.spots.dotted.Goals as goal
+use Rattle.app_cells.proofs.spots.dot.Goals as goal
 
 -- the characters of two texts with a point between them
 joined : (x y : List ℕ) → IsUtf8 x → IsUtf8 (codes ".") → chars (x ++ (codes "." ++ y)) ≡ chars x ++ (codes "." ++ chars y)

@@ -1,5 +1,5 @@
 use Rattle.app_loader.proofs.Supporting.{all_with}
-use Rattle.app_loader.proofs.supports.supported.Goals as goal
+use Rattle.app_loader.proofs.supports.support_all.Goals as goal
 
 pub returns : goal.returns
 returns c =

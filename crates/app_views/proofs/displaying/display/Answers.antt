@@ -2,7 +2,7 @@ use Rattle.std.proofs.Common.{ap}
 use Rattle.fx_data.specs.Types.{booleans, dates, numbers, texts}
 use Rattle.fx_trees.specs.Controls.{input_type}
 use Rattle.app_views.proofs.Displays.{input_held}
-use Rattle.app_views.proofs.displaying.displayed.Goals as goal
+use Rattle.app_views.proofs.displaying.display.Goals as goal
 
 pub text_input-requires : goal.text_input-requires
 text_input-requires c = input_held c.args.names.now c.args.session.now c.args.number c.args.control.now texts c.requires.holds c.requires.control (ap input_type c.in-TextInput.is)

@@ -6,7 +6,7 @@ use Rattle.std.specs.Prelude.{encode_utf8_all}
 use Rattle.std.specs.Str.{chars}
 use Rattle.app_loader.specs.Cycles.{arrow_at, joined}
 use Rattle.app_loader.proofs.Arrows.{joined_next}
-use Rattle.app_loader.proofs.cycles.joined.Goals as goal
+use Rattle.app_loader.proofs.cycles.join_names.Goals as goal
 
 pub loop-place-preserved : goal.loop-place-preserved
 loop-place-preserved c =

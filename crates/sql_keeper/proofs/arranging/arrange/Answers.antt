@@ -4,7 +4,7 @@ use Rattle.row_queries.specs.Queries.{lies}
 use Rattle.row_queries.specs.TableRows.{AreInIdOrder, IsHeldRow}
 use Rattle.row_queries.specs.declared.rows.Row.{Row}
 use Rattle.sql_keeper.proofs.AskedLemmas.{asked_of, fit_all, moved}
-use Rattle.sql_keeper.proofs.arranging.arranged.Goals as goal
+use Rattle.sql_keeper.proofs.arranging.arrange.Goals as goal
 
 pub all_lie-requires : goal.all_lie-requires
 all_lie-requires c =

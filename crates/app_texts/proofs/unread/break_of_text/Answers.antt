@@ -1,5 +1,5 @@
 use Rattle.app_texts.proofs.ReadSteps.{tells_bad, tells_deep, tells_syntax}
-use Rattle.app_texts.proofs.unread.unread.Goals as goal
+use Rattle.app_texts.proofs.unread.break_of_text.Goals as goal
 
 pub returns-in-Lex : goal.returns-in-Lex
 returns-in-Lex c = tells_bad c.args.cell c.args.source.now c.args.end c.in-Lex.bad c.bad_token.result.now c.in-Lex.is c.bad_token.ensures c.in_text.result c.in_text.ensures
