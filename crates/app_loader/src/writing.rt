@@ -8,7 +8,7 @@ ghost use Rattle.fx_infer.specs.CellView.{cell};
 use app_cells::Cell;
 use fx_base::Memory;
 use fx_data::types::Ty;
-use fx_infer::{PlaceKind, Written};
+use fx_infer::{Place, Written};
 use std::alloc::Global;
 
 // The type that is wanted of a formula.
@@ -31,9 +31,9 @@ pub fn written_cell(alloc: Global, cell: &Cell) -> Result<Written, Memory>
         item: cell.item,
         wanted: copy_of(alloc, &cell.wanted)?,
         place: if cell.acts {
-            PlaceKind::Acting
+            Place::Acting
         } else {
-            PlaceKind::Pure
+            Place::Pure
         },
         expr: cell.expr.copy(alloc)?,
     })

@@ -2,17 +2,17 @@
 use Rattle.std.specs.Prelude.{Bool, true, false}
 use Rattle.fx_data.specs.Types.{Shape, tables, no_columns}
 use Rattle.fx_trees.specs.declared.names.Names.{Names}
-use Rattle.fx_typing.specs.Meaning.{Place}
-use Rattle.fx_infer.specs.declared.elaboration.PlaceKind.{PlaceKind}
-use Rattle.fx_infer.specs.declared.elaboration.PlaceKind.TheVariants.{Pure, Acting}
+use Rattle.fx_typing.specs.Meaning as meaning
+use Rattle.fx_infer.specs.declared.elaboration.Place.{Place}
+use Rattle.fx_infer.specs.declared.elaboration.Place.TheVariants.{Pure, Acting}
 use Rattle.fx_infer.specs.declared.elaboration.Written.{Written}
 
-abbrev pub may_act : PlaceKind → Bool
+abbrev pub may_act : Place → Bool
 may_act Pure = false
 may_act Acting = true
 
 -- it is judged under types that are settled
-abbrev pub place_of : Names → Written → Place
+abbrev pub place_of : Names → Written → meaning.Place
 place_of n w = record { names = n; screen = w.screen; gallery = w.item; settled = true }
 
 -- a table type without columns, which stands for every table type

@@ -10,7 +10,7 @@ ghost use Rattle.fx_trees.specs.Rules.{number_of};
 ghost use Rattle.fx_trees.specs.declared.broken.Broken.{Broken};
 ghost use Rattle.fx_trees.specs.Tree.{Tree};
 ghost use Rattle.fx_trees.specs.Term.{Term};
-ghost use Rattle.fx_typing.specs.Meaning.{Place};
+ghost use Rattle.fx_typing.specs.Meaning as meaning;
 ghost use Rattle.fx_typing.specs.WellTyped.{IsTyped};
 ghost use Rattle.fx_typing.specs.Elaborates.{FormulaElaborates, FormulaIsNothing};
 ghost use Rattle.fx_typing.specs.Answers.{Answers};
@@ -40,7 +40,7 @@ use std::alloc::Global;
 
 /// What the place of a formula allows.
 #[derive(Clone, Copy, Debug, PartialEq, Eq)]
-pub enum PlaceKind {
+pub enum Place {
     /// A value alone.
     Pure,
     /// A formula that may act.
@@ -59,7 +59,7 @@ pub struct Written {
     /// The type that is wanted of it. A table type without columns stands for every table type.
     pub wanted: Option<Ty>,
     /// What its place allows.
-    pub place: PlaceKind,
+    pub place: Place,
     pub expr: Expr,
 }
 
@@ -104,22 +104,22 @@ fn whole_of(alloc: Global, wanted: &Option<Ty>, whole: Part) -> Result<Typed, Wr
     }
 }
 
-// A whole formula stands in no scope.
-fn outermost(place: PlaceKind) -> Stand
+/// Where a whole formula stands: in no scope.
+pub(crate) fn outermost(place: Place) -> Stand
     ensures { setting [] result ≡ typing.outermost (may_act place) }
 {
     Stand {
         catches: false,
         grant: match place {
-            PlaceKind::Pure => Grant::Nothing,
-            PlaceKind::Acting => Grant::Acting,
+            Place::Pure => Grant::Nothing,
+            Place::Acting => Grant::Acting,
         },
     }
 }
 
 // What is answered of a formula that is broken there.
 fn refuse(alloc: Global, cell: &Words, flaw: Flaw) -> InferEnd
-    ensures { (p : Place) → (b : Bool) → (w : Option Shape) → (e : Tree)
+    ensures { (p : meaning.Place) → (b : Bool) → (w : Option Shape) → (e : Tree)
         → IsToldBrokenWhole p b w e flaw.at (number_of flaw.rule) flaw.detail
         → Ends p b w e cell.now (Err result) }
 {

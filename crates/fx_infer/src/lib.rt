@@ -16,7 +16,7 @@ pub mod walking;
 
 pub use depths::no_deeper;
 pub use details::{detail_of, wanted_detail};
-pub use elaboration::{PlaceKind, Written, elaborate, elaborate_alone};
+pub use elaboration::{Place, Written, elaborate, elaborate_alone};
 pub use ends::InferEnd;
 pub use flaw::{Flaw, Halt};
 pub use fx_details::texts;

@@ -2,7 +2,6 @@
 ghost use Rattle.std.specs.Prelude.{◌≡◌, ◌≤◌, ◌+◌, ◌++◌, All, IfOk, OnOk, [], length, map};
 ghost use Rattle.fx_infer.specs.Below.{forest_of, tree_depth};
 ghost use Rattle.fx_infer.specs.Judged.{Judged};
-ghost use Rattle.fx_infer.specs.Written.{may_act};
 ghost use Rattle.fx_infer.specs.declared.elaboration.Written.{Written};
 ghost use Rattle.fx_typing.specs.Details.{IsToldBroken};
 ghost use Rattle.fx_typing.specs.Parts.{Setting, parts_in};
@@ -19,14 +18,15 @@ ghost use Rattle.fx_typing.specs.Meaning as meaning;
 ghost use Rattle.fx_infer.specs.CellView.{cell};
 ghost use Rattle.fx_rounds.specs.GivenView.{given_view};
 
+use crate::Written;
 use crate::below::{part_at, part_count};
+use crate::elaboration::outermost;
 use crate::flaw::Halt;
 use crate::judging::judge;
-use crate::{PlaceKind, Written};
 use fx_base::Memory;
 use fx_data::words::Words;
 use fx_rounds::giving::{Given, give};
-use fx_scopes::{Grant, Part, Place, Scopes, Stand, enter};
+use fx_scopes::{Part, Place, Scopes, Stand, enter};
 use fx_trees::expr::Expr;
 use fx_trees::names::Names;
 use fx_typing::Piece;
@@ -149,19 +149,6 @@ pub fn walk(
     give(alloc, at, stand, whole, &done, given)?;
     append(given, below)?;
     Ok(())
-}
-
-// Where a whole formula stands.
-fn outermost(place: PlaceKind) -> Stand
-    ensures { setting [] result ≡ typing.outermost (may_act place) }
-{
-    Stand {
-        catches: false,
-        grant: match place {
-            PlaceKind::Pure => Grant::Nothing,
-            PlaceKind::Acting => Grant::Acting,
-        },
-    }
 }
 
 // Adds what a formula of the app gives.

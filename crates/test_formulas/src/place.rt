@@ -5,7 +5,7 @@ ghost use Rattle.fx_infer.specs.Below.{tree_depth};
 use crate::stop::Stop;
 use fx_data::types::{Columns, Ty};
 use fx_data::words::Words;
-use fx_infer::{PlaceKind, Written, no_deeper};
+use fx_infer::{Place, Written, no_deeper};
 use fx_parser::{ParseEnd, parse_formula};
 use std::alloc::Global;
 
@@ -17,7 +17,7 @@ pub struct Spot {
     /// The number of the gallery whose item it sees.
     pub item: Option<u32>,
     /// What it allows.
-    pub kind: PlaceKind,
+    pub kind: Place,
     /// The type that is wanted there.
     pub wanted: Option<Ty>,
 }
@@ -28,7 +28,7 @@ impl Spot {
         Spot {
             screen,
             item,
-            kind: PlaceKind::Acting,
+            kind: Place::Acting,
             wanted: None,
         }
     }
@@ -38,7 +38,7 @@ impl Spot {
         Spot {
             screen,
             item,
-            kind: PlaceKind::Pure,
+            kind: Place::Pure,
             wanted,
         }
     }
