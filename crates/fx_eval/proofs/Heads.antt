@@ -87,12 +87,6 @@ pub within_visited : {B : Type 0} (m n : Moment B) → Went m n → (u v x y t :
 within_visited m n went u v x y t e f g h = headed m n top.within (cons u (cons v nil)) t e
     (subst (λ (z : Term). HasVisited (λ w. WithinVisits (part w z ∷ part w v ∷ [])) m n) f (subst (λ (z : Term). HasVisited (λ w. WithinVisits (part w x ∷ part w z ∷ [])) m n) g h))
 
--- a call over a table
-pub over_visited : {B : Type 0} (m n : Moment B) → Went m n → (f : Fun) (u x : Term) (ts xs : List Term) (t : Term) → of (top.over f) (cons u (all ts)) ≡ t → x ≡ u → xs ≡ ts →
-    HasVisited (λ w. OverVisits f (part w x ∷ parts w (all xs))) m n → HasVisited (λ w. VisitsByHead w t) m n
-over_visited m n went f u x ts xs t e p q h = headed m n (top.over f) (cons u (all ts)) t e
-    (subst (λ (z : Term). HasVisited (λ w. OverVisits f (part w z ∷ parts w (all ts))) m n) p (subst (λ (zs : List Term). HasVisited (λ w. OverVisits f (part w x ∷ parts w (all zs))) m n) q h))
-
 -- ---- a part that is evaluated, and what follows unless its value is an error
 
 -- what follows isn't evaluated where an error stands

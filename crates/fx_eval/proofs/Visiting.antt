@@ -172,12 +172,6 @@ by_head w (of h ts) a n u v =
     subst (λ (o : Option Sketch). VisitsBy w o (search_of w.shapes (length a.rows) (of h ts)) h (parts w ts) a n) (sym u.0)
     (subst (λ (o : Option Sketch). VisitsBy w None o h (parts w ts) a n) (sym u.1) v)
 
-pub head_visited : {B : Type 0} (m n : Moment B) (t : Term) → IsUnasked m.fixed.schema.tables (length m.scope.rows) t → HasVisited (λ w. VisitsByHead w t) m n → HasVisited (λ w. Visits w t) m n
-head_visited m n t u h w e =
-    let tables = asked_tables m.fixed w in
-    let a = around m.fixed.types (Some w.values) m.scope in
-    at_most_as (VisitsByHead tables t a) (Visits tables t a) m.visited n.visited (λ k. by_head tables t a k u) (h w e)
-
 -- ---- forms
 
 -- nothing is evaluated where no part is left

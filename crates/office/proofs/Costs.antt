@@ -1,5 +1,5 @@
 -- What answering requests costs.
-use Rattle.std.proofs.Common.{◌≡◌, ◌⊎◌, ℕ, ◌<◌, List, get_or, length, Option, None, Some, Result, Ok, Err, refl, ap, sym, ◌∙◌, subst, inl, inr}
+use Rattle.std.proofs.Common.{◌≡◌, ◌⊎◌, ℕ, ◌<◌, List, get_or, length, Option, Some, Result, Ok, Err, refl, ap, sym, ◌∙◌, subst, inl, inr}
 use Rattle.std.specs.Prelude.{IfOk, OnOk, slice_get, slice_set}
 use Rattle.std.specs.List.{position}
 use Rattle.std.proofs.lemmas.List.{length-set}
@@ -10,7 +10,7 @@ use Rattle.app_wire.specs.Routing.{Routing}
 use Rattle.app_wire.specs.declared.route.Route.{Route}
 use Rattle.app_wire.specs.declared.route.Route.TheVariants.{Begin, End, View, Named as Formulas, Items, Event, Input, Rows, Edit, Page, Plan, Graph}
 use Rattle.recalc.specs.Kept.{Kept}
-use Rattle.request_checks.specs.Directory.{find, is_named, it_at}
+use Rattle.request_checks.specs.Directory.{find, is_named}
 use Rattle.request_checks.specs.declared.directory.Named.{Named}
 use Rattle.row_keeper.specs.Tables.{Tables}
 use Rattle.row_requests.specs.Page.{VisitsPage}
@@ -57,12 +57,6 @@ costs_there C a x m name ss cs p d old now before after kept place within is cos
     let there : slice_get cs p ≡ Some old = item_at cs p old (place_within a x m ss cs p kept within) is in
     subst (λ (o : Option SessionState). CostsTo C name o cs (slice_set cs p (record { name = old.name; it = now })) before after) (sym (found_here name ss p d place within))
     (old.it, now, find_placed name cs p old beside there, found_set name cs p old now beside there, cost)
-
--- one that isn't live is shown nothing
-pub costs_nothing : (C : Cost) (name : List ℕ) (ss : List (Named SessionState)) (cs ds : List (Named Kept)) (x v : ℕ) → None ≡ position (is_named name) ss → CostsTo C name (find name ss) cs ds (counts x v) (counts x v)
-costs_nothing C name ss cs ds x v none =
-    let no : find name ss ≡ None = ap (λ o. it_at o ss) (sym none) in
-    subst (λ (o : Option SessionState). CostsTo C name o cs ds (counts x v) (counts x v)) (sym no) (refl, refl)
 
 -- ---- routes
 

@@ -9,56 +9,14 @@ use Rattle.fx_data.specs.declared.values.Value.{Value}
 use Rattle.fx_data.specs.declared.values.Value.TheVariants.{Blank}
 use Rattle.fx_trees.specs.declared.sources.Source.{Source}
 use Rattle.fx_value.specs.Fits.{fits_in}
-use Rattle.recalc.specs.Asking.{ToldRows}
 use Rattle.recalc.specs.Reading.{cell_value}
-use Rattle.recalc.specs.Values.{Values}
 use Rattle.recalc.specs.app_cells.declared.app.App.{App}
-use Rattle.recalc.specs.app_semantics.Present.{present}
-use Rattle.session_state.specs.Sessions.{SessionState}
-use Rattle.recalc.specs.Kept.{HasRoom, IsInOrder, IsRight, IsSourceOf, Kept, place_of, stamp_of, value_of}
-use Rattle.recalc.specs.Outcomes.{HasNumbers, IsEmptied, IsEmpty}
+use Rattle.recalc.specs.Kept.{IsInOrder, IsSourceOf, Kept, place_of, stamp_of, value_of}
+use Rattle.recalc.specs.Outcomes.{IsEmpty}
 use Rattle.recalc.specs.declared.stamps.Stamp.{Stamp}
 
 no_stamp : (o : Option Stamp) (e : Stamp) → o ≡ None → o ≡ Some e → ⊥
 no_stamp o e n s = let both : None ≡ Some e = sym n ∙ s in absurd cc
-
-pub emptied_order : (a : App) (old new : Kept) → IsEmptied old new → IsInOrder a old → IsInOrder a new
-emptied_order a old new h o = record {
-  few = o.few;
-  stamps = h.cells ∙ o.stamps;
-  values = ap (λ (v : Values). length v.cells) h.values ∙ o.values;
-  places = λ s there. subst (λ n. place_of s < n) (sym h.places) (o.places s there);
-  fits = λ k i there. subst (λ (v : Values). fits_in (cell_value v.cells k) (shape i.ty) ≡ true) (sym h.values) (o.fits k i there);
-  bare = λ k aside. ap (λ (v : Values). cell_value v.cells k) h.values ∙ o.bare k aside;
-  alone = λ k e at. absurd (no_stamp (stamp_of new k) e (h.stamps k) at);
-  leans = λ k d e at current leans. absurd (no_stamp (stamp_of new k) e (h.stamps k) at);
-  low = record {
-    versions = λ p. let zero = h.versions p in omega (arith, zero);
-    checked = λ k e at. absurd (no_stamp (stamp_of new k) e (h.stamps k) at);
-    moved = λ k e at. absurd (no_stamp (stamp_of new k) e (h.stamps k) at);
-  };
-}
-
-pub emptied_right : (a : App) (old new : Kept) → IsEmptied old new → (s : SessionState) (tables : ToldRows) (m : ℕ) (pending : List Source) → IsRight (present a s tables m) pending old → IsRight (present a s tables m) pending new
-emptied_right a old new h s tables m pending r = record {
-  order = emptied_order a old new h r.order;
-  valid = λ k e i at there none unmoved. absurd (no_stamp (stamp_of new k) e (h.stamps k) at);
-}
-
-pub has_numbers : (a : App) (c : Kept) → HasRoom c.last → HasNumbers a c c
-has_numbers a c room = record { room = room; same = λ h. refl; counted = λ short. absurd (short room); order = λ o. o; right = λ s tables m pending r. r; places = refl; values = refl; day = refl }
-
-pub new_numbers : (a : App) (old new : Kept) → (HasRoom old.last → ⊥) → IsEmptied old new → HasNumbers a old new
-new_numbers a old new short h = record {
-  room = let zero = h.last in omega (arith, zero);
-  same = λ room. absurd (short room);
-  counted = λ none. h.emptied;
-  order = emptied_order a old new h;
-  right = emptied_right a old new h;
-  places = h.places;
-  values = h.values;
-  day = ap (λ (v : Values). v.day) h.values;
-}
 
 -- ---- values that are made blank
 set_blank : (ds : List Data) (k : ℕ) → get_or (set ds k blank) k blank ≡ blank

@@ -84,10 +84,6 @@ left_of old new j k w b a o is there here =
     let after : o.after ≡ a = (let both : Some o.after ≡ Some a = sym o.here ∙ here in cc) in
     subst (λ (c : CellInfo). IsLeft old new b c) after (subst (λ (c : CellInfo). IsLeft old new c o.after) before o.left)
 
--- of a cell that wasn't found none is left
-pub none_was : (old new : App) (k : ℕ) → cell_was old new k ≡ None → (j : ℕ) → IsOldCell old new j k → ⊥
-none_was old new k e j o = (let both : Some j ≡ None = sym o.was ∙ e in absurd cc)
-
 -- ---- where cells were, one after another
 
 pub record ArePlacesSoFar (old new : App) (places : List (Option ℕ)) : Type 0 where

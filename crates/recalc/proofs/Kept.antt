@@ -23,14 +23,11 @@ use Rattle.fx_data.specs.Values.{Data, blank}
 use Rattle.fx_data.specs.declared.values.Value.{Value}
 use Rattle.fx_semantics.proofs.Wider.{stays}
 use Rattle.fx_scalar.specs.ScalarFunctions.{IsToday}
-use Rattle.fx_semantics.specs.Sound.{IsItemFit}
 use Rattle.fx_env.specs.Telling.{IsHeard}
 use Rattle.fx_eval.specs.fx_plan.Limited.{limited}
 use Rattle.recalc.specs.Asking.{ToldRows}
-use Rattle.fx_trees.specs.declared.names.Names.{Names}
 use Rattle.fx_trees.specs.declared.sources.Source.TheVariants as source
 use Rattle.fx_trees.specs.declared.sources.Source.{Source}
-use Rattle.fx_typing.specs.Typing.{item_of}
 use Rattle.fx_value.specs.Fits.{fits_in}
 use Rattle.recalc.specs.Reading.{cell_value}
 use Rattle.recalc.specs.Values.{CellsFit}
@@ -137,12 +134,6 @@ alone_is : (b : Bool) (o : Option ℕ) → stands_by b o ≡ true → (b ≡ fal
 alone_is false None e = (refl, refl)
 alone_is false (Some g) e = absurd cc
 alone_is true o e = absurd cc
-
-pub quiet_alone : (c : CellInfo) → stands_alone c ≡ true → c.cell.acts ≡ false
-quiet_alone c e = (alone_is c.cell.acts c.cell.item e).0
-
-pub item_alone : (n : Names) (c : CellInfo) → stands_alone c ≡ true → IsItemFit None (item_of n c.cell.item)
-item_alone n c e = subst (λ o. IsItemFit None (item_of n o)) (sym (alone_is c.cell.acts c.cell.item e).1) tt
 
 pub own_value : (p : Present) (values : ℕ → Data) (c : CellInfo) (v : Data) → stands_alone c ≡ true → IsValueOf p values None c v → IsCellValue p values c v
 own_value p values c v e h =

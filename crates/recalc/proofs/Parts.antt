@@ -3,7 +3,7 @@ use Rattle.std.proofs.Common.{◌≡◌, ℕ, zero, suc, ◌+◌, ◌<◌, ◌�
 use Rattle.std.proofs.lemmas.Bool.{cases_lt}
 use Rattle.std.specs.Borrow.{Bor}
 use Rattle.std.specs.Prelude.{MatchOption, slice_get}
-use Rattle.fx_trees.specs.Term.{Term, Terms, Top, all, cons, names_of, nil, of, term_size, terms_size}
+use Rattle.fx_trees.specs.Term.{Term, Terms, all, cons, names_of, nil, of, term_size, terms_size}
 use Rattle.fx_trees.specs.Term as term
 use Rattle.fx_trees.specs.declared.sources.Source.{Source}
 use Rattle.recalc.specs.Carrying.{AreOldTrees, IsOldPart, IsOldTop, IsOldTree, IsPast, part_at, parts_of, top_of}
@@ -44,9 +44,6 @@ parts_all W (cons t ts) nil h = absurd (h 0)
 
 pub tree_each : (W : Was) (t u : Term) → IsOldTree W t u → (k : ℕ) → IsOldPart W (part_at (parts_of t) k) (part_at (parts_of u) k)
 tree_each W (of h ts) (of g us) o k = parts_each W ts us o.1 k
-
-pub tree_top : (W : Was) (t u : Term) → IsOldTree W t u → IsOldTop W (top_of t) (top_of u)
-tree_top W (of h ts) (of g us) o = o.0
 
 pub tree_all : (W : Was) (t u : Term) → IsOldTop W (top_of t) (top_of u) → ((k : ℕ) → IsOldPart W (part_at (parts_of t) k) (part_at (parts_of u) k)) → IsOldTree W t u
 tree_all W (of h ts) (of g us) top each = (top, parts_all W ts us each)
