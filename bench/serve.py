@@ -53,19 +53,24 @@ def free_port():
         return door.getsockname()[1]
 
 
+def listen(port):
+    """Waits until somebody listens on the port."""
+    for _ in range(1_000):
+        try:
+            return socket.create_connection(("127.0.0.1", port)).close()
+        except OSError:
+            time.sleep(0.01)
+    sys.exit("it doesn't listen")
+
+
 def serve(folder):
     """Starts the program over a new database, and returns it and its port once it listens."""
     with open(f"{folder}/app.json", "w") as file:
         json.dump(APP, file)
     port = free_port()
     program = subprocess.Popen([PROGRAM, "serve", f"{folder}/app.json", f"{folder}/rows.db", str(port)])
-    for _ in range(1_000):
-        try:
-            socket.create_connection(("127.0.0.1", port)).close()
-            return program, port
-        except OSError:
-            time.sleep(0.01)
-    sys.exit("it doesn't listen")
+    listen(port)
+    return program, port
 
 
 class Plain(http.server.BaseHTTPRequestHandler):
