@@ -244,22 +244,49 @@ class Browser:
 
 
 class Play:
-    """The steps of the play, each of which begins where the one before it ended."""
+    """Steps over an app, each of which begins where the one before it ended."""
+
+    seq = 0
 
     def __init__(self, browser, proxy, relay, server):
         self.browser, self.proxy, self.relay, self.server = browser, proxy, relay, server
         self.address = f"https://localhost:{proxy.port}/"
 
-    def steps(self):
-        return [(name[5:].replace("_", " "), getattr(self, name)) for name in type(self).__dict__ if name.startswith("step_")]
+    def run(self):
+        for name in type(self).__dict__:
+            if name.startswith("step_"):
+                begun = time.monotonic()
+                try:
+                    getattr(self, name)()
+                except Exception:
+                    self.browser.picture("failed")
+                    print(f"FAILED: {self.app} {name[5:]}\nmessages: {self.browser.texts('.message')}")
+                    raise
+                print(f"{time.monotonic() - begun:5.1f} s  {self.app} {name[5:].replace('_', ' ')}", flush=True)
 
     def session(self):
         return "ann-" + json.loads(self.browser.run("return Object.entries(sessionStorage).find(([it]) => it.endsWith(' name'))[1]"))
 
-    def step_opens(self):
+    def desk(self, deed, **fields):
+        self.seq += 1
+        path, body = f"/desk/{deed}", json.dumps({"seq": self.seq, **fields})
+        status, text = self.proxy.ask("POST", path, body, "olga", "winter", **{"Content-Type": "application/json"})
+        assert status == 200, text
+
+    def add(self, table, *rows):
+        self.desk("rows", changes=[{"op": "add", "table": table, "row": it} for it in rows])
+
+    def open(self):
         # (from an address with a password in it no relative path can be fetched)
         self.browser.go(self.address.replace("//", f"//ann:{PEOPLE['ann']}@"))
         self.browser.go(self.address)
+
+
+class Shop(Play):
+    app = "shop"
+
+    def step_opens(self):
+        self.open()
         self.browser.sees("h1", "Shop")
         self.browser.sees("main p", "Taken by you: 0", "0 rows")
 
@@ -332,20 +359,11 @@ class Play:
 
     def step_refuses_a_row_that_moved(self):
         self.browser.run("document.querySelector('h1').dispatchEvent(new PointerEvent('pointerdown', {bubbles: true}))")
-        self.desk("rows", changes=[{"op": "add", "table": "Stock", "row": {"Name": "Bolt", "Qty": 9}}])
-        script = "[...document.querySelectorAll('li button')][0].click()"
-        self.browser.run(script)
+        self.add("Stock", {"Name": "Bolt", "Qty": 9})
+        self.browser.run("document.querySelector('li button').click()")
         self.browser.run("document.querySelector('h1').dispatchEvent(new PointerEvent('pointerup', {bubbles: true}))")
         self.browser.sees("[role=alert]", "Another row stands there now")
         assert self.server.rows() == {"Nut": 2, "Cog": 19, "Bolt": 9}
-
-    seq = 0
-
-    def desk(self, deed, **fields):
-        self.seq += 1
-        path, body = f"/desk/{deed}", json.dumps({"seq": self.seq, **fields})
-        status, text = self.proxy.ask("POST", path, body, "olga", "winter", **{"Content-Type": "application/json"})
-        assert status == 200, text
 
     def step_sees_an_edit(self):
         self.desk("edit", cell="Sum.Text", text='taken & " pieces are yours"')
@@ -376,8 +394,7 @@ class Play:
 
     def step_turns_pages(self):
         for start in (0, 125):
-            rows = [{"op": "add", "table": "Stock", "row": {"Name": f"Item {it:03}", "Qty": it}} for it in range(start, start + 125)]
-            self.desk("rows", changes=rows)
+            self.add("Stock", *({"Name": f"Item {it:03}", "Qty": it} for it in range(start, start + 125)))
         self.browser.sees("section p", "254 rows, 1 to 100 are shown")
         self.browser.click("section button|Next")
         self.browser.sees("section p", "101 to 200 are shown")
@@ -426,6 +443,64 @@ class Play:
         assert not noted, noted
 
 
+class Booking(Play):
+    app = "booking"
+
+    def step_opens(self):
+        self.add("Rooms", {"Name": "Attic", "Seats": 4}, {"Name": "Hall", "Seats": 20}, {"Name": "Nook", "Seats": 2})
+        self.open()
+        self.browser.sees("h1", "Book a room")
+        self.browser.sees("li", "Nook, 2 seats")
+
+    def step_takes_a_day_and_a_number(self):
+        self.browser.run("""const day = document.querySelector('input[type=date]');
+            day.value = '2027-05-03'; day.dispatchEvent(new Event('input')); day.dispatchEvent(new Event('blur'))""")
+        self.browser.run("document.querySelector('input[type=range]').focus()")
+        self.browser.keys("\ue014", "\ue014")
+        until("Nook is too small", lambda: not any("Nook" in it for it in self.browser.texts("li")))
+
+    def step_wants_a_name(self):
+        self.browser.click("li button|Book")
+        self.browser.sees("[role=status]", "Enter your name first.")
+        assert self.browser.value("input[type=date]") == "2027-05-03"
+
+    def step_books(self):
+        self.browser.type("input[type=text]", "Ann")
+        self.browser.click("li button|Book")
+        self.browser.sees("button", "Bookings (1)")
+        until("the Hall alone is free", lambda: [it.split(",")[0] for it in self.browser.texts("li")] == ["Hall"])
+        assert self.browser.texts(".message") == []
+        self.browser.picture("booking")
+
+    def step_goes_to_another_screen(self):
+        self.browser.click("button|Bookings (1)")
+        self.browser.sees("h1", "All bookings")
+        self.browser.sees("li", "2027-05-03: Attic, Ann")
+        assert self.browser.run("return document.activeElement.id") == "screen"
+        self.browser.picture("bookings")
+
+    def step_ticks(self):
+        self.add("Bookings", {"Slot": "Hall 2027-05-04", "Room": "Hall", "Day": {"d": "2027-05-04"}, "Who": "Bob"})
+        self.browser.sees("li", "Bob")
+        self.browser.click("input[type=checkbox]")
+        until("Ann's alone", lambda: len(self.browser.texts("li")) == 1)
+
+    def step_takes_a_booking_back(self):
+        self.browser.click("li button|Cancel")
+        self.browser.sees_none("li")
+        self.browser.sees("section p", "0 rows")
+
+    def step_shows_errors(self):
+        self.desk("edit", cell="Since.Text", text="1/0")
+        self.browser.sees("p.error", "⚠ division by zero")
+        self.desk("edit", cell="Back.OnSelect", text='Error({Kind: "Odd", Message: "not today"})')
+        self.browser.click("button|Back")
+        self.browser.sees("[role=alert]", "“Back” ended with an error: not today.")
+        self.desk("edit", cell="Booked.Items", text="Filter(Bookings, 1/0 = 1)")
+        self.browser.sees("section p.error", "⚠ division by zero")
+        self.browser.picture("errors")
+
+
 def rate(port, request, seconds=2, secure=False):
     """Returns how many requests a second are answered: each on a connection of its own, or over TLS all on one."""
     link = None
@@ -456,31 +531,34 @@ def speed(proxy, server, session):
     print(f"one client after another, a second: {straight:.0f} views of {size / 1000:.1f} kB straight, {through:.0f} through nginx; {plain:.0f} files by nginx")
 
 
-def main():
-    missing = [it for it in NEEDED if not shutil.which(it, path=PATH)]
-    if missing:
-        return print(f"skipped: no {', '.join(missing)}")
+@contextlib.contextmanager
+def site(app):
+    """Serves an app through nginx over a new file."""
     with tempfile.TemporaryDirectory() as folder, contextlib.ExitStack() as ends:
         os.chmod(folder, 0o755)  # nginx's workers may be nobody
-        server = Server(folder, f"{TOP}/examples/shop.json")
+        server = Server(folder, f"{TOP}/examples/{app}.json")
         ends.callback(server.kill)
         relay = Relay(server)
         proxy = Proxy(folder, relay.port)
         ends.callback(proxy.process.wait)
         ends.callback(proxy.process.terminate)
+        yield proxy, relay, server
+
+
+def main():
+    missing = [it for it in NEEDED if not shutil.which(it, path=PATH)]
+    if missing:
+        return print(f"skipped: no {', '.join(missing)}")
+    with tempfile.TemporaryDirectory() as folder, contextlib.ExitStack() as ends:
         browser = Browser(folder)
         ends.callback(browser.end)
-        play = Play(browser, proxy, relay, server)
-        for name, step in play.steps():
-            begun = time.monotonic()
-            try:
-                step()
-            except Exception:
-                browser.picture("failed")
-                print(f"FAILED: {name}\nmessages: {browser.texts('.message')}")
-                raise
-            print(f"{time.monotonic() - begun:5.1f} s  {name}", flush=True)
-        speed(proxy, server, play.session())
+        with site("booking") as parts:
+            Booking(browser, *parts).run()
+        with site("shop") as parts:
+            play = Shop(browser, *parts)
+            play.run()
+            proxy, _, server = parts
+            speed(proxy, server, play.session())
 
 
 if __name__ == "__main__":
