@@ -25,7 +25,7 @@ PAGES = ["README.md", "examples/site/README.md", *(f"docs/{it}" for it in sorted
 REQUEST = re.compile(r"(GET|PUT|POST|DELETE) /\S* HTTP/1\.1\n")
 FORMULA = re.compile(r"`([^`]+)` (?:is|are) (`[^`]+`|-?\d+(?:\.\d+)?|true|false|\d{4}-\d\d-\d\d)(?![-\w`])(?! at )")
 # Formulas whose value needs what stands around them.
-NEEDS_MORE = re.compile(r"@|Today\(\)|\$\{|List\.|Box\.|^\w+$|^\w+\.\w+$|^[^()+&=\"\[{<]*$")
+NEEDS_MORE = re.compile(r"""\[@|Today\(\)|^\d+$|^(?=.*[^\W\d])[^()"\[{]*$""")
 
 
 def blocks(text):
