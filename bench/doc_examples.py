@@ -21,7 +21,7 @@ import tempfile
 
 TOP = os.path.dirname(os.path.dirname(os.path.abspath(__file__)))
 PROGRAM = os.path.abspath(sys.argv[1]) if len(sys.argv) > 1 else f"{TOP}/pfx"
-PAGES = ["README.md", "examples/site/README.md", *(f"docs/{it}" for it in sorted(os.listdir(f"{TOP}/docs")))]
+PAGES = ["README.md", "CONTRIBUTING.md", "examples/booking.md", "examples/site/README.md", *(f"docs/{it}" for it in sorted(os.listdir(f"{TOP}/docs")))]
 REQUEST = re.compile(r"(GET|PUT|POST|DELETE) /\S* HTTP/1\.1\n")
 FORMULA = re.compile(r"`([^`]+)` (?:is|are) (`[^`]+`|-?\d+(?:\.\d+)?|true|false|\d{4}-\d\d-\d\d)(?![-\w`])(?! at )")
 # Formulas whose value needs what stands around them.
