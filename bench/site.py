@@ -276,6 +276,16 @@ class Play:
     def add(self, table, *rows):
         self.desk("rows", changes=[{"op": "add", "table": table, "row": it} for it in rows])
 
+    def give(self, selector, text):
+        """Gives a field a value as a user would who leaves it then."""
+        self.browser.run(
+            """const field = document.querySelector(arguments[0]);
+            field.value = arguments[1];
+            for (const it of ["input", "change", "blur"]) field.dispatchEvent(new Event(it))""",
+            selector,
+            text,
+        )
+
     def open(self):
         # (from an address with a password in it no relative path can be fetched)
         self.browser.go(self.address.replace("//", f"//ann:{PEOPLE['ann']}@"))
@@ -443,6 +453,46 @@ class Shop(Play):
         assert not noted, noted
 
 
+class Order(Play):
+    app = "order"
+
+    def step_chooses_an_item(self):
+        self.open()
+        self.browser.sees("main p", "Total: 1.19")
+        self.browser.click("li button.plain|Bolt: 0.4")
+        self.browser.sees("main p", "Total: 1.9")
+        assert self.browser.texts("li[aria-current=true] p") == ["Bolt: 0.4"]
+
+    def step_tells_below_a_field(self):
+        self.give("input[type=text]", "x" * 4_097)
+        self.browser.sees(".field .error", "It is too long, or out of bounds.")
+        assert len(self.browser.value("input[type=text]")) == 4_097
+        self.give("input[type=text]", "Zoë")
+        self.browser.sees("main p", "For Zoë")
+        until("the field is right again", lambda: self.browser.texts(".field .error") == ["", ""])
+
+    def step_has_fine_sliders(self):
+        self.desk("edit", cell="Count.Min", text="0.05")
+        self.desk("edit", cell="Count.Default", text="2.5")
+        until("finer steps", lambda: self.browser.run("return document.querySelector('input[type=range]').step") == "0.01")
+        self.give("input[type=range]", "0.07")
+        self.browser.sees("output", "0.07")
+        self.browser.sees("main p", "Total: 0.03")
+        self.desk("edit", cell="Count.Max", text="1/0")
+        self.browser.sees(".field .error", "⚠ division by zero")
+        assert self.browser.run("return document.querySelector('input[type=range]').disabled")
+
+    def step_waits_for_room(self):
+        for it in range(255):
+            self.server.ask("PUT", f"/s/other{it}")
+        self.server.ask("DELETE", f"/s/{self.session()}")
+        self.server.ask("PUT", "/s/other255")
+        self.browser.sees("[role=alert]", "Too many use this app now.")
+        self.server.ask("DELETE", "/s/other0")
+        self.browser.sees("[role=alert]", "The server was started anew.")
+        self.browser.sees("main p", "For you")
+
+
 class Booking(Play):
     app = "booking"
 
@@ -453,8 +503,7 @@ class Booking(Play):
         self.browser.sees("li", "Nook, 2 seats")
 
     def step_takes_a_day_and_a_number(self):
-        self.browser.run("""const day = document.querySelector('input[type=date]');
-            day.value = '2027-05-03'; day.dispatchEvent(new Event('input')); day.dispatchEvent(new Event('blur'))""")
+        self.give("input[type=date]", "2027-05-03")
         self.browser.run("document.querySelector('input[type=range]').focus()")
         self.browser.keys("\ue014", "\ue014")
         until("Nook is too small", lambda: not any("Nook" in it for it in self.browser.texts("li")))
@@ -552,8 +601,9 @@ def main():
     with tempfile.TemporaryDirectory() as folder, contextlib.ExitStack() as ends:
         browser = Browser(folder)
         ends.callback(browser.end)
-        with site("booking") as parts:
-            Booking(browser, *parts).run()
+        for play in (Order, Booking):
+            with site(play.app) as parts:
+                play(browser, *parts).run()
         with site("shop") as parts:
             play = Shop(browser, *parts)
             play.run()
