@@ -30,7 +30,7 @@ PICTURES = sys.argv[2] if len(sys.argv) > 2 else None
 NEEDED = ["chromedriver", "chromium", "nginx", "openssl"]
 PATH = os.environ["PATH"] + ":/usr/sbin"
 PEOPLE = {"ann": "spring", "bob": "summer", "olga": "autumn"}
-PATIENCE = 20
+PATIENCE = 60
 ELEMENT = "element-6066-11e4-a52e-4f735466cecf"
 
 
@@ -148,7 +148,15 @@ class Proxy:
         subprocess.run(certify.split(), cwd=folder, check=True, stderr=subprocess.DEVNULL)
         words = ["nginx", "-p", folder, "-e", f"{folder}/nginx.log", "-c", f"{folder}/nginx.conf"]
         self.process = subprocess.Popen(words, env={**os.environ, "PATH": PATH})
-        until("nginx listens", lambda: listens(self.port))
+        try:
+            until("nginx listens", lambda: listens(self.port))
+        except AssertionError:
+            self.end()
+            raise
+
+    def end(self):
+        self.process.terminate()
+        self.process.wait()
 
     def ask(self, method, path, body=None, who="ann", word=None, **fields):
         link = http.client.HTTPSConnection("localhost", self.port, context=ssl._create_unverified_context())
@@ -239,7 +247,7 @@ class Browser:
     def end(self):
         with contextlib.suppress(OSError):
             self.send("DELETE", "")
-        self.process.terminate()
+        self.process.kill()
         self.process.wait()
 
 
@@ -570,27 +578,30 @@ def rate(port, request, seconds=2, secure=False):
     return count / seconds
 
 
-def speed(proxy, server, session):
-    sign = base64.b64encode(f"ann:{PEOPLE['ann']}".encode()).decode()
-    head = f"HTTP/1.1\r\nHost: localhost\r\nAuthorization: Basic {sign}\r\n\r\n"
-    straight = rate(server.port, f"GET /s/{session}/view HTTP/1.1\r\n\r\n".encode())
-    through = rate(proxy.port, f"GET /s/{session.removeprefix('ann-')}/view {head}".encode(), secure=True)
-    plain = rate(proxy.port, f"GET /talk.js {head}".encode(), secure=True)
-    size = len(json.dumps(server.ask("GET", f"/s/{session}/view")))
-    print(f"one client after another, a second: {straight:.0f} views of {size / 1000:.1f} kB straight, {through:.0f} through nginx; {plain:.0f} files by nginx")
+def speed(rows):
+    """Prints how many views of so many rows a second one client gets, and how often nginx gives it a file."""
+    with site("shop", relayed=False) as (proxy, _, server):
+        server.ask("PUT", "/s/ann-abcdefghij")
+        changes = [{"op": "add", "table": "Stock", "row": {"Name": f"Item {it}", "Qty": it}} for it in range(rows)]
+        server.ask("POST", "/desk/d/rows", {"seq": 1, "changes": changes})
+        sign = base64.b64encode(f"ann:{PEOPLE['ann']}".encode()).decode()
+        head = f"HTTP/1.1\r\nHost: localhost\r\nAuthorization: Basic {sign}\r\n\r\n"
+        straight = rate(server.port, b"GET /s/ann-abcdefghij/view HTTP/1.1\r\n\r\n")
+        through = rate(proxy.port, f"GET /s/abcdefghij/view {head}".encode(), secure=True)
+        plain = rate(proxy.port, f"GET /talk.js {head}".encode(), secure=True)
+        print(f"one client, {rows} rows, a second: {straight:.0f} views straight, {through:.0f} through nginx; {plain:.0f} files by nginx")
 
 
 @contextlib.contextmanager
-def site(app):
-    """Serves an app through nginx over a new file."""
+def site(app, relayed=True):
+    """Serves an app through nginx over a new file, with a relay between or without."""
     with tempfile.TemporaryDirectory() as folder, contextlib.ExitStack() as ends:
         os.chmod(folder, 0o755)  # nginx's workers may be nobody
         server = Server(folder, f"{TOP}/examples/{app}.json")
         ends.callback(server.kill)
         relay = Relay(server)
-        proxy = Proxy(folder, relay.port)
-        ends.callback(proxy.process.wait)
-        ends.callback(proxy.process.terminate)
+        proxy = Proxy(folder, relay.port if relayed else server.port)
+        ends.callback(proxy.end)
         yield proxy, relay, server
 
 
@@ -601,14 +612,11 @@ def main():
     with tempfile.TemporaryDirectory() as folder, contextlib.ExitStack() as ends:
         browser = Browser(folder)
         ends.callback(browser.end)
-        for play in (Order, Booking):
+        for play in (Order, Booking, Shop):
             with site(play.app) as parts:
                 play(browser, *parts).run()
-        with site("shop") as parts:
-            play = Shop(browser, *parts)
-            play.run()
-            proxy, _, server = parts
-            speed(proxy, server, play.session())
+    for rows in (1, 100):
+        speed(rows)
 
 
 if __name__ == "__main__":
