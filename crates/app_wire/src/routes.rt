@@ -1,5 +1,5 @@
 //! The routes of requests.
-ghost use Rattle.std.specs.Prelude.{◌≡◌, IfOk, Some};
+ghost use Rattle.std.specs.Prelude.{◌≡◌, [], IfOk, OnOk, Some};
 ghost use Rattle.app_wire.specs.Routing.{Routing};
 ghost use Rattle.app_wire.specs.RouteTable.{Finds, Placed, table};
 
@@ -15,6 +15,15 @@ fn make(alloc: Global) -> Result<Router<Place>, InsertError>
     ensures { IfOk result (λ r. r ≡ table) }
 {
     let mut router = Router::new(alloc);
+    add_places(&mut router)?;
+    Ok(router)
+}
+
+// Apart from what owns the router: a value that is owned is let go at each exit, and each of these calls has one.
+fn add_places(router: &mut Router<Place>) -> Result<(), InsertError>
+    requires { router.old ≡ [] }
+    ensures { OnOk result (router.new ≡ table) }
+{
     router.insert("/s/{name}", Place::Session)?;
     router.insert("/s/{name}/view", Place::View)?;
     router.insert("/s/{name}/named", Place::Named)?;
@@ -26,7 +35,7 @@ fn make(alloc: Global) -> Result<Router<Place>, InsertError>
     router.insert("/rows/{table}/{after}", Place::Page)?;
     router.insert("/plan", Place::Plan)?;
     router.insert("/graph", Place::Graph)?;
-    Ok(router)
+    Ok(())
 }
 
 fn place_of(router: &Router<Place>, path: &str) -> Option<Place>

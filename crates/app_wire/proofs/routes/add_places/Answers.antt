@@ -1,7 +1,7 @@
 use Rattle.std.proofs.Common.{refl}
 use Rattle.matchit.proofs.OnLiterals.{matchit_on_literals}
 use Rattle.app_wire.specs.RouteTable.{table}
-use Rattle.app_wire.proofs.routes.make.Goals as goal
+use Rattle.app_wire.proofs.routes.add_places.Goals as goal
 
 pub returns : goal.returns
 unfolding matchit_on_literals table
@@ -17,4 +17,4 @@ returns c =
     let j = c.in_ok-insert-9.ensures in
     let k = c.in_ok-insert-10.ensures in
     let l = c.in_ok-insert-11.ensures in
-    rw (l.1, k.1, j.1, i.1, h.1, g.1, f.1, e.1, d.1, b.1, a.1, c.new-router.ensures) (refl {a = table})
+    rw (l.1, k.1, j.1, i.1, h.1, g.1, f.1, e.1, d.1, b.1, a.1, c.requires) (refl {a = table})
