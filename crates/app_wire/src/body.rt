@@ -15,7 +15,7 @@ pub const BODY_ROOM: usize = 1_048_576;
 const MOST_DIGITS: usize = 19;
 
 /// What the fields of a head say of its body.
-#[derive(Clone, Copy, Debug, PartialEq, Eq)]
+#[derive(Clone, Copy)]
 pub(crate) enum BodyLength {
     /// A transfer coding stands, and none is offered.
     NotOffered,

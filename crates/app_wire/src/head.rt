@@ -20,7 +20,7 @@ pub enum Method {
 }
 
 /// What a front, which ends with its first blank line, is.
-#[derive(Clone, Copy, Debug)]
+#[derive(Clone, Copy)]
 pub(crate) enum Head<'a> {
     /// No request head of at most 64 fields.
     Bad,

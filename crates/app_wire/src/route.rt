@@ -7,7 +7,7 @@ use fx_base::Memory;
 use fx_data::words::Words;
 
 /// The paths that have routes.
-#[derive(Clone, Copy, Debug, PartialEq, Eq)]
+#[derive(Clone, Copy)]
 pub(crate) enum Place {
     /// `/s/{name}`
     Session,
@@ -101,7 +101,7 @@ impl Route {
 }
 
 /// Why a request has no route.
-#[derive(Clone, Copy, Debug, PartialEq, Eq)]
+#[derive(Clone, Copy)]
 pub enum RouteEnd {
     /// No route has this path, or a name, a number or an escape in it is none.
     NoRoute,
