@@ -82,5 +82,6 @@ pub(crate) fn error_json(alloc: Global, fault: &Fault) -> Result<Json, Memory>
 {
     let kind = fault.kind.name();
     let message = fault.message.as_str();
-    Ok(json!(in alloc; {"e": {"kind": kind, "message": message}})?)
+    let error = json!(in alloc; {"kind": kind, "message": message})?;
+    tag(alloc, "e", error)
 }

@@ -72,9 +72,12 @@ fn refusal_object(alloc: Global, refusal: &Refusal) -> Result<Json, Memory>
     ensures { IfOk result (λ v. json_view v ≡ refusal_data refusal.now) }
 {
     let code = refusal.code;
-    let name = Cause::of(code).name();
-    let detail = detail_json(alloc, &refusal.detail)?;
-    Ok(json!(in alloc; {"refused": {"code": code, "detail": detail, "name": name}})?)
+    let refused = json!(in alloc; {
+        "code": code,
+        "detail": detail_json(alloc, &refusal.detail)?,
+        "name": Cause::of(code).name(),
+    })?;
+    tag(alloc, "refused", refused)
 }
 
 fn detail_json(alloc: Global, detail: &Detail) -> Result<Json, Memory>

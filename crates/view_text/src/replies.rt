@@ -52,7 +52,8 @@ fn named_objects(alloc: Global, rows: &[Named]) -> Result<Vec<Json>, Memory>
 fn named_object(alloc: Global, named: &Named) -> Result<Json, Memory>
     ensures { IfOk result (λ v. json_view v ≡ named_data named.now) }
 {
-    let value = value_json(alloc, &named.value)?;
-    let name = named.name.as_str();
-    Ok(json!(in alloc; {"name": name, "value": value})?)
+    Ok(json!(in alloc; {
+        "name": named.name.as_str(),
+        "value": value_json(alloc, &named.value)?,
+    })?)
 }

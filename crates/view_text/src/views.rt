@@ -3,7 +3,7 @@ ghost use Rattle.std.specs.Prelude.{◌≡◌, IfOk, map, string_bytes};
 ghost use Rattle.serde_json.specs.View.{view as json_view};
 ghost use Rattle.fx_data.specs.ValueView.{view as value_view};
 ghost use Rattle.view_text.specs.RefusalText.{id_data};
-ghost use Rattle.view_text.specs.ViewText.{control_data, event_data, event_text, gallery_data, item_control_data, item_data, item_with, items_data, items_text, kind_text, listed_data, shown_data, told_data, total_of, view_data, view_text};
+ghost use Rattle.view_text.specs.ViewText.{control_data, event_data, event_text, gallery_data, item_control_data, item_data, items_data, items_text, kind_text, listed_data, shown_data, told_data, total_of, view_data, view_text};
 
 use crate::json::{error_json, fields_json, value_json};
 use crate::refused::lines_json;
@@ -101,9 +101,10 @@ pub fn event_json(
 fn view_object(alloc: Global, view: &View) -> Result<Json, Memory>
     ensures { IfOk result (λ v. json_view v ≡ view_data view.now) }
 {
-    let controls = Json::from(all_shown_json(alloc, view.shown.as_slice())?);
-    let screen = view.screen.as_str();
-    Ok(json!(in alloc; {"controls": controls, "screen": screen})?)
+    Ok(json!(in alloc; {
+        "controls": all_shown_json(alloc, view.shown.as_slice())?,
+        "screen": view.screen.as_str(),
+    })?)
 }
 
 fn all_shown_json(alloc: Global, all: &[Shown]) -> Result<Vec<Json>, Memory>
@@ -129,28 +130,31 @@ fn shown_json(alloc: Global, shown: &Shown) -> Result<Json, Memory>
 fn gallery_json(alloc: Global, shown: &Shown, items: &Items) -> Result<Json, Memory>
     ensures { IfOk result (λ v. json_view v ≡ gallery_data shown.now.kind shown.now.name items.now) }
 {
-    let kind = kind_name(shown.kind);
-    let name = shown.name.as_str();
-    let total = shown_total(items);
-    let list = listed_json(alloc, items)?;
-    Ok(json!(in alloc; {"items": list, "kind": kind, "name": name, "total": total})?)
+    Ok(json!(in alloc; {
+        "items": listed_json(alloc, items)?,
+        "kind": kind_name(shown.kind),
+        "name": shown.name.as_str(),
+        "total": shown_total(items),
+    })?)
 }
 
 fn control_json(alloc: Global, kind: Control, name: &Words, values: &Fields) -> Result<Json, Memory>
     ensures { IfOk result (λ v. json_view v ≡ control_data kind name.now values.now) }
 {
-    let kind = kind_name(kind);
-    let name = name.as_str();
-    let values = Json::Object(fields_json(alloc, values)?);
-    Ok(json!(in alloc; {"kind": kind, "name": name, "values": values})?)
+    Ok(json!(in alloc; {
+        "kind": kind_name(kind),
+        "name": name.as_str(),
+        "values": fields_json(alloc, values)?,
+    })?)
 }
 
 fn items_object(alloc: Global, items: &Items) -> Result<Json, Memory>
     ensures { IfOk result (λ v. json_view v ≡ items_data items.now) }
 {
-    let total = shown_total(items);
-    let list = listed_json(alloc, items)?;
-    Ok(json!(in alloc; {"items": list, "total": total})?)
+    Ok(json!(in alloc; {
+        "items": listed_json(alloc, items)?,
+        "total": shown_total(items),
+    })?)
 }
 
 // The number of items, which is 0 where an error stands in their place.
@@ -186,14 +190,11 @@ fn all_items_json(alloc: Global, all: &[ItemView]) -> Result<Vec<Json>, Memory>
 fn item_json(alloc: Global, item: &ItemView) -> Result<Json, Memory>
     ensures { IfOk result (λ v. json_view v ≡ item_data item.now) }
 {
-    let controls = Json::from(item_controls_json(alloc, item.shown.as_slice())?);
-    item_object(alloc, item.at, controls, id_json(item.id))
-}
-
-fn item_object(alloc: Global, at: u64, controls: Json, id: Json) -> Result<Json, Memory>
-    ensures { IfOk result (λ v. json_view v ≡ item_with at (json_view controls) (json_view id)) }
-{
-    Ok(json!(in alloc; {"at": at, "controls": controls, "id": id})?)
+    Ok(json!(in alloc; {
+        "at": item.at,
+        "controls": item_controls_json(alloc, item.shown.as_slice())?,
+        "id": id_json(item.id),
+    })?)
 }
 
 fn item_controls_json(alloc: Global, all: &[ItemControl]) -> Result<Vec<Json>, Memory>
@@ -220,9 +221,11 @@ fn id_json(id: Option<u32>) -> Json
 fn event_object(alloc: Global, notices: &[Words], seq: u32, value: &Value) -> Result<Json, Memory>
     ensures { IfOk result (λ v. json_view v ≡ event_data notices.now seq (value_view value.now)) }
 {
-    let notices = Json::from(lines_json(alloc, notices)?);
-    let value = told_json(alloc, value)?;
-    Ok(json!(in alloc; {"notices": notices, "seq": seq, "value": value})?)
+    Ok(json!(in alloc; {
+        "notices": lines_json(alloc, notices)?,
+        "seq": seq,
+        "value": told_json(alloc, value)?,
+    })?)
 }
 
 // A scalar or an error, and null in the place of a record or a table.
