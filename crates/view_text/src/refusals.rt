@@ -7,7 +7,7 @@ ghost use Rattle.view_text.specs.Statuses.{reason_of};
 use crate::status::reason;
 
 /// Why a request is refused. The number of each is its code in replies.
-#[derive(Clone, Copy, Debug, PartialEq, Eq)]
+#[derive(Clone, Copy)]
 pub enum Cause {
     /// A blank line ends what is no head of a request.
     BadHead = 1,
