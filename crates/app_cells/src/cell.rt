@@ -18,7 +18,6 @@ pub enum Spot {
 }
 
 /// A formula of an app, where it is written.
-#[derive(Drop)]
 pub struct Cell {
     /// Its address, as `Total`, `App.OnStart`, `Home.OnVisible` or `Count.Text`. A name that has a `.` or a `'` in it
     /// stands quoted.
@@ -37,4 +36,21 @@ pub struct Cell {
     pub at: u32,
     pub text: Words,
     pub expr: Expr,
+}
+
+// By hand, so that it is called: what is derived is opened wherever a value may end, which costs proofs seconds each time.
+impl Drop for Cell {
+    fn drop(self) {
+        let Cell {
+            name: _,
+            spot: _,
+            screen: _,
+            item: _,
+            acts: _,
+            wanted: _,
+            at: _,
+            text: _,
+            expr: _,
+        } = self;
+    }
 }
