@@ -8,6 +8,7 @@ pub mod Doable
 pub mod Within
 pub mod Writable
 pub mod Stages
+pub mod StagesOver
 pub mod Fitting
 pub mod Lefts
 pub mod Found

@@ -7,5 +7,6 @@ pub mod Courses
 pub mod Demands
 pub mod Kinds
 pub mod Moments
+pub mod MomentsOver
 pub mod Parts
 pub use Rattle.fx_plan.specs as fx_plan

@@ -16,6 +16,7 @@ pub mod Values
 pub mod Templates
 pub mod Schemas
 pub mod Asking
+pub mod AskingOver
 pub use Rattle.app_semantics.specs.app_cells
 pub use Rattle.app_semantics.specs as app_semantics
 pub use Rattle.fx_eval.specs as fx_eval

@@ -7,6 +7,7 @@ pub mod InMemory
 pub mod Kept
 pub mod Numbered
 pub mod OneTable
+pub mod Over
 pub mod Pages
 pub mod RowRules
 pub mod Rules
