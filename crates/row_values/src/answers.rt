@@ -1,11 +1,10 @@
 //! What queries of a keeper come to as values.
 ghost use Rattle.std.specs.Prelude.{◌≡◌, ◌≤◌, IfOk, Some};
 ghost use Rattle.std.specs.List.{All};
-ghost use Rattle.fx_base.specs.Silence.{Goes, IsLost};
 ghost use Rattle.fx_base.specs.Telling.{Stays};
 ghost use Rattle.fx_data.specs.ValueView.{view};
 ghost use Rattle.fx_trees.specs.Lawful.{IsLawfulSchema, IsLawfulTable};
-ghost use Rattle.row_keeper.specs.Causes.{HasCause};
+ghost use Rattle.row_keeper.specs.Over.{AttachedStays, Becomes, BeganStays, HasCause};
 ghost use Rattle.row_keeper.specs.Tables.{rows_told};
 ghost use Rattle.row_queries.specs.Answers.{IsScanValue, rows_in, table_or_fault};
 ghost use Rattle.row_queries.specs.Queries.{IsQuery};
@@ -32,12 +31,12 @@ pub fn scan<K: Keeper>(
     requires shaped { K.shaped keeper.old ≡ Some schema.now }
     requires query { IsQuery schema.now.tables query.now }
     ensures value { IfOk result (λ v. IsScanValue schema.now.tables (rows_told (K.told keeper.new)) query.now (view v)) }
-    ensures told { Goes (IsLost (K.marks keeper.old) (K.marks keeper.new)) Stays (K.told keeper.old) (K.told keeper.new) }
-    ensures began { Goes (IsLost (K.marks keeper.old) (K.marks keeper.new)) Stays (K.began keeper.old) (K.began keeper.new) }
-    ensures attached { Goes (IsLost (K.marks keeper.old) (K.marks keeper.new)) Stays (K.attached keeper.old) (K.attached keeper.new) }
+    ensures told { Becomes K.Keeper keeper.old keeper.new Stays }
+    ensures began { BeganStays K.Keeper keeper.old keeper.new }
+    ensures attached { AttachedStays K.Keeper keeper.old keeper.new }
     ensures shaped { K.shaped keeper.new ≡ K.shaped keeper.old }
     ensures mode { K.in_transaction keeper.new ≡ K.in_transaction keeper.old }
-    ensures cause { HasCause (K.marks keeper.old) (K.marks keeper.new) result }
+    ensures cause { HasCause K.Keeper keeper.old keeper.new result }
     ensures visited { K.visited keeper.old ≤ K.visited keeper.new }
     ensures least { IfOk result (λ v. VisitsAtLeast (rows_in (view v)) (K.visited keeper.old) (K.visited keeper.new)) }
     ensures most { VisitsTold (rows_told (K.told keeper.old)) query.now (K.visited keeper.old) (K.visited keeper.new) }
