@@ -1,5 +1,6 @@
 //! The items of galleries.
 ghost use Rattle.std.specs.Prelude.{◌≡◌, ◌<◌, ◌≤◌, ◌+◌, ◌*◌, ◌^◌, ℕ, [], IfOk, IfSome, OnOk, Some, drop, length, slice_get, take};
+ghost use Rattle.recalc.specs.AskingOver.{HasRead};
 ghost use Rattle.recalc.specs.app_semantics.Holding.{HoldsFitting};
 ghost use Rattle.recalc.specs.app_semantics.Present.{present};
 ghost use Rattle.recalc.specs.app_semantics.Sound.{IsSound};
@@ -13,7 +14,7 @@ ghost use Rattle.fx_data.specs.ValueView.{view};
 ghost use Rattle.fx_scalar.specs.ScalarFunctions.{IsToday};
 ghost use Rattle.recalc.specs.fx_semantics.Rows.{rows_in as rows_of_value};
 ghost use Rattle.fx_value.specs.Columns.{Row};
-ghost use Rattle.recalc.specs.Asking.{HasRead, IsHeardOf, ToldRows, keeping};
+ghost use Rattle.recalc.specs.Asking.{IsHeardOf, ToldRows};
 ghost use Rattle.recalc.specs.Values.{value_of};
 ghost use Rattle.recalc.specs.Visits.{WhereTold};
 ghost use Rattle.recalc.specs.fx_eval.Visits.{AtMost};
@@ -21,7 +22,7 @@ ghost use Rattle.recalc.specs.Changes.{IsLeftBut};
 ghost use Rattle.recalc.specs.Kept.{HasRoom, IsInOrder};
 ghost use Rattle.recalc.specs.Outcomes.{IsRightOver};
 ghost use Rattle.recalc.specs.Steps.{Leaves};
-ghost use Rattle.row_keeper.specs.Causes.{HasCause};
+ghost use Rattle.row_keeper.specs.Over.{HasCause};
 
 use crate::app_cells::App;
 use crate::displaying::is_seen;
@@ -61,9 +62,8 @@ fn item_view<K: Keeper, L: Ledger>(
     ensures ticks { IfOk result (λ i. steps.new ≤ steps.old + formulas_for app.now.names (is_it gallery)) }
     ensures visits { IfOk result (λ i. (moment : ℕ) → IsToday moment valued.now.day → WhereTold (K.told keeper.new) (λ told.
         AtMost (ItemAtVisits app.now session.now told moment (value_of valued.now) gallery at row.now (Some i)) (K.visited keeper.old) (K.visited keeper.new))) }
-    ensures read { HasRead (keeping (K.told keeper.old) (K.began keeper.old) (K.shaped keeper.old) (K.in_transaction keeper.old) (K.marks keeper.old) (K.visited keeper.old) (K.loan keeper.old))
-        (keeping (K.told keeper.new) (K.began keeper.new) (K.shaped keeper.new) (K.in_transaction keeper.new) (K.marks keeper.new) (K.visited keeper.new) (K.loan keeper.new)) }
-    ensures cause { HasCause (K.marks keeper.old) (K.marks keeper.new) result }
+    ensures read { HasRead K.Keeper keeper.old keeper.new }
+    ensures cause { HasCause K.Keeper keeper.old keeper.new result }
 {
     let name = id_name(alloc)?;
     let id = item_id(row, &name);
@@ -92,9 +92,8 @@ fn item_views<K: Keeper, L: Ledger>(
     ensures ticks { IfOk result (λ l. steps.new ≤ steps.old + length l * formulas_for app.now.names (is_it gallery)) }
     ensures visits { IfOk result (λ l. (moment : ℕ) → IsToday moment valued.now.day → WhereTold (K.told keeper.new) (λ told.
         AtMost (AreVisited (ItemAtVisits app.now session.now told moment (value_of valued.now) gallery) first rows.now l) (K.visited keeper.old) (K.visited keeper.new))) }
-    ensures read { HasRead (keeping (K.told keeper.old) (K.began keeper.old) (K.shaped keeper.old) (K.in_transaction keeper.old) (K.marks keeper.old) (K.visited keeper.old) (K.loan keeper.old))
-        (keeping (K.told keeper.new) (K.began keeper.new) (K.shaped keeper.new) (K.in_transaction keeper.new) (K.marks keeper.new) (K.visited keeper.new) (K.loan keeper.new)) }
-    ensures cause { HasCause (K.marks keeper.old) (K.marks keeper.new) result }
+    ensures read { HasRead K.Keeper keeper.old keeper.new }
+    ensures cause { HasCause K.Keeper keeper.old keeper.new result }
 {
     let mut list = InOrder::new(alloc);
     let mut at = first;
@@ -136,9 +135,8 @@ fn table_items<K: Keeper, L: Ledger>(
     ensures ticks { IfOk result (λ i. steps.new ≤ steps.old + length i.list * formulas_for app.now.names (is_it gallery)) }
     ensures visits { IfOk result (λ i. (moment : ℕ) → IsToday moment valued.now.day → WhereTold (K.told keeper.new) (λ told.
         AtMost (RowItemsVisit app.now session.now told moment (value_of valued.now) gallery from rows.now i) (K.visited keeper.old) (K.visited keeper.new))) }
-    ensures read { HasRead (keeping (K.told keeper.old) (K.began keeper.old) (K.shaped keeper.old) (K.in_transaction keeper.old) (K.marks keeper.old) (K.visited keeper.old) (K.loan keeper.old))
-        (keeping (K.told keeper.new) (K.began keeper.new) (K.shaped keeper.new) (K.in_transaction keeper.new) (K.marks keeper.new) (K.visited keeper.new) (K.loan keeper.new)) }
-    ensures cause { HasCause (K.marks keeper.old) (K.marks keeper.new) result }
+    ensures read { HasRead K.Keeper keeper.old keeper.new }
+    ensures cause { HasCause K.Keeper keeper.old keeper.new result }
 {
     let first = from.max(1);
     let shown = page(rows, (first - 1) as usize);
@@ -180,9 +178,8 @@ pub(crate) fn items_from<K: Keeper, L: Ledger>(
     ensures ticks { IfOk result (λ i. steps.new ≤ steps.old + length i.list * formulas_for app.now.names (is_it gallery)) }
     ensures visits { IfOk result (λ i. (moment : ℕ) → IsToday moment valued.now.day → WhereTold (K.told keeper.new) (λ told.
         AtMost (ItemsVisit app.now session.now told moment (value_of valued.now) gallery from i) (K.visited keeper.old) (K.visited keeper.new))) }
-    ensures read { HasRead (keeping (K.told keeper.old) (K.began keeper.old) (K.shaped keeper.old) (K.in_transaction keeper.old) (K.marks keeper.old) (K.visited keeper.old) (K.loan keeper.old))
-        (keeping (K.told keeper.new) (K.began keeper.new) (K.shaped keeper.new) (K.in_transaction keeper.new) (K.marks keeper.new) (K.visited keeper.new) (K.loan keeper.new)) }
-    ensures cause { HasCause (K.marks keeper.old) (K.marks keeper.new) result }
+    ensures read { HasRead K.Keeper keeper.old keeper.new }
+    ensures cause { HasCause K.Keeper keeper.old keeper.new result }
 {
     let items = valued.items(alloc, &app.names, gallery)?;
     let error = fault_in(alloc, &items)?;
@@ -271,9 +268,8 @@ pub fn items_of<K: Keeper, L: Ledger>(
     ensures ticks { IfOk result (λ o. HasRoom cache.old.last → AreSteps app.now (is_it gallery) cache.old cache.new (items_steps app.now.names gallery o) steps.old steps.new) }
     ensures visits { IfOk result (λ o. IsRightOver app.now session.now (K.told keeper.old) moment cache.old → HasRoom cache.old.last → WhereTold (K.told keeper.new) (λ told.
         AreRowsVisited app.now session.now told moment (is_it gallery) cache.old cache.new (λ values. GivenItemsVisit app.now session.now told moment values gallery from o) steps.old (K.visited keeper.old) (K.visited keeper.new))) }
-    ensures read { HasRead (keeping (K.told keeper.old) (K.began keeper.old) (K.shaped keeper.old) (K.in_transaction keeper.old) (K.marks keeper.old) (K.visited keeper.old) (K.loan keeper.old))
-        (keeping (K.told keeper.new) (K.began keeper.new) (K.shaped keeper.new) (K.in_transaction keeper.new) (K.marks keeper.new) (K.visited keeper.new) (K.loan keeper.new)) }
-    ensures cause { HasCause (K.marks keeper.old) (K.marks keeper.new) result }
+    ensures read { HasRead K.Keeper keeper.old keeper.new }
+    ensures cause { HasCause K.Keeper keeper.old keeper.new result }
 {
     let roots = roots_of(alloc, app, Part::Gallery(gallery))?;
     cache.refresh(alloc, app, session, keeper, moment, &roots, steps)?;
@@ -308,9 +304,8 @@ fn items_by<K: Keeper, L: Ledger>(
     ensures ticks { IfOk result (λ o. steps.new ≤ steps.old + items_steps app.now.names gallery o) }
     ensures visits { IfOk result (λ o. (moment : ℕ) → IsToday moment valued.now.day → WhereTold (K.told keeper.new) (λ told.
         AtMost (GivenItemsVisit app.now session.now told moment (value_of valued.now) gallery from o) (K.visited keeper.old) (K.visited keeper.new))) }
-    ensures read { HasRead (keeping (K.told keeper.old) (K.began keeper.old) (K.shaped keeper.old) (K.in_transaction keeper.old) (K.marks keeper.old) (K.visited keeper.old) (K.loan keeper.old))
-        (keeping (K.told keeper.new) (K.began keeper.new) (K.shaped keeper.new) (K.in_transaction keeper.new) (K.marks keeper.new) (K.visited keeper.new) (K.loan keeper.new)) }
-    ensures cause { HasCause (K.marks keeper.old) (K.marks keeper.new) result }
+    ensures read { HasRead K.Keeper keeper.old keeper.new }
+    ensures cause { HasCause K.Keeper keeper.old keeper.new result }
 {
     if is_seen_at(&app.names, session, valued, gallery) {
         let items = items_from(alloc, app, session, keeper, valued, gallery, from, steps)?;

@@ -6,7 +6,7 @@ ghost use Rattle.app_views.specs.Looking.{is_on};
 ghost use Rattle.app_views.specs.Ready.{IsGalleryOf};
 ghost use Rattle.app_views.specs.Shows.{CostsItems, CostsView, MakesItems, SaysItemsOf, ShowsItemsTo, ShowsViewTo, VisitsItems, VisitsView, items_reply as reply_of_items};
 ghost use Rattle.app_wire.specs.ReplyBytes.{reply};
-ghost use Rattle.recalc.specs.Asking.{HasRead, keeping};
+ghost use Rattle.recalc.specs.AskingOver.{HasRead};
 ghost use Rattle.recalc.specs.app_semantics.Present.{present};
 ghost use Rattle.recalc.specs.app_semantics.Sound.{IsSound};
 ghost use Rattle.fx_base.specs.Silence.{IsLost};
@@ -17,7 +17,7 @@ ghost use Rattle.recalc.specs.Outcomes.{IsRightOver};
 ghost use Rattle.recalc.specs.Steps.{Leaves};
 ghost use Rattle.recalc.specs.Visits.{WhereTold};
 ghost use Rattle.request_checks.specs.Replies.{IsReply, said};
-ghost use Rattle.row_keeper.specs.Causes.{HasCause};
+ghost use Rattle.row_keeper.specs.Over.{HasCause};
 ghost use Rattle.row_keeper.specs.Tables.{rows_told};
 ghost use Rattle.row_keeper.specs.declared.keeper.KeeperEnd.TheVariants.{Failed};
 ghost use Rattle.session_state.specs.Changes.{FitsNames};
@@ -65,9 +65,8 @@ pub fn show_view<K: Keeper, L: Ledger>(
     ensures made { OnOk result (AreMade app.now (is_on app.now.names session.now.screen) cache.new) }
     ensures ticks { IfOk result (λ r. HasRoom cache.old.last → CostsView app.now session.now cache.old cache.new steps.old steps.new (said r)) }
     ensures visits { IfOk result (λ r. HasRoom cache.old.last → WhereTold (K.told keeper.new) (λ told. VisitsView app.now session.now told moment cache.old cache.new steps.old (K.visited keeper.old) (K.visited keeper.new) (said r))) }
-    ensures read { HasRead (keeping (K.told keeper.old) (K.began keeper.old) (K.shaped keeper.old) (K.in_transaction keeper.old) (K.marks keeper.old) (K.visited keeper.old) (K.loan keeper.old))
-        (keeping (K.told keeper.new) (K.began keeper.new) (K.shaped keeper.new) (K.in_transaction keeper.new) (K.marks keeper.new) (K.visited keeper.new) (K.loan keeper.new)) }
-    ensures cause { HasCause (K.marks keeper.old) (K.marks keeper.new) result }
+    ensures read { HasRead K.Keeper keeper.old keeper.new }
+    ensures cause { HasCause K.Keeper keeper.old keeper.new result }
 {
     fitting_holds();
     let view = view_of(alloc, app, session, cache, keeper, moment, steps)?;
@@ -116,9 +115,8 @@ pub fn show_items<K: Keeper, L: Ledger>(
     ensures made { OnOk result (MakesItems app.now (named_gallery gallery.now app.now.names) cache.new) }
     ensures ticks { IfOk result (λ r. HasRoom cache.old.last → CostsItems app.now (named_gallery gallery.now app.now.names) cache.old cache.new steps.old steps.new (said r)) }
     ensures visits { IfOk result (λ r. HasRoom cache.old.last → WhereTold (K.told keeper.new) (λ told. VisitsItems app.now session.now told moment from (named_gallery gallery.now app.now.names) cache.old cache.new steps.old (K.visited keeper.old) (K.visited keeper.new) (said r))) }
-    ensures read { HasRead (keeping (K.told keeper.old) (K.began keeper.old) (K.shaped keeper.old) (K.in_transaction keeper.old) (K.marks keeper.old) (K.visited keeper.old) (K.loan keeper.old))
-        (keeping (K.told keeper.new) (K.began keeper.new) (K.shaped keeper.new) (K.in_transaction keeper.new) (K.marks keeper.new) (K.visited keeper.new) (K.loan keeper.new)) }
-    ensures cause { HasCause (K.marks keeper.old) (K.marks keeper.new) result }
+    ensures read { HasRead K.Keeper keeper.old keeper.new }
+    ensures cause { HasCause K.Keeper keeper.old keeper.new result }
 {
     match gallery_named(&app.names, gallery) {
         Some(number) => show_items_of(
@@ -157,9 +155,8 @@ fn show_items_of<K: Keeper, L: Ledger>(
     ensures made { OnOk result (MakesItems app.now (Some gallery) cache.new) }
     ensures ticks { IfOk result (λ r. HasRoom cache.old.last → CostsItems app.now (Some gallery) cache.old cache.new steps.old steps.new (said r)) }
     ensures visits { IfOk result (λ r. HasRoom cache.old.last → WhereTold (K.told keeper.new) (λ told. VisitsItems app.now session.now told moment from (Some gallery) cache.old cache.new steps.old (K.visited keeper.old) (K.visited keeper.new) (said r))) }
-    ensures read { HasRead (keeping (K.told keeper.old) (K.began keeper.old) (K.shaped keeper.old) (K.in_transaction keeper.old) (K.marks keeper.old) (K.visited keeper.old) (K.loan keeper.old))
-        (keeping (K.told keeper.new) (K.began keeper.new) (K.shaped keeper.new) (K.in_transaction keeper.new) (K.marks keeper.new) (K.visited keeper.new) (K.loan keeper.new)) }
-    ensures cause { HasCause (K.marks keeper.old) (K.marks keeper.new) result }
+    ensures read { HasRead K.Keeper keeper.old keeper.new }
+    ensures cause { HasCause K.Keeper keeper.old keeper.new result }
 {
     fitting_holds();
     let items = items_of(

@@ -1,5 +1,6 @@
 // The controls of a template, as they are for an item.
 ghost use Rattle.std.specs.Prelude.{◌≡◌, ◌≤◌, ◌+◌, ◌++◌, ◌∷◌, [], ℕ, true, IfOk, OnOk, Some, codes, slice_get};
+ghost use Rattle.recalc.specs.AskingOver.{HasRead};
 ghost use Rattle.recalc.specs.app_semantics.Present.{present};
 ghost use Rattle.recalc.specs.app_semantics.Properties.{IsPropertyForItem};
 ghost use Rattle.app_views.specs.Ready.{CanShow, IsItemOf};
@@ -9,7 +10,7 @@ ghost use Rattle.fx_data.specs.ValueView.{view};
 ghost use Rattle.fx_data.specs.Values.{text as text_data};
 ghost use Rattle.fx_scalar.specs.ScalarFunctions.{IsToday};
 ghost use Rattle.recalc.specs.fx_semantics.Around.{record_of};
-ghost use Rattle.recalc.specs.Asking.{HasRead, IsHeardOf, ToldRows, keeping};
+ghost use Rattle.recalc.specs.Asking.{IsHeardOf, ToldRows};
 ghost use Rattle.recalc.specs.Templates.{steps_of};
 ghost use Rattle.recalc.specs.Values.{value_of};
 ghost use Rattle.recalc.specs.Visits.{WhereTold};
@@ -17,7 +18,7 @@ ghost use Rattle.recalc.specs.fx_eval.Visits.{AtMost};
 ghost use Rattle.recalc.specs.app_cells.Leaning.{cell_of_property};
 ghost use Rattle.app_views.specs.Bounds.{control_steps, formulas_for};
 ghost use Rattle.app_views.specs.Looking.{is_it};
-ghost use Rattle.row_keeper.specs.Causes.{HasCause};
+ghost use Rattle.row_keeper.specs.Over.{HasCause};
 
 use crate::app_cells::App;
 use crate::displaying::{no_text, text_alone};
@@ -75,9 +76,8 @@ fn text_for<K: Keeper, L: Ledger>(
     ensures ticks { IfOk result (λ v. steps.new ≡ steps.old + steps_of (cell_of_property app.now.names number (codes "Text"))) }
     ensures visits { IfOk result (λ _. (moment : ℕ) → IsToday moment valued.now.day → WhereTold (K.told keeper.new) (λ told.
         AtMost (PropertyVisits app.now session.now told moment (value_of valued.now) (record_of row.now) number (codes "Text")) (K.visited keeper.old) (K.visited keeper.new))) }
-    ensures read { HasRead (keeping (K.told keeper.old) (K.began keeper.old) (K.shaped keeper.old) (K.in_transaction keeper.old) (K.marks keeper.old) (K.visited keeper.old) (K.loan keeper.old))
-        (keeping (K.told keeper.new) (K.began keeper.new) (K.shaped keeper.new) (K.in_transaction keeper.new) (K.marks keeper.new) (K.visited keeper.new) (K.loan keeper.new)) }
-    ensures cause { HasCause (K.marks keeper.old) (K.marks keeper.new) result }
+    ensures read { HasRead K.Keeper keeper.old keeper.new }
+    ensures cause { HasCause K.Keeper keeper.old keeper.new result }
 {
     let unwritten = no_text(alloc)?;
     property_for_item(
@@ -124,9 +124,8 @@ fn template_control<K: Keeper, L: Ledger>(
     ensures ticks { IfOk result (λ o. steps.new ≤ steps.old + control_steps app.now.names number true) }
     ensures visits { IfOk result (λ o. (moment : ℕ) → IsToday moment valued.now.day → WhereTold (K.told keeper.new) (λ told.
         AtMost (ControlVisits app.now session.now told moment (value_of valued.now) (record_of row.now) number o) (K.visited keeper.old) (K.visited keeper.new))) }
-    ensures read { HasRead (keeping (K.told keeper.old) (K.began keeper.old) (K.shaped keeper.old) (K.in_transaction keeper.old) (K.marks keeper.old) (K.visited keeper.old) (K.loan keeper.old))
-        (keeping (K.told keeper.new) (K.began keeper.new) (K.shaped keeper.new) (K.in_transaction keeper.new) (K.marks keeper.new) (K.visited keeper.new) (K.loan keeper.new)) }
-    ensures cause { HasCause (K.marks keeper.old) (K.marks keeper.new) result }
+    ensures read { HasRead K.Keeper keeper.old keeper.new }
+    ensures cause { HasCause K.Keeper keeper.old keeper.new result }
 {
     let visible = is_visible_for_item(
         alloc, app, session, keeper, valued, gallery, number, row, steps,
@@ -164,9 +163,8 @@ fn item_control<K: Keeper, L: Ledger>(
     ensures ticks { IfOk result (λ o. steps.new ≤ steps.old + control_steps app.now.names number (is_in_of gallery control.now.gallery)) }
     ensures visits { IfOk result (λ o. (moment : ℕ) → IsToday moment valued.now.day → WhereTold (K.told keeper.new) (λ told.
         AtMost (TemplateVisits app.now session.now told moment (value_of valued.now) gallery (record_of row.now) number control.now o) (K.visited keeper.old) (K.visited keeper.new))) }
-    ensures read { HasRead (keeping (K.told keeper.old) (K.began keeper.old) (K.shaped keeper.old) (K.in_transaction keeper.old) (K.marks keeper.old) (K.visited keeper.old) (K.loan keeper.old))
-        (keeping (K.told keeper.new) (K.began keeper.new) (K.shaped keeper.new) (K.in_transaction keeper.new) (K.marks keeper.new) (K.visited keeper.new) (K.loan keeper.new)) }
-    ensures cause { HasCause (K.marks keeper.old) (K.marks keeper.new) result }
+    ensures read { HasRead K.Keeper keeper.old keeper.new }
+    ensures cause { HasCause K.Keeper keeper.old keeper.new result }
 {
     if is_in(gallery, control) {
         template_control(
@@ -196,9 +194,8 @@ pub(crate) fn item_controls<K: Keeper, L: Ledger>(
     ensures ticks { IfOk result (λ l. steps.new ≤ steps.old + formulas_for app.now.names (is_it gallery)) }
     ensures visits { IfOk result (λ l. (moment : ℕ) → IsToday moment valued.now.day → WhereTold (K.told keeper.new) (λ told.
         AtMost (AreVisited (TemplateVisits app.now session.now told moment (value_of valued.now) gallery (record_of row.now)) 0 app.now.names.controls l) (K.visited keeper.old) (K.visited keeper.new))) }
-    ensures read { HasRead (keeping (K.told keeper.old) (K.began keeper.old) (K.shaped keeper.old) (K.in_transaction keeper.old) (K.marks keeper.old) (K.visited keeper.old) (K.loan keeper.old))
-        (keeping (K.told keeper.new) (K.began keeper.new) (K.shaped keeper.new) (K.in_transaction keeper.new) (K.marks keeper.new) (K.visited keeper.new) (K.loan keeper.new)) }
-    ensures cause { HasCause (K.marks keeper.old) (K.marks keeper.new) result }
+    ensures read { HasRead K.Keeper keeper.old keeper.new }
+    ensures cause { HasCause K.Keeper keeper.old keeper.new result }
 {
     let mut shown = InOrder::new(alloc);
     let mut number: u32 = 0;

@@ -1,5 +1,6 @@
 //! What a session shows.
 ghost use Rattle.std.specs.Prelude.{◌≡◌, ◌+◌, ◌<◌, ◌≤◌, ◌∷◌, [], ℕ, IfOk, OnOk, Some, length, slice_get};
+ghost use Rattle.recalc.specs.AskingOver.{HasRead};
 ghost use Rattle.recalc.specs.app_semantics.Holding.{HoldsFitting};
 ghost use Rattle.recalc.specs.app_semantics.Present.{present};
 ghost use Rattle.recalc.specs.app_semantics.Sound.{IsSound};
@@ -9,7 +10,7 @@ ghost use Rattle.app_views.specs.Ready.{CanShow};
 ghost use Rattle.app_views.specs.Views.{AreGiven, IsFreshView, IsShown, IsShownControl, IsView, ShowsFirstItems, is_shown as is_shown_of, put};
 ghost use Rattle.app_views.specs.Visits.{AreRowsVisited, GivenItemsVisit, ScreenVisits, ShownVisits};
 ghost use Rattle.fx_scalar.specs.ScalarFunctions.{IsToday};
-ghost use Rattle.recalc.specs.Asking.{HasRead, IsHeardOf, ToldRows, keeping};
+ghost use Rattle.recalc.specs.Asking.{IsHeardOf, ToldRows};
 ghost use Rattle.recalc.specs.Values.{value_of};
 ghost use Rattle.recalc.specs.Visits.{WhereTold};
 ghost use Rattle.recalc.specs.fx_eval.Visits.{AtMost};
@@ -17,7 +18,7 @@ ghost use Rattle.recalc.specs.Changes.{IsLeftBut};
 ghost use Rattle.recalc.specs.Kept.{HasRoom, IsInOrder};
 ghost use Rattle.recalc.specs.Outcomes.{IsRightOver};
 ghost use Rattle.recalc.specs.Steps.{Leaves};
-ghost use Rattle.row_keeper.specs.Causes.{HasCause};
+ghost use Rattle.row_keeper.specs.Over.{HasCause};
 
 use crate::app_cells::App;
 use crate::displaying::{display, is_seen};
@@ -63,9 +64,8 @@ pub fn view_of<K: Keeper, L: Ledger>(
     ensures ticks { IfOk result (λ v. HasRoom cache.old.last → AreSteps app.now (is_on app.now.names session.now.screen) cache.old cache.new (shown_steps app.now.names v.shown) steps.old steps.new) }
     ensures visits { IfOk result (λ v. IsRightOver app.now session.now (K.told keeper.old) moment cache.old → HasRoom cache.old.last → WhereTold (K.told keeper.new) (λ told.
         AreRowsVisited app.now session.now told moment (is_on app.now.names session.now.screen) cache.old cache.new (λ values. ScreenVisits app.now session.now told moment values v.shown) steps.old (K.visited keeper.old) (K.visited keeper.new))) }
-    ensures read { HasRead (keeping (K.told keeper.old) (K.began keeper.old) (K.shaped keeper.old) (K.in_transaction keeper.old) (K.marks keeper.old) (K.visited keeper.old) (K.loan keeper.old))
-        (keeping (K.told keeper.new) (K.began keeper.new) (K.shaped keeper.new) (K.in_transaction keeper.new) (K.marks keeper.new) (K.visited keeper.new) (K.loan keeper.new)) }
-    ensures cause { HasCause (K.marks keeper.old) (K.marks keeper.new) result }
+    ensures read { HasRead K.Keeper keeper.old keeper.new }
+    ensures cause { HasCause K.Keeper keeper.old keeper.new result }
 {
     let part = Part::Screen(session.screen());
     let roots = roots_of(alloc, app, part)?;
@@ -90,9 +90,8 @@ fn view_by<K: Keeper, L: Ledger>(
     ensures ticks { IfOk result (λ v. steps.new ≤ steps.old + shown_steps app.now.names v.shown) }
     ensures visits { IfOk result (λ v. (moment : ℕ) → IsToday moment valued.now.day → WhereTold (K.told keeper.new) (λ told.
         AtMost (ScreenVisits app.now session.now told moment (value_of valued.now) v.shown) (K.visited keeper.old) (K.visited keeper.new))) }
-    ensures read { HasRead (keeping (K.told keeper.old) (K.began keeper.old) (K.shaped keeper.old) (K.in_transaction keeper.old) (K.marks keeper.old) (K.visited keeper.old) (K.loan keeper.old))
-        (keeping (K.told keeper.new) (K.began keeper.new) (K.shaped keeper.new) (K.in_transaction keeper.new) (K.marks keeper.new) (K.visited keeper.new) (K.loan keeper.new)) }
-    ensures cause { HasCause (K.marks keeper.old) (K.marks keeper.new) result }
+    ensures read { HasRead K.Keeper keeper.old keeper.new }
+    ensures cause { HasCause K.Keeper keeper.old keeper.new result }
 {
     let shown = all_shown(alloc, app, session, keeper, valued, steps)?;
     let place = session.screen();
@@ -121,9 +120,8 @@ fn all_shown<K: Keeper, L: Ledger>(
     ensures ticks { IfOk result (λ l. steps.new ≤ steps.old + shown_steps app.now.names l) }
     ensures visits { IfOk result (λ l. (moment : ℕ) → IsToday moment valued.now.day → WhereTold (K.told keeper.new) (λ told.
         AtMost (ScreenVisits app.now session.now told moment (value_of valued.now) l) (K.visited keeper.old) (K.visited keeper.new))) }
-    ensures read { HasRead (keeping (K.told keeper.old) (K.began keeper.old) (K.shaped keeper.old) (K.in_transaction keeper.old) (K.marks keeper.old) (K.visited keeper.old) (K.loan keeper.old))
-        (keeping (K.told keeper.new) (K.began keeper.new) (K.shaped keeper.new) (K.in_transaction keeper.new) (K.marks keeper.new) (K.visited keeper.new) (K.loan keeper.new)) }
-    ensures cause { HasCause (K.marks keeper.old) (K.marks keeper.new) result }
+    ensures read { HasRead K.Keeper keeper.old keeper.new }
+    ensures cause { HasCause K.Keeper keeper.old keeper.new result }
 {
     let mut shown = InOrder::new(alloc);
     let mut number: u32 = 0;
@@ -168,9 +166,8 @@ fn shown_control<K: Keeper, L: Ledger>(
     ensures ticks { IfOk result (λ o. steps.new ≤ steps.old + shown_steps app.now.names (put o [])) }
     ensures visits { IfOk result (λ o. (moment : ℕ) → IsToday moment valued.now.day → WhereTold (K.told keeper.new) (λ told.
         AtMost (ShownVisits app.now session.now told moment (value_of valued.now) number control.now o) (K.visited keeper.old) (K.visited keeper.new))) }
-    ensures read { HasRead (keeping (K.told keeper.old) (K.began keeper.old) (K.shaped keeper.old) (K.in_transaction keeper.old) (K.marks keeper.old) (K.visited keeper.old) (K.loan keeper.old))
-        (keeping (K.told keeper.new) (K.began keeper.new) (K.shaped keeper.new) (K.in_transaction keeper.new) (K.marks keeper.new) (K.visited keeper.new) (K.loan keeper.new)) }
-    ensures cause { HasCause (K.marks keeper.old) (K.marks keeper.new) result }
+    ensures read { HasRead K.Keeper keeper.old keeper.new }
+    ensures cause { HasCause K.Keeper keeper.old keeper.new result }
 {
     if is_shown(&app.names, session, valued, number, control) {
         let shown = shown_with(alloc, app, session, keeper, valued, number, control, steps)?;
@@ -199,9 +196,8 @@ fn shown_with<K: Keeper, L: Ledger>(
     ensures ticks { IfOk result (λ s. steps.new ≤ steps.old + shown_steps app.now.names (s ∷ [])) }
     ensures visits { IfOk result (λ s. (moment : ℕ) → IsToday moment valued.now.day → WhereTold (K.told keeper.new) (λ told.
         AtMost (GivenItemsVisit app.now session.now told moment (value_of valued.now) number 1 s.items) (K.visited keeper.old) (K.visited keeper.new))) }
-    ensures read { HasRead (keeping (K.told keeper.old) (K.began keeper.old) (K.shaped keeper.old) (K.in_transaction keeper.old) (K.marks keeper.old) (K.visited keeper.old) (K.loan keeper.old))
-        (keeping (K.told keeper.new) (K.began keeper.new) (K.shaped keeper.new) (K.in_transaction keeper.new) (K.marks keeper.new) (K.visited keeper.new) (K.loan keeper.new)) }
-    ensures cause { HasCause (K.marks keeper.old) (K.marks keeper.new) result }
+    ensures read { HasRead K.Keeper keeper.old keeper.new }
+    ensures cause { HasCause K.Keeper keeper.old keeper.new result }
 {
     let items = shown_items(alloc, app, session, keeper, valued, number, control, steps)?;
     let values = display(alloc, &app.names, session, valued, number, control)?;
@@ -234,9 +230,8 @@ fn shown_items<K: Keeper, L: Ledger>(
     ensures ticks { IfOk result (λ o. steps.new ≤ steps.old + items_steps app.now.names number o) }
     ensures visits { IfOk result (λ o. (moment : ℕ) → IsToday moment valued.now.day → WhereTold (K.told keeper.new) (λ told.
         AtMost (GivenItemsVisit app.now session.now told moment (value_of valued.now) number 1 o) (K.visited keeper.old) (K.visited keeper.new))) }
-    ensures read { HasRead (keeping (K.told keeper.old) (K.began keeper.old) (K.shaped keeper.old) (K.in_transaction keeper.old) (K.marks keeper.old) (K.visited keeper.old) (K.loan keeper.old))
-        (keeping (K.told keeper.new) (K.began keeper.new) (K.shaped keeper.new) (K.in_transaction keeper.new) (K.marks keeper.new) (K.visited keeper.new) (K.loan keeper.new)) }
-    ensures cause { HasCause (K.marks keeper.old) (K.marks keeper.new) result }
+    ensures read { HasRead K.Keeper keeper.old keeper.new }
+    ensures cause { HasCause K.Keeper keeper.old keeper.new result }
 {
     if is_gallery(control.kind) {
         let items = items_from(alloc, app, session, keeper, valued, number, 1, steps)?;

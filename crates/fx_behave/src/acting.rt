@@ -1,7 +1,6 @@
 //! Formulas in which something acts.
 ghost use Rattle.std.specs.Prelude.{◌≡◌, ◌∷◌, [], List, IfOk, IsErrOf, OnErr, map, true};
 ghost use Rattle.fx_base.specs.Faults.{Rose};
-ghost use Rattle.fx_base.specs.Silence.{Goes, IsLost};
 ghost use Rattle.fx_data.specs.Types.{Shape, booleans};
 ghost use Rattle.fx_data.specs.ValueView.{view};
 ghost use Rattle.fx_eval.specs.Parts.{caught_in, inner};
@@ -15,7 +14,7 @@ ghost use Rattle.fx_trees.specs.Term.{act as deed_head, all, cons, nil, of, over
 ghost use Rattle.fx_typing.specs.Acts as acting;
 ghost use Rattle.fx_value.specs.Fits.{fits_in};
 ghost use Rattle.fx_deeds.specs.Fitting.{AreOf};
-ghost use Rattle.fx_deeds.specs.Stages.{Passed, stage};
+ghost use Rattle.fx_deeds.specs.StagesOver.{Passed, StateBecomes};
 ghost use Rattle.fx_deeds.specs.State.{ground};
 ghost use Rattle.fx_deeds.specs.Writable.{WritesOnly};
 ghost use Rattle.fx_behave.specs.Actable.{AreActable, AreBranches, AreRecoveries, AreTwo, CanAct, EndsIn, IsActable, IsActableInside, IsMatchedBy, IsSwitch};
@@ -49,14 +48,15 @@ pub fn act<W: World, L: Ledger>(
     steps: &mut Steps<L>,
 ) -> Result<Value, Stop>
     requires { CanAct (W.fixed world.old).types scope.old core.now }
-    ensures passed { Passed
-        (stage (W.fixed world.old) (W.state world.old) (W.marks world.old) (W.visited world.old))
-        (stage (W.fixed world.new) (W.state world.new) (W.marks world.new) (W.visited world.new)) }
-    ensures only { Goes (IsLost (W.marks world.old) (W.marks world.new)) (WritesOnly (MayWrite core.now)) (W.state world.old) (W.state world.new) }
+    ensures passed { Passed W.Env W.World.own world.old world.new }
+    ensures only { StateBecomes W.Env W.World.own world.old world.new
+        (WritesOnly (MayWrite core.now)) }
     ensures scope { scope.new ≡ scope.old }
     ensures keeper { IsErrOf result Stop.Keeper → Rose (W.marks world.old).faults (W.marks world.new).faults }
-    ensures done { IfOk result (λ v. Goes (IsLost (W.marks world.old) (W.marks world.new)) (λ s t. Performs (ground W.gives (W.fixed world.old)) core.now scope.old (view v) s t) (W.state world.old) (W.state world.new)) }
-    ensures cut { OnErr result (Goes (IsLost (W.marks world.old) (W.marks world.new)) (IsCutOff (ground W.gives (W.fixed world.old)) core.now scope.old) (W.state world.old) (W.state world.new)) }
+    ensures done { IfOk result (λ v. StateBecomes W.Env W.World.own world.old world.new
+        (λ s t. Performs (ground W.gives (W.fixed world.old)) core.now scope.old (view v) s t)) }
+    ensures cut { OnErr result (StateBecomes W.Env W.World.own world.old world.new
+        (IsCutOff (ground W.gives (W.fixed world.old)) core.now scope.old)) }
     ensures fits { (u : Shape) → IsActable (W.fixed world.old).types scope.old core.now u → IfOk result (λ v. fits_in (view v) u ≡ true) }
 {
     perform(alloc, world, scope, core, steps)
@@ -72,14 +72,15 @@ fn perform<W: World, L: Ledger>(
     steps: &mut Steps<L>,
 ) -> Result<Value, Stop>
     requires { CanAct (W.fixed world.old).types scope.old core.now }
-    ensures passed { Passed
-        (stage (W.fixed world.old) (W.state world.old) (W.marks world.old) (W.visited world.old))
-        (stage (W.fixed world.new) (W.state world.new) (W.marks world.new) (W.visited world.new)) }
-    ensures only { Goes (IsLost (W.marks world.old) (W.marks world.new)) (WritesOnly (MayWrite core.now)) (W.state world.old) (W.state world.new) }
+    ensures passed { Passed W.Env W.World.own world.old world.new }
+    ensures only { StateBecomes W.Env W.World.own world.old world.new
+        (WritesOnly (MayWrite core.now)) }
     ensures scope { scope.new ≡ scope.old }
     ensures keeper { IsErrOf result Stop.Keeper → Rose (W.marks world.old).faults (W.marks world.new).faults }
-    ensures done { IfOk result (λ v. Goes (IsLost (W.marks world.old) (W.marks world.new)) (λ s t. Performs (ground W.gives (W.fixed world.old)) core.now scope.old (view v) s t) (W.state world.old) (W.state world.new)) }
-    ensures cut { OnErr result (Goes (IsLost (W.marks world.old) (W.marks world.new)) (IsCutOff (ground W.gives (W.fixed world.old)) core.now scope.old) (W.state world.old) (W.state world.new)) }
+    ensures done { IfOk result (λ v. StateBecomes W.Env W.World.own world.old world.new
+        (λ s t. Performs (ground W.gives (W.fixed world.old)) core.now scope.old (view v) s t)) }
+    ensures cut { OnErr result (StateBecomes W.Env W.World.own world.old world.new
+        (IsCutOff (ground W.gives (W.fixed world.old)) core.now scope.old)) }
     ensures fits { (u : Shape) → IsActable (W.fixed world.old).types scope.old core.now u → IfOk result (λ v. fits_in (view v) u ≡ true) }
 {
     if acts(core) {
@@ -100,14 +101,15 @@ fn node<W: World, L: Ledger>(
 ) -> Result<Value, Stop>
     requires can { CanAct (W.fixed world.old).types scope.old core.now }
     requires acts { acting.acts core.now ≡ true }
-    ensures passed { Passed
-        (stage (W.fixed world.old) (W.state world.old) (W.marks world.old) (W.visited world.old))
-        (stage (W.fixed world.new) (W.state world.new) (W.marks world.new) (W.visited world.new)) }
-    ensures only { Goes (IsLost (W.marks world.old) (W.marks world.new)) (WritesOnly (MayWrite core.now)) (W.state world.old) (W.state world.new) }
+    ensures passed { Passed W.Env W.World.own world.old world.new }
+    ensures only { StateBecomes W.Env W.World.own world.old world.new
+        (WritesOnly (MayWrite core.now)) }
     ensures scope { scope.new ≡ scope.old }
     ensures keeper { IsErrOf result Stop.Keeper → Rose (W.marks world.old).faults (W.marks world.new).faults }
-    ensures done { IfOk result (λ v. Goes (IsLost (W.marks world.old) (W.marks world.new)) (λ s t. Performs (ground W.gives (W.fixed world.old)) core.now scope.old (view v) s t) (W.state world.old) (W.state world.new)) }
-    ensures cut { OnErr result (Goes (IsLost (W.marks world.old) (W.marks world.new)) (IsCutOff (ground W.gives (W.fixed world.old)) core.now scope.old) (W.state world.old) (W.state world.new)) }
+    ensures done { IfOk result (λ v. StateBecomes W.Env W.World.own world.old world.new
+        (λ s t. Performs (ground W.gives (W.fixed world.old)) core.now scope.old (view v) s t)) }
+    ensures cut { OnErr result (StateBecomes W.Env W.World.own world.old world.new
+        (IsCutOff (ground W.gives (W.fixed world.old)) core.now scope.old)) }
     ensures fits { (u : Shape) → IsActable (W.fixed world.old).types scope.old core.now u → IfOk result (λ v. fits_in (view v) u ≡ true) }
 {
     match &core.node {
@@ -163,14 +165,15 @@ fn act_deed<W: World, L: Ledger>(
     steps: &mut Steps<L>,
 ) -> Result<Value, Stop>
     requires { CanAct (W.fixed world.old).types scope.old (of (deed_head deed.now) (all parts.now)) }
-    ensures passed { Passed
-        (stage (W.fixed world.old) (W.state world.old) (W.marks world.old) (W.visited world.old))
-        (stage (W.fixed world.new) (W.state world.new) (W.marks world.new) (W.visited world.new)) }
-    ensures only { Goes (IsLost (W.marks world.old) (W.marks world.new)) (WritesOnly (MayWrite (of (deed_head deed.now) (all parts.now)))) (W.state world.old) (W.state world.new) }
+    ensures passed { Passed W.Env W.World.own world.old world.new }
+    ensures only { StateBecomes W.Env W.World.own world.old world.new
+        (WritesOnly (MayWrite (of (deed_head deed.now) (all parts.now)))) }
     ensures scope { scope.new ≡ scope.old }
     ensures keeper { IsErrOf result Stop.Keeper → Rose (W.marks world.old).faults (W.marks world.new).faults }
-    ensures done { IfOk result (λ v. Goes (IsLost (W.marks world.old) (W.marks world.new)) (λ s t. IsAct (ground W.gives (W.fixed world.old)) deed.now (performings (ground W.gives (W.fixed world.old)) (all parts.now)) scope.old s (view v) t) (W.state world.old) (W.state world.new)) }
-    ensures cut { OnErr result (Goes (IsLost (W.marks world.old) (W.marks world.new)) (IsActCut (ground W.gives (W.fixed world.old)) deed.now (parts_of (ground W.gives (W.fixed world.old)) (all parts.now)) scope.old) (W.state world.old) (W.state world.new)) }
+    ensures done { IfOk result (λ v. StateBecomes W.Env W.World.own world.old world.new
+        (λ s t. IsAct (ground W.gives (W.fixed world.old)) deed.now (performings (ground W.gives (W.fixed world.old)) (all parts.now)) scope.old s (view v) t)) }
+    ensures cut { OnErr result (StateBecomes W.Env W.World.own world.old world.new
+        (IsActCut (ground W.gives (W.fixed world.old)) deed.now (parts_of (ground W.gives (W.fixed world.old)) (all parts.now)) scope.old)) }
     ensures fits { (u : Shape) → IsActable (W.fixed world.old).types scope.old (of (deed_head deed.now) (all parts.now)) u → IfOk result (λ v. fits_in (view v) u ≡ true) }
 {
     match deed {
@@ -193,14 +196,15 @@ fn update_if<W: World, L: Ledger>(
     steps: &mut Steps<L>,
 ) -> Result<Value, Stop>
     requires { CanAct (W.fixed world.old).types scope.old (of (deed_head (deed.UpdateIf target)) (all parts.now)) }
-    ensures passed { Passed
-        (stage (W.fixed world.old) (W.state world.old) (W.marks world.old) (W.visited world.old))
-        (stage (W.fixed world.new) (W.state world.new) (W.marks world.new) (W.visited world.new)) }
-    ensures only { Goes (IsLost (W.marks world.old) (W.marks world.new)) (WritesOnly (MayWrite (of (deed_head (deed.UpdateIf target)) (all parts.now)))) (W.state world.old) (W.state world.new) }
+    ensures passed { Passed W.Env W.World.own world.old world.new }
+    ensures only { StateBecomes W.Env W.World.own world.old world.new
+        (WritesOnly (MayWrite (of (deed_head (deed.UpdateIf target)) (all parts.now)))) }
     ensures scope { scope.new ≡ scope.old }
     ensures keeper { IsErrOf result Stop.Keeper → Rose (W.marks world.old).faults (W.marks world.new).faults }
-    ensures done { IfOk result (λ v. Goes (IsLost (W.marks world.old) (W.marks world.new)) (λ s t. IsUpdateIf (ground W.gives (W.fixed world.old)) target (performings (ground W.gives (W.fixed world.old)) (all parts.now)) scope.old s (view v) t) (W.state world.old) (W.state world.new)) }
-    ensures cut { OnErr result (Goes (IsLost (W.marks world.old) (W.marks world.new)) (IsUpdateIfCut (ground W.gives (W.fixed world.old)) target (parts_of (ground W.gives (W.fixed world.old)) (all parts.now)) scope.old) (W.state world.old) (W.state world.new)) }
+    ensures done { IfOk result (λ v. StateBecomes W.Env W.World.own world.old world.new
+        (λ s t. IsUpdateIf (ground W.gives (W.fixed world.old)) target (performings (ground W.gives (W.fixed world.old)) (all parts.now)) scope.old s (view v) t)) }
+    ensures cut { OnErr result (StateBecomes W.Env W.World.own world.old world.new
+        (IsUpdateIfCut (ground W.gives (W.fixed world.old)) target (parts_of (ground W.gives (W.fixed world.old)) (all parts.now)) scope.old)) }
     ensures fits { IfOk result (λ v. fits_in (view v) booleans ≡ true) }
 {
     let (filter, change) = filter_and_change(parts);
@@ -239,14 +243,15 @@ fn chain<W: World, L: Ledger>(
     steps: &mut Steps<L>,
 ) -> Result<Value, Stop>
     requires { (u : Shape) × EndsIn (W.fixed world.old).types scope.old u parts.now }
-    ensures passed { Passed
-        (stage (W.fixed world.old) (W.state world.old) (W.marks world.old) (W.visited world.old))
-        (stage (W.fixed world.new) (W.state world.new) (W.marks world.new) (W.visited world.new)) }
-    ensures only { Goes (IsLost (W.marks world.old) (W.marks world.new)) (WritesOnly (AnyMayWrite (all parts.now))) (W.state world.old) (W.state world.new) }
+    ensures passed { Passed W.Env W.World.own world.old world.new }
+    ensures only { StateBecomes W.Env W.World.own world.old world.new
+        (WritesOnly (AnyMayWrite (all parts.now))) }
     ensures scope { scope.new ≡ scope.old }
     ensures keeper { IsErrOf result Stop.Keeper → Rose (W.marks world.old).faults (W.marks world.new).faults }
-    ensures done { IfOk result (λ v. Goes (IsLost (W.marks world.old) (W.marks world.new)) (λ s t. IsChain (performings (ground W.gives (W.fixed world.old)) (all parts.now)) scope.old s (view v) t) (W.state world.old) (W.state world.new)) }
-    ensures cut { OnErr result (Goes (IsLost (W.marks world.old) (W.marks world.new)) (AreCut (parts_of (ground W.gives (W.fixed world.old)) (all parts.now)) scope.old) (W.state world.old) (W.state world.new)) }
+    ensures done { IfOk result (λ v. StateBecomes W.Env W.World.own world.old world.new
+        (λ s t. IsChain (performings (ground W.gives (W.fixed world.old)) (all parts.now)) scope.old s (view v) t)) }
+    ensures cut { OnErr result (StateBecomes W.Env W.World.own world.old world.new
+        (AreCut (parts_of (ground W.gives (W.fixed world.old)) (all parts.now)) scope.old)) }
     ensures fits { (u : Shape) → EndsIn (W.fixed world.old).types scope.old u parts.now → IfOk result (λ v. fits_in (view v) u ≡ true) }
 {
     let mut rest = parts;
@@ -270,14 +275,15 @@ fn branches<W: World, L: Ledger>(
     steps: &mut Steps<L>,
 ) -> Result<Value, Stop>
     requires { (u : Shape) × AreBranches (W.fixed world.old).types scope.old u parts.now }
-    ensures passed { Passed
-        (stage (W.fixed world.old) (W.state world.old) (W.marks world.old) (W.visited world.old))
-        (stage (W.fixed world.new) (W.state world.new) (W.marks world.new) (W.visited world.new)) }
-    ensures only { Goes (IsLost (W.marks world.old) (W.marks world.new)) (WritesOnly (AnyMayWrite (all parts.now))) (W.state world.old) (W.state world.new) }
+    ensures passed { Passed W.Env W.World.own world.old world.new }
+    ensures only { StateBecomes W.Env W.World.own world.old world.new
+        (WritesOnly (AnyMayWrite (all parts.now))) }
     ensures scope { scope.new ≡ scope.old }
     ensures keeper { IsErrOf result Stop.Keeper → Rose (W.marks world.old).faults (W.marks world.new).faults }
-    ensures done { IfOk result (λ v. Goes (IsLost (W.marks world.old) (W.marks world.new)) (λ s t. IsBranched decision_of (performings (ground W.gives (W.fixed world.old)) (all parts.now)) scope.old s (view v) t) (W.state world.old) (W.state world.new)) }
-    ensures cut { OnErr result (Goes (IsLost (W.marks world.old) (W.marks world.new)) (IsBranchCut decision_of (parts_of (ground W.gives (W.fixed world.old)) (all parts.now)) scope.old) (W.state world.old) (W.state world.new)) }
+    ensures done { IfOk result (λ v. StateBecomes W.Env W.World.own world.old world.new
+        (λ s t. IsBranched decision_of (performings (ground W.gives (W.fixed world.old)) (all parts.now)) scope.old s (view v) t)) }
+    ensures cut { OnErr result (StateBecomes W.Env W.World.own world.old world.new
+        (IsBranchCut decision_of (parts_of (ground W.gives (W.fixed world.old)) (all parts.now)) scope.old)) }
     ensures fits { (u : Shape) → AreBranches (W.fixed world.old).types scope.old u parts.now → IfOk result (λ v. fits_in (view v) u ≡ true) }
 {
     let mut rest = parts;
@@ -305,14 +311,15 @@ fn switch<W: World, L: Ledger>(
     steps: &mut Steps<L>,
 ) -> Result<Value, Stop>
     requires { (u : Shape) × IsSwitch (W.fixed world.old).types scope.old u parts.now }
-    ensures passed { Passed
-        (stage (W.fixed world.old) (W.state world.old) (W.marks world.old) (W.visited world.old))
-        (stage (W.fixed world.new) (W.state world.new) (W.marks world.new) (W.visited world.new)) }
-    ensures only { Goes (IsLost (W.marks world.old) (W.marks world.new)) (WritesOnly (AnyMayWrite (all parts.now))) (W.state world.old) (W.state world.new) }
+    ensures passed { Passed W.Env W.World.own world.old world.new }
+    ensures only { StateBecomes W.Env W.World.own world.old world.new
+        (WritesOnly (AnyMayWrite (all parts.now))) }
     ensures scope { scope.new ≡ scope.old }
     ensures keeper { IsErrOf result Stop.Keeper → Rose (W.marks world.old).faults (W.marks world.new).faults }
-    ensures done { IfOk result (λ v. Goes (IsLost (W.marks world.old) (W.marks world.new)) (λ s t. IsSwitched (performings (ground W.gives (W.fixed world.old)) (all parts.now)) scope.old s (view v) t) (W.state world.old) (W.state world.new)) }
-    ensures cut { OnErr result (Goes (IsLost (W.marks world.old) (W.marks world.new)) (IsSwitchCut (parts_of (ground W.gives (W.fixed world.old)) (all parts.now)) scope.old) (W.state world.old) (W.state world.new)) }
+    ensures done { IfOk result (λ v. StateBecomes W.Env W.World.own world.old world.new
+        (λ s t. IsSwitched (performings (ground W.gives (W.fixed world.old)) (all parts.now)) scope.old s (view v) t)) }
+    ensures cut { OnErr result (StateBecomes W.Env W.World.own world.old world.new
+        (IsSwitchCut (parts_of (ground W.gives (W.fixed world.old)) (all parts.now)) scope.old)) }
     ensures fits { (u : Shape) → IsSwitch (W.fixed world.old).types scope.old u parts.now → IfOk result (λ v. fits_in (view v) u ≡ true) }
 {
     let Some((part, others)) = parts.split_first() else {
@@ -336,14 +343,15 @@ fn matches<W: World, L: Ledger>(
     steps: &mut Steps<L>,
 ) -> Result<Value, Stop>
     requires { (u : Shape) × IsMatchedBy (W.fixed world.old).types scope.old (view wanted) u parts.now }
-    ensures passed { Passed
-        (stage (W.fixed world.old) (W.state world.old) (W.marks world.old) (W.visited world.old))
-        (stage (W.fixed world.new) (W.state world.new) (W.marks world.new) (W.visited world.new)) }
-    ensures only { Goes (IsLost (W.marks world.old) (W.marks world.new)) (WritesOnly (AnyMayWrite (all parts.now))) (W.state world.old) (W.state world.new) }
+    ensures passed { Passed W.Env W.World.own world.old world.new }
+    ensures only { StateBecomes W.Env W.World.own world.old world.new
+        (WritesOnly (AnyMayWrite (all parts.now))) }
     ensures scope { scope.new ≡ scope.old }
     ensures keeper { IsErrOf result Stop.Keeper → Rose (W.marks world.old).faults (W.marks world.new).faults }
-    ensures done { IfOk result (λ v. Goes (IsLost (W.marks world.old) (W.marks world.new)) (λ s t. IsBranched (matching (view wanted)) (performings (ground W.gives (W.fixed world.old)) (all parts.now)) scope.old s (view v) t) (W.state world.old) (W.state world.new)) }
-    ensures cut { OnErr result (Goes (IsLost (W.marks world.old) (W.marks world.new)) (IsBranchCut (matching (view wanted)) (parts_of (ground W.gives (W.fixed world.old)) (all parts.now)) scope.old) (W.state world.old) (W.state world.new)) }
+    ensures done { IfOk result (λ v. StateBecomes W.Env W.World.own world.old world.new
+        (λ s t. IsBranched (matching (view wanted)) (performings (ground W.gives (W.fixed world.old)) (all parts.now)) scope.old s (view v) t)) }
+    ensures cut { OnErr result (StateBecomes W.Env W.World.own world.old world.new
+        (IsBranchCut (matching (view wanted)) (parts_of (ground W.gives (W.fixed world.old)) (all parts.now)) scope.old)) }
     ensures fits { (u : Shape) → IsMatchedBy (W.fixed world.old).types scope.old (view wanted) u parts.now → IfOk result (λ v. fits_in (view v) u ≡ true) }
 {
     let mut rest = parts;
@@ -371,14 +379,15 @@ fn recover<W: World, L: Ledger>(
     steps: &mut Steps<L>,
 ) -> Result<Value, Stop>
     requires { (u : Shape) × AreRecoveries (W.fixed world.old).types scope.old u parts.now }
-    ensures passed { Passed
-        (stage (W.fixed world.old) (W.state world.old) (W.marks world.old) (W.visited world.old))
-        (stage (W.fixed world.new) (W.state world.new) (W.marks world.new) (W.visited world.new)) }
-    ensures only { Goes (IsLost (W.marks world.old) (W.marks world.new)) (WritesOnly (AnyMayWrite (all parts.now))) (W.state world.old) (W.state world.new) }
+    ensures passed { Passed W.Env W.World.own world.old world.new }
+    ensures only { StateBecomes W.Env W.World.own world.old world.new
+        (WritesOnly (AnyMayWrite (all parts.now))) }
     ensures scope { scope.new ≡ scope.old }
     ensures keeper { IsErrOf result Stop.Keeper → Rose (W.marks world.old).faults (W.marks world.new).faults }
-    ensures done { IfOk result (λ v. Goes (IsLost (W.marks world.old) (W.marks world.new)) (λ s t. IsRecovered (none_left_of form.IfError) (performings (ground W.gives (W.fixed world.old)) (all parts.now)) scope.old s (view v) t) (W.state world.old) (W.state world.new)) }
-    ensures cut { OnErr result (Goes (IsLost (W.marks world.old) (W.marks world.new)) (IsRecoveryCut (parts_of (ground W.gives (W.fixed world.old)) (all parts.now)) scope.old) (W.state world.old) (W.state world.new)) }
+    ensures done { IfOk result (λ v. StateBecomes W.Env W.World.own world.old world.new
+        (λ s t. IsRecovered (none_left_of form.IfError) (performings (ground W.gives (W.fixed world.old)) (all parts.now)) scope.old s (view v) t)) }
+    ensures cut { OnErr result (StateBecomes W.Env W.World.own world.old world.new
+        (IsRecoveryCut (parts_of (ground W.gives (W.fixed world.old)) (all parts.now)) scope.old)) }
     ensures fits { (u : Shape) → AreRecoveries (W.fixed world.old).types scope.old u parts.now → IfOk result (λ v. fits_in (view v) u ≡ true) }
 {
     let mut last = Value::Blank;
@@ -415,14 +424,15 @@ fn catch_error<W: World, L: Ledger>(
     steps: &mut Steps<L>,
 ) -> Result<Value, Stop>
     requires { CanAct (W.fixed world.old).types (caught_in scope.old fault.kind fault.message) formula.now }
-    ensures passed { Passed
-        (stage (W.fixed world.old) (W.state world.old) (W.marks world.old) (W.visited world.old))
-        (stage (W.fixed world.new) (W.state world.new) (W.marks world.new) (W.visited world.new)) }
-    ensures only { Goes (IsLost (W.marks world.old) (W.marks world.new)) (WritesOnly (MayWrite formula.now)) (W.state world.old) (W.state world.new) }
+    ensures passed { Passed W.Env W.World.own world.old world.new }
+    ensures only { StateBecomes W.Env W.World.own world.old world.new
+        (WritesOnly (MayWrite formula.now)) }
     ensures scope { scope.new ≡ scope.old }
     ensures keeper { IsErrOf result Stop.Keeper → Rose (W.marks world.old).faults (W.marks world.new).faults }
-    ensures done { IfOk result (λ v. Goes (IsLost (W.marks world.old) (W.marks world.new)) (λ s t. Performs (ground W.gives (W.fixed world.old)) formula.now (caught_in scope.old fault.kind fault.message) (view v) s t) (W.state world.old) (W.state world.new)) }
-    ensures cut { OnErr result (Goes (IsLost (W.marks world.old) (W.marks world.new)) (IsCutOff (ground W.gives (W.fixed world.old)) formula.now (caught_in scope.old fault.kind fault.message)) (W.state world.old) (W.state world.new)) }
+    ensures done { IfOk result (λ v. StateBecomes W.Env W.World.own world.old world.new
+        (λ s t. Performs (ground W.gives (W.fixed world.old)) formula.now (caught_in scope.old fault.kind fault.message) (view v) s t)) }
+    ensures cut { OnErr result (StateBecomes W.Env W.World.own world.old world.new
+        (IsCutOff (ground W.gives (W.fixed world.old)) formula.now (caught_in scope.old fault.kind fault.message))) }
     ensures fits { (u : Shape) → IsActable (W.fixed world.old).types (caught_in scope.old fault.kind fault.message) formula.now u → IfOk result (λ v. fits_in (view v) u ≡ true) }
 {
     let outer = scope.caught.replace(fault);
@@ -443,14 +453,15 @@ fn within<W: World, L: Ledger>(
     steps: &mut Steps<L>,
 ) -> Result<Value, Stop>
     requires { CanAct (W.fixed world.old).types scope.old (of scoped (cons part.now (cons formula.now nil))) }
-    ensures passed { Passed
-        (stage (W.fixed world.old) (W.state world.old) (W.marks world.old) (W.visited world.old))
-        (stage (W.fixed world.new) (W.state world.new) (W.marks world.new) (W.visited world.new)) }
-    ensures only { Goes (IsLost (W.marks world.old) (W.marks world.new)) (WritesOnly (AnyMayWrite (cons part.now (cons formula.now nil)))) (W.state world.old) (W.state world.new) }
+    ensures passed { Passed W.Env W.World.own world.old world.new }
+    ensures only { StateBecomes W.Env W.World.own world.old world.new
+        (WritesOnly (AnyMayWrite (cons part.now (cons formula.now nil)))) }
     ensures scope { scope.new ≡ scope.old }
     ensures keeper { IsErrOf result Stop.Keeper → Rose (W.marks world.old).faults (W.marks world.new).faults }
-    ensures done { IfOk result (λ v. Goes (IsLost (W.marks world.old) (W.marks world.new)) (λ s t. IsWithin (performings (ground W.gives (W.fixed world.old)) (cons part.now (cons formula.now nil))) scope.old s (view v) t) (W.state world.old) (W.state world.new)) }
-    ensures cut { OnErr result (Goes (IsLost (W.marks world.old) (W.marks world.new)) (IsWithinCut (parts_of (ground W.gives (W.fixed world.old)) (cons part.now (cons formula.now nil))) scope.old) (W.state world.old) (W.state world.new)) }
+    ensures done { IfOk result (λ v. StateBecomes W.Env W.World.own world.old world.new
+        (λ s t. IsWithin (performings (ground W.gives (W.fixed world.old)) (cons part.now (cons formula.now nil))) scope.old s (view v) t)) }
+    ensures cut { OnErr result (StateBecomes W.Env W.World.own world.old world.new
+        (IsWithinCut (parts_of (ground W.gives (W.fixed world.old)) (cons part.now (cons formula.now nil))) scope.old)) }
     ensures fits { (u : Shape) → IsActable (W.fixed world.old).types scope.old (of scoped (cons part.now (cons formula.now nil))) u → IfOk result (λ v. fits_in (view v) u ≡ true) }
 {
     let value = perform(alloc, world, scope, part, steps)?;
@@ -471,14 +482,15 @@ fn in_scope<W: World, L: Ledger>(
     steps: &mut Steps<L>,
 ) -> Result<Value, Stop>
     requires { CanAct (W.fixed world.old).types (inner scope.old (view row)) formula.now }
-    ensures passed { Passed
-        (stage (W.fixed world.old) (W.state world.old) (W.marks world.old) (W.visited world.old))
-        (stage (W.fixed world.new) (W.state world.new) (W.marks world.new) (W.visited world.new)) }
-    ensures only { Goes (IsLost (W.marks world.old) (W.marks world.new)) (WritesOnly (MayWrite formula.now)) (W.state world.old) (W.state world.new) }
+    ensures passed { Passed W.Env W.World.own world.old world.new }
+    ensures only { StateBecomes W.Env W.World.own world.old world.new
+        (WritesOnly (MayWrite formula.now)) }
     ensures scope { scope.new ≡ scope.old }
     ensures keeper { IsErrOf result Stop.Keeper → Rose (W.marks world.old).faults (W.marks world.new).faults }
-    ensures done { IfOk result (λ v. Goes (IsLost (W.marks world.old) (W.marks world.new)) (λ s t. Performs (ground W.gives (W.fixed world.old)) formula.now (inner scope.old (view row)) (view v) s t) (W.state world.old) (W.state world.new)) }
-    ensures cut { OnErr result (Goes (IsLost (W.marks world.old) (W.marks world.new)) (IsCutOff (ground W.gives (W.fixed world.old)) formula.now (inner scope.old (view row))) (W.state world.old) (W.state world.new)) }
+    ensures done { IfOk result (λ v. StateBecomes W.Env W.World.own world.old world.new
+        (λ s t. Performs (ground W.gives (W.fixed world.old)) formula.now (inner scope.old (view row)) (view v) s t)) }
+    ensures cut { OnErr result (StateBecomes W.Env W.World.own world.old world.new
+        (IsCutOff (ground W.gives (W.fixed world.old)) formula.now (inner scope.old (view row)))) }
     ensures fits { (u : Shape) → IsActable (W.fixed world.old).types (inner scope.old (view row)) formula.now u → IfOk result (λ v. fits_in (view v) u ≡ true) }
 {
     scope.rows.push(row)?;
@@ -499,14 +511,15 @@ fn for_all<W: World, L: Ledger>(
     steps: &mut Steps<L>,
 ) -> Result<Value, Stop>
     requires { CanAct (W.fixed world.old).types scope.old (of (over fun.ForAll) (cons table.now (all parts.now))) }
-    ensures passed { Passed
-        (stage (W.fixed world.old) (W.state world.old) (W.marks world.old) (W.visited world.old))
-        (stage (W.fixed world.new) (W.state world.new) (W.marks world.new) (W.visited world.new)) }
-    ensures only { Goes (IsLost (W.marks world.old) (W.marks world.new)) (WritesOnly (AnyMayWrite (cons table.now (all parts.now)))) (W.state world.old) (W.state world.new) }
+    ensures passed { Passed W.Env W.World.own world.old world.new }
+    ensures only { StateBecomes W.Env W.World.own world.old world.new
+        (WritesOnly (AnyMayWrite (cons table.now (all parts.now)))) }
     ensures scope { scope.new ≡ scope.old }
     ensures keeper { IsErrOf result Stop.Keeper → Rose (W.marks world.old).faults (W.marks world.new).faults }
-    ensures done { IfOk result (λ v. Goes (IsLost (W.marks world.old) (W.marks world.new)) (λ s t. IsForAll (performings (ground W.gives (W.fixed world.old)) (cons table.now (all parts.now))) scope.old s (view v) t) (W.state world.old) (W.state world.new)) }
-    ensures cut { OnErr result (Goes (IsLost (W.marks world.old) (W.marks world.new)) (IsForAllCut (parts_of (ground W.gives (W.fixed world.old)) (cons table.now (all parts.now))) scope.old) (W.state world.old) (W.state world.new)) }
+    ensures done { IfOk result (λ v. StateBecomes W.Env W.World.own world.old world.new
+        (λ s t. IsForAll (performings (ground W.gives (W.fixed world.old)) (cons table.now (all parts.now))) scope.old s (view v) t)) }
+    ensures cut { OnErr result (StateBecomes W.Env W.World.own world.old world.new
+        (IsForAllCut (parts_of (ground W.gives (W.fixed world.old)) (cons table.now (all parts.now))) scope.old)) }
     ensures fits { (u : Shape) → IsActable (W.fixed world.old).types scope.old (of (over fun.ForAll) (cons table.now (all parts.now))) u → IfOk result (λ v. fits_in (view v) u ≡ true) }
 {
     let Some((formula, _)) = parts.split_first() else {
@@ -533,14 +546,15 @@ fn each<W: World, L: Ledger>(
     steps: &mut Steps<L>,
 ) -> Result<Vec<Value>, Stop>
     requires { (u : Shape) × IsActableInside (W.fixed world.old).types scope.old u formula.now rows.now }
-    ensures passed { Passed
-        (stage (W.fixed world.old) (W.state world.old) (W.marks world.old) (W.visited world.old))
-        (stage (W.fixed world.new) (W.state world.new) (W.marks world.new) (W.visited world.new)) }
-    ensures only { Goes (IsLost (W.marks world.old) (W.marks world.new)) (WritesOnly (MayWrite formula.now)) (W.state world.old) (W.state world.new) }
+    ensures passed { Passed W.Env W.World.own world.old world.new }
+    ensures only { StateBecomes W.Env W.World.own world.old world.new
+        (WritesOnly (MayWrite formula.now)) }
     ensures scope { scope.new ≡ scope.old }
     ensures keeper { IsErrOf result Stop.Keeper → Rose (W.marks world.old).faults (W.marks world.new).faults }
-    ensures done { IfOk result (λ vs. Goes (IsLost (W.marks world.old) (W.marks world.new)) (λ s t. AreEach (performing (ground W.gives (W.fixed world.old)) formula.now) scope.old rows.now s (map view vs.items) t) (W.state world.old) (W.state world.new)) }
-    ensures cut { OnErr result (Goes (IsLost (W.marks world.old) (W.marks world.new)) (AreEachCut (part_of (ground W.gives (W.fixed world.old)) formula.now) scope.old rows.now) (W.state world.old) (W.state world.new)) }
+    ensures done { IfOk result (λ vs. StateBecomes W.Env W.World.own world.old world.new
+        (λ s t. AreEach (performing (ground W.gives (W.fixed world.old)) formula.now) scope.old rows.now s (map view vs.items) t)) }
+    ensures cut { OnErr result (StateBecomes W.Env W.World.own world.old world.new
+        (AreEachCut (part_of (ground W.gives (W.fixed world.old)) formula.now) scope.old rows.now)) }
     ensures fits { (u : Shape) → IsActableInside (W.fixed world.old).types scope.old u formula.now rows.now → IfOk result (λ vs. AreOf u (map view vs.items)) }
 {
     let mut values = Vec::new(alloc);
@@ -564,14 +578,15 @@ fn part_values<W: World, L: Ledger>(
     steps: &mut Steps<L>,
 ) -> Result<Vec<Value>, Stop>
     requires { (us : List Shape) × AreActable (W.fixed world.old).types scope.old us parts.now }
-    ensures passed { Passed
-        (stage (W.fixed world.old) (W.state world.old) (W.marks world.old) (W.visited world.old))
-        (stage (W.fixed world.new) (W.state world.new) (W.marks world.new) (W.visited world.new)) }
-    ensures only { Goes (IsLost (W.marks world.old) (W.marks world.new)) (WritesOnly (AnyMayWrite (all parts.now))) (W.state world.old) (W.state world.new) }
+    ensures passed { Passed W.Env W.World.own world.old world.new }
+    ensures only { StateBecomes W.Env W.World.own world.old world.new
+        (WritesOnly (AnyMayWrite (all parts.now))) }
     ensures scope { scope.new ≡ scope.old }
     ensures keeper { IsErrOf result Stop.Keeper → Rose (W.marks world.old).faults (W.marks world.new).faults }
-    ensures done { IfOk result (λ vs. Goes (IsLost (W.marks world.old) (W.marks world.new)) (λ s t. ArePerformed (performings (ground W.gives (W.fixed world.old)) (all parts.now)) scope.old s (map view vs.items) t) (W.state world.old) (W.state world.new)) }
-    ensures cut { OnErr result (Goes (IsLost (W.marks world.old) (W.marks world.new)) (AreCut (parts_of (ground W.gives (W.fixed world.old)) (all parts.now)) scope.old) (W.state world.old) (W.state world.new)) }
+    ensures done { IfOk result (λ vs. StateBecomes W.Env W.World.own world.old world.new
+        (λ s t. ArePerformed (performings (ground W.gives (W.fixed world.old)) (all parts.now)) scope.old s (map view vs.items) t)) }
+    ensures cut { OnErr result (StateBecomes W.Env W.World.own world.old world.new
+        (AreCut (parts_of (ground W.gives (W.fixed world.old)) (all parts.now)) scope.old)) }
     ensures fits { (us : List Shape) → AreActable (W.fixed world.old).types scope.old us parts.now → IfOk result (λ vs. AreFit (map view vs.items) us) }
 {
     let mut values = Vec::new(alloc);

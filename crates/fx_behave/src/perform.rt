@@ -1,14 +1,13 @@
 // Formulas that don't act.
 ghost use Rattle.std.specs.Prelude.{◌≡◌, IfOk, IsErrOf, false, length, true};
 ghost use Rattle.fx_base.specs.Faults.{Rose};
-ghost use Rattle.fx_base.specs.Silence.{Goes, IsLost};
 ghost use Rattle.fx_base.specs.Telling.{Stays};
 ghost use Rattle.fx_data.specs.Types.{Shape};
 ghost use Rattle.fx_data.specs.ValueView.{view};
 ghost use Rattle.fx_env.specs.Scopes.{CanEvaluate, IsReady};
 ghost use Rattle.fx_plan.specs.Limited.{limited};
 ghost use Rattle.fx_value.specs.Fits.{fits_in};
-ghost use Rattle.fx_deeds.specs.Stages.{Passed, stage};
+ghost use Rattle.fx_deeds.specs.StagesOver.{Passed, StateBecomes};
 ghost use Rattle.fx_deeds.specs.State.{ground};
 ghost use Rattle.fx_behave.specs.Perform.{Performs};
 
@@ -32,13 +31,12 @@ pub(crate) fn evaluate<W: World, L: Ledger>(
     steps: &mut Steps<L>,
 ) -> Result<Value, Stop>
     requires { CanEvaluate (W.fixed world.old).types scope.old core.now }
-    ensures passed { Passed
-        (stage (W.fixed world.old) (W.state world.old) (W.marks world.old) (W.visited world.old))
-        (stage (W.fixed world.new) (W.state world.new) (W.marks world.new) (W.visited world.new)) }
-    ensures stays { Goes (IsLost (W.marks world.old) (W.marks world.new)) Stays (W.state world.old) (W.state world.new) }
+    ensures passed { Passed W.Env W.World.own world.old world.new }
+    ensures stays { StateBecomes W.Env W.World.own world.old world.new Stays }
     ensures scope { scope.new ≡ scope.old }
     ensures keeper { IsErrOf result Stop.Keeper → Rose (W.marks world.old).faults (W.marks world.new).faults }
-    ensures done { IfOk result (λ v. Goes (IsLost (W.marks world.old) (W.marks world.new)) (λ s t. Performs (ground W.gives (W.fixed world.old)) core.now scope.old (view v) s t) (W.state world.old) (W.state world.new)) }
+    ensures done { IfOk result (λ v. StateBecomes W.Env W.World.own world.old world.new
+        (λ s t. Performs (ground W.gives (W.fixed world.old)) core.now scope.old (view v) s t)) }
     ensures fits { (u : Shape) → IsReady (W.fixed world.old).types scope.old core.now u → IfOk result (λ v. fits_in (view v) u ≡ true) }
 {
     // A law, which is called for what it says.

@@ -3,7 +3,7 @@ ghost use Rattle.std.specs.Prelude.{◌≡◌, ◌≢◌, ◌≤◌, ℕ, Err, I
 ghost use Rattle.std.specs.List.{All};
 ghost use Rattle.app_wire.specs.Framing.{asked};
 ghost use Rattle.fx_base.specs.Faults.{Rose};
-ghost use Rattle.fx_base.specs.Silence.{Goes, IsLater, IsLost};
+ghost use Rattle.fx_base.specs.Silence.{IsLater};
 ghost use Rattle.fx_trees.specs.declared.broken.Broken.{Broken};
 ghost use Rattle.office.specs.session_requests.Opening.{CanOpen};
 ghost use Rattle.office.specs.State.{State, schema_of, started};
@@ -11,7 +11,6 @@ ghost use Rattle.office.specs.app_loader.Edits.{IsLoaded};
 ghost use Rattle.office.specs.app_loader.Judged.{JudgedApp};
 ghost use Rattle.office.specs.app_semantics.Sound.{IsSound};
 ghost use Rattle.request_checks.specs.Replies.{IsReply, said};
-ghost use Rattle.row_keeper.specs.Causes.{HasCause};
 ghost use Rattle.row_requests.specs.Sound.{AreSound};
 ghost use Rattle.sample_load.specs.Counts.{HasRows};
 ghost use Rattle.sample_load.specs.Sample.{app_text as sample_text};
@@ -19,6 +18,8 @@ ghost use Rattle.sample_load.specs.Summary.{summary as summary_of};
 ghost use Rattle.fx_cli.specs.Held.{standing};
 ghost use Rattle.fx_cli.specs.Report.{EndsWith, IsSaid};
 ghost use Rattle.fx_cli.specs.Sampled.{EndsSample, IsGenerated, IsPlayed, IsSampled, IsTold, ReportsSample};
+ghost use Rattle.row_keeper.specs.Causes as by_marks;
+ghost use Rattle.row_keeper.specs.Over.{Becomes, HasCause};
 
 use crate::opening::open_keeper;
 use crate::report::{Report, refuse};
@@ -146,7 +147,7 @@ fn put_over<K: Keeper, L: Ledger>(
     requires sound { AreSound (schema_of app) (K.told keeper.old) }
     ensures sampled { IfOk result (λ text. (state : State) × (state.tables ≡ K.told keeper.new)
         × IsSampled (map asked requests.now) (record { state = started app (K.told keeper.old); marks = K.marks keeper.old }) (record { state = state; marks = K.marks keeper.new }) (string_bytes text)) }
-    ensures cause { HasCause (K.marks keeper.old) (K.marks keeper.new) result }
+    ensures cause { HasCause K.Keeper keeper.old keeper.new result }
     ensures idle { K.in_transaction keeper.new ≡ false }
 {
     let played = play_over(alloc, app, routes, requests, keeper, steps)?;
@@ -182,7 +183,7 @@ fn play_over<K: Keeper, L: Ledger>(
     ensures whole { IfOk result (λ p. All IsReply p.replies.items) }
     ensures shaped { IfOk result (λ p. K.shaped keeper.new ≡ Some (schema_of p.app)) }
     ensures sound { IfOk result (λ p. AreSound (schema_of p.app) (K.told keeper.new)) }
-    ensures cause { HasCause (K.marks keeper.old) (K.marks keeper.new) result }
+    ensures cause { HasCause K.Keeper keeper.old keeper.new result }
     ensures idle { K.in_transaction keeper.new ≡ false }
 {
     let mut office = Office::over(alloc, app, routes, keeper);
@@ -210,7 +211,7 @@ fn play<K: Keeper + Drop, L: Ledger>(
 ) -> Result<Vec<Reply>, KeeperEnd>
     ensures played { IfOk result (λ replies. IsPlayed (map asked requests.now) (map said replies.items) (standing office.old) (standing office.new)) }
     ensures whole { IfOk result (λ replies. All IsReply replies.items) }
-    ensures cause { HasCause office.old.marks office.new.marks result }
+    ensures cause { by_marks.HasCause office.old.marks office.new.marks result }
     ensures loan { office.new.loan ≡ office.old.loan }
 {
     let mut replies = Vec::new(alloc);
@@ -226,9 +227,10 @@ fn tell<K: Keeper>(alloc: Global, played: &Played, keeper: &mut K) -> Result<Str
     requires shaped { K.shaped keeper.old ≡ Some (schema_of played.now.app) }
     requires sound { AreSound (schema_of played.now.app) (K.told keeper.old) }
     requires whole { All IsReply played.now.replies.items }
-    ensures told { IfOk result (λ text. (rows : ℕ) × Goes (IsLost (K.marks keeper.old) (K.marks keeper.new)) (HasRows rows) (K.told keeper.old) (K.told keeper.new)
+    ensures told { IfOk result (λ text. (rows : ℕ) × Becomes K.Keeper keeper.old keeper.new
+        (HasRows rows)
         × (string_bytes text ≡ summary_of rows played.now.sessions (map said played.now.replies.items))) }
-    ensures cause { HasCause (K.marks keeper.old) (K.marks keeper.new) result }
+    ensures cause { HasCause K.Keeper keeper.old keeper.new result }
     ensures mode { K.in_transaction keeper.new ≡ K.in_transaction keeper.old }
 {
     let rows = count_rows(alloc, keeper, &played.app.names.schema)?;

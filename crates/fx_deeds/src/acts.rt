@@ -1,14 +1,13 @@
 //! Deeds, by the values of their parts.
 ghost use Rattle.std.specs.Prelude.{◌≡◌, ◌∷◌, [], true, IfOk, IsErrOf, OnErr, length, map};
 ghost use Rattle.fx_base.specs.Faults.{Rose};
-ghost use Rattle.fx_base.specs.Silence.{Goes, IsLost};
 ghost use Rattle.fx_data.specs.Types.{Shape};
 ghost use Rattle.fx_data.specs.ValueView.{view};
 ghost use Rattle.fx_value.specs.Fits.{fits_in};
 ghost use Rattle.fx_deeds.specs.CutOff.{CutDeed};
 ghost use Rattle.fx_deeds.specs.Doable.{AnswersAs, CanDo};
 ghost use Rattle.fx_deeds.specs.Done.{IsDeed};
-ghost use Rattle.fx_deeds.specs.Stages.{Passed, stage};
+ghost use Rattle.fx_deeds.specs.StagesOver.{Passed, StateBecomes};
 ghost use Rattle.fx_deeds.specs.State.{frame_of};
 ghost use Rattle.fx_deeds.specs.Writable.{DeedMayWrite, WritesOnly};
 
@@ -31,13 +30,14 @@ pub fn do_deed<W: World, L: Ledger>(
     steps: &mut Steps<L>,
 ) -> Result<Value, Stop>
     requires { CanDo (W.fixed world.old).types deed.now (map view values.items) }
-    ensures passed { Passed
-        (stage (W.fixed world.old) (W.state world.old) (W.marks world.old) (W.visited world.old))
-        (stage (W.fixed world.new) (W.state world.new) (W.marks world.new) (W.visited world.new)) }
-    ensures only { Goes (IsLost (W.marks world.old) (W.marks world.new)) (WritesOnly (DeedMayWrite deed.now)) (W.state world.old) (W.state world.new) }
+    ensures passed { Passed W.Env W.World.own world.old world.new }
+    ensures only { StateBecomes W.Env W.World.own world.old world.new
+        (WritesOnly (DeedMayWrite deed.now)) }
     ensures keeper { IsErrOf result Stop.Keeper → Rose (W.marks world.old).faults (W.marks world.new).faults }
-    ensures done { IfOk result (λ x. Goes (IsLost (W.marks world.old) (W.marks world.new)) (λ s t. IsDeed (frame_of (W.fixed world.old)) deed.now (map view values.items) s (view x) t) (W.state world.old) (W.state world.new)) }
-    ensures cut { OnErr result (Goes (IsLost (W.marks world.old) (W.marks world.new)) (CutDeed (frame_of (W.fixed world.old)) deed.now (map view values.items)) (W.state world.old) (W.state world.new)) }
+    ensures done { IfOk result (λ x. StateBecomes W.Env W.World.own world.old world.new
+        (λ s t. IsDeed (frame_of (W.fixed world.old)) deed.now (map view values.items) s (view x) t)) }
+    ensures cut { OnErr result (StateBecomes W.Env W.World.own world.old world.new
+        (CutDeed (frame_of (W.fixed world.old)) deed.now (map view values.items))) }
     ensures fits { (u : Shape) → AnswersAs (W.fixed world.old).types deed.now u → IfOk result (λ x. fits_in (view x) u ≡ true) }
 {
     match deed {

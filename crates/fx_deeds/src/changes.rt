@@ -1,7 +1,6 @@
 //! Changes of a world, one call each.
 ghost use Rattle.std.specs.Prelude.{◌≡◌, ◌∷◌, [], IfOk, IsErrOf, IsSome, IsSomeAnd, OnErr, slice_get, true};
 ghost use Rattle.fx_base.specs.Faults.{Rose};
-ghost use Rattle.fx_base.specs.Silence.{Goes, IsLost};
 ghost use Rattle.fx_base.specs.Telling.{Stays};
 ghost use Rattle.fx_data.specs.Types.{Shape};
 ghost use Rattle.fx_data.specs.ValueView.{view};
@@ -14,7 +13,7 @@ ghost use Rattle.session_state.specs.Changes.{FitsChange};
 ghost use Rattle.fx_deeds.specs.Changed.{IsChanged, IsRowChanged, IsRowMade, IsRowRemoved, written};
 ghost use Rattle.fx_deeds.specs.CutOff.{UpTo};
 ghost use Rattle.fx_deeds.specs.Deeds.{Makes};
-ghost use Rattle.fx_deeds.specs.Stages.{Passed, stage};
+ghost use Rattle.fx_deeds.specs.StagesOver.{Passed, StateBecomes};
 ghost use Rattle.fx_deeds.specs.Writable.{IsOneOf, WritesOnly};
 
 use crate::answers::taken_or;
@@ -29,14 +28,14 @@ use std::alloc::Global;
 /// Makes a change of the session, or refuses it.
 pub(crate) fn change<W: World>(world: &mut W, change: Change) -> Result<bool, Stop>
     requires { FitsChange (W.names world.old) change }
-    ensures passed { Passed
-        (stage (W.fixed world.old) (W.state world.old) (W.marks world.old) (W.visited world.old))
-        (stage (W.fixed world.new) (W.state world.new) (W.marks world.new) (W.visited world.new)) }
-    ensures only { Goes (IsLost (W.marks world.old) (W.marks world.new)) (WritesOnly (IsOneOf (written change))) (W.state world.old) (W.state world.new) }
+    ensures passed { Passed W.Env W.World.own world.old world.new }
+    ensures only { StateBecomes W.Env W.World.own world.old world.new
+        (WritesOnly (IsOneOf (written change))) }
     ensures named { W.names world.new ≡ W.names world.old }
     ensures keeper { IsErrOf result Stop.Keeper → Rose (W.marks world.old).faults (W.marks world.new).faults }
-    ensures done { IfOk result (λ done. Goes (IsLost (W.marks world.old) (W.marks world.new)) (IsChanged change done) (W.state world.old) (W.state world.new)) }
-    ensures stops { OnErr result (Goes (IsLost (W.marks world.old) (W.marks world.new)) Stays (W.state world.old) (W.state world.new)) }
+    ensures done { IfOk result (λ done. StateBecomes W.Env W.World.own world.old world.new
+        (IsChanged change done)) }
+    ensures stops { OnErr result (StateBecomes W.Env W.World.own world.old world.new Stays) }
 {
     world.change(change)
 }
@@ -49,13 +48,14 @@ pub(crate) fn make<W: World>(
     taken: Value,
 ) -> Result<Value, Stop>
     requires { FitsChange (W.names world.old) wanted }
-    ensures passed { Passed
-        (stage (W.fixed world.old) (W.state world.old) (W.marks world.old) (W.visited world.old))
-        (stage (W.fixed world.new) (W.state world.new) (W.marks world.new) (W.visited world.new)) }
-    ensures only { Goes (IsLost (W.marks world.old) (W.marks world.new)) (WritesOnly (IsOneOf (written wanted))) (W.state world.old) (W.state world.new) }
+    ensures passed { Passed W.Env W.World.own world.old world.new }
+    ensures only { StateBecomes W.Env W.World.own world.old world.new
+        (WritesOnly (IsOneOf (written wanted))) }
     ensures keeper { IsErrOf result Stop.Keeper → Rose (W.marks world.old).faults (W.marks world.new).faults }
-    ensures done { IfOk result (λ x. Goes (IsLost (W.marks world.old) (W.marks world.new)) (λ s t. Makes wanted (view taken) s (view x) t) (W.state world.old) (W.state world.new)) }
-    ensures cut { OnErr result (Goes (IsLost (W.marks world.old) (W.marks world.new)) (UpTo (λ s n x t. Makes wanted (view taken) s x t)) (W.state world.old) (W.state world.new)) }
+    ensures done { IfOk result (λ x. StateBecomes W.Env W.World.own world.old world.new
+        (λ s t. Makes wanted (view taken) s (view x) t)) }
+    ensures cut { OnErr result (StateBecomes W.Env W.World.own world.old world.new
+        (UpTo (λ s n x t. Makes wanted (view taken) s x t))) }
     ensures fits { (u : Shape) → fits_in (view taken) u ≡ true → IfOk result (λ x. fits_in (view x) u ≡ true) }
 {
     let done = change(world, wanted)?;
@@ -65,13 +65,13 @@ pub(crate) fn make<W: World>(
 /// Puts a new row into a table, or says which rule it breaks first.
 pub(crate) fn insert<W: World>(world: &mut W, table: u16, cells: &Cells) -> Result<Put, Stop>
     requires { IsSomeAnd (slice_get (W.fixed world.old).schema.tables table) (λ t. AreCellsOf t.columns cells.now) }
-    ensures passed { Passed
-        (stage (W.fixed world.old) (W.state world.old) (W.marks world.old) (W.visited world.old))
-        (stage (W.fixed world.new) (W.state world.new) (W.marks world.new) (W.visited world.new)) }
-    ensures only { Goes (IsLost (W.marks world.old) (W.marks world.new)) (WritesOnly (IsOneOf (source.Table table ∷ []))) (W.state world.old) (W.state world.new) }
+    ensures passed { Passed W.Env W.World.own world.old world.new }
+    ensures only { StateBecomes W.Env W.World.own world.old world.new
+        (WritesOnly (IsOneOf (source.Table table ∷ []))) }
     ensures keeper { IsErrOf result Stop.Keeper → Rose (W.marks world.old).faults (W.marks world.new).faults }
-    ensures put { IfOk result (λ put. Goes (IsLost (W.marks world.old) (W.marks world.new)) (IsRowMade (columns_at (W.fixed world.old).schema.tables table) table cells.now put) (W.state world.old) (W.state world.new)) }
-    ensures stops { OnErr result (Goes (IsLost (W.marks world.old) (W.marks world.new)) Stays (W.state world.old) (W.state world.new)) }
+    ensures put { IfOk result (λ put. StateBecomes W.Env W.World.own world.old world.new
+        (IsRowMade (columns_at (W.fixed world.old).schema.tables table) table cells.now put)) }
+    ensures stops { OnErr result (StateBecomes W.Env W.World.own world.old world.new Stays) }
     ensures sound { IfOk result (λ put. IsInserted (columns_at (W.fixed world.old).schema.tables table) put) }
 {
     world.insert(table, cells)
@@ -85,13 +85,13 @@ pub(crate) fn replace<W: World>(
     cells: &Cells,
 ) -> Result<Put, Stop>
     requires { IsSomeAnd (slice_get (W.fixed world.old).schema.tables table) (λ t. AreCellsOf t.columns cells.now) }
-    ensures passed { Passed
-        (stage (W.fixed world.old) (W.state world.old) (W.marks world.old) (W.visited world.old))
-        (stage (W.fixed world.new) (W.state world.new) (W.marks world.new) (W.visited world.new)) }
-    ensures only { Goes (IsLost (W.marks world.old) (W.marks world.new)) (WritesOnly (IsOneOf (source.Table table ∷ []))) (W.state world.old) (W.state world.new) }
+    ensures passed { Passed W.Env W.World.own world.old world.new }
+    ensures only { StateBecomes W.Env W.World.own world.old world.new
+        (WritesOnly (IsOneOf (source.Table table ∷ []))) }
     ensures keeper { IsErrOf result Stop.Keeper → Rose (W.marks world.old).faults (W.marks world.new).faults }
-    ensures put { IfOk result (λ put. Goes (IsLost (W.marks world.old) (W.marks world.new)) (IsRowChanged (columns_at (W.fixed world.old).schema.tables table) table id cells.now put) (W.state world.old) (W.state world.new)) }
-    ensures stops { OnErr result (Goes (IsLost (W.marks world.old) (W.marks world.new)) Stays (W.state world.old) (W.state world.new)) }
+    ensures put { IfOk result (λ put. StateBecomes W.Env W.World.own world.old world.new
+        (IsRowChanged (columns_at (W.fixed world.old).schema.tables table) table id cells.now put)) }
+    ensures stops { OnErr result (StateBecomes W.Env W.World.own world.old world.new Stays) }
     ensures sound { IfOk result (λ put. IsReplaced (columns_at (W.fixed world.old).schema.tables table) id put) }
 {
     world.replace(table, id, cells)
@@ -100,13 +100,13 @@ pub(crate) fn replace<W: World>(
 /// Takes a row out of a table, and says whether it was there.
 pub(crate) fn remove<W: World>(world: &mut W, table: u16, id: u32) -> Result<bool, Stop>
     requires { IsSome (slice_get (W.fixed world.old).schema.tables table) }
-    ensures passed { Passed
-        (stage (W.fixed world.old) (W.state world.old) (W.marks world.old) (W.visited world.old))
-        (stage (W.fixed world.new) (W.state world.new) (W.marks world.new) (W.visited world.new)) }
-    ensures only { Goes (IsLost (W.marks world.old) (W.marks world.new)) (WritesOnly (IsOneOf (source.Table table ∷ []))) (W.state world.old) (W.state world.new) }
+    ensures passed { Passed W.Env W.World.own world.old world.new }
+    ensures only { StateBecomes W.Env W.World.own world.old world.new
+        (WritesOnly (IsOneOf (source.Table table ∷ []))) }
     ensures keeper { IsErrOf result Stop.Keeper → Rose (W.marks world.old).faults (W.marks world.new).faults }
-    ensures was { IfOk result (λ was. Goes (IsLost (W.marks world.old) (W.marks world.new)) (IsRowRemoved table id was) (W.state world.old) (W.state world.new)) }
-    ensures stops { OnErr result (Goes (IsLost (W.marks world.old) (W.marks world.new)) Stays (W.state world.old) (W.state world.new)) }
+    ensures was { IfOk result (λ was. StateBecomes W.Env W.World.own world.old world.new
+        (IsRowRemoved table id was)) }
+    ensures stops { OnErr result (StateBecomes W.Env W.World.own world.old world.new Stays) }
 {
     world.remove(table, id)
 }

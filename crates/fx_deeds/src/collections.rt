@@ -1,7 +1,6 @@
 //! Rows of a collection that are taken out, changed, or put behind the others.
 ghost use Rattle.std.specs.Prelude.{◌≡◌, ◌↔◌, ◌++◌, ◌∷◌, List, [], false, true, IfOk, IfSome, IsErrOf, IsTrue, MatchOption, map, OnErr, take};
 ghost use Rattle.fx_base.specs.Faults.{Rose};
-ghost use Rattle.fx_base.specs.Silence.{Goes, IsLost};
 ghost use Rattle.fx_base.specs.Telling.{Stays};
 ghost use Rattle.fx_data.specs.Types.{ColumnList, booleans, column_list, records};
 ghost use Rattle.fx_data.specs.ValueView.{view};
@@ -14,7 +13,7 @@ ghost use Rattle.fx_deeds.specs.Collections.{Appends, AreBlank, AreTaken, IsFirs
 ghost use Rattle.fx_deeds.specs.Fitting.{CanChange, IsOfColumns};
 ghost use Rattle.fx_deeds.specs.Found.{IsTakenFrom};
 ghost use Rattle.fx_deeds.specs.RowValues.{blank_row as blank_row_of, columns_in, row_named, rows_among};
-ghost use Rattle.fx_deeds.specs.Stages.{Passed, stage};
+ghost use Rattle.fx_deeds.specs.StagesOver.{Passed, StateBecomes};
 ghost use Rattle.fx_deeds.specs.Writable.{IsOneOf, WritesOnly};
 
 use crate::answers::error;
@@ -148,13 +147,13 @@ fn take_row<W: World, L: Ledger>(
     steps: &mut Steps<L>,
 ) -> Result<Option<Value>, Stop>
     requires { (cs : ColumnList) × IsOfColumns (W.fixed world.old).types collection cs }
-    ensures passed { Passed
-        (stage (W.fixed world.old) (W.state world.old) (W.marks world.old) (W.visited world.old))
-        (stage (W.fixed world.new) (W.state world.new) (W.marks world.new) (W.visited world.new)) }
-    ensures only { Goes (IsLost (W.marks world.old) (W.marks world.new)) (WritesOnly (IsOneOf (source.Gathered collection ∷ []))) (W.state world.old) (W.state world.new) }
+    ensures passed { Passed W.Env W.World.own world.old world.new }
+    ensures only { StateBecomes W.Env W.World.own world.old world.new
+        (WritesOnly (IsOneOf (source.Gathered collection ∷ []))) }
     ensures keeper { IsErrOf result Stop.Keeper → Rose (W.marks world.old).faults (W.marks world.new).faults }
-    ensures done { IfOk result (λ o. Goes (IsLost (W.marks world.old) (W.marks world.new)) (IsTakenFrom collection row o) (W.state world.old) (W.state world.new)) }
-    ensures stops { OnErr result (Goes (IsLost (W.marks world.old) (W.marks world.new)) Stays (W.state world.old) (W.state world.new)) }
+    ensures done { IfOk result (λ o. StateBecomes W.Env W.World.own world.old world.new
+        (IsTakenFrom collection row o)) }
+    ensures stops { OnErr result (StateBecomes W.Env W.World.own world.old world.new Stays) }
     ensures fits { IfOk result (λ o. IfSome o (λ x. fits_in (view x) booleans ≡ true)) }
 {
     let rows = rows_held(alloc, world, collection, steps)?;
@@ -178,13 +177,14 @@ fn take_rows<W: World, L: Ledger>(
     steps: &mut Steps<L>,
 ) -> Result<Value, Stop>
     requires { IsOfColumns (W.fixed world.old).types collection (column_list columns.now) }
-    ensures passed { Passed
-        (stage (W.fixed world.old) (W.state world.old) (W.marks world.old) (W.visited world.old))
-        (stage (W.fixed world.new) (W.state world.new) (W.marks world.new) (W.visited world.new)) }
-    ensures only { Goes (IsLost (W.marks world.old) (W.marks world.new)) (WritesOnly (IsOneOf (source.Gathered collection ∷ []))) (W.state world.old) (W.state world.new) }
+    ensures passed { Passed W.Env W.World.own world.old world.new }
+    ensures only { StateBecomes W.Env W.World.own world.old world.new
+        (WritesOnly (IsOneOf (source.Gathered collection ∷ []))) }
     ensures keeper { IsErrOf result Stop.Keeper → Rose (W.marks world.old).faults (W.marks world.new).faults }
-    ensures done { IfOk result (λ x. Goes (IsLost (W.marks world.old) (W.marks world.new)) (λ s t. AreTaken (column_list columns.now) collection (map view rows.now) s (view x) t) (W.state world.old) (W.state world.new)) }
-    ensures cut { OnErr result (Goes (IsLost (W.marks world.old) (W.marks world.new)) (UpTo (λ s n x t. AreTaken (column_list columns.now) collection (take n (map view rows.now)) s x t)) (W.state world.old) (W.state world.new)) }
+    ensures done { IfOk result (λ x. StateBecomes W.Env W.World.own world.old world.new
+        (λ s t. AreTaken (column_list columns.now) collection (map view rows.now) s (view x) t)) }
+    ensures cut { OnErr result (StateBecomes W.Env W.World.own world.old world.new
+        (UpTo (λ s n x t. AreTaken (column_list columns.now) collection (take n (map view rows.now)) s x t))) }
     ensures fits { IfOk result (λ x. fits_in (view x) booleans ≡ true) }
 {
     let mut rest = rows;
@@ -207,13 +207,14 @@ pub(crate) fn remove_equal<W: World, L: Ledger>(
     steps: &mut Steps<L>,
 ) -> Result<Value, Stop>
     requires { (cs : ColumnList) × IsOfColumns (W.fixed world.old).types collection cs }
-    ensures passed { Passed
-        (stage (W.fixed world.old) (W.state world.old) (W.marks world.old) (W.visited world.old))
-        (stage (W.fixed world.new) (W.state world.new) (W.marks world.new) (W.visited world.new)) }
-    ensures only { Goes (IsLost (W.marks world.old) (W.marks world.new)) (WritesOnly (IsOneOf (source.Gathered collection ∷ []))) (W.state world.old) (W.state world.new) }
+    ensures passed { Passed W.Env W.World.own world.old world.new }
+    ensures only { StateBecomes W.Env W.World.own world.old world.new
+        (WritesOnly (IsOneOf (source.Gathered collection ∷ []))) }
     ensures keeper { IsErrOf result Stop.Keeper → Rose (W.marks world.old).faults (W.marks world.new).faults }
-    ensures done { IfOk result (λ x. Goes (IsLost (W.marks world.old) (W.marks world.new)) (λ s t. AreTaken (columns_in ((W.fixed world.old).types (source.Gathered collection))) collection (map view rows.now) s (view x) t) (W.state world.old) (W.state world.new)) }
-    ensures cut { OnErr result (Goes (IsLost (W.marks world.old) (W.marks world.new)) (UpTo (λ s n x t. AreTaken (columns_in ((W.fixed world.old).types (source.Gathered collection))) collection (take n (map view rows.now)) s x t)) (W.state world.old) (W.state world.new)) }
+    ensures done { IfOk result (λ x. StateBecomes W.Env W.World.own world.old world.new
+        (λ s t. AreTaken (columns_in ((W.fixed world.old).types (source.Gathered collection))) collection (map view rows.now) s (view x) t)) }
+    ensures cut { OnErr result (StateBecomes W.Env W.World.own world.old world.new
+        (UpTo (λ s n x t. AreTaken (columns_in ((W.fixed world.old).types (source.Gathered collection))) collection (take n (map view rows.now)) s x t))) }
     ensures fits { IfOk result (λ x. fits_in (view x) booleans ≡ true) }
 {
     let columns = collection_columns(alloc, world, collection)?;
@@ -229,13 +230,14 @@ fn append<W: World, L: Ledger>(
     steps: &mut Steps<L>,
 ) -> Result<Value, Stop>
     requires { (cs : ColumnList) × IsOfColumns (W.fixed world.old).types collection cs × (fits_in (record_of row) (records cs) ≡ true) }
-    ensures passed { Passed
-        (stage (W.fixed world.old) (W.state world.old) (W.marks world.old) (W.visited world.old))
-        (stage (W.fixed world.new) (W.state world.new) (W.marks world.new) (W.visited world.new)) }
-    ensures only { Goes (IsLost (W.marks world.old) (W.marks world.new)) (WritesOnly (IsOneOf (source.Gathered collection ∷ []))) (W.state world.old) (W.state world.new) }
+    ensures passed { Passed W.Env W.World.own world.old world.new }
+    ensures only { StateBecomes W.Env W.World.own world.old world.new
+        (WritesOnly (IsOneOf (source.Gathered collection ∷ []))) }
     ensures keeper { IsErrOf result Stop.Keeper → Rose (W.marks world.old).faults (W.marks world.new).faults }
-    ensures done { IfOk result (λ x. Goes (IsLost (W.marks world.old) (W.marks world.new)) (λ s t. Appends collection row s (view x) t) (W.state world.old) (W.state world.new)) }
-    ensures cut { OnErr result (Goes (IsLost (W.marks world.old) (W.marks world.new)) (UpTo (λ s n x t. Appends collection row s x t)) (W.state world.old) (W.state world.new)) }
+    ensures done { IfOk result (λ x. StateBecomes W.Env W.World.own world.old world.new
+        (λ s t. Appends collection row s (view x) t)) }
+    ensures cut { OnErr result (StateBecomes W.Env W.World.own world.old world.new
+        (UpTo (λ s n x t. Appends collection row s x t))) }
     ensures fits { (cs : ColumnList) → fits_in (record_of row) (records cs) ≡ true → IfOk result (λ x. fits_in (view x) (records cs) ≡ true) }
 {
     let answer = Value::Rec(row.copy(alloc)?);
@@ -259,13 +261,14 @@ fn put_for<W: World, L: Ledger>(
     steps: &mut Steps<L>,
 ) -> Result<Value, Stop>
     requires { (cs : ColumnList) × IsOfColumns (W.fixed world.old).types collection cs × (fits_in (record_of changed) (records cs) ≡ true) }
-    ensures passed { Passed
-        (stage (W.fixed world.old) (W.state world.old) (W.marks world.old) (W.visited world.old))
-        (stage (W.fixed world.new) (W.state world.new) (W.marks world.new) (W.visited world.new)) }
-    ensures only { Goes (IsLost (W.marks world.old) (W.marks world.new)) (WritesOnly (IsOneOf (source.Gathered collection ∷ []))) (W.state world.old) (W.state world.new) }
+    ensures passed { Passed W.Env W.World.own world.old world.new }
+    ensures only { StateBecomes W.Env W.World.own world.old world.new
+        (WritesOnly (IsOneOf (source.Gathered collection ∷ []))) }
     ensures keeper { IsErrOf result Stop.Keeper → Rose (W.marks world.old).faults (W.marks world.new).faults }
-    ensures done { IfOk result (λ x. Goes (IsLost (W.marks world.old) (W.marks world.new)) (λ s t. PutsFor collection row changed s (view x) t) (W.state world.old) (W.state world.new)) }
-    ensures cut { OnErr result (Goes (IsLost (W.marks world.old) (W.marks world.new)) (UpTo (λ s n x t. PutsFor collection row changed s x t)) (W.state world.old) (W.state world.new)) }
+    ensures done { IfOk result (λ x. StateBecomes W.Env W.World.own world.old world.new
+        (λ s t. PutsFor collection row changed s (view x) t)) }
+    ensures cut { OnErr result (StateBecomes W.Env W.World.own world.old world.new
+        (UpTo (λ s n x t. PutsFor collection row changed s x t))) }
     ensures fits { (cs : ColumnList) → fits_in (record_of changed) (records cs) ≡ true → IfOk result (λ x. fits_in (view x) (records cs) ≡ true) }
 {
     let rows = rows_held(alloc, world, collection, steps)?;
@@ -305,13 +308,14 @@ fn patch_row<W: World, L: Ledger>(
     steps: &mut Steps<L>,
 ) -> Result<Value, Stop>
     requires { (cs : ColumnList) × IsOfColumns (W.fixed world.old).types collection cs × (fits_in (record_of changed) (records cs) ≡ true) }
-    ensures passed { Passed
-        (stage (W.fixed world.old) (W.state world.old) (W.marks world.old) (W.visited world.old))
-        (stage (W.fixed world.new) (W.state world.new) (W.marks world.new) (W.visited world.new)) }
-    ensures only { Goes (IsLost (W.marks world.old) (W.marks world.new)) (WritesOnly (IsOneOf (source.Gathered collection ∷ []))) (W.state world.old) (W.state world.new) }
+    ensures passed { Passed W.Env W.World.own world.old world.new }
+    ensures only { StateBecomes W.Env W.World.own world.old world.new
+        (WritesOnly (IsOneOf (source.Gathered collection ∷ []))) }
     ensures keeper { IsErrOf result Stop.Keeper → Rose (W.marks world.old).faults (W.marks world.new).faults }
-    ensures done { IfOk result (λ x. Goes (IsLost (W.marks world.old) (W.marks world.new)) (λ s t. PatchesRow collection row changed s (view x) t) (W.state world.old) (W.state world.new)) }
-    ensures cut { OnErr result (Goes (IsLost (W.marks world.old) (W.marks world.new)) (UpTo (λ s n x t. PatchesRow collection row changed s x t)) (W.state world.old) (W.state world.new)) }
+    ensures done { IfOk result (λ x. StateBecomes W.Env W.World.own world.old world.new
+        (λ s t. PatchesRow collection row changed s (view x) t)) }
+    ensures cut { OnErr result (StateBecomes W.Env W.World.own world.old world.new
+        (UpTo (λ s n x t. PatchesRow collection row changed s x t))) }
     ensures fits { (cs : ColumnList) → fits_in (record_of changed) (records cs) ≡ true → IfOk result (λ x. fits_in (view x) (records cs) ≡ true) }
 {
     if are_blank(&row) {
@@ -331,13 +335,14 @@ pub(crate) fn patch_equal<W: World, L: Ledger>(
     steps: &mut Steps<L>,
 ) -> Result<Value, Stop>
     requires { (cs : ColumnList) × IsOfColumns (W.fixed world.old).types collection cs × CanChange cs (rows_among (map view changes.now)) (row_named cs (view base.now)) }
-    ensures passed { Passed
-        (stage (W.fixed world.old) (W.state world.old) (W.marks world.old) (W.visited world.old))
-        (stage (W.fixed world.new) (W.state world.new) (W.marks world.new) (W.visited world.new)) }
-    ensures only { Goes (IsLost (W.marks world.old) (W.marks world.new)) (WritesOnly (IsOneOf (source.Gathered collection ∷ []))) (W.state world.old) (W.state world.new) }
+    ensures passed { Passed W.Env W.World.own world.old world.new }
+    ensures only { StateBecomes W.Env W.World.own world.old world.new
+        (WritesOnly (IsOneOf (source.Gathered collection ∷ []))) }
     ensures keeper { IsErrOf result Stop.Keeper → Rose (W.marks world.old).faults (W.marks world.new).faults }
-    ensures done { IfOk result (λ x. Goes (IsLost (W.marks world.old) (W.marks world.new)) (λ s t. IsPatchedIn (columns_in ((W.fixed world.old).types (source.Gathered collection))) collection (view base.now) (map view changes.now) s (view x) t) (W.state world.old) (W.state world.new)) }
-    ensures cut { OnErr result (Goes (IsLost (W.marks world.old) (W.marks world.new)) (UpTo (λ s n x t. IsPatchedIn (columns_in ((W.fixed world.old).types (source.Gathered collection))) collection (view base.now) (map view changes.now) s x t)) (W.state world.old) (W.state world.new)) }
+    ensures done { IfOk result (λ x. StateBecomes W.Env W.World.own world.old world.new
+        (λ s t. IsPatchedIn (columns_in ((W.fixed world.old).types (source.Gathered collection))) collection (view base.now) (map view changes.now) s (view x) t)) }
+    ensures cut { OnErr result (StateBecomes W.Env W.World.own world.old world.new
+        (UpTo (λ s n x t. IsPatchedIn (columns_in ((W.fixed world.old).types (source.Gathered collection))) collection (view base.now) (map view changes.now) s x t))) }
     ensures fits { (cs : ColumnList) → IsOfColumns (W.fixed world.old).types collection cs → IfOk result (λ x. fits_in (view x) (records cs) ≡ true) }
 {
     let changes = with_tables(alloc, Rows::new(alloc), changes)?;

@@ -1,7 +1,6 @@
 //! Rows of tables that are taken out.
 ghost use Rattle.std.specs.Prelude.{◌≡◌, ◌∷◌, [], IfOk, IfSome, IsErrOf, IsSome, OnErr, map, pos, slice_get, take, true};
 ghost use Rattle.fx_base.specs.Faults.{Rose};
-ghost use Rattle.fx_base.specs.Silence.{Goes, IsLost};
 ghost use Rattle.fx_base.specs.Telling.{Stays};
 ghost use Rattle.fx_data.specs.Types.{booleans};
 ghost use Rattle.fx_data.specs.ValueView.{view};
@@ -12,7 +11,7 @@ ghost use Rattle.fx_deeds.specs.CutOff.{UpTo};
 ghost use Rattle.fx_deeds.specs.Deeds.{AreRemoved, id_of};
 ghost use Rattle.fx_deeds.specs.Found.{IsNamed, IsTakenOut};
 ghost use Rattle.fx_deeds.specs.RowValues.{id_in};
-ghost use Rattle.fx_deeds.specs.Stages.{Passed, stage};
+ghost use Rattle.fx_deeds.specs.StagesOver.{Passed, StateBecomes};
 ghost use Rattle.fx_deeds.specs.Writable.{IsOneOf, WritesOnly};
 
 use crate::answers::error;
@@ -90,13 +89,13 @@ fn remove_row<W: World>(
     row: &Value,
 ) -> Result<Option<Value>, Stop>
     requires { IsSome (slice_get (W.fixed world.old).schema.tables table) }
-    ensures passed { Passed
-        (stage (W.fixed world.old) (W.state world.old) (W.marks world.old) (W.visited world.old))
-        (stage (W.fixed world.new) (W.state world.new) (W.marks world.new) (W.visited world.new)) }
-    ensures only { Goes (IsLost (W.marks world.old) (W.marks world.new)) (WritesOnly (IsOneOf (source.Table table ∷ []))) (W.state world.old) (W.state world.new) }
+    ensures passed { Passed W.Env W.World.own world.old world.new }
+    ensures only { StateBecomes W.Env W.World.own world.old world.new
+        (WritesOnly (IsOneOf (source.Table table ∷ []))) }
     ensures keeper { IsErrOf result Stop.Keeper → Rose (W.marks world.old).faults (W.marks world.new).faults }
-    ensures done { IfOk result (λ o. Goes (IsLost (W.marks world.old) (W.marks world.new)) (IsTakenOut table (view row.now) o) (W.state world.old) (W.state world.new)) }
-    ensures stops { OnErr result (Goes (IsLost (W.marks world.old) (W.marks world.new)) Stays (W.state world.old) (W.state world.new)) }
+    ensures done { IfOk result (λ o. StateBecomes W.Env W.World.own world.old world.new
+        (IsTakenOut table (view row.now) o)) }
+    ensures stops { OnErr result (StateBecomes W.Env W.World.own world.old world.new Stays) }
     ensures fits { IfOk result (λ o. IfSome o (λ x. fits_in (view x) booleans ≡ true)) }
 {
     match named_id(alloc, row)? {
@@ -119,13 +118,14 @@ pub(crate) fn remove_rows<W: World>(
     rows: &[Value],
 ) -> Result<Value, Stop>
     requires { IsSome (slice_get (W.fixed world.old).schema.tables table) }
-    ensures passed { Passed
-        (stage (W.fixed world.old) (W.state world.old) (W.marks world.old) (W.visited world.old))
-        (stage (W.fixed world.new) (W.state world.new) (W.marks world.new) (W.visited world.new)) }
-    ensures only { Goes (IsLost (W.marks world.old) (W.marks world.new)) (WritesOnly (IsOneOf (source.Table table ∷ []))) (W.state world.old) (W.state world.new) }
+    ensures passed { Passed W.Env W.World.own world.old world.new }
+    ensures only { StateBecomes W.Env W.World.own world.old world.new
+        (WritesOnly (IsOneOf (source.Table table ∷ []))) }
     ensures keeper { IsErrOf result Stop.Keeper → Rose (W.marks world.old).faults (W.marks world.new).faults }
-    ensures done { IfOk result (λ x. Goes (IsLost (W.marks world.old) (W.marks world.new)) (λ s t. AreRemoved table (map view rows.now) s (view x) t) (W.state world.old) (W.state world.new)) }
-    ensures cut { OnErr result (Goes (IsLost (W.marks world.old) (W.marks world.new)) (UpTo (λ s n x t. AreRemoved table (take n (map view rows.now)) s x t)) (W.state world.old) (W.state world.new)) }
+    ensures done { IfOk result (λ x. StateBecomes W.Env W.World.own world.old world.new
+        (λ s t. AreRemoved table (map view rows.now) s (view x) t)) }
+    ensures cut { OnErr result (StateBecomes W.Env W.World.own world.old world.new
+        (UpTo (λ s n x t. AreRemoved table (take n (map view rows.now)) s x t))) }
     ensures fits { IfOk result (λ x. fits_in (view x) booleans ≡ true) }
 {
     let mut rest = rows;

@@ -1,7 +1,6 @@
 //! Deeds on a session.
 ghost use Rattle.std.specs.Prelude.{◌≡◌, ◌++◌, ◌∷◌, [], false, true, None, IfOk, IsErrOf, IsSome, MatchResult, map, OnErr, take};
 ghost use Rattle.fx_base.specs.Faults.{Rose};
-ghost use Rattle.fx_base.specs.Silence.{Goes, IsLost};
 ghost use Rattle.fx_base.specs.Telling.{Stays};
 ghost use Rattle.fx_data.specs.Types.{ColumnList, booleans, tables};
 ghost use Rattle.fx_data.specs.Values.{boolean, fault};
@@ -16,7 +15,7 @@ ghost use Rattle.fx_deeds.specs.CutOff.{UpTo};
 ghost use Rattle.fx_deeds.specs.Deeds.{AreSet, Gives, Makes, OrError, OrErrorAmong, text_of};
 ghost use Rattle.fx_deeds.specs.Fitting.{CanAdd, CanTake, CanTakeAll, IsOfColumns, IsOfScreen};
 ghost use Rattle.fx_deeds.specs.RowValues.{rows_among};
-ghost use Rattle.fx_deeds.specs.Stages.{Passed, stage};
+ghost use Rattle.fx_deeds.specs.StagesOver.{Passed, StateBecomes};
 ghost use Rattle.fx_deeds.specs.Writable.{IsOneOf, WritesOnly};
 
 use crate::answers::{error, first_error};
@@ -39,13 +38,14 @@ pub fn set<W: World>(
     value: Value,
 ) -> Result<Value, Stop>
     requires { CanTake (W.fixed world.old).types (source.Global variable) (view value) }
-    ensures passed { Passed
-        (stage (W.fixed world.old) (W.state world.old) (W.marks world.old) (W.visited world.old))
-        (stage (W.fixed world.new) (W.state world.new) (W.marks world.new) (W.visited world.new)) }
-    ensures only { Goes (IsLost (W.marks world.old) (W.marks world.new)) (WritesOnly (IsOneOf (source.Global variable ∷ []))) (W.state world.old) (W.state world.new) }
+    ensures passed { Passed W.Env W.World.own world.old world.new }
+    ensures only { StateBecomes W.Env W.World.own world.old world.new
+        (WritesOnly (IsOneOf (source.Global variable ∷ []))) }
     ensures keeper { IsErrOf result Stop.Keeper → Rose (W.marks world.old).faults (W.marks world.new).faults }
-    ensures done { IfOk result (λ x. Goes (IsLost (W.marks world.old) (W.marks world.new)) (λ s t. Gives (change.Global variable) (view value) (boolean true) s (view x) t) (W.state world.old) (W.state world.new)) }
-    ensures cut { OnErr result (Goes (IsLost (W.marks world.old) (W.marks world.new)) (UpTo (λ s n x t. Gives (change.Global variable) (view value) (boolean true) s x t)) (W.state world.old) (W.state world.new)) }
+    ensures done { IfOk result (λ x. StateBecomes W.Env W.World.own world.old world.new
+        (λ s t. Gives (change.Global variable) (view value) (boolean true) s (view x) t)) }
+    ensures cut { OnErr result (StateBecomes W.Env W.World.own world.old world.new
+        (UpTo (λ s n x t. Gives (change.Global variable) (view value) (boolean true) s x t))) }
     ensures fits { IfOk result (λ x. fits_in (view x) booleans ≡ true) }
 {
     make(
@@ -64,13 +64,14 @@ pub fn set_all<W: World>(
     values: &[Value],
 ) -> Result<Value, Stop>
     requires { CanTakeAll (W.fixed world.old).types variables.now (map view values.now) }
-    ensures passed { Passed
-        (stage (W.fixed world.old) (W.state world.old) (W.marks world.old) (W.visited world.old))
-        (stage (W.fixed world.new) (W.state world.new) (W.marks world.new) (W.visited world.new)) }
-    ensures only { Goes (IsLost (W.marks world.old) (W.marks world.new)) (WritesOnly (IsOneOf variables.now)) (W.state world.old) (W.state world.new) }
+    ensures passed { Passed W.Env W.World.own world.old world.new }
+    ensures only { StateBecomes W.Env W.World.own world.old world.new
+        (WritesOnly (IsOneOf variables.now)) }
     ensures keeper { IsErrOf result Stop.Keeper → Rose (W.marks world.old).faults (W.marks world.new).faults }
-    ensures done { IfOk result (λ x. Goes (IsLost (W.marks world.old) (W.marks world.new)) (λ s t. AreSet variables.now (map view values.now) s (view x) t) (W.state world.old) (W.state world.new)) }
-    ensures cut { OnErr result (Goes (IsLost (W.marks world.old) (W.marks world.new)) (UpTo (λ s n x t. AreSet (take n variables.now) (take n (map view values.now)) s x t)) (W.state world.old) (W.state world.new)) }
+    ensures done { IfOk result (λ x. StateBecomes W.Env W.World.own world.old world.new
+        (λ s t. AreSet variables.now (map view values.now) s (view x) t)) }
+    ensures cut { OnErr result (StateBecomes W.Env W.World.own world.old world.new
+        (UpTo (λ s n x t. AreSet (take n variables.now) (take n (map view values.now)) s x t))) }
     ensures fits { IfOk result (λ x. fits_in (view x) booleans ≡ true) }
 {
     let mut names = variables;
@@ -94,12 +95,11 @@ pub(crate) fn rows_held<W: World, L: Ledger>(
     steps: &mut Steps<L>,
 ) -> Result<Rows, Stop>
     requires { IsSome ((W.fixed world.old).types (source.Gathered collection)) }
-    ensures passed { Passed
-        (stage (W.fixed world.old) (W.state world.old) (W.marks world.old) (W.visited world.old))
-        (stage (W.fixed world.new) (W.state world.new) (W.marks world.new) (W.visited world.new)) }
-    ensures stays { Goes (IsLost (W.marks world.old) (W.marks world.new)) Stays (W.state world.old) (W.state world.new) }
+    ensures passed { Passed W.Env W.World.own world.old world.new }
+    ensures stays { StateBecomes W.Env W.World.own world.old world.new Stays }
     ensures keeper { IsErrOf result Stop.Keeper → Rose (W.marks world.old).faults (W.marks world.new).faults }
-    ensures held { IfOk result (λ rows. Goes (IsLost (W.marks world.old) (W.marks world.new)) (λ s t. (t ≡ s) × (rows ≡ rows_held_by collection s)) (W.state world.old) (W.state world.new)) }
+    ensures held { IfOk result (λ rows. StateBecomes W.Env W.World.own world.old world.new
+        (λ s t. (t ≡ s) × (rows ≡ rows_held_by collection s))) }
     ensures fits { IfOk result (λ rows. (cs : ColumnList) → IsOfColumns (W.fixed world.old).types collection cs → fits_in (table_of rows) (tables cs) ≡ true) }
 {
     let value = world.read(Source::Gathered(collection), steps)?;
@@ -115,13 +115,14 @@ pub fn collect<W: World, L: Ledger>(
     steps: &mut Steps<L>,
 ) -> Result<Value, Stop>
     requires { CanAdd (W.fixed world.old).types collection (map view values.now) }
-    ensures passed { Passed
-        (stage (W.fixed world.old) (W.state world.old) (W.marks world.old) (W.visited world.old))
-        (stage (W.fixed world.new) (W.state world.new) (W.marks world.new) (W.visited world.new)) }
-    ensures only { Goes (IsLost (W.marks world.old) (W.marks world.new)) (WritesOnly (IsOneOf (source.Gathered collection ∷ []))) (W.state world.old) (W.state world.new) }
+    ensures passed { Passed W.Env W.World.own world.old world.new }
+    ensures only { StateBecomes W.Env W.World.own world.old world.new
+        (WritesOnly (IsOneOf (source.Gathered collection ∷ []))) }
     ensures keeper { IsErrOf result Stop.Keeper → Rose (W.marks world.old).faults (W.marks world.new).faults }
-    ensures done { IfOk result (λ x. Goes (IsLost (W.marks world.old) (W.marks world.new)) (λ s t. OrErrorAmong (map view values.now) (Holds collection (rows_held_by collection s ++ rows_among (map view values.now)) (boolean true) s (view x) t) s (view x) t) (W.state world.old) (W.state world.new)) }
-    ensures cut { OnErr result (Goes (IsLost (W.marks world.old) (W.marks world.new)) (UpTo (λ s n x t. OrErrorAmong (map view values.now) (Holds collection (rows_held_by collection s ++ rows_among (map view values.now)) (boolean true) s x t) s x t)) (W.state world.old) (W.state world.new)) }
+    ensures done { IfOk result (λ x. StateBecomes W.Env W.World.own world.old world.new
+        (λ s t. OrErrorAmong (map view values.now) (Holds collection (rows_held_by collection s ++ rows_among (map view values.now)) (boolean true) s (view x) t) s (view x) t)) }
+    ensures cut { OnErr result (StateBecomes W.Env W.World.own world.old world.new
+        (UpTo (λ s n x t. OrErrorAmong (map view values.now) (Holds collection (rows_held_by collection s ++ rows_among (map view values.now)) (boolean true) s x t) s x t))) }
     ensures fits { IfOk result (λ x. fits_in (view x) booleans ≡ true) }
 {
     if let Some(error) = first_error(alloc, values)? {
@@ -145,13 +146,14 @@ pub fn clear_collect<W: World>(
     values: &[Value],
 ) -> Result<Value, Stop>
     requires { CanAdd (W.fixed world.old).types collection (map view values.now) }
-    ensures passed { Passed
-        (stage (W.fixed world.old) (W.state world.old) (W.marks world.old) (W.visited world.old))
-        (stage (W.fixed world.new) (W.state world.new) (W.marks world.new) (W.visited world.new)) }
-    ensures only { Goes (IsLost (W.marks world.old) (W.marks world.new)) (WritesOnly (IsOneOf (source.Gathered collection ∷ []))) (W.state world.old) (W.state world.new) }
+    ensures passed { Passed W.Env W.World.own world.old world.new }
+    ensures only { StateBecomes W.Env W.World.own world.old world.new
+        (WritesOnly (IsOneOf (source.Gathered collection ∷ []))) }
     ensures keeper { IsErrOf result Stop.Keeper → Rose (W.marks world.old).faults (W.marks world.new).faults }
-    ensures done { IfOk result (λ x. Goes (IsLost (W.marks world.old) (W.marks world.new)) (λ s t. OrErrorAmong (map view values.now) (Holds collection (rows_among (map view values.now)) (boolean true) s (view x) t) s (view x) t) (W.state world.old) (W.state world.new)) }
-    ensures cut { OnErr result (Goes (IsLost (W.marks world.old) (W.marks world.new)) (UpTo (λ s n x t. OrErrorAmong (map view values.now) (Holds collection (rows_among (map view values.now)) (boolean true) s x t) s x t)) (W.state world.old) (W.state world.new)) }
+    ensures done { IfOk result (λ x. StateBecomes W.Env W.World.own world.old world.new
+        (λ s t. OrErrorAmong (map view values.now) (Holds collection (rows_among (map view values.now)) (boolean true) s (view x) t) s (view x) t)) }
+    ensures cut { OnErr result (StateBecomes W.Env W.World.own world.old world.new
+        (UpTo (λ s n x t. OrErrorAmong (map view values.now) (Holds collection (rows_among (map view values.now)) (boolean true) s x t) s x t))) }
     ensures fits { IfOk result (λ x. fits_in (view x) booleans ≡ true) }
 {
     if let Some(error) = first_error(alloc, values)? {
@@ -169,13 +171,14 @@ pub fn clear_collect<W: World>(
 /// Empties a collection.
 pub fn clear<W: World>(alloc: Global, world: &mut W, collection: u32) -> Result<Value, Stop>
     requires { (cs : ColumnList) × IsOfColumns (W.fixed world.old).types collection cs }
-    ensures passed { Passed
-        (stage (W.fixed world.old) (W.state world.old) (W.marks world.old) (W.visited world.old))
-        (stage (W.fixed world.new) (W.state world.new) (W.marks world.new) (W.visited world.new)) }
-    ensures only { Goes (IsLost (W.marks world.old) (W.marks world.new)) (WritesOnly (IsOneOf (source.Gathered collection ∷ []))) (W.state world.old) (W.state world.new) }
+    ensures passed { Passed W.Env W.World.own world.old world.new }
+    ensures only { StateBecomes W.Env W.World.own world.old world.new
+        (WritesOnly (IsOneOf (source.Gathered collection ∷ []))) }
     ensures keeper { IsErrOf result Stop.Keeper → Rose (W.marks world.old).faults (W.marks world.new).faults }
-    ensures done { IfOk result (λ x. Goes (IsLost (W.marks world.old) (W.marks world.new)) (λ s t. Makes (change.Empty collection) (boolean true) s (view x) t) (W.state world.old) (W.state world.new)) }
-    ensures cut { OnErr result (Goes (IsLost (W.marks world.old) (W.marks world.new)) (UpTo (λ s n x t. Makes (change.Empty collection) (boolean true) s x t)) (W.state world.old) (W.state world.new)) }
+    ensures done { IfOk result (λ x. StateBecomes W.Env W.World.own world.old world.new
+        (λ s t. Makes (change.Empty collection) (boolean true) s (view x) t)) }
+    ensures cut { OnErr result (StateBecomes W.Env W.World.own world.old world.new
+        (UpTo (λ s n x t. Makes (change.Empty collection) (boolean true) s x t))) }
     ensures fits { IfOk result (λ x. fits_in (view x) booleans ≡ true) }
 {
     make(
@@ -188,13 +191,13 @@ pub fn clear<W: World>(alloc: Global, world: &mut W, collection: u32) -> Result<
 
 /// Makes a screen the current one. The app has it; a world that was asked since may have forgotten that, so it is tested.
 pub fn navigate<W: World>(alloc: Global, world: &mut W, screen: u32) -> Result<Value, Stop>
-    ensures passed { Passed
-        (stage (W.fixed world.old) (W.state world.old) (W.marks world.old) (W.visited world.old))
-        (stage (W.fixed world.new) (W.state world.new) (W.marks world.new) (W.visited world.new)) }
-    ensures only { Goes (IsLost (W.marks world.old) (W.marks world.new)) (WritesOnly (IsOneOf [])) (W.state world.old) (W.state world.new) }
+    ensures passed { Passed W.Env W.World.own world.old world.new }
+    ensures only { StateBecomes W.Env W.World.own world.old world.new (WritesOnly (IsOneOf [])) }
     ensures keeper { IsErrOf result Stop.Keeper → Rose (W.marks world.old).faults (W.marks world.new).faults }
-    ensures done { IfOk result (λ x. Goes (IsLost (W.marks world.old) (W.marks world.new)) (λ s t. Makes (change.Screen screen) (boolean true) s (view x) t) (W.state world.old) (W.state world.new)) }
-    ensures cut { OnErr result (Goes (IsLost (W.marks world.old) (W.marks world.new)) (UpTo (λ s n x t. Makes (change.Screen screen) (boolean true) s x t)) (W.state world.old) (W.state world.new)) }
+    ensures done { IfOk result (λ x. StateBecomes W.Env W.World.own world.old world.new
+        (λ s t. Makes (change.Screen screen) (boolean true) s (view x) t)) }
+    ensures cut { OnErr result (StateBecomes W.Env W.World.own world.old world.new
+        (UpTo (λ s n x t. Makes (change.Screen screen) (boolean true) s x t))) }
     ensures fits { IfOk result (λ x. fits_in (view x) booleans ≡ true) }
 {
     if screen as usize >= world.names().screens.len() {
@@ -205,13 +208,13 @@ pub fn navigate<W: World>(alloc: Global, world: &mut W, screen: u32) -> Result<V
 
 /// Tells the user a text, which a blank one has none of, unless it is an error.
 pub fn notify<W: World>(alloc: Global, world: &mut W, text: Value) -> Result<Value, Stop>
-    ensures passed { Passed
-        (stage (W.fixed world.old) (W.state world.old) (W.marks world.old) (W.visited world.old))
-        (stage (W.fixed world.new) (W.state world.new) (W.marks world.new) (W.visited world.new)) }
-    ensures only { Goes (IsLost (W.marks world.old) (W.marks world.new)) (WritesOnly (IsOneOf [])) (W.state world.old) (W.state world.new) }
+    ensures passed { Passed W.Env W.World.own world.old world.new }
+    ensures only { StateBecomes W.Env W.World.own world.old world.new (WritesOnly (IsOneOf [])) }
     ensures keeper { IsErrOf result Stop.Keeper → Rose (W.marks world.old).faults (W.marks world.new).faults }
-    ensures done { IfOk result (λ x. Goes (IsLost (W.marks world.old) (W.marks world.new)) (λ s t. OrError (view text) (Makes (change.Notice (text_of (view text))) (boolean true) s (view x) t) s (view x) t) (W.state world.old) (W.state world.new)) }
-    ensures cut { OnErr result (Goes (IsLost (W.marks world.old) (W.marks world.new)) (UpTo (λ s n x t. OrError (view text) (Makes (change.Notice (text_of (view text))) (boolean true) s x t) s x t)) (W.state world.old) (W.state world.new)) }
+    ensures done { IfOk result (λ x. StateBecomes W.Env W.World.own world.old world.new
+        (λ s t. OrError (view text) (Makes (change.Notice (text_of (view text))) (boolean true) s (view x) t) s (view x) t)) }
+    ensures cut { OnErr result (StateBecomes W.Env W.World.own world.old world.new
+        (UpTo (λ s n x t. OrError (view text) (Makes (change.Notice (text_of (view text))) (boolean true) s x t) s x t))) }
     ensures fits { IfOk result (λ x. fits_in (view x) booleans ≡ true) }
 {
     match words_of(alloc, text)? {
@@ -235,13 +238,13 @@ fn words_of(alloc: Global, text: Value) -> Result<Result<Words, Fault>, Memory>
 
 // Tells the user these words.
 fn tell<W: World>(alloc: Global, world: &mut W, words: Words) -> Result<Value, Stop>
-    ensures passed { Passed
-        (stage (W.fixed world.old) (W.state world.old) (W.marks world.old) (W.visited world.old))
-        (stage (W.fixed world.new) (W.state world.new) (W.marks world.new) (W.visited world.new)) }
-    ensures only { Goes (IsLost (W.marks world.old) (W.marks world.new)) (WritesOnly (IsOneOf [])) (W.state world.old) (W.state world.new) }
+    ensures passed { Passed W.Env W.World.own world.old world.new }
+    ensures only { StateBecomes W.Env W.World.own world.old world.new (WritesOnly (IsOneOf [])) }
     ensures keeper { IsErrOf result Stop.Keeper → Rose (W.marks world.old).faults (W.marks world.new).faults }
-    ensures done { IfOk result (λ x. Goes (IsLost (W.marks world.old) (W.marks world.new)) (λ s t. Makes (change.Notice words) (boolean true) s (view x) t) (W.state world.old) (W.state world.new)) }
-    ensures cut { OnErr result (Goes (IsLost (W.marks world.old) (W.marks world.new)) (UpTo (λ s n x t. Makes (change.Notice words) (boolean true) s x t)) (W.state world.old) (W.state world.new)) }
+    ensures done { IfOk result (λ x. StateBecomes W.Env W.World.own world.old world.new
+        (λ s t. Makes (change.Notice words) (boolean true) s (view x) t)) }
+    ensures cut { OnErr result (StateBecomes W.Env W.World.own world.old world.new
+        (UpTo (λ s n x t. Makes (change.Notice words) (boolean true) s x t))) }
     ensures fits { IfOk result (λ x. fits_in (view x) booleans ≡ true) }
 {
     make(alloc, world, Change::Notice(words), Value::Boolean(true))
@@ -250,13 +253,14 @@ fn tell<W: World>(alloc: Global, world: &mut W, words: Words) -> Result<Value, S
 /// Takes the user's input of a control away.
 pub fn reset<W: World>(alloc: Global, world: &mut W, control: u32) -> Result<Value, Stop>
     requires { IsSome ((W.fixed world.old).types (source.Input control)) }
-    ensures passed { Passed
-        (stage (W.fixed world.old) (W.state world.old) (W.marks world.old) (W.visited world.old))
-        (stage (W.fixed world.new) (W.state world.new) (W.marks world.new) (W.visited world.new)) }
-    ensures only { Goes (IsLost (W.marks world.old) (W.marks world.new)) (WritesOnly (IsOneOf (source.Input control ∷ []))) (W.state world.old) (W.state world.new) }
+    ensures passed { Passed W.Env W.World.own world.old world.new }
+    ensures only { StateBecomes W.Env W.World.own world.old world.new
+        (WritesOnly (IsOneOf (source.Input control ∷ []))) }
     ensures keeper { IsErrOf result Stop.Keeper → Rose (W.marks world.old).faults (W.marks world.new).faults }
-    ensures done { IfOk result (λ x. Goes (IsLost (W.marks world.old) (W.marks world.new)) (λ s t. Makes (change.Input control None) (boolean true) s (view x) t) (W.state world.old) (W.state world.new)) }
-    ensures cut { OnErr result (Goes (IsLost (W.marks world.old) (W.marks world.new)) (UpTo (λ s n x t. Makes (change.Input control None) (boolean true) s x t)) (W.state world.old) (W.state world.new)) }
+    ensures done { IfOk result (λ x. StateBecomes W.Env W.World.own world.old world.new
+        (λ s t. Makes (change.Input control None) (boolean true) s (view x) t)) }
+    ensures cut { OnErr result (StateBecomes W.Env W.World.own world.old world.new
+        (UpTo (λ s n x t. Makes (change.Input control None) (boolean true) s x t))) }
     ensures fits { IfOk result (λ x. fits_in (view x) booleans ≡ true) }
 {
     make(

@@ -26,7 +26,7 @@ ghost use Rattle.fx_deeds.specs.Deeds.{AreUpdated, IsPatched, MakesRow, OfTable,
 ghost use Rattle.fx_deeds.specs.Finding.{CanChangeEach, CanChangeRows, CanPatchRows, FindsCells, IsPutEnd, IsPutOf, IsRowAt, IsRowPatched, IsShape, IsUpdatedRow, first_cells as first_cells_of};
 ghost use Rattle.fx_deeds.specs.Found.{IsNamed};
 ghost use Rattle.fx_deeds.specs.RowValues.{blank_cells as blank_cells_of, changed_cells as changed_cells_of, rows_among, values_among};
-ghost use Rattle.fx_deeds.specs.Stages.{Passed, stage};
+ghost use Rattle.fx_deeds.specs.StagesOver.{Passed, StateBecomes};
 ghost use Rattle.fx_deeds.specs.Writable.{IsOneOf, WritesOnly};
 
 use crate::answers::error;
@@ -137,12 +137,11 @@ fn find_cells<W: World>(
     id: u32,
 ) -> Result<Option<Cells>, Stop>
     requires { IsShape (W.fixed world.old).schema table shape.now }
-    ensures passed { Passed
-        (stage (W.fixed world.old) (W.state world.old) (W.marks world.old) (W.visited world.old))
-        (stage (W.fixed world.new) (W.state world.new) (W.marks world.new) (W.visited world.new)) }
-    ensures stays { Goes (IsLost (W.marks world.old) (W.marks world.new)) Stays (W.state world.old) (W.state world.new) }
+    ensures passed { Passed W.Env W.World.own world.old world.new }
+    ensures stays { StateBecomes W.Env W.World.own world.old world.new Stays }
     ensures keeper { IsErrOf result Stop.Keeper → Rose (W.marks world.old).faults (W.marks world.new).faults }
-    ensures found { IfOk result (λ o. Goes (IsLost (W.marks world.old) (W.marks world.new)) (FindsCells table id o) (W.state world.old) (W.state world.new)) }
+    ensures found { IfOk result (λ o. StateBecomes W.Env W.World.own world.old world.new
+        (FindsCells table id o)) }
     ensures fit { IfOk result (λ o. IfSome o (IsRowAt shape.now id)) }
 {
     // Called for what it says: rows that stand by rising numbers are asked in that order.
@@ -163,13 +162,14 @@ fn make_row<W: World>(
 ) -> Result<Value, Stop>
     requires shape { IsShape (W.fixed world.old).schema table shape.now }
     requires cells { AreCellsOf shape.now.columns cells }
-    ensures passed { Passed
-        (stage (W.fixed world.old) (W.state world.old) (W.marks world.old) (W.visited world.old))
-        (stage (W.fixed world.new) (W.state world.new) (W.marks world.new) (W.visited world.new)) }
-    ensures only { Goes (IsLost (W.marks world.old) (W.marks world.new)) (WritesOnly (IsOneOf (source.Table table ∷ []))) (W.state world.old) (W.state world.new) }
+    ensures passed { Passed W.Env W.World.own world.old world.new }
+    ensures only { StateBecomes W.Env W.World.own world.old world.new
+        (WritesOnly (IsOneOf (source.Table table ∷ []))) }
     ensures keeper { IsErrOf result Stop.Keeper → Rose (W.marks world.old).faults (W.marks world.new).faults }
-    ensures done { IfOk result (λ x. Goes (IsLost (W.marks world.old) (W.marks world.new)) (λ s t. MakesRow shape.now table cells s (view x) t) (W.state world.old) (W.state world.new)) }
-    ensures cut { OnErr result (Goes (IsLost (W.marks world.old) (W.marks world.new)) (UpTo (λ s n x t. MakesRow shape.now table cells s x t)) (W.state world.old) (W.state world.new)) }
+    ensures done { IfOk result (λ x. StateBecomes W.Env W.World.own world.old world.new
+        (λ s t. MakesRow shape.now table cells s (view x) t)) }
+    ensures cut { OnErr result (StateBecomes W.Env W.World.own world.old world.new
+        (UpTo (λ s n x t. MakesRow shape.now table cells s x t))) }
     ensures fits { IfOk result (λ x. fits_in (view x) (records (columns_of shape.now)) ≡ true) }
 {
     let put = insert(world, table, &cells)?;
@@ -194,13 +194,13 @@ fn put_changed<W: World>(
 ) -> Result<Patched, Stop>
     requires shape { IsShape (W.fixed world.old).schema table shape.now }
     requires can { CanChangeRows shape.now changes.now }
-    ensures passed { Passed
-        (stage (W.fixed world.old) (W.state world.old) (W.marks world.old) (W.visited world.old))
-        (stage (W.fixed world.new) (W.state world.new) (W.marks world.new) (W.visited world.new)) }
-    ensures only { Goes (IsLost (W.marks world.old) (W.marks world.new)) (WritesOnly (IsOneOf (source.Table table ∷ []))) (W.state world.old) (W.state world.new) }
+    ensures passed { Passed W.Env W.World.own world.old world.new }
+    ensures only { StateBecomes W.Env W.World.own world.old world.new
+        (WritesOnly (IsOneOf (source.Table table ∷ []))) }
     ensures keeper { IsErrOf result Stop.Keeper → Rose (W.marks world.old).faults (W.marks world.new).faults }
-    ensures done { IfOk result (λ r. Goes (IsLost (W.marks world.old) (W.marks world.new)) (IsRowPatched shape.now table changes.now id r.cells r.put) (W.state world.old) (W.state world.new)) }
-    ensures stops { OnErr result (Goes (IsLost (W.marks world.old) (W.marks world.new)) Stays (W.state world.old) (W.state world.new)) }
+    ensures done { IfOk result (λ r. StateBecomes W.Env W.World.own world.old world.new
+        (IsRowPatched shape.now table changes.now id r.cells r.put)) }
+    ensures stops { OnErr result (StateBecomes W.Env W.World.own world.old world.new Stays) }
     ensures fit { IfOk result (λ r. IsPutOf shape.now r.cells r.put) }
 {
     let Some(found) = find_cells(alloc, world, table, shape, id)? else {
@@ -225,13 +225,14 @@ fn patch_row<W: World>(
 ) -> Result<Value, Stop>
     requires shape { IsShape (W.fixed world.old).schema table shape.now }
     requires can { CanChangeRows shape.now changes.now }
-    ensures passed { Passed
-        (stage (W.fixed world.old) (W.state world.old) (W.marks world.old) (W.visited world.old))
-        (stage (W.fixed world.new) (W.state world.new) (W.marks world.new) (W.visited world.new)) }
-    ensures only { Goes (IsLost (W.marks world.old) (W.marks world.new)) (WritesOnly (IsOneOf (source.Table table ∷ []))) (W.state world.old) (W.state world.new) }
+    ensures passed { Passed W.Env W.World.own world.old world.new }
+    ensures only { StateBecomes W.Env W.World.own world.old world.new
+        (WritesOnly (IsOneOf (source.Table table ∷ []))) }
     ensures keeper { IsErrOf result Stop.Keeper → Rose (W.marks world.old).faults (W.marks world.new).faults }
-    ensures done { IfOk result (λ x. Goes (IsLost (W.marks world.old) (W.marks world.new)) (λ s t. PatchesRow shape.now table changes.now id s (view x) t) (W.state world.old) (W.state world.new)) }
-    ensures cut { OnErr result (Goes (IsLost (W.marks world.old) (W.marks world.new)) (UpTo (λ s n x t. PatchesRow shape.now table changes.now id s x t)) (W.state world.old) (W.state world.new)) }
+    ensures done { IfOk result (λ x. StateBecomes W.Env W.World.own world.old world.new
+        (λ s t. PatchesRow shape.now table changes.now id s (view x) t)) }
+    ensures cut { OnErr result (StateBecomes W.Env W.World.own world.old world.new
+        (UpTo (λ s n x t. PatchesRow shape.now table changes.now id s x t))) }
     ensures fits { IfOk result (λ x. fits_in (view x) (records (columns_of shape.now)) ≡ true) }
 {
     let patched = put_changed(alloc, world, table, shape, id, changes)?;
@@ -249,13 +250,14 @@ fn patch_new<W: World>(
 ) -> Result<Value, Stop>
     requires shape { IsShape (W.fixed world.old).schema table shape.now }
     requires can { CanChangeRows shape.now changes.now }
-    ensures passed { Passed
-        (stage (W.fixed world.old) (W.state world.old) (W.marks world.old) (W.visited world.old))
-        (stage (W.fixed world.new) (W.state world.new) (W.marks world.new) (W.visited world.new)) }
-    ensures only { Goes (IsLost (W.marks world.old) (W.marks world.new)) (WritesOnly (IsOneOf (source.Table table ∷ []))) (W.state world.old) (W.state world.new) }
+    ensures passed { Passed W.Env W.World.own world.old world.new }
+    ensures only { StateBecomes W.Env W.World.own world.old world.new
+        (WritesOnly (IsOneOf (source.Table table ∷ []))) }
     ensures keeper { IsErrOf result Stop.Keeper → Rose (W.marks world.old).faults (W.marks world.new).faults }
-    ensures done { IfOk result (λ x. Goes (IsLost (W.marks world.old) (W.marks world.new)) (λ s t. MakesRow shape.now table (changed_cells_of shape.now.columns changes.now (blank_cells_of shape.now.columns)) s (view x) t) (W.state world.old) (W.state world.new)) }
-    ensures cut { OnErr result (Goes (IsLost (W.marks world.old) (W.marks world.new)) (UpTo (λ s n x t. MakesRow shape.now table (changed_cells_of shape.now.columns changes.now (blank_cells_of shape.now.columns)) s x t)) (W.state world.old) (W.state world.new)) }
+    ensures done { IfOk result (λ x. StateBecomes W.Env W.World.own world.old world.new
+        (λ s t. MakesRow shape.now table (changed_cells_of shape.now.columns changes.now (blank_cells_of shape.now.columns)) s (view x) t)) }
+    ensures cut { OnErr result (StateBecomes W.Env W.World.own world.old world.new
+        (UpTo (λ s n x t. MakesRow shape.now table (changed_cells_of shape.now.columns changes.now (blank_cells_of shape.now.columns)) s x t))) }
     ensures fits { IfOk result (λ x. fits_in (view x) (records (columns_of shape.now)) ≡ true) }
 {
     let columns = shape.columns.as_slice();
@@ -287,13 +289,14 @@ fn patch_numbered<W: World>(
 ) -> Result<Value, Stop>
     requires shape { IsShape (W.fixed world.old).schema table shape.now }
     requires can { CanChangeRows shape.now changes.now }
-    ensures passed { Passed
-        (stage (W.fixed world.old) (W.state world.old) (W.marks world.old) (W.visited world.old))
-        (stage (W.fixed world.new) (W.state world.new) (W.marks world.new) (W.visited world.new)) }
-    ensures only { Goes (IsLost (W.marks world.old) (W.marks world.new)) (WritesOnly (IsOneOf (source.Table table ∷ []))) (W.state world.old) (W.state world.new) }
+    ensures passed { Passed W.Env W.World.own world.old world.new }
+    ensures only { StateBecomes W.Env W.World.own world.old world.new
+        (WritesOnly (IsOneOf (source.Table table ∷ []))) }
     ensures keeper { IsErrOf result Stop.Keeper → Rose (W.marks world.old).faults (W.marks world.new).faults }
-    ensures done { IfOk result (λ x. Goes (IsLost (W.marks world.old) (W.marks world.new)) (λ s t. PatchesById shape.now table changes.now (id_of (view base.now)) s (view x) t) (W.state world.old) (W.state world.new)) }
-    ensures cut { OnErr result (Goes (IsLost (W.marks world.old) (W.marks world.new)) (UpTo (λ s n x t. PatchesById shape.now table changes.now (id_of (view base.now)) s x t)) (W.state world.old) (W.state world.new)) }
+    ensures done { IfOk result (λ x. StateBecomes W.Env W.World.own world.old world.new
+        (λ s t. PatchesById shape.now table changes.now (id_of (view base.now)) s (view x) t)) }
+    ensures cut { OnErr result (StateBecomes W.Env W.World.own world.old world.new
+        (UpTo (λ s n x t. PatchesById shape.now table changes.now (id_of (view base.now)) s x t))) }
     ensures fits { IfOk result (λ x. fits_in (view x) (records (columns_of shape.now)) ≡ true) }
 {
     if has_blank_number(alloc, base)? {
@@ -317,13 +320,14 @@ fn patch_base<W: World>(
 ) -> Result<Value, Stop>
     requires shape { IsShape (W.fixed world.old).schema table shape.now }
     requires can { CanChangeRows shape.now changes.now }
-    ensures passed { Passed
-        (stage (W.fixed world.old) (W.state world.old) (W.marks world.old) (W.visited world.old))
-        (stage (W.fixed world.new) (W.state world.new) (W.marks world.new) (W.visited world.new)) }
-    ensures only { Goes (IsLost (W.marks world.old) (W.marks world.new)) (WritesOnly (IsOneOf (source.Table table ∷ []))) (W.state world.old) (W.state world.new) }
+    ensures passed { Passed W.Env W.World.own world.old world.new }
+    ensures only { StateBecomes W.Env W.World.own world.old world.new
+        (WritesOnly (IsOneOf (source.Table table ∷ []))) }
     ensures keeper { IsErrOf result Stop.Keeper → Rose (W.marks world.old).faults (W.marks world.new).faults }
-    ensures done { IfOk result (λ x. Goes (IsLost (W.marks world.old) (W.marks world.new)) (λ s t. PatchesBase shape.now table changes.now (view base.now) s (view x) t) (W.state world.old) (W.state world.new)) }
-    ensures cut { OnErr result (Goes (IsLost (W.marks world.old) (W.marks world.new)) (UpTo (λ s n x t. PatchesBase shape.now table changes.now (view base.now) s x t)) (W.state world.old) (W.state world.new)) }
+    ensures done { IfOk result (λ x. StateBecomes W.Env W.World.own world.old world.new
+        (λ s t. PatchesBase shape.now table changes.now (view base.now) s (view x) t)) }
+    ensures cut { OnErr result (StateBecomes W.Env W.World.own world.old world.new
+        (UpTo (λ s n x t. PatchesBase shape.now table changes.now (view base.now) s x t))) }
     ensures fits { IfOk result (λ x. fits_in (view x) (records (columns_of shape.now)) ≡ true) }
 {
     match base {
@@ -353,13 +357,14 @@ pub(crate) fn patch_table<W: World>(
     changes: &[Value],
 ) -> Result<Value, Stop>
     requires { OfTable (W.fixed world.old).schema table (λ p. CanPatchRows p (rows_among (map view changes.now))) }
-    ensures passed { Passed
-        (stage (W.fixed world.old) (W.state world.old) (W.marks world.old) (W.visited world.old))
-        (stage (W.fixed world.new) (W.state world.new) (W.marks world.new) (W.visited world.new)) }
-    ensures only { Goes (IsLost (W.marks world.old) (W.marks world.new)) (WritesOnly (IsOneOf (source.Table table ∷ []))) (W.state world.old) (W.state world.new) }
+    ensures passed { Passed W.Env W.World.own world.old world.new }
+    ensures only { StateBecomes W.Env W.World.own world.old world.new
+        (WritesOnly (IsOneOf (source.Table table ∷ []))) }
     ensures keeper { IsErrOf result Stop.Keeper → Rose (W.marks world.old).faults (W.marks world.new).faults }
-    ensures done { IfOk result (λ x. Goes (IsLost (W.marks world.old) (W.marks world.new)) (λ s t. IsPatched (W.fixed world.old).schema table (view base.now) (map view changes.now) s (view x) t) (W.state world.old) (W.state world.new)) }
-    ensures cut { OnErr result (Goes (IsLost (W.marks world.old) (W.marks world.new)) (UpTo (λ s n x t. IsPatched (W.fixed world.old).schema table (view base.now) (map view changes.now) s x t)) (W.state world.old) (W.state world.new)) }
+    ensures done { IfOk result (λ x. StateBecomes W.Env W.World.own world.old world.new
+        (λ s t. IsPatched (W.fixed world.old).schema table (view base.now) (map view changes.now) s (view x) t)) }
+    ensures cut { OnErr result (StateBecomes W.Env W.World.own world.old world.new
+        (UpTo (λ s n x t. IsPatched (W.fixed world.old).schema table (view base.now) (map view changes.now) s x t))) }
     ensures fits { OfTable (W.fixed world.old).schema table (λ p. IfOk result (λ x. fits_in (view x) (records (columns_of p)) ≡ true)) }
 {
     let shape = shape_of(alloc, world, table)?;
@@ -381,13 +386,14 @@ fn update_row<W: World>(
 ) -> Result<Option<Value>, Stop>
     requires shape { IsShape (W.fixed world.old).schema table shape.now }
     requires can { CanChangeRows shape.now (rows_in (view change.now)) }
-    ensures passed { Passed
-        (stage (W.fixed world.old) (W.state world.old) (W.marks world.old) (W.visited world.old))
-        (stage (W.fixed world.new) (W.state world.new) (W.marks world.new) (W.visited world.new)) }
-    ensures only { Goes (IsLost (W.marks world.old) (W.marks world.new)) (WritesOnly (IsOneOf (source.Table table ∷ []))) (W.state world.old) (W.state world.new) }
+    ensures passed { Passed W.Env W.World.own world.old world.new }
+    ensures only { StateBecomes W.Env W.World.own world.old world.new
+        (WritesOnly (IsOneOf (source.Table table ∷ []))) }
     ensures keeper { IsErrOf result Stop.Keeper → Rose (W.marks world.old).faults (W.marks world.new).faults }
-    ensures done { IfOk result (λ o. Goes (IsLost (W.marks world.old) (W.marks world.new)) (IsUpdatedRow shape.now table row.now (view change.now) o) (W.state world.old) (W.state world.new)) }
-    ensures cut { OnErr result (Goes (IsLost (W.marks world.old) (W.marks world.new)) (UpTo (λ s n x t. AreUpdated shape.now table (row.now ∷ []) (view change.now ∷ []) s x t)) (W.state world.old) (W.state world.new)) }
+    ensures done { IfOk result (λ o. StateBecomes W.Env W.World.own world.old world.new
+        (IsUpdatedRow shape.now table row.now (view change.now) o)) }
+    ensures cut { OnErr result (StateBecomes W.Env W.World.own world.old world.new
+        (UpTo (λ s n x t. AreUpdated shape.now table (row.now ∷ []) (view change.now ∷ []) s x t))) }
     ensures fits { IfOk result (λ o. IfSome o (λ x. fits_in (view x) booleans ≡ true)) }
 {
     let named = row_id(alloc, row)?;
@@ -435,13 +441,14 @@ pub(crate) fn update_table<W: World>(
     changes: &[Value],
 ) -> Result<Value, Stop>
     requires { OfTable (W.fixed world.old).schema table (λ p. CanChangeEach p (map view changes.now)) }
-    ensures passed { Passed
-        (stage (W.fixed world.old) (W.state world.old) (W.marks world.old) (W.visited world.old))
-        (stage (W.fixed world.new) (W.state world.new) (W.marks world.new) (W.visited world.new)) }
-    ensures only { Goes (IsLost (W.marks world.old) (W.marks world.new)) (WritesOnly (IsOneOf (source.Table table ∷ []))) (W.state world.old) (W.state world.new) }
+    ensures passed { Passed W.Env W.World.own world.old world.new }
+    ensures only { StateBecomes W.Env W.World.own world.old world.new
+        (WritesOnly (IsOneOf (source.Table table ∷ []))) }
     ensures keeper { IsErrOf result Stop.Keeper → Rose (W.marks world.old).faults (W.marks world.new).faults }
-    ensures done { IfOk result (λ x. Goes (IsLost (W.marks world.old) (W.marks world.new)) (λ s t. OfTable (W.fixed world.old).schema table (λ p. AreUpdated p table rows.now (map view changes.now) s (view x) t)) (W.state world.old) (W.state world.new)) }
-    ensures cut { OnErr result (Goes (IsLost (W.marks world.old) (W.marks world.new)) (UpTo (λ s n x t. OfTable (W.fixed world.old).schema table (λ p. AreUpdated p table (take n rows.now) (map view changes.now) s x t))) (W.state world.old) (W.state world.new)) }
+    ensures done { IfOk result (λ x. StateBecomes W.Env W.World.own world.old world.new
+        (λ s t. OfTable (W.fixed world.old).schema table (λ p. AreUpdated p table rows.now (map view changes.now) s (view x) t))) }
+    ensures cut { OnErr result (StateBecomes W.Env W.World.own world.old world.new
+        (UpTo (λ s n x t. OfTable (W.fixed world.old).schema table (λ p. AreUpdated p table (take n rows.now) (map view changes.now) s x t)))) }
     ensures fits { IfOk result (λ x. fits_in (view x) booleans ≡ true) }
 {
     let shape = shape_of(alloc, world, table)?;
@@ -459,13 +466,14 @@ fn update_rows<W: World>(
 ) -> Result<Value, Stop>
     requires shape { IsShape (W.fixed world.old).schema table shape.now }
     requires can { CanChangeEach shape.now (map view changes.now) }
-    ensures passed { Passed
-        (stage (W.fixed world.old) (W.state world.old) (W.marks world.old) (W.visited world.old))
-        (stage (W.fixed world.new) (W.state world.new) (W.marks world.new) (W.visited world.new)) }
-    ensures only { Goes (IsLost (W.marks world.old) (W.marks world.new)) (WritesOnly (IsOneOf (source.Table table ∷ []))) (W.state world.old) (W.state world.new) }
+    ensures passed { Passed W.Env W.World.own world.old world.new }
+    ensures only { StateBecomes W.Env W.World.own world.old world.new
+        (WritesOnly (IsOneOf (source.Table table ∷ []))) }
     ensures keeper { IsErrOf result Stop.Keeper → Rose (W.marks world.old).faults (W.marks world.new).faults }
-    ensures done { IfOk result (λ x. Goes (IsLost (W.marks world.old) (W.marks world.new)) (λ s t. AreUpdated shape.now table rows.now (map view changes.now) s (view x) t) (W.state world.old) (W.state world.new)) }
-    ensures cut { OnErr result (Goes (IsLost (W.marks world.old) (W.marks world.new)) (UpTo (λ s n x t. AreUpdated shape.now table (take n rows.now) (map view changes.now) s x t)) (W.state world.old) (W.state world.new)) }
+    ensures done { IfOk result (λ x. StateBecomes W.Env W.World.own world.old world.new
+        (λ s t. AreUpdated shape.now table rows.now (map view changes.now) s (view x) t)) }
+    ensures cut { OnErr result (StateBecomes W.Env W.World.own world.old world.new
+        (UpTo (λ s n x t. AreUpdated shape.now table (take n rows.now) (map view changes.now) s x t))) }
     ensures fits { IfOk result (λ x. fits_in (view x) booleans ≡ true) }
 {
     let mut rest = rows;

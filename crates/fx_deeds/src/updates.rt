@@ -2,7 +2,6 @@
 ghost use Rattle.std.specs.Prelude.{◌≡◌, ◌∷◌, [], true, IfOk, IfSome, IsErrOf, map, option_map, OnErr};
 ghost use Rattle.std.specs.List.{find};
 ghost use Rattle.fx_base.specs.Faults.{Rose};
-ghost use Rattle.fx_base.specs.Silence.{Goes, IsLost};
 ghost use Rattle.fx_data.specs.Types.{ColumnList, booleans, column_list, records as records_type, tables};
 ghost use Rattle.fx_data.specs.ValueView.{view};
 ghost use Rattle.fx_semantics.specs.Around.{record_of};
@@ -16,7 +15,7 @@ ghost use Rattle.fx_deeds.specs.Done.{errors_in, errors_of};
 ghost use Rattle.fx_deeds.specs.Fitting.{CanChangeAll, IsOfColumns};
 ghost use Rattle.fx_deeds.specs.Lefts.{AreRecords, IsChangedFirst, rows_by};
 ghost use Rattle.fx_deeds.specs.RowValues.{columns_in};
-ghost use Rattle.fx_deeds.specs.Stages.{Passed, stage};
+ghost use Rattle.fx_deeds.specs.StagesOver.{Passed, StateBecomes};
 ghost use Rattle.fx_deeds.specs.Writable.{IsOneOf, WritesOnly};
 
 use crate::changes::make;
@@ -125,13 +124,14 @@ pub(crate) fn update_equal<W: World, L: Ledger>(
     steps: &mut Steps<L>,
 ) -> Result<Value, Stop>
     requires { (cs : ColumnList) × IsOfColumns (W.fixed world.old).types collection cs × CanChangeAll cs kept.now (map view changes.now) }
-    ensures passed { Passed
-        (stage (W.fixed world.old) (W.state world.old) (W.marks world.old) (W.visited world.old))
-        (stage (W.fixed world.new) (W.state world.new) (W.marks world.new) (W.visited world.new)) }
-    ensures only { Goes (IsLost (W.marks world.old) (W.marks world.new)) (WritesOnly (IsOneOf (source.Gathered collection ∷ []))) (W.state world.old) (W.state world.new) }
+    ensures passed { Passed W.Env W.World.own world.old world.new }
+    ensures only { StateBecomes W.Env W.World.own world.old world.new
+        (WritesOnly (IsOneOf (source.Gathered collection ∷ []))) }
     ensures keeper { IsErrOf result Stop.Keeper → Rose (W.marks world.old).faults (W.marks world.new).faults }
-    ensures done { IfOk result (λ x. Goes (IsLost (W.marks world.old) (W.marks world.new)) (λ s t. AreUpdatedIn (columns_in ((W.fixed world.old).types (source.Gathered collection))) collection kept.now (map view changes.now) s (view x) t) (W.state world.old) (W.state world.new)) }
-    ensures cut { OnErr result (Goes (IsLost (W.marks world.old) (W.marks world.new)) (UpTo (λ s n x t. AreUpdatedIn (columns_in ((W.fixed world.old).types (source.Gathered collection))) collection kept.now (map view changes.now) s x t)) (W.state world.old) (W.state world.new)) }
+    ensures done { IfOk result (λ x. StateBecomes W.Env W.World.own world.old world.new
+        (λ s t. AreUpdatedIn (columns_in ((W.fixed world.old).types (source.Gathered collection))) collection kept.now (map view changes.now) s (view x) t)) }
+    ensures cut { OnErr result (StateBecomes W.Env W.World.own world.old world.new
+        (UpTo (λ s n x t. AreUpdatedIn (columns_in ((W.fixed world.old).types (source.Gathered collection))) collection kept.now (map view changes.now) s x t))) }
     ensures fits { IfOk result (λ x. fits_in (view x) booleans ≡ true) }
 {
     let columns = collection_columns(alloc, world, collection)?;

@@ -7,7 +7,8 @@ ghost use Rattle.fx_data.specs.Types.{Shape};
 ghost use Rattle.fx_data.specs.ValueView.{fields_view, view};
 ghost use Rattle.fx_data.specs.Values.{blank};
 ghost use Rattle.fx_eval.specs.Courses.{IsWorth, ends_in_branch, going};
-ghost use Rattle.fx_eval.specs.Moments.{HasVisited, Went, moment};
+ghost use Rattle.fx_eval.specs.Moments.{HasVisited, Went};
+ghost use Rattle.fx_eval.specs.MomentsOver.{moment_of};
 ghost use Rattle.fx_eval.specs.Parts.{AreAsked, AreFilled, AreFine, AreInside, AreSet, AreSome, HasNext, IsAsked, caught_in, inner, terms_of};
 ghost use Rattle.fx_eval.specs.Demands.{CanStand, IsAskedFor};
 ghost use Rattle.fx_eval.specs.Visits.{AllVisit, AtMost, EachVisits, FormVisits, InFound, OverVisits, PartVisits, PartsVisit, RowsVisit, Visits, VisitsByHead, WithinVisits, asked_tables, part as part_of, parts as parts_of};
@@ -80,13 +81,13 @@ fn tree<E: Env, L: Ledger>(
 ) -> Result<Value, Stop>
     requires { CanEvaluate (E.fixed env.old).types scope.old core.now }
     ensures went { Went
-        (moment (E.fixed env.old) (E.told env.old) (E.marks env.old) (E.ticked env.old) (E.visited env.old) scope.old steps.old)
-        (moment (E.fixed env.new) (E.told env.new) (E.marks env.new) (E.ticked env.new) (E.visited env.new) scope.new steps.new) }
+        (moment_of E.Env env.old scope.old steps.old)
+        (moment_of E.Env env.new scope.new steps.new) }
     ensures keeper { IsErrOf result Stop.Keeper → Rose (E.marks env.old).faults (E.marks env.new).faults }
     ensures value { IfOk result (λ v. Heard (values_told (E.told env.new)) (λ told. IsValue (around (E.fixed env.old).types told scope.old) core.now (view v))) }
     ensures visits { IfOk result (λ _. HasVisited (λ w. Visits w core.now)
-        (moment (E.fixed env.old) (E.told env.old) (E.marks env.old) (E.ticked env.old) (E.visited env.old) scope.old steps.old)
-        (moment (E.fixed env.new) (E.told env.new) (E.marks env.new) (E.ticked env.new) (E.visited env.new) scope.new steps.new)) }
+        (moment_of E.Env env.old scope.old steps.old)
+        (moment_of E.Env env.new scope.new steps.new)) }
     ensures fits { (u : Shape) → IsReady (E.fixed env.old).types scope.old core.now u → IfOk result (λ v. fits_in (view v) u ≡ true) }
 {
     values_fit();
@@ -104,13 +105,13 @@ fn value_here<E: Env, L: Ledger>(
 ) -> Result<Value, Stop>
     requires { CanEvaluate (E.fixed env.old).types scope.old core.now }
     ensures went { Went
-        (moment (E.fixed env.old) (E.told env.old) (E.marks env.old) (E.ticked env.old) (E.visited env.old) scope.old steps.old)
-        (moment (E.fixed env.new) (E.told env.new) (E.marks env.new) (E.ticked env.new) (E.visited env.new) scope.new steps.new) }
+        (moment_of E.Env env.old scope.old steps.old)
+        (moment_of E.Env env.new scope.new steps.new) }
     ensures keeper { IsErrOf result Stop.Keeper → Rose (E.marks env.old).faults (E.marks env.new).faults }
     ensures value { IfOk result (λ v. Heard (values_told (E.told env.new)) (λ told. IsValue (around (E.fixed env.old).types told scope.old) core.now (view v))) }
     ensures visits { IfOk result (λ _. HasVisited (λ w. Visits w core.now)
-        (moment (E.fixed env.old) (E.told env.old) (E.marks env.old) (E.ticked env.old) (E.visited env.old) scope.old steps.old)
-        (moment (E.fixed env.new) (E.told env.new) (E.marks env.new) (E.ticked env.new) (E.visited env.new) scope.new steps.new)) }
+        (moment_of E.Env env.old scope.old steps.old)
+        (moment_of E.Env env.new scope.new steps.new)) }
 {
     match asked_here(alloc, env, scope, core)? {
         Some(asked) => query(alloc, env, scope, core, &asked, steps),
@@ -132,13 +133,13 @@ fn query<E: Env, L: Ledger>(
     requires ready { CanEvaluate (E.fixed env.old).types scope.old core.now }
     requires asked { IsAskedFor (E.fixed env.old) (E.told env.old) scope.old core.now asked.now.demand asked.now.sketch }
     ensures went { Went
-        (moment (E.fixed env.old) (E.told env.old) (E.marks env.old) (E.ticked env.old) (E.visited env.old) scope.old steps.old)
-        (moment (E.fixed env.new) (E.told env.new) (E.marks env.new) (E.ticked env.new) (E.visited env.new) scope.new steps.new) }
+        (moment_of E.Env env.old scope.old steps.old)
+        (moment_of E.Env env.new scope.new steps.new) }
     ensures keeper { IsErrOf result Stop.Keeper → Rose (E.marks env.old).faults (E.marks env.new).faults }
     ensures value { IfOk result (λ v. Heard (values_told (E.told env.new)) (λ told. IsValue (around (E.fixed env.old).types told scope.old) core.now (view v))) }
     ensures visits { IfOk result (λ _. HasVisited (λ w. Visits w core.now)
-        (moment (E.fixed env.old) (E.told env.old) (E.marks env.old) (E.ticked env.old) (E.visited env.old) scope.old steps.old)
-        (moment (E.fixed env.new) (E.told env.new) (E.marks env.new) (E.ticked env.new) (E.visited env.new) scope.new steps.new)) }
+        (moment_of E.Env env.old scope.old steps.old)
+        (moment_of E.Env env.new scope.new steps.new)) }
 {
     queries_are_values();
     let formulas = asked.sketch.constants.as_slice();
@@ -169,13 +170,13 @@ fn of_found<E: Env, L: Ledger>(
 ) -> Result<Value, Stop>
     requires { CanStand (E.fixed env.old).types scope.old formula.now (view found) }
     ensures went { Went
-        (moment (E.fixed env.old) (E.told env.old) (E.marks env.old) (E.ticked env.old) (E.visited env.old) scope.old steps.old)
-        (moment (E.fixed env.new) (E.told env.new) (E.marks env.new) (E.ticked env.new) (E.visited env.new) scope.new steps.new) }
+        (moment_of E.Env env.old scope.old steps.old)
+        (moment_of E.Env env.new scope.new steps.new) }
     ensures keeper { IsErrOf result Stop.Keeper → Rose (E.marks env.old).faults (E.marks env.new).faults }
     ensures value { IfOk result (λ v. Heard (values_told (E.told env.new)) (λ told. IsOfFound (view found) (meaning formula.now) (around (E.fixed env.old).types told scope.old) (view v))) }
     ensures visits { IfOk result (λ _. HasVisited (λ w. InFound (view found) (Visits w formula.now))
-        (moment (E.fixed env.old) (E.told env.old) (E.marks env.old) (E.ticked env.old) (E.visited env.old) scope.old steps.old)
-        (moment (E.fixed env.new) (E.told env.new) (E.marks env.new) (E.ticked env.new) (E.visited env.new) scope.new steps.new)) }
+        (moment_of E.Env env.old scope.old steps.old)
+        (moment_of E.Env env.new scope.new steps.new)) }
 {
     match found {
         Value::Rec(fields) => in_scope(alloc, env, scope, Value::Rec(fields), formula, steps),
@@ -194,13 +195,13 @@ fn constant_values<E: Env, L: Ledger>(
 ) -> Result<Vec<Value>, Stop>
     requires { AreFine (E.fixed env.old).types (inner scope.old blank) constants.now }
     ensures went { Went
-        (moment (E.fixed env.old) (E.told env.old) (E.marks env.old) (E.ticked env.old) (E.visited env.old) scope.old steps.old)
-        (moment (E.fixed env.new) (E.told env.new) (E.marks env.new) (E.ticked env.new) (E.visited env.new) scope.new steps.new) }
+        (moment_of E.Env env.old scope.old steps.old)
+        (moment_of E.Env env.new scope.new steps.new) }
     ensures keeper { IsErrOf result Stop.Keeper → Rose (E.marks env.old).faults (E.marks env.new).faults }
     ensures value { IfOk result (λ vs. Heard (values_told (E.told env.new)) (λ told. AreValues (meanings (all constants.now)) (around (E.fixed env.old).types told (inner scope.old blank)) (map view vs.items))) }
     ensures visits { IfOk result (λ _. HasVisited (λ w a. AllVisit (parts_of w (all constants.now)) (inside_of a blank))
-        (moment (E.fixed env.old) (E.told env.old) (E.marks env.old) (E.ticked env.old) (E.visited env.old) scope.old steps.old)
-        (moment (E.fixed env.new) (E.told env.new) (E.marks env.new) (E.ticked env.new) (E.visited env.new) scope.new steps.new)) }
+        (moment_of E.Env env.old scope.old steps.old)
+        (moment_of E.Env env.new scope.new steps.new)) }
 {
     scope.rows.push(Value::Blank)?;
     // Without `?`, so that the scope is left also where there are no values.
@@ -220,13 +221,13 @@ fn node<E: Env, L: Ledger>(
 ) -> Result<Value, Stop>
     requires { CanEvaluate (E.fixed env.old).types scope.old core.now }
     ensures went { Went
-        (moment (E.fixed env.old) (E.told env.old) (E.marks env.old) (E.ticked env.old) (E.visited env.old) scope.old steps.old)
-        (moment (E.fixed env.new) (E.told env.new) (E.marks env.new) (E.ticked env.new) (E.visited env.new) scope.new steps.new) }
+        (moment_of E.Env env.old scope.old steps.old)
+        (moment_of E.Env env.new scope.new steps.new) }
     ensures keeper { IsErrOf result Stop.Keeper → Rose (E.marks env.old).faults (E.marks env.new).faults }
     ensures value { IfOk result (λ v. Heard (values_told (E.told env.new)) (λ told. IsValue (around (E.fixed env.old).types told scope.old) core.now (view v))) }
     ensures visits { IfOk result (λ _. HasVisited (λ w. VisitsByHead w core.now)
-        (moment (E.fixed env.old) (E.told env.old) (E.marks env.old) (E.ticked env.old) (E.visited env.old) scope.old steps.old)
-        (moment (E.fixed env.new) (E.told env.new) (E.marks env.new) (E.ticked env.new) (E.visited env.new) scope.new steps.new)) }
+        (moment_of E.Env env.old scope.old steps.old)
+        (moment_of E.Env env.new scope.new steps.new)) }
 {
     values_fit();
     // This law, like the one before it, is called for what it says.
@@ -306,13 +307,13 @@ fn within<E: Env, L: Ledger>(
 ) -> Result<Value, Stop>
     requires { CanEvaluate (E.fixed env.old).types scope.old (of scoped (cons part.now (cons formula.now nil))) }
     ensures went { Went
-        (moment (E.fixed env.old) (E.told env.old) (E.marks env.old) (E.ticked env.old) (E.visited env.old) scope.old steps.old)
-        (moment (E.fixed env.new) (E.told env.new) (E.marks env.new) (E.ticked env.new) (E.visited env.new) scope.new steps.new) }
+        (moment_of E.Env env.old scope.old steps.old)
+        (moment_of E.Env env.new scope.new steps.new) }
     ensures keeper { IsErrOf result Stop.Keeper → Rose (E.marks env.old).faults (E.marks env.new).faults }
     ensures value { IfOk result (λ v. Heard (values_told (E.told env.new)) (λ told. IsWithin (meaning part.now ∷ meaning formula.now ∷ []) (around (E.fixed env.old).types told scope.old) (view v))) }
     ensures visits { IfOk result (λ _. HasVisited (λ w. WithinVisits (part_of w part.now ∷ part_of w formula.now ∷ []))
-        (moment (E.fixed env.old) (E.told env.old) (E.marks env.old) (E.ticked env.old) (E.visited env.old) scope.old steps.old)
-        (moment (E.fixed env.new) (E.told env.new) (E.marks env.new) (E.ticked env.new) (E.visited env.new) scope.new steps.new)) }
+        (moment_of E.Env env.old scope.old steps.old)
+        (moment_of E.Env env.new scope.new steps.new)) }
 {
     let value = tree(alloc, env, scope, part, steps)?;
     match without_error(value) {
@@ -333,13 +334,13 @@ fn in_scope<E: Env, L: Ledger>(
 ) -> Result<Value, Stop>
     requires { CanEvaluate (E.fixed env.old).types (inner scope.old (view row)) formula.now }
     ensures went { Went
-        (moment (E.fixed env.old) (E.told env.old) (E.marks env.old) (E.ticked env.old) (E.visited env.old) scope.old steps.old)
-        (moment (E.fixed env.new) (E.told env.new) (E.marks env.new) (E.ticked env.new) (E.visited env.new) scope.new steps.new) }
+        (moment_of E.Env env.old scope.old steps.old)
+        (moment_of E.Env env.new scope.new steps.new) }
     ensures keeper { IsErrOf result Stop.Keeper → Rose (E.marks env.old).faults (E.marks env.new).faults }
     ensures value { IfOk result (λ v. Heard (values_told (E.told env.new)) (λ told. IsValue (around (E.fixed env.old).types told (inner scope.old (view row))) formula.now (view v))) }
     ensures visits { IfOk result (λ _. HasVisited (λ w a. Visits w formula.now (inside_of a (view row)))
-        (moment (E.fixed env.old) (E.told env.old) (E.marks env.old) (E.ticked env.old) (E.visited env.old) scope.old steps.old)
-        (moment (E.fixed env.new) (E.told env.new) (E.marks env.new) (E.ticked env.new) (E.visited env.new) scope.new steps.new)) }
+        (moment_of E.Env env.old scope.old steps.old)
+        (moment_of E.Env env.new scope.new steps.new)) }
 {
     scope.rows.push(row)?;
     // Without `?`, so that the scope is left also where there is no value.
@@ -360,13 +361,13 @@ fn catch_error<E: Env, L: Ledger>(
 ) -> Result<Value, Stop>
     requires { CanEvaluate (E.fixed env.old).types (caught_in scope.old fault.kind fault.message) formula.now }
     ensures went { Went
-        (moment (E.fixed env.old) (E.told env.old) (E.marks env.old) (E.ticked env.old) (E.visited env.old) scope.old steps.old)
-        (moment (E.fixed env.new) (E.told env.new) (E.marks env.new) (E.ticked env.new) (E.visited env.new) scope.new steps.new) }
+        (moment_of E.Env env.old scope.old steps.old)
+        (moment_of E.Env env.new scope.new steps.new) }
     ensures keeper { IsErrOf result Stop.Keeper → Rose (E.marks env.old).faults (E.marks env.new).faults }
     ensures value { IfOk result (λ v. Heard (values_told (E.told env.new)) (λ told. IsValue (around (E.fixed env.old).types told (caught_in scope.old fault.kind fault.message)) formula.now (view v))) }
     ensures visits { IfOk result (λ _. HasVisited (λ w a. Visits w formula.now (catching a fault.kind fault.message))
-        (moment (E.fixed env.old) (E.told env.old) (E.marks env.old) (E.ticked env.old) (E.visited env.old) scope.old steps.old)
-        (moment (E.fixed env.new) (E.told env.new) (E.marks env.new) (E.ticked env.new) (E.visited env.new) scope.new steps.new)) }
+        (moment_of E.Env env.old scope.old steps.old)
+        (moment_of E.Env env.new scope.new steps.new)) }
 {
     let outer = scope.caught.replace(fault);
     let value = tree(alloc, env, scope, formula, steps);
@@ -406,13 +407,13 @@ fn go_through<E: Env, L: Ledger>(
 ) -> Result<Value, Stop>
     requires { AreSet (E.fixed env.old).types scope.old (going course) parts.now }
     ensures went { Went
-        (moment (E.fixed env.old) (E.told env.old) (E.marks env.old) (E.ticked env.old) (E.visited env.old) scope.old steps.old)
-        (moment (E.fixed env.new) (E.told env.new) (E.marks env.new) (E.ticked env.new) (E.visited env.new) scope.new steps.new) }
+        (moment_of E.Env env.old scope.old steps.old)
+        (moment_of E.Env env.new scope.new steps.new) }
     ensures keeper { IsErrOf result Stop.Keeper → Rose (E.marks env.old).faults (E.marks env.new).faults }
     ensures value { IfOk result (λ v. Heard (values_told (E.told env.new)) (λ told. IsWorth (going course) (meanings (all parts.now)) (around (E.fixed env.old).types told scope.old) (view v))) }
     ensures visits { IfOk result (λ _. HasVisited (λ w. FormVisits (going course) (parts_of w (all parts.now)))
-        (moment (E.fixed env.old) (E.told env.old) (E.marks env.old) (E.ticked env.old) (E.visited env.old) scope.old steps.old)
-        (moment (E.fixed env.new) (E.told env.new) (E.marks env.new) (E.ticked env.new) (E.visited env.new) scope.new steps.new)) }
+        (moment_of E.Env env.old scope.old steps.old)
+        (moment_of E.Env env.new scope.new steps.new)) }
 {
     let mut course = course;
     let mut rest = parts;
@@ -456,13 +457,13 @@ fn field_values<E: Env, L: Ledger>(
 ) -> Result<Vec<(Words, Value)>, Stop>
     requires { AreFine (E.fixed env.old).types scope.old (terms_of fields.now) }
     ensures went { Went
-        (moment (E.fixed env.old) (E.told env.old) (E.marks env.old) (E.ticked env.old) (E.visited env.old) scope.old steps.old)
-        (moment (E.fixed env.new) (E.told env.new) (E.marks env.new) (E.ticked env.new) (E.visited env.new) scope.new steps.new) }
+        (moment_of E.Env env.old scope.old steps.old)
+        (moment_of E.Env env.new scope.new steps.new) }
     ensures keeper { IsErrOf result Stop.Keeper → Rose (E.marks env.old).faults (E.marks env.new).faults }
     ensures value { IfOk result (λ fs. Heard (values_told (E.told env.new)) (λ told. AreFilled fields.now (around (E.fixed env.old).types told scope.old) (fields_view fs.items))) }
     ensures visits { IfOk result (λ _. HasVisited (λ w. AllVisit (parts_of w (all (terms_of fields.now))))
-        (moment (E.fixed env.old) (E.told env.old) (E.marks env.old) (E.ticked env.old) (E.visited env.old) scope.old steps.old)
-        (moment (E.fixed env.new) (E.told env.new) (E.marks env.new) (E.ticked env.new) (E.visited env.new) scope.new steps.new)) }
+        (moment_of E.Env env.old scope.old steps.old)
+        (moment_of E.Env env.new scope.new steps.new)) }
 {
     let mut items = Vec::new(alloc);
     for (name, part) in fields {
@@ -483,13 +484,13 @@ fn part_values<E: Env, L: Ledger>(
 ) -> Result<Vec<Value>, Stop>
     requires { AreFine (E.fixed env.old).types scope.old parts.now }
     ensures went { Went
-        (moment (E.fixed env.old) (E.told env.old) (E.marks env.old) (E.ticked env.old) (E.visited env.old) scope.old steps.old)
-        (moment (E.fixed env.new) (E.told env.new) (E.marks env.new) (E.ticked env.new) (E.visited env.new) scope.new steps.new) }
+        (moment_of E.Env env.old scope.old steps.old)
+        (moment_of E.Env env.new scope.new steps.new) }
     ensures keeper { IsErrOf result Stop.Keeper → Rose (E.marks env.old).faults (E.marks env.new).faults }
     ensures value { IfOk result (λ vs. Heard (values_told (E.told env.new)) (λ told. AreValues (meanings (all parts.now)) (around (E.fixed env.old).types told scope.old) (map view vs.items))) }
     ensures visits { IfOk result (λ _. HasVisited (λ w. AllVisit (parts_of w (all parts.now)))
-        (moment (E.fixed env.old) (E.told env.old) (E.marks env.old) (E.ticked env.old) (E.visited env.old) scope.old steps.old)
-        (moment (E.fixed env.new) (E.told env.new) (E.marks env.new) (E.ticked env.new) (E.visited env.new) scope.new steps.new)) }
+        (moment_of E.Env env.old scope.old steps.old)
+        (moment_of E.Env env.new scope.new steps.new)) }
 {
     let mut values = Vec::new(alloc);
     for part in parts {
@@ -512,13 +513,13 @@ fn over_table<E: Env, L: Ledger>(
 ) -> Result<Value, Stop>
     requires { CanEvaluate (E.fixed env.old).types scope.old (of (over_head fun) (cons table.now (all parts.now))) }
     ensures went { Went
-        (moment (E.fixed env.old) (E.told env.old) (E.marks env.old) (E.ticked env.old) (E.visited env.old) scope.old steps.old)
-        (moment (E.fixed env.new) (E.told env.new) (E.marks env.new) (E.ticked env.new) (E.visited env.new) scope.new steps.new) }
+        (moment_of E.Env env.old scope.old steps.old)
+        (moment_of E.Env env.new scope.new steps.new) }
     ensures keeper { IsErrOf result Stop.Keeper → Rose (E.marks env.old).faults (E.marks env.new).faults }
     ensures value { IfOk result (λ v. Heard (values_told (E.told env.new)) (λ told. IsOver fun (meaning table.now ∷ meanings (all parts.now)) (around (E.fixed env.old).types told scope.old) (view v))) }
     ensures visits { IfOk result (λ _. HasVisited (λ w. OverVisits fun (part_of w table.now ∷ parts_of w (all parts.now)))
-        (moment (E.fixed env.old) (E.told env.old) (E.marks env.old) (E.ticked env.old) (E.visited env.old) scope.old steps.old)
-        (moment (E.fixed env.new) (E.told env.new) (E.marks env.new) (E.ticked env.new) (E.visited env.new) scope.new steps.new)) }
+        (moment_of E.Env env.old scope.old steps.old)
+        (moment_of E.Env env.new scope.new steps.new)) }
 {
     values_fit();
     match search_parts(fun, parts) {
@@ -566,13 +567,13 @@ fn call_over<E: Env, L: Ledger>(
 ) -> Result<Value, Stop>
     requires { CanEvaluate (E.fixed env.old).types scope.old (of (over_head fun) (cons table.now (all parts.now))) }
     ensures went { Went
-        (moment (E.fixed env.old) (E.told env.old) (E.marks env.old) (E.ticked env.old) (E.visited env.old) scope.old steps.old)
-        (moment (E.fixed env.new) (E.told env.new) (E.marks env.new) (E.ticked env.new) (E.visited env.new) scope.new steps.new) }
+        (moment_of E.Env env.old scope.old steps.old)
+        (moment_of E.Env env.new scope.new steps.new) }
     ensures keeper { IsErrOf result Stop.Keeper → Rose (E.marks env.old).faults (E.marks env.new).faults }
     ensures value { IfOk result (λ v. Heard (values_told (E.told env.new)) (λ told. IsOver fun (meaning table.now ∷ meanings (all parts.now)) (around (E.fixed env.old).types told scope.old) (view v))) }
     ensures visits { IfOk result (λ _. HasVisited (λ w. RowsVisit fun (part_of w table.now ∷ parts_of w (all parts.now)))
-        (moment (E.fixed env.old) (E.told env.old) (E.marks env.old) (E.ticked env.old) (E.visited env.old) scope.old steps.old)
-        (moment (E.fixed env.new) (E.told env.new) (E.marks env.new) (E.ticked env.new) (E.visited env.new) scope.new steps.new)) }
+        (moment_of E.Env env.old scope.old steps.old)
+        (moment_of E.Env env.new scope.new steps.new)) }
 {
     let value = tree(alloc, env, scope, table, steps)?;
     match rows_of(alloc, value) {
@@ -598,13 +599,13 @@ fn part_answers<E: Env, L: Ledger>(
 ) -> Result<Vec<Answers>, Stop>
     requires { AreAsked fun (length parts.now + 1) 1 (E.fixed env.old).types scope.old rows.now parts.now }
     ensures went { Went
-        (moment (E.fixed env.old) (E.told env.old) (E.marks env.old) (E.ticked env.old) (E.visited env.old) scope.old steps.old)
-        (moment (E.fixed env.new) (E.told env.new) (E.marks env.new) (E.ticked env.new) (E.visited env.new) scope.new steps.new) }
+        (moment_of E.Env env.old scope.old steps.old)
+        (moment_of E.Env env.new scope.new steps.new) }
     ensures keeper { IsErrOf result Stop.Keeper → Rose (E.marks env.old).faults (E.marks env.new).faults }
     ensures value { IfOk result (λ gs. Heard (values_told (E.told env.new)) (λ told. AreGiven (over_head fun) (length parts.now + 1) 1 (meanings (all parts.now)) (around (E.fixed env.old).types told scope.old) rows.now (map given gs.items))) }
     ensures visits { IfOk result (λ _. HasVisited (λ w. PartsVisit fun (length parts.now + 1) 1 rows.now (parts_of w (all parts.now)))
-        (moment (E.fixed env.old) (E.told env.old) (E.marks env.old) (E.ticked env.old) (E.visited env.old) scope.old steps.old)
-        (moment (E.fixed env.new) (E.told env.new) (E.marks env.new) (E.ticked env.new) (E.visited env.new) scope.new steps.new)) }
+        (moment_of E.Env env.old scope.old steps.old)
+        (moment_of E.Env env.new scope.new steps.new)) }
 {
     let count = parts.len() + 1;
     let mut answers = Vec::new(alloc);
@@ -629,13 +630,13 @@ fn answer<E: Env, L: Ledger>(
 ) -> Result<Answers, Stop>
     requires { IsAsked (if in_rows then inside else plain) (E.fixed env.old).types scope.old rows.now part.now }
     ensures went { Went
-        (moment (E.fixed env.old) (E.told env.old) (E.marks env.old) (E.ticked env.old) (E.visited env.old) scope.old steps.old)
-        (moment (E.fixed env.new) (E.told env.new) (E.marks env.new) (E.ticked env.new) (E.visited env.new) scope.new steps.new) }
+        (moment_of E.Env env.old scope.old steps.old)
+        (moment_of E.Env env.new scope.new steps.new) }
     ensures keeper { IsErrOf result Stop.Keeper → Rose (E.marks env.old).faults (E.marks env.new).faults }
     ensures value { IfOk result (λ g. Heard (values_told (E.told env.new)) (λ told. IsGiven (if in_rows then inside else plain) (meaning part.now) (around (E.fixed env.old).types told scope.old) rows.now (given g))) }
     ensures visits { IfOk result (λ _. HasVisited (λ w. PartVisits (if in_rows then inside else plain) rows.now (part_of w part.now))
-        (moment (E.fixed env.old) (E.told env.old) (E.marks env.old) (E.ticked env.old) (E.visited env.old) scope.old steps.old)
-        (moment (E.fixed env.new) (E.told env.new) (E.marks env.new) (E.ticked env.new) (E.visited env.new) scope.new steps.new)) }
+        (moment_of E.Env env.old scope.old steps.old)
+        (moment_of E.Env env.new scope.new steps.new)) }
 {
     if in_rows {
         Ok(Answers::Each(each(alloc, env, scope, rows, part, steps)?))
@@ -656,13 +657,13 @@ fn each<E: Env, L: Ledger>(
 ) -> Result<Vec<Value>, Stop>
     requires { AreInside (E.fixed env.old).types scope.old formula.now rows.now }
     ensures went { Went
-        (moment (E.fixed env.old) (E.told env.old) (E.marks env.old) (E.ticked env.old) (E.visited env.old) scope.old steps.old)
-        (moment (E.fixed env.new) (E.told env.new) (E.marks env.new) (E.ticked env.new) (E.visited env.new) scope.new steps.new) }
+        (moment_of E.Env env.old scope.old steps.old)
+        (moment_of E.Env env.new scope.new steps.new) }
     ensures keeper { IsErrOf result Stop.Keeper → Rose (E.marks env.old).faults (E.marks env.new).faults }
     ensures value { IfOk result (λ vs. Heard (values_told (E.told env.new)) (λ told. AreEach (meaning formula.now) (around (E.fixed env.old).types told scope.old) rows.now (map view vs.items))) }
     ensures visits { IfOk result (λ _. HasVisited (λ w. EachVisits (Visits w formula.now) rows.now)
-        (moment (E.fixed env.old) (E.told env.old) (E.marks env.old) (E.ticked env.old) (E.visited env.old) scope.old steps.old)
-        (moment (E.fixed env.new) (E.told env.new) (E.marks env.new) (E.ticked env.new) (E.visited env.new) scope.new steps.new)) }
+        (moment_of E.Env env.old scope.old steps.old)
+        (moment_of E.Env env.new scope.new steps.new)) }
 {
     let mut values = Vec::new(alloc);
     for row in rows {

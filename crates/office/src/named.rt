@@ -3,12 +3,13 @@ ghost use Rattle.std.specs.Prelude.{◌≡◌, [], IfOk, IsErrOf, OnOk, map, str
 ghost use Rattle.app_loader.specs.app_semantics.Holding.{HoldsFitting};
 ghost use Rattle.app_loader.specs.app_semantics.Present.{present};
 ghost use Rattle.app_loader.specs.app_semantics.Sound.{IsSound};
-ghost use Rattle.session_requests.specs.recalc.Asking.{CanAsk, HasRead, IsHeardOf, ReadsNone, ToldRows, keeping};
+ghost use Rattle.session_requests.specs.recalc.Asking.{CanAsk, IsHeardOf, ReadsNone, ToldRows};
 ghost use Rattle.session_requests.specs.recalc.Values.{value_of};
-ghost use Rattle.row_keeper.specs.Causes.{HasCause};
+ghost use Rattle.row_keeper.specs.Over.{HasCause};
 ghost use Rattle.row_keeper.specs.declared.keeper.KeeperEnd.TheVariants.{Failed};
 ghost use Rattle.fx_scalar.specs.ScalarFunctions.{IsToday};
 ghost use Rattle.office.specs.NamedReply.{AreNamedMade, IsNamedBody, IsNamedList, named_cells, named_values, shown};
+ghost use Rattle.recalc.specs.AskingOver.{HasRead};
 ghost use Rattle.recalc.specs.Changes.{IsLeftBut};
 ghost use Rattle.recalc.specs.Kept.{HasRoom, IsInOrder};
 ghost use Rattle.recalc.specs.Outcomes.{IsRightOver};
@@ -39,9 +40,8 @@ pub fn named_list<K: Keeper, L: Ledger>(
     requires holds { HoldsFitting app.now.names session.now }
     requires asks { CanAsk app.now (K.shaped keeper.old) }
     ensures list { IfOk result (λ rows. (tables : ToldRows) → IsHeardOf (K.told keeper.new) tables → IsNamedList (present app.now session.now tables moment) (map shown rows.items)) }
-    ensures read { HasRead (keeping (K.told keeper.old) (K.began keeper.old) (K.shaped keeper.old) (K.in_transaction keeper.old) (K.marks keeper.old) (K.visited keeper.old) (K.loan keeper.old))
-        (keeping (K.told keeper.new) (K.began keeper.new) (K.shaped keeper.new) (K.in_transaction keeper.new) (K.marks keeper.new) (K.visited keeper.new) (K.loan keeper.new)) }
-    ensures cause { HasCause (K.marks keeper.old) (K.marks keeper.new) result }
+    ensures read { HasRead K.Keeper keeper.old keeper.new }
+    ensures cause { HasCause K.Keeper keeper.old keeper.new result }
     ensures alone { ReadsNone app.now → keeper.new ≡ keeper.old }
     ensures reached { IsErrOf result Failed → ReadsNone app.now → ⊥ }
 {
@@ -101,9 +101,8 @@ fn kept_list<K: Keeper, L: Ledger>(
     ensures visits { OnOk result (IsRightOver app.now session.now (K.told keeper.old) moment cache.old → HasRoom cache.old.last → WhereTold (K.told keeper.new) (λ told.
         VisitsPerCell app.now session.now told moment (named_cells app.now) cache.old cache.new steps.old steps.new (K.visited keeper.old) (K.visited keeper.new))) }
     ensures idle { OnOk result (steps.new ≡ steps.old → keeper.new ≡ keeper.old) }
-    ensures read { HasRead (keeping (K.told keeper.old) (K.began keeper.old) (K.shaped keeper.old) (K.in_transaction keeper.old) (K.marks keeper.old) (K.visited keeper.old) (K.loan keeper.old))
-        (keeping (K.told keeper.new) (K.began keeper.new) (K.shaped keeper.new) (K.in_transaction keeper.new) (K.marks keeper.new) (K.visited keeper.new) (K.loan keeper.new)) }
-    ensures cause { HasCause (K.marks keeper.old) (K.marks keeper.new) result }
+    ensures read { HasRead K.Keeper keeper.old keeper.new }
+    ensures cause { HasCause K.Keeper keeper.old keeper.new result }
 {
     let roots = named_roots(alloc, app)?;
     cache.refresh(alloc, app, session, keeper, moment, &roots, steps)?;
@@ -139,9 +138,8 @@ pub(crate) fn named_body<K: Keeper, L: Ledger>(
     ensures visits { OnOk result (HasRoom cache.old.last → WhereTold (K.told keeper.new) (λ told.
         ∥ VisitsPerCell app.now session.now told moment (named_cells app.now) cache.old cache.new steps.old steps.new (K.visited keeper.old) (K.visited keeper.new) ∥₁)) }
     ensures idle { OnOk result (steps.new ≡ steps.old → keeper.new ≡ keeper.old) }
-    ensures read { HasRead (keeping (K.told keeper.old) (K.began keeper.old) (K.shaped keeper.old) (K.in_transaction keeper.old) (K.marks keeper.old) (K.visited keeper.old) (K.loan keeper.old))
-        (keeping (K.told keeper.new) (K.began keeper.new) (K.shaped keeper.new) (K.in_transaction keeper.new) (K.marks keeper.new) (K.visited keeper.new) (K.loan keeper.new)) }
-    ensures cause { HasCause (K.marks keeper.old) (K.marks keeper.new) result }
+    ensures read { HasRead K.Keeper keeper.old keeper.new }
+    ensures cause { HasCause K.Keeper keeper.old keeper.new result }
 {
     let rows = kept_list(alloc, app, session, cache, keeper, moment, steps)?;
     Ok(named_json(alloc, &rows)?)

@@ -2,7 +2,7 @@
 //! written.
 ghost use Rattle.std.specs.Prelude.{◌≡◌, ℕ, false, IfOk, IsErrOf, IsSome, List, Ok, OnErr, Some, slice_get};
 ghost use Rattle.app_loader.specs.app_semantics.Sound.{IsSound};
-ghost use Rattle.fx_base.specs.Silence.{Goes, IsLost};
+ghost use Rattle.fx_base.specs.Silence.{IsLost};
 ghost use Rattle.fx_base.specs.Telling.{Stays};
 ghost use Rattle.recalc.specs.Kept.{IsInOrder, Kept};
 ghost use Rattle.request_checks.specs.Checked.{SessionsKeepReplies};
@@ -13,7 +13,7 @@ ghost use Rattle.session_requests.specs.declared.event.Event.{Event as AnEvent};
 ghost use Rattle.session_requests.specs.declared.input.Input.{Input as AnInput};
 ghost use Rattle.request_checks.specs.Replies.{IsReply, KeepReplies, said};
 ghost use Rattle.request_checks.specs.declared.directory.Named.{Named as Under};
-ghost use Rattle.row_keeper.specs.Causes.{HasCause};
+ghost use Rattle.row_keeper.specs.Over.{Becomes, HasCause};
 ghost use Rattle.row_keeper.specs.declared.keeper.KeeperEnd.TheVariants.{Failed};
 ghost use Rattle.row_requests.specs.DeskRows.{PostsRows, ReachesRows};
 ghost use Rattle.row_requests.specs.Sound.{AreSound};
@@ -60,7 +60,7 @@ pub(crate) fn post_input<K: Keeper, L: Ledger>(
     ensures whole { IfOk result IsReply }
     ensures reached { IsErrOf result Failed → ReachesInput name.now body.now sessions.old.items }
     ensures stopped { OnErr result (sessions.new.items ≡ sessions.old.items) }
-    ensures left { OnErr result (Goes (IsLost (K.marks keeper.old) (K.marks keeper.new)) Stays (K.told keeper.old) (K.told keeper.new)) }
+    ensures left { OnErr result (Becomes K.Keeper keeper.old keeper.new Stays) }
     ensures fit { AreFit app.now.names sessions.new.items }
     ensures replies { SessionsKeepReplies sessions.new.items }
     ensures kept { AreKept app.now (K.told keeper.new) moment sessions.new.items caches.new.items }
@@ -70,7 +70,7 @@ pub(crate) fn post_input<K: Keeper, L: Ledger>(
     ensures rows { AreSound app.now.names.schema (K.told keeper.new) }
     ensures shaped { K.shaped keeper.new ≡ Some app.now.names.schema }
     ensures idle { K.in_transaction keeper.new ≡ false }
-    ensures cause { HasCause (K.marks keeper.old) (K.marks keeper.new) result }
+    ensures cause { HasCause K.Keeper keeper.old keeper.new result }
     ensures loan { K.loan keeper.new ≡ K.loan keeper.old }
 {
     match check_session::<Input>(alloc, sessions, name, body)? {
@@ -106,7 +106,7 @@ fn act_input<K: Keeper, L: Ledger>(
     ensures done { IfOk result (λ r. SendsInput (IsLost (K.marks keeper.old) (K.marks keeper.new)) app.now moment name.now body.now input (K.told keeper.old) sessions.old.items (said r) (K.told keeper.new) sessions.new.items) }
     ensures whole { IfOk result IsReply }
     ensures stopped { OnErr result (sessions.new.items ≡ sessions.old.items) }
-    ensures left { OnErr result (Goes (IsLost (K.marks keeper.old) (K.marks keeper.new)) Stays (K.told keeper.old) (K.told keeper.new)) }
+    ensures left { OnErr result (Becomes K.Keeper keeper.old keeper.new Stays) }
     ensures fit { AreFit app.now.names sessions.new.items }
     ensures replies { SessionsKeepReplies sessions.new.items }
     ensures kept { AreKept app.now (K.told keeper.new) moment sessions.new.items caches.new.items }
@@ -116,7 +116,7 @@ fn act_input<K: Keeper, L: Ledger>(
     ensures rows { AreSound app.now.names.schema (K.told keeper.new) }
     ensures shaped { K.shaped keeper.new ≡ Some app.now.names.schema }
     ensures idle { K.in_transaction keeper.new ≡ false }
-    ensures cause { HasCause (K.marks keeper.old) (K.marks keeper.new) result }
+    ensures cause { HasCause K.Keeper keeper.old keeper.new result }
     ensures loan { K.loan keeper.new ≡ K.loan keeper.old }
 {
     match place_of(sessions, name) {
@@ -157,7 +157,7 @@ pub(crate) fn post_event<K: Keeper, L: Ledger>(
     ensures whole { IfOk result IsReply }
     ensures reached { IsErrOf result Failed → ReachesEvent name.now body.now sessions.old.items }
     ensures stopped { OnErr result (sessions.new.items ≡ sessions.old.items) }
-    ensures left { OnErr result (Goes (IsLost (K.marks keeper.old) (K.marks keeper.new)) Stays (K.told keeper.old) (K.told keeper.new)) }
+    ensures left { OnErr result (Becomes K.Keeper keeper.old keeper.new Stays) }
     ensures fit { AreFit app.now.names sessions.new.items }
     ensures replies { SessionsKeepReplies sessions.new.items }
     ensures kept { AreKept app.now (K.told keeper.new) moment sessions.new.items caches.new.items }
@@ -167,7 +167,7 @@ pub(crate) fn post_event<K: Keeper, L: Ledger>(
     ensures rows { AreSound app.now.names.schema (K.told keeper.new) }
     ensures shaped { K.shaped keeper.new ≡ Some app.now.names.schema }
     ensures idle { K.in_transaction keeper.new ≡ false }
-    ensures cause { HasCause (K.marks keeper.old) (K.marks keeper.new) result }
+    ensures cause { HasCause K.Keeper keeper.old keeper.new result }
     ensures loan { K.loan keeper.new ≡ K.loan keeper.old }
 {
     match check_session::<Event>(alloc, sessions, name, body)? {
@@ -203,7 +203,7 @@ fn act_event<K: Keeper, L: Ledger>(
     ensures done { IfOk result (λ r. SendsEvent (IsLost (K.marks keeper.old) (K.marks keeper.new)) app.now moment name.now body.now event.now (K.told keeper.old) sessions.old.items (said r) (K.told keeper.new) sessions.new.items) }
     ensures whole { IfOk result IsReply }
     ensures stopped { OnErr result (sessions.new.items ≡ sessions.old.items) }
-    ensures left { OnErr result (Goes (IsLost (K.marks keeper.old) (K.marks keeper.new)) Stays (K.told keeper.old) (K.told keeper.new)) }
+    ensures left { OnErr result (Becomes K.Keeper keeper.old keeper.new Stays) }
     ensures fit { AreFit app.now.names sessions.new.items }
     ensures replies { SessionsKeepReplies sessions.new.items }
     ensures kept { AreKept app.now (K.told keeper.new) moment sessions.new.items caches.new.items }
@@ -213,7 +213,7 @@ fn act_event<K: Keeper, L: Ledger>(
     ensures rows { AreSound app.now.names.schema (K.told keeper.new) }
     ensures shaped { K.shaped keeper.new ≡ Some app.now.names.schema }
     ensures idle { K.in_transaction keeper.new ≡ false }
-    ensures cause { HasCause (K.marks keeper.old) (K.marks keeper.new) result }
+    ensures cause { HasCause K.Keeper keeper.old keeper.new result }
     ensures loan { K.loan keeper.new ≡ K.loan keeper.old }
 {
     match place_of(sessions, name) {
@@ -248,12 +248,12 @@ pub(crate) fn change_rows<K: Keeper>(
     requires replies { KeepReplies desks.old.items }
     ensures done { IfOk result (λ r. PostsRows (IsLost (K.marks keeper.old) (K.marks keeper.new)) app.now.names.schema.tables name.now body.now (K.told keeper.old) desks.old.items (said r) (K.told keeper.new) desks.new.items) }
     ensures whole { IfOk result IsReply }
-    ensures stopped { OnErr result (Goes (IsLost (K.marks keeper.old) (K.marks keeper.new)) Stays (K.told keeper.old) (K.told keeper.new)) }
+    ensures stopped { OnErr result (Becomes K.Keeper keeper.old keeper.new Stays) }
     ensures same { OnErr result (desks.new.items ≡ desks.old.items) }
     ensures clean { AreEachLeft app.now (IsNamedBy app.now.names.schema.tables desks.old.items name.now body.now) caches.old.items caches.new.items }
     ensures kept { (m : ℕ) (sessions : List (Under SessionState)) → AreKept app.now (K.told keeper.old) m sessions caches.old.items → AreKept app.now (K.told keeper.new) m sessions caches.new.items }
     ensures reached { IsErrOf result Failed → ReachesRows name.now body.now desks.old.items }
-    ensures cause { HasCause (K.marks keeper.old) (K.marks keeper.new) result }
+    ensures cause { HasCause K.Keeper keeper.old keeper.new result }
     ensures idle { K.in_transaction keeper.new ≡ false }
     ensures shaped { K.shaped keeper.new ≡ K.shaped keeper.old }
     ensures loan { K.loan keeper.new ≡ K.loan keeper.old }

@@ -8,19 +8,19 @@ ghost use Rattle.view_text.specs.ReplyText.{ok_text};
 ghost use Rattle.app_loader.specs.app_semantics.Sound.{IsSound};
 ghost use Rattle.fx_trees.specs.declared.names.Names.{Names as Known};
 ghost use Rattle.app_cells.specs.declared.app.App.{App as AnApp};
+ghost use Rattle.row_keeper.specs.Over.{Becomes, HasCause};
 ghost use Rattle.row_keeper.specs.Tables.{Tables};
 ghost use Rattle.app_views.specs.Galleries.{gallery_named};
 ghost use Rattle.app_views.specs.Shows.{AreFit, ReachesItems, ReachesView, ShowsItems, ShowsView};
+ghost use Rattle.recalc.specs.AskingOver.{HasRead};
 ghost use Rattle.recalc.specs.Changes.{IsLeftBut};
 ghost use Rattle.office.specs.Caches.{AreEach, AreKept, IsNew};
 ghost use Rattle.office.specs.Costs.{CostOfItems, CostOfNamed, CostOfView, CostsTo, counts};
 ghost use Rattle.office.specs.Leaving.{AreLeft, AreLeftBeside, BeginLeaves, any_table, nothing};
-ghost use Rattle.fx_base.specs.Silence.{Goes, IsLost};
+ghost use Rattle.fx_base.specs.Silence.{IsLost};
 ghost use Rattle.fx_base.specs.Telling.{Stays};
 ghost use Rattle.row_requests.specs.Sound.{AreSound};
 ghost use Rattle.session_requests.specs.Opening.{CanOpen};
-ghost use Rattle.session_requests.specs.recalc.Asking.{HasRead, keeping};
-ghost use Rattle.row_keeper.specs.Causes.{HasCause};
 ghost use Rattle.row_keeper.specs.declared.keeper.KeeperEnd.TheVariants.{Failed};
 ghost use Rattle.office.specs.Sessions.{BeginsSession, ReachesBegin, ReachesNamed, ShowsNamed, begin_checks, without};
 
@@ -69,7 +69,7 @@ pub(crate) fn begin<K: Keeper, L: Ledger>(
     ensures whole { IfOk result IsReply }
     ensures reached { IsErrOf result Failed → ReachesBegin name.now sessions.old.items }
     ensures stopped { OnErr result (sessions.new.items ≡ sessions.old.items) }
-    ensures left { OnErr result (Goes (IsLost (K.marks keeper.old) (K.marks keeper.new)) Stays (K.told keeper.old) (K.told keeper.new)) }
+    ensures left { OnErr result (Becomes K.Keeper keeper.old keeper.new Stays) }
     ensures fit { AreFit app.now.names sessions.new.items }
     ensures replies { SessionsKeepReplies sessions.new.items }
     ensures kept { AreKept app.now (K.told keeper.new) moment sessions.new.items caches.new.items }
@@ -79,7 +79,7 @@ pub(crate) fn begin<K: Keeper, L: Ledger>(
     ensures rows { AreSound app.now.names.schema (K.told keeper.new) }
     ensures shaped { K.shaped keeper.new ≡ Some app.now.names.schema }
     ensures idle { K.in_transaction keeper.new ≡ false }
-    ensures cause { HasCause (K.marks keeper.old) (K.marks keeper.new) result }
+    ensures cause { HasCause K.Keeper keeper.old keeper.new result }
     ensures loan { K.loan keeper.new ≡ K.loan keeper.old }
 {
     if let Some(reply) = said_unopened(alloc, sessions, name)? {
@@ -213,9 +213,8 @@ pub(crate) fn show_view_to<K: Keeper, L: Ledger>(
     ensures kept { AreKept app.now (K.told keeper.new) moment sessions.now caches.new.items }
     ensures clean { AreEach (λ k. IsLeftBut app.now []) caches.old.items caches.new.items }
     ensures costs { IfOk result (λ r. CostsTo (CostOfView app.now (K.told keeper.new) moment (said r)) name.now (find name.now sessions.now) caches.old.items caches.new.items (counts steps.old (K.visited keeper.old)) (counts steps.new (K.visited keeper.new))) }
-    ensures read { HasRead (keeping (K.told keeper.old) (K.began keeper.old) (K.shaped keeper.old) (K.in_transaction keeper.old) (K.marks keeper.old) (K.visited keeper.old) (K.loan keeper.old))
-        (keeping (K.told keeper.new) (K.began keeper.new) (K.shaped keeper.new) (K.in_transaction keeper.new) (K.marks keeper.new) (K.visited keeper.new) (K.loan keeper.new)) }
-    ensures cause { HasCause (K.marks keeper.old) (K.marks keeper.new) result }
+    ensures read { HasRead K.Keeper keeper.old keeper.new }
+    ensures cause { HasCause K.Keeper keeper.old keeper.new result }
 {
     let Some(place) = place_of(sessions, name) else {
         return Ok(Reply::refuse_plain(alloc, 11)?);
@@ -257,9 +256,8 @@ pub(crate) fn show_items_to<K: Keeper, L: Ledger>(
     ensures kept { AreKept app.now (K.told keeper.new) moment sessions.now caches.new.items }
     ensures clean { AreEach (λ k. IsLeftBut app.now []) caches.old.items caches.new.items }
     ensures costs { IfOk result (λ r. CostsTo (CostOfItems app.now (K.told keeper.new) moment from (gallery_named gallery.now app.now.names) (said r)) name.now (find name.now sessions.now) caches.old.items caches.new.items (counts steps.old (K.visited keeper.old)) (counts steps.new (K.visited keeper.new))) }
-    ensures read { HasRead (keeping (K.told keeper.old) (K.began keeper.old) (K.shaped keeper.old) (K.in_transaction keeper.old) (K.marks keeper.old) (K.visited keeper.old) (K.loan keeper.old))
-        (keeping (K.told keeper.new) (K.began keeper.new) (K.shaped keeper.new) (K.in_transaction keeper.new) (K.marks keeper.new) (K.visited keeper.new) (K.loan keeper.new)) }
-    ensures cause { HasCause (K.marks keeper.old) (K.marks keeper.new) result }
+    ensures read { HasRead K.Keeper keeper.old keeper.new }
+    ensures cause { HasCause K.Keeper keeper.old keeper.new result }
 {
     let Some(place) = place_of(sessions, name) else {
         return Ok(Reply::refuse_plain(alloc, 11)?);
@@ -293,9 +291,8 @@ pub(crate) fn show_named<K: Keeper, L: Ledger>(
     ensures kept { AreKept app.now (K.told keeper.new) moment sessions.now caches.new.items }
     ensures clean { AreEach (λ k. IsLeftBut app.now []) caches.old.items caches.new.items }
     ensures costs { OnOk result (CostsTo (CostOfNamed app.now (K.told keeper.new) moment) name.now (find name.now sessions.now) caches.old.items caches.new.items (counts steps.old (K.visited keeper.old)) (counts steps.new (K.visited keeper.new))) }
-    ensures read { HasRead (keeping (K.told keeper.old) (K.began keeper.old) (K.shaped keeper.old) (K.in_transaction keeper.old) (K.marks keeper.old) (K.visited keeper.old) (K.loan keeper.old))
-        (keeping (K.told keeper.new) (K.began keeper.new) (K.shaped keeper.new) (K.in_transaction keeper.new) (K.marks keeper.new) (K.visited keeper.new) (K.loan keeper.new)) }
-    ensures cause { HasCause (K.marks keeper.old) (K.marks keeper.new) result }
+    ensures read { HasRead K.Keeper keeper.old keeper.new }
+    ensures cause { HasCause K.Keeper keeper.old keeper.new result }
 {
     // The law is called for what it says of a session that fits.
     fitting_holds();

@@ -10,13 +10,14 @@ ghost use Rattle.fx_scalar.specs.ScalarFunctions.{IsToday};
 ghost use Rattle.fx_semantics.specs.Sound.{IsItemFit};
 ghost use Rattle.fx_typing.specs.Typing.{item_of};
 ghost use Rattle.fx_value.specs.Fits.{fits_in};
-ghost use Rattle.recalc.specs.Asking.{HasRead, IsHeardOf, ToldRows, keeping};
+ghost use Rattle.recalc.specs.Asking.{IsHeardOf, ToldRows};
+ghost use Rattle.recalc.specs.AskingOver.{HasRead};
 ghost use Rattle.recalc.specs.Reading.{cell_value};
 ghost use Rattle.recalc.specs.Stops.{end_of as end_by};
 ghost use Rattle.fx_eval.specs.Visits.{AtMost};
 ghost use Rattle.recalc.specs.Values.{CellsFit};
 ghost use Rattle.recalc.specs.Visits.{FormulaVisits, WhereTold};
-ghost use Rattle.row_keeper.specs.Causes.{HasCause};
+ghost use Rattle.row_keeper.specs.Over.{HasCause};
 ghost use Rattle.row_keeper.specs.declared.keeper.KeeperEnd.TheVariants.{Failed};
 
 use crate::app_cells::{App, CellInfo};
@@ -81,9 +82,8 @@ pub(crate) fn formula_value<K: Keeper, L: Ledger>(
     ensures steps { IfOk result (λ v. steps.new ≡ steps.old + 1) }
     ensures visits { IfOk result (λ _. (moment : ℕ) → IsToday moment (view day.now) → WhereTold (K.told keeper.new) (λ rows.
         AtMost (FormulaVisits app.now session.now rows moment (cell_value (map view values.now)) (option_map view item) info.now) (K.visited keeper.old) (K.visited keeper.new))) }
-    ensures read { HasRead (keeping (K.told keeper.old) (K.began keeper.old) (K.shaped keeper.old) (K.in_transaction keeper.old) (K.marks keeper.old) (K.visited keeper.old) (K.loan keeper.old))
-        (keeping (K.told keeper.new) (K.began keeper.new) (K.shaped keeper.new) (K.in_transaction keeper.new) (K.marks keeper.new) (K.visited keeper.new) (K.loan keeper.new)) }
-    ensures cause { HasCause (K.marks keeper.old) (K.marks keeper.new) result }
+    ensures read { HasRead K.Keeper keeper.old keeper.new }
+    ensures cause { HasCause K.Keeper keeper.old keeper.new result }
     ensures alone { reads_any info.now.reads ≡ false → keeper.new ≡ keeper.old }
     ensures reached { IsErrOf result Failed → reads_any info.now.reads ≡ true }
 {
@@ -173,9 +173,8 @@ fn value_over_rows<'a, K: Keeper, L: Ledger>(
     ensures steps { IfOk result (λ v. steps.new ≡ steps.old + 1) }
     ensures visits { IfOk result (λ _. (moment : ℕ) → IsToday moment (view day.now) → WhereTold (K.told keeper.new) (λ rows.
         AtMost (FormulaVisits app.now session.now rows moment (cell_value (map view values.now)) (option_map view item) info.now) (K.visited keeper.old) (K.visited keeper.new))) }
-    ensures read { HasRead (keeping (K.told keeper.old) (K.began keeper.old) (K.shaped keeper.old) (K.in_transaction keeper.old) (K.marks keeper.old) (K.visited keeper.old) (K.loan keeper.old))
-        (keeping (K.told keeper.new) (K.began keeper.new) (K.shaped keeper.new) (K.in_transaction keeper.new) (K.marks keeper.new) (K.visited keeper.new) (K.loan keeper.new)) }
-    ensures cause { HasCause (K.marks keeper.old) (K.marks keeper.new) result }
+    ensures read { HasRead K.Keeper keeper.old keeper.new }
+    ensures cause { HasCause K.Keeper keeper.old keeper.new result }
 {
     let mut env = RowReading {
         alloc,

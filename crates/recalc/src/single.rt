@@ -2,12 +2,13 @@
 ghost use Rattle.std.specs.Prelude.{◌≡◌, ◌∷◌, [], ◌+◌, ◌≤◌, ℕ, IfOk, IsErrOf, OnOk, true};
 ghost use Rattle.fx_data.specs.ValueView.{view};
 ghost use Rattle.fx_scalar.specs.ScalarFunctions.{IsToday};
-ghost use Rattle.recalc.specs.Asking.{CanAsk, HasRead, IsHeardOf, ReadsNone, ToldRows, keeping};
+ghost use Rattle.recalc.specs.Asking.{CanAsk, IsHeardOf, ReadsNone, ToldRows};
+ghost use Rattle.recalc.specs.AskingOver.{HasRead};
 ghost use Rattle.recalc.specs.app_semantics.Holding.{HoldsFitting};
 ghost use Rattle.recalc.specs.app_semantics.Needed.{IsFreshAt, is_alone as is_alone_in};
 ghost use Rattle.recalc.specs.app_semantics.Present.{present};
 ghost use Rattle.recalc.specs.app_semantics.Sound.{IsSound};
-ghost use Rattle.row_keeper.specs.Causes.{HasCause};
+ghost use Rattle.row_keeper.specs.Over.{HasCause};
 ghost use Rattle.row_keeper.specs.declared.keeper.KeeperEnd.TheVariants.{Failed};
 ghost use Rattle.recalc.specs.Changes.{IsLeftBut};
 ghost use Rattle.recalc.specs.Kept.{HasRoom, IsClean, IsInOrder, value_of as value_in};
@@ -57,9 +58,8 @@ impl Cache {
         ensures visits { IsRightOver app.now session.now (K.told keeper.old) moment self.old → HasRoom self.old.last → OnOk result (WhereTold (K.told keeper.new) (λ rows.
             VisitsPerCell app.now session.now rows moment (cell ∷ []) self.old self.new steps.old steps.new (K.visited keeper.old) (K.visited keeper.new))) }
         ensures slow { HasRoom self.old.last → OnOk result (self.new.last + steps.old ≤ self.old.last + steps.new) }
-        ensures read { HasRead (keeping (K.told keeper.old) (K.began keeper.old) (K.shaped keeper.old) (K.in_transaction keeper.old) (K.marks keeper.old) (K.visited keeper.old) (K.loan keeper.old))
-            (keeping (K.told keeper.new) (K.began keeper.new) (K.shaped keeper.new) (K.in_transaction keeper.new) (K.marks keeper.new) (K.visited keeper.new) (K.loan keeper.new)) }
-        ensures cause { HasCause (K.marks keeper.old) (K.marks keeper.new) result }
+        ensures read { HasRead K.Keeper keeper.old keeper.new }
+        ensures cause { HasCause K.Keeper keeper.old keeper.new result }
         ensures alone { ReadsNone app.now → keeper.new ≡ keeper.old }
         ensures idle { OnOk result (steps.new ≡ steps.old → keeper.new ≡ keeper.old) }
         ensures reached { IsErrOf result Failed → ReadsNone app.now → ⊥ }

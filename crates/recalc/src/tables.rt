@@ -1,12 +1,11 @@
 // Tables of a keeper, as formulas ask for them.
 ghost use Rattle.std.specs.Prelude.{◌≡◌, ◌+◌, ◌≤◌, IfOk, IfSome, IsSome, OnErr, length, slice_get};
-ghost use Rattle.fx_base.specs.Silence.{Goes, IsLost};
 ghost use Rattle.fx_base.specs.Telling.{Stays};
 ghost use Rattle.fx_data.specs.ValueView.{view};
 ghost use Rattle.fx_trees.specs.Lawful.{IsLawfulSchema};
-ghost use Rattle.recalc.specs.Asking.{HasRead, keeping};
+ghost use Rattle.recalc.specs.Asking.{HasRead};
 ghost use Rattle.recalc.specs.Queries.{IsTableValue, whole_table as whole_query};
-ghost use Rattle.row_keeper.specs.Causes.{HasCause};
+ghost use Rattle.row_keeper.specs.Over.{Becomes, BeganStays, HasCause};
 ghost use Rattle.row_keeper.specs.Tables.{rows_told};
 ghost use Rattle.row_queries.specs.TableRows.{rows_at};
 
@@ -47,9 +46,9 @@ pub fn table_value<K: Keeper>(
     requires shaped { K.shaped keeper.old ≡ Some schema.now }
     requires table { IsSome (slice_get schema.now.tables table) }
     ensures value { IfOk result (λ v. IsTableValue schema.now.tables (rows_told (K.told keeper.new)) table (view v)) }
-    ensures told { Goes (IsLost (K.marks keeper.old) (K.marks keeper.new)) Stays (K.told keeper.old) (K.told keeper.new) }
-    ensures began { Goes (IsLost (K.marks keeper.old) (K.marks keeper.new)) Stays (K.began keeper.old) (K.began keeper.new) }
-    ensures cause { HasCause (K.marks keeper.old) (K.marks keeper.new) result }
+    ensures told { Becomes K.Keeper keeper.old keeper.new Stays }
+    ensures began { BeganStays K.Keeper keeper.old keeper.new }
+    ensures cause { HasCause K.Keeper keeper.old keeper.new result }
     ensures shaped { K.shaped keeper.new ≡ K.shaped keeper.old }
     ensures mode { K.in_transaction keeper.new ≡ K.in_transaction keeper.old }
     ensures visited { K.visited keeper.old ≤ K.visited keeper.new }

@@ -14,13 +14,14 @@ ghost use Rattle.fx_semantics.specs.Around.{record_of};
 ghost use Rattle.fx_semantics.specs.Sound.{IsItemFit};
 ghost use Rattle.fx_typing.specs.Typing.{item_of};
 ghost use Rattle.fx_eval.specs.Visits.{AtMost};
-ghost use Rattle.recalc.specs.Asking.{HasRead, IsHeardOf, ToldRows, keeping};
+ghost use Rattle.recalc.specs.Asking.{IsHeardOf, ToldRows};
+ghost use Rattle.recalc.specs.AskingOver.{HasRead};
 ghost use Rattle.recalc.specs.ItemVisits.{ItemVisits};
 ghost use Rattle.recalc.specs.Reading.{cell_value};
 ghost use Rattle.recalc.specs.Templates.{IsTemplateProperty, StandsIn, steps_of};
 ghost use Rattle.recalc.specs.Values.{CellsFit, value_of};
 ghost use Rattle.recalc.specs.Visits.{WhereTold};
-ghost use Rattle.row_keeper.specs.Causes.{HasCause};
+ghost use Rattle.row_keeper.specs.Over.{HasCause};
 
 use crate::app_cells::App;
 use crate::sources::cell_of_property;
@@ -76,9 +77,8 @@ pub fn is_visible_for_item<K: Keeper, L: Ledger>(
     ensures steps { IfOk result (λ b. steps.new ≡ steps.old + steps_of (leaning.cell_of_property app.now.names control (codes "Visible"))) }
     ensures visits { IfOk result (λ _. (moment : ℕ) → IsToday moment valued.now.day → WhereTold (K.told keeper.new) (λ rows.
         AtMost (ItemVisits app.now session.now rows moment (value_of valued.now) (record_of row.now) (leaning.cell_of_property app.now.names control (codes "Visible"))) (K.visited keeper.old) (K.visited keeper.new))) }
-    ensures read { HasRead (keeping (K.told keeper.old) (K.began keeper.old) (K.shaped keeper.old) (K.in_transaction keeper.old) (K.marks keeper.old) (K.visited keeper.old) (K.loan keeper.old))
-        (keeping (K.told keeper.new) (K.began keeper.new) (K.shaped keeper.new) (K.in_transaction keeper.new) (K.marks keeper.new) (K.visited keeper.new) (K.loan keeper.new)) }
-    ensures cause { HasCause (K.marks keeper.old) (K.marks keeper.new) result }
+    ensures read { HasRead K.Keeper keeper.old keeper.new }
+    ensures cause { HasCause K.Keeper keeper.old keeper.new result }
 {
     let always = Value::Boolean(true);
     let visible = property_for_item(
@@ -115,9 +115,8 @@ pub fn property_for_item<K: Keeper, L: Ledger>(
     ensures steps { IfOk result (λ v. steps.new ≡ steps.old + steps_of (leaning.cell_of_property app.now.names control name.now)) }
     ensures visits { IfOk result (λ _. (moment : ℕ) → IsToday moment valued.now.day → WhereTold (K.told keeper.new) (λ rows.
         AtMost (ItemVisits app.now session.now rows moment (value_of valued.now) (record_of row.now) (leaning.cell_of_property app.now.names control name.now)) (K.visited keeper.old) (K.visited keeper.new))) }
-    ensures read { HasRead (keeping (K.told keeper.old) (K.began keeper.old) (K.shaped keeper.old) (K.in_transaction keeper.old) (K.marks keeper.old) (K.visited keeper.old) (K.loan keeper.old))
-        (keeping (K.told keeper.new) (K.began keeper.new) (K.shaped keeper.new) (K.in_transaction keeper.new) (K.marks keeper.new) (K.visited keeper.new) (K.loan keeper.new)) }
-    ensures cause { HasCause (K.marks keeper.old) (K.marks keeper.new) result }
+    ensures read { HasRead K.Keeper keeper.old keeper.new }
+    ensures cause { HasCause K.Keeper keeper.old keeper.new result }
 {
     match cell_of_property(&app.names, control, name) {
         Some(cell) => cell_for_item(
@@ -152,9 +151,8 @@ fn cell_for_item<K: Keeper, L: Ledger>(
     ensures steps { IfOk result (λ v. steps.new ≡ steps.old + 1) }
     ensures visits { IfOk result (λ _. (moment : ℕ) → IsToday moment valued.now.day → WhereTold (K.told keeper.new) (λ rows.
         AtMost (ItemVisits app.now session.now rows moment (value_of valued.now) (record_of row.now) (Some cell)) (K.visited keeper.old) (K.visited keeper.new))) }
-    ensures read { HasRead (keeping (K.told keeper.old) (K.began keeper.old) (K.shaped keeper.old) (K.in_transaction keeper.old) (K.marks keeper.old) (K.visited keeper.old) (K.loan keeper.old))
-        (keeping (K.told keeper.new) (K.began keeper.new) (K.shaped keeper.new) (K.in_transaction keeper.new) (K.marks keeper.new) (K.visited keeper.new) (K.loan keeper.new)) }
-    ensures cause { HasCause (K.marks keeper.old) (K.marks keeper.new) result }
+    ensures read { HasRead K.Keeper keeper.old keeper.new }
+    ensures cause { HasCause K.Keeper keeper.old keeper.new result }
 {
     match app.cells.get(cell as usize) {
         Some(info) => {

@@ -10,9 +10,10 @@ ghost use Rattle.app_semantics.specs.Sound.{IsSound};
 ghost use Rattle.fx_data.specs.ValueView.{view};
 ghost use Rattle.fx_scalar.specs.ScalarFunctions.{IsToday};
 ghost use Rattle.fx_data.specs.Values.{blank};
-ghost use Rattle.recalc.specs.Asking.{CanAsk, HasRead, IsHeardOf, ReadsNone, ToldRows, keeping};
+ghost use Rattle.recalc.specs.Asking.{CanAsk, IsHeardOf, ReadsNone, ToldRows};
+ghost use Rattle.recalc.specs.AskingOver.{HasRead};
 ghost use Rattle.recalc.specs.Reading.{cell_value};
-ghost use Rattle.row_keeper.specs.Causes.{HasCause};
+ghost use Rattle.row_keeper.specs.Over.{HasCause};
 ghost use Rattle.row_keeper.specs.declared.keeper.KeeperEnd.TheVariants.{Failed};
 ghost use Rattle.recalc.specs.Values.{CellsFit, value_of};
 
@@ -67,11 +68,12 @@ impl Valued {
     ghost use Rattle.fx_trees.specs.declared.sources.Source.TheVariants as source;
     ghost use Rattle.fx_typing.specs.Typing.{item_of};
     ghost use Rattle.fx_value.specs.Fits.{fits_in};
-    ghost use Rattle.recalc.specs.Asking.{CanAsk, HasRead, IsHeardOf, ReadsNone, ToldRows, keeping};
+    ghost use Rattle.recalc.specs.Asking.{CanAsk, IsHeardOf, ReadsNone, ToldRows};
+    ghost use Rattle.recalc.specs.AskingOver.{HasRead};
     ghost use Rattle.recalc.specs.Values.{CellsFit, value_of};
     ghost use Rattle.fx_eval.specs.Visits.{AtMost};
     ghost use Rattle.recalc.specs.Visits.{FormulaVisits, WhereTold};
-    ghost use Rattle.row_keeper.specs.Causes.{HasCause};
+    ghost use Rattle.row_keeper.specs.Over.{HasCause};
     ghost use Rattle.row_keeper.specs.declared.keeper.KeeperEnd.TheVariants.{Failed};
     ghost use Rattle.session_state.specs.Sessions.{Holds};
 
@@ -178,9 +180,8 @@ impl Valued {
         ensures steps { IfOk result (λ v. steps.new ≡ steps.old + 1) }
         ensures visits { IfOk result (λ _. (moment : ℕ) → IsToday moment self.now.day → WhereTold (K.told keeper.new) (λ rows.
             AtMost (FormulaVisits app.now session.now rows moment (value_of self.now) None info.now) (K.visited keeper.old) (K.visited keeper.new))) }
-        ensures read { HasRead (keeping (K.told keeper.old) (K.began keeper.old) (K.shaped keeper.old) (K.in_transaction keeper.old) (K.marks keeper.old) (K.visited keeper.old) (K.loan keeper.old))
-            (keeping (K.told keeper.new) (K.began keeper.new) (K.shaped keeper.new) (K.in_transaction keeper.new) (K.marks keeper.new) (K.visited keeper.new) (K.loan keeper.new)) }
-        ensures cause { HasCause (K.marks keeper.old) (K.marks keeper.new) result }
+        ensures read { HasRead K.Keeper keeper.old keeper.new }
+        ensures cause { HasCause K.Keeper keeper.old keeper.new result }
         ensures alone { ReadsNone app.now → keeper.new ≡ keeper.old }
         ensures reached { IsErrOf result Failed → ReadsNone app.now → ⊥ }
     {
@@ -215,9 +216,8 @@ impl Valued {
         ensures steps { IfOk result (λ v. steps.new ≡ steps.old + 1) }
         ensures visits { IfOk result (λ _. (moment : ℕ) → IsToday moment self.now.day → WhereTold (K.told keeper.new) (λ rows.
             AtMost (FormulaVisits app.now session.now rows moment (value_of self.now) (Some (view item)) info.now) (K.visited keeper.old) (K.visited keeper.new))) }
-        ensures read { HasRead (keeping (K.told keeper.old) (K.began keeper.old) (K.shaped keeper.old) (K.in_transaction keeper.old) (K.marks keeper.old) (K.visited keeper.old) (K.loan keeper.old))
-            (keeping (K.told keeper.new) (K.began keeper.new) (K.shaped keeper.new) (K.in_transaction keeper.new) (K.marks keeper.new) (K.visited keeper.new) (K.loan keeper.new)) }
-        ensures cause { HasCause (K.marks keeper.old) (K.marks keeper.new) result }
+        ensures read { HasRead K.Keeper keeper.old keeper.new }
+        ensures cause { HasCause K.Keeper keeper.old keeper.new result }
     {
         let values = self.values.as_slice();
         formula_value(
@@ -254,9 +254,8 @@ pub fn evaluate<K: Keeper, L: Ledger>(
     ensures fits { IfOk result (λ v. CellsFit app.now (value_of v)) }
     ensures day { IfOk result (λ v. IsToday moment v.day) }
     ensures steps { IfOk result (λ v. steps.new ≡ steps.old + count_by (is_alone app.now.cells) app.now.order) }
-    ensures read { HasRead (keeping (K.told keeper.old) (K.began keeper.old) (K.shaped keeper.old) (K.in_transaction keeper.old) (K.marks keeper.old) (K.visited keeper.old) (K.loan keeper.old))
-        (keeping (K.told keeper.new) (K.began keeper.new) (K.shaped keeper.new) (K.in_transaction keeper.new) (K.marks keeper.new) (K.visited keeper.new) (K.loan keeper.new)) }
-    ensures cause { HasCause (K.marks keeper.old) (K.marks keeper.new) result }
+    ensures read { HasRead K.Keeper keeper.old keeper.new }
+    ensures cause { HasCause K.Keeper keeper.old keeper.new result }
     ensures alone { ReadsNone app.now → keeper.new ≡ keeper.old }
     ensures reached { IsErrOf result Failed → ReadsNone app.now → ⊥ }
 {
@@ -284,9 +283,8 @@ fn keep_values<K: Keeper, L: Ledger>(
     ensures long { IfOk result (λ v. length v.items ≡ length app.now.cells) }
     ensures fits { IfOk result (λ v. CellsFit app.now (cell_value (map view v.items))) }
     ensures steps { IfOk result (λ v. steps.new ≡ steps.old + count_by (is_alone app.now.cells) app.now.order) }
-    ensures read { HasRead (keeping (K.told keeper.old) (K.began keeper.old) (K.shaped keeper.old) (K.in_transaction keeper.old) (K.marks keeper.old) (K.visited keeper.old) (K.loan keeper.old))
-        (keeping (K.told keeper.new) (K.began keeper.new) (K.shaped keeper.new) (K.in_transaction keeper.new) (K.marks keeper.new) (K.visited keeper.new) (K.loan keeper.new)) }
-    ensures cause { HasCause (K.marks keeper.old) (K.marks keeper.new) result }
+    ensures read { HasRead K.Keeper keeper.old keeper.new }
+    ensures cause { HasCause K.Keeper keeper.old keeper.new result }
     ensures alone { ReadsNone app.now → keeper.new ≡ keeper.old }
     ensures reached { IsErrOf result Failed → ReadsNone app.now → ⊥ }
 {
@@ -372,9 +370,8 @@ fn keep_value<K: Keeper, L: Ledger>(
     ensures value { OnOk result ((moment : ℕ) (tables : ToldRows) (c : Info) → IsToday moment (view day.now) → IsHeardOf (K.told keeper.new) tables → slice_get app.now.cells number ≡ Some c →
         IsCellValue (present app.now session.now tables moment) (cell_value (map view values.old.items)) c (cell_value (map view values.new.items) number)) }
     ensures steps { OnOk result (steps.new ≡ steps.old + (if is_alone app.now.cells number then 1 else 0)) }
-    ensures read { HasRead (keeping (K.told keeper.old) (K.began keeper.old) (K.shaped keeper.old) (K.in_transaction keeper.old) (K.marks keeper.old) (K.visited keeper.old) (K.loan keeper.old))
-        (keeping (K.told keeper.new) (K.began keeper.new) (K.shaped keeper.new) (K.in_transaction keeper.new) (K.marks keeper.new) (K.visited keeper.new) (K.loan keeper.new)) }
-    ensures cause { HasCause (K.marks keeper.old) (K.marks keeper.new) result }
+    ensures read { HasRead K.Keeper keeper.old keeper.new }
+    ensures cause { HasCause K.Keeper keeper.old keeper.new result }
     ensures alone { ReadsNone app.now → keeper.new ≡ keeper.old }
     ensures reached { IsErrOf result Failed → ReadsNone app.now → ⊥ }
 {
@@ -414,9 +411,8 @@ fn keep_formula<K: Keeper, L: Ledger>(
     ensures value { OnOk result ((moment : ℕ) (tables : ToldRows) → IsToday moment (view day.now) → IsHeardOf (K.told keeper.new) tables →
         IsCellValue (present app.now session.now tables moment) (cell_value (map view values.old.items)) info.now (cell_value (map view values.new.items) number)) }
     ensures steps { OnOk result (steps.new ≡ steps.old + (if is_by_itself info.now then 1 else 0)) }
-    ensures read { HasRead (keeping (K.told keeper.old) (K.began keeper.old) (K.shaped keeper.old) (K.in_transaction keeper.old) (K.marks keeper.old) (K.visited keeper.old) (K.loan keeper.old))
-        (keeping (K.told keeper.new) (K.began keeper.new) (K.shaped keeper.new) (K.in_transaction keeper.new) (K.marks keeper.new) (K.visited keeper.new) (K.loan keeper.new)) }
-    ensures cause { HasCause (K.marks keeper.old) (K.marks keeper.new) result }
+    ensures read { HasRead K.Keeper keeper.old keeper.new }
+    ensures cause { HasCause K.Keeper keeper.old keeper.new result }
     ensures alone { ReadsNone app.now → keeper.new ≡ keeper.old }
     ensures reached { IsErrOf result Failed → ReadsNone app.now → ⊥ }
 {

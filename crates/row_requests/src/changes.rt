@@ -1,10 +1,8 @@
 // Changes of rows, inside a transaction.
 ghost use Rattle.std.specs.Prelude.{◌≡◌, ◌<◌, true, IfOk, IfSome, length, Some};
-ghost use Rattle.fx_base.specs.Silence.{Goes, IsLost};
-ghost use Rattle.fx_base.specs.Telling.{Stays};
 ghost use Rattle.std.specs.List.{list_any};
 ghost use Rattle.fx_trees.specs.Lawful.{IsLawfulSchema};
-ghost use Rattle.row_keeper.specs.Causes.{HasCause};
+ghost use Rattle.row_keeper.specs.Over.{Becomes, BeganStays, HasCause};
 ghost use Rattle.row_keeper.specs.Tables.{columns_at, has_id, state_at};
 ghost use Rattle.row_requests.specs.Changes.{add_row, change_in_table, change_row, place_of as place_of_name, remove_row, row_of};
 ghost use Rattle.request_checks.specs.Replies.{plain};
@@ -76,11 +74,12 @@ fn insert_row<K: Keeper>(
     requires lawful { IsLawfulSchema schema.now }
     requires table { table < length schema.now.tables }
     requires sound { AreSound schema.now (K.told keeper.old) }
-    ensures done { IfOk result (λ c. Goes (IsLost (K.marks keeper.old) (K.marks keeper.new)) (λ a b. Comes (add_row at (columns_at schema.now.tables table) table given.now a) c a b) (K.told keeper.old) (K.told keeper.new)) }
+    ensures done { IfOk result (λ c. Becomes K.Keeper keeper.old keeper.new
+        (λ a b. Comes (add_row at (columns_at schema.now.tables table) table given.now a) c a b)) }
     ensures sound { IfOk result (λ c. AreSound schema.now (K.told keeper.new)) }
     ensures detail { IfOk result HasDetail }
-    ensures began { Goes (IsLost (K.marks keeper.old) (K.marks keeper.new)) Stays (K.began keeper.old) (K.began keeper.new) }
-    ensures cause { HasCause (K.marks keeper.old) (K.marks keeper.new) result }
+    ensures began { BeganStays K.Keeper keeper.old keeper.new }
+    ensures cause { HasCause K.Keeper keeper.old keeper.new result }
     ensures open { K.in_transaction keeper.new ≡ true }
     ensures shaped { K.shaped keeper.new ≡ K.shaped keeper.old }
     ensures loan { K.loan keeper.new ≡ K.loan keeper.old }
@@ -112,11 +111,12 @@ fn replace_row<K: Keeper>(
     requires lawful { IsLawfulSchema schema.now }
     requires table { table < length schema.now.tables }
     requires sound { AreSound schema.now (K.told keeper.old) }
-    ensures done { IfOk result (λ c. Goes (IsLost (K.marks keeper.old) (K.marks keeper.new)) (λ a b. Comes (change_row at (columns_at schema.now.tables table) table id given.now a (row_of id (state_at a.states table).rows)) c a b) (K.told keeper.old) (K.told keeper.new)) }
+    ensures done { IfOk result (λ c. Becomes K.Keeper keeper.old keeper.new
+        (λ a b. Comes (change_row at (columns_at schema.now.tables table) table id given.now a (row_of id (state_at a.states table).rows)) c a b)) }
     ensures sound { IfOk result (λ c. AreSound schema.now (K.told keeper.new)) }
     ensures detail { IfOk result HasDetail }
-    ensures began { Goes (IsLost (K.marks keeper.old) (K.marks keeper.new)) Stays (K.began keeper.old) (K.began keeper.new) }
-    ensures cause { HasCause (K.marks keeper.old) (K.marks keeper.new) result }
+    ensures began { BeganStays K.Keeper keeper.old keeper.new }
+    ensures cause { HasCause K.Keeper keeper.old keeper.new result }
     ensures open { K.in_transaction keeper.new ≡ true }
     ensures shaped { K.shaped keeper.new ≡ K.shaped keeper.old }
     ensures loan { K.loan keeper.new ≡ K.loan keeper.old }
@@ -148,11 +148,12 @@ fn remove_row<K: Keeper>(
     requires shaped { K.shaped keeper.old ≡ Some schema.now }
     requires table { table < length schema.now.tables }
     requires sound { AreSound schema.now (K.told keeper.old) }
-    ensures done { IfOk result (λ c. Goes (IsLost (K.marks keeper.old) (K.marks keeper.new)) (λ a b. Comes (remove_row table id a (list_any (has_id id) (state_at a.states table).rows)) c a b) (K.told keeper.old) (K.told keeper.new)) }
+    ensures done { IfOk result (λ c. Becomes K.Keeper keeper.old keeper.new
+        (λ a b. Comes (remove_row table id a (list_any (has_id id) (state_at a.states table).rows)) c a b)) }
     ensures sound { IfOk result (λ c. AreSound schema.now (K.told keeper.new)) }
     ensures detail { IfOk result HasDetail }
-    ensures began { Goes (IsLost (K.marks keeper.old) (K.marks keeper.new)) Stays (K.began keeper.old) (K.began keeper.new) }
-    ensures cause { HasCause (K.marks keeper.old) (K.marks keeper.new) result }
+    ensures began { BeganStays K.Keeper keeper.old keeper.new }
+    ensures cause { HasCause K.Keeper keeper.old keeper.new result }
     ensures open { K.in_transaction keeper.new ≡ true }
     ensures shaped { K.shaped keeper.new ≡ K.shaped keeper.old }
     ensures loan { K.loan keeper.new ≡ K.loan keeper.old }
@@ -198,11 +199,12 @@ fn change_table<K: Keeper>(
     requires lawful { IsLawfulSchema schema.now }
     requires table { table < length schema.now.tables }
     requires sound { AreSound schema.now (K.told keeper.old) }
-    ensures done { IfOk result (λ c. Goes (IsLost (K.marks keeper.old) (K.marks keeper.new)) (λ a b. Comes (change_in_table schema.now.tables at change.now a (Some table)) c a b) (K.told keeper.old) (K.told keeper.new)) }
+    ensures done { IfOk result (λ c. Becomes K.Keeper keeper.old keeper.new
+        (λ a b. Comes (change_in_table schema.now.tables at change.now a (Some table)) c a b)) }
     ensures sound { IfOk result (λ c. AreSound schema.now (K.told keeper.new)) }
     ensures detail { IfOk result HasDetail }
-    ensures began { Goes (IsLost (K.marks keeper.old) (K.marks keeper.new)) Stays (K.began keeper.old) (K.began keeper.new) }
-    ensures cause { HasCause (K.marks keeper.old) (K.marks keeper.new) result }
+    ensures began { BeganStays K.Keeper keeper.old keeper.new }
+    ensures cause { HasCause K.Keeper keeper.old keeper.new result }
     ensures open { K.in_transaction keeper.new ≡ true }
     ensures shaped { K.shaped keeper.new ≡ K.shaped keeper.old }
     ensures loan { K.loan keeper.new ≡ K.loan keeper.old }
@@ -228,11 +230,12 @@ pub(crate) fn change_one<K: Keeper>(
     requires shaped { K.shaped keeper.old ≡ Some schema.now }
     requires lawful { IsLawfulSchema schema.now }
     requires sound { AreSound schema.now (K.told keeper.old) }
-    ensures done { IfOk result (λ c. Goes (IsLost (K.marks keeper.old) (K.marks keeper.new)) (ChangesOne schema.now.tables at change.now c) (K.told keeper.old) (K.told keeper.new)) }
+    ensures done { IfOk result (λ c. Becomes K.Keeper keeper.old keeper.new
+        (ChangesOne schema.now.tables at change.now c)) }
     ensures sound { IfOk result (λ c. AreSound schema.now (K.told keeper.new)) }
     ensures detail { IfOk result HasDetail }
-    ensures began { Goes (IsLost (K.marks keeper.old) (K.marks keeper.new)) Stays (K.began keeper.old) (K.began keeper.new) }
-    ensures cause { HasCause (K.marks keeper.old) (K.marks keeper.new) result }
+    ensures began { BeganStays K.Keeper keeper.old keeper.new }
+    ensures cause { HasCause K.Keeper keeper.old keeper.new result }
     ensures open { K.in_transaction keeper.new ≡ true }
     ensures shaped { K.shaped keeper.new ≡ K.shaped keeper.old }
     ensures loan { K.loan keeper.new ≡ K.loan keeper.old }

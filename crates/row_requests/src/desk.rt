@@ -1,10 +1,10 @@
 //! A desk posts changes of rows.
 ghost use Rattle.std.specs.Option.{option_to_list};
 ghost use Rattle.std.specs.Prelude.{◌≡◌, ◌<◌, ◌++◌, [], false, IfOk, IsErrOf, OnErr, OnOk, Some, vec_capacity, vec_len};
-ghost use Rattle.fx_base.specs.Silence.{Goes, IsLost};
+ghost use Rattle.fx_base.specs.Silence.{IsLost};
 ghost use Rattle.fx_base.specs.Telling.{Stays};
 ghost use Rattle.fx_trees.specs.Lawful.{IsLawfulSchema};
-ghost use Rattle.row_keeper.specs.Causes.{HasCause};
+ghost use Rattle.row_keeper.specs.Over.{Becomes, HasCause};
 ghost use Rattle.row_keeper.specs.declared.keeper.KeeperEnd.TheVariants.{Failed};
 ghost use Rattle.row_requests.specs.Bodies.{IsSoundPost};
 ghost use Rattle.row_requests.specs.DeskRows.{KeepsRows, PostsRows, ReachesRows};
@@ -46,12 +46,13 @@ pub fn post_rows<K: Keeper>(
     requires none { wrote.old.items ≡ [] }
     ensures done { IfOk result (λ r. PostsRows (IsLost (K.marks keeper.old) (K.marks keeper.new)) schema.now.tables name.now body.now (K.told keeper.old) desks.old.items (said r) (K.told keeper.new) desks.new.items) }
     ensures whole { IfOk result IsReply }
-    ensures stopped { OnErr result (Goes (IsLost (K.marks keeper.old) (K.marks keeper.new)) Stays (K.told keeper.old) (K.told keeper.new)) }
+    ensures stopped { OnErr result (Becomes K.Keeper keeper.old keeper.new Stays) }
     ensures same { OnErr result (desks.new.items ≡ desks.old.items) }
-    ensures wrote { IfOk result (λ r. Goes (IsLost (K.marks keeper.old) (K.marks keeper.new)) (AreTablesBut wrote.new.items) (K.told keeper.old) (K.told keeper.new)) }
+    ensures wrote { IfOk result (λ r. Becomes K.Keeper keeper.old keeper.new
+        (AreTablesBut wrote.new.items)) }
     ensures named { (s : Src) → IsAmong s wrote.new.items → IsNamedBy schema.now.tables desks.old.items name.now body.now s }
     ensures reached { IsErrOf result Failed → ReachesRows name.now body.now desks.old.items }
-    ensures cause { HasCause (K.marks keeper.old) (K.marks keeper.new) result }
+    ensures cause { HasCause K.Keeper keeper.old keeper.new result }
     ensures idle { K.in_transaction keeper.new ≡ false }
     ensures shaped { K.shaped keeper.new ≡ K.shaped keeper.old }
     ensures loan { K.loan keeper.new ≡ K.loan keeper.old }
@@ -138,11 +139,12 @@ fn keep_rows<K: Keeper>(
     requires none { wrote.old.items ≡ [] }
     ensures done { IfOk result (λ r. KeepsRows (IsLost (K.marks keeper.old) (K.marks keeper.new)) schema.now.tables name.now body.now posted.now (K.told keeper.old) desks.old.items (said r) (K.told keeper.new) desks.new.items) }
     ensures whole { IfOk result IsReply }
-    ensures stopped { OnErr result (Goes (IsLost (K.marks keeper.old) (K.marks keeper.new)) Stays (K.told keeper.old) (K.told keeper.new)) }
+    ensures stopped { OnErr result (Becomes K.Keeper keeper.old keeper.new Stays) }
     ensures same { OnErr result (desks.new.items ≡ desks.old.items) }
-    ensures wrote { IfOk result (λ r. Goes (IsLost (K.marks keeper.old) (K.marks keeper.new)) (AreTablesBut wrote.new.items) (K.told keeper.old) (K.told keeper.new)) }
+    ensures wrote { IfOk result (λ r. Becomes K.Keeper keeper.old keeper.new
+        (AreTablesBut wrote.new.items)) }
     ensures named { (s : Src) → IsAmong s wrote.new.items → IsAmong s (tables_of_changes schema.now.tables posted.now.changes) }
-    ensures cause { HasCause (K.marks keeper.old) (K.marks keeper.new) result }
+    ensures cause { HasCause K.Keeper keeper.old keeper.new result }
     ensures idle { K.in_transaction keeper.new ≡ false }
     ensures shaped { K.shaped keeper.new ≡ K.shaped keeper.old }
     ensures loan { K.loan keeper.new ≡ K.loan keeper.old }

@@ -2,7 +2,7 @@
 ghost use Rattle.std.specs.Prelude.{◌≡◌, true, false, OnErr, OnOk};
 ghost use Rattle.fx_base.specs.Silence.{Goes, IsLost};
 ghost use Rattle.fx_base.specs.Telling.{Stays};
-ghost use Rattle.row_keeper.specs.Causes.{HasCause};
+ghost use Rattle.row_keeper.specs.Over.{Becomes, HasCause};
 
 use row_keeper::{Keeper, KeeperEnd};
 
@@ -10,10 +10,10 @@ use row_keeper::{Keeper, KeeperEnd};
 /// without them.
 pub fn settle<K: Keeper>(keeper: &mut K, accepted: bool) -> Result<(), KeeperEnd>
     requires { K.in_transaction keeper.old ≡ true }
-    ensures kept { accepted ≡ true → OnOk result (Goes (IsLost (K.marks keeper.old) (K.marks keeper.new)) Stays (K.told keeper.old) (K.told keeper.new)) }
+    ensures kept { accepted ≡ true → OnOk result (Becomes K.Keeper keeper.old keeper.new Stays) }
     ensures undone { accepted ≡ false → OnOk result (Goes (IsLost (K.marks keeper.old) (K.marks keeper.new)) Stays (K.began keeper.old) (K.told keeper.new)) }
     ensures stopped { OnErr result (Goes (IsLost (K.marks keeper.old) (K.marks keeper.new)) Stays (K.began keeper.old) (K.told keeper.new)) }
-    ensures cause { HasCause (K.marks keeper.old) (K.marks keeper.new) result }
+    ensures cause { HasCause K.Keeper keeper.old keeper.new result }
     ensures idle { K.in_transaction keeper.new ≡ false }
     ensures shaped { K.shaped keeper.new ≡ K.shaped keeper.old }
     ensures loan { K.loan keeper.new ≡ K.loan keeper.old }

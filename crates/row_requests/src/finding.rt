@@ -1,14 +1,13 @@
 // The rows that requests ask for.
 ghost use Rattle.std.specs.Prelude.{◌≡◌, ◌<◌, ◌∷◌, [], IfOk, IfSome, IsSome, IsSomeAnd, OnErr, length, slice_get};
 ghost use Rattle.std.specs.List.{All};
-ghost use Rattle.fx_base.specs.Silence.{Goes, IsLost};
 ghost use Rattle.fx_base.specs.Telling.{Stays};
 ghost use Rattle.fx_data.specs.ValueView.{view};
 ghost use Rattle.fx_value.specs.Keys.{key_bytes};
 ghost use Rattle.fx_value.specs.Order.{IsScalar};
 ghost use Rattle.row_queries.specs.TableRows.{IsRowOf, id_value as id_value_of};
-ghost use Rattle.row_keeper.specs.Causes.{HasCause};
 ghost use Rattle.row_keeper.specs.Numbered.{one_row as one_row_query};
+ghost use Rattle.row_keeper.specs.Over.{Becomes, BeganStays, HasCause};
 ghost use Rattle.row_keeper.specs.Rules.{only_key};
 ghost use Rattle.row_keeper.specs.Tables.{shapes_of};
 ghost use Rattle.row_requests.specs.Queries.{FindsRow, FindsRows, VisitsPast, after_key, beyond as beyond_key, next_rows as next_rows_query};
@@ -114,10 +113,11 @@ pub(crate) fn find_row<K: Keeper>(
     id: u32,
 ) -> Result<Option<Row>, KeeperEnd>
     requires { IsSome (slice_get (shapes_of (K.shaped keeper.old)) table) }
-    ensures found { IfOk result (λ r. Goes (IsLost (K.marks keeper.old) (K.marks keeper.new)) (FindsRow table id r) (K.told keeper.old) (K.told keeper.new)) }
+    ensures found { IfOk result (λ r. Becomes K.Keeper keeper.old keeper.new
+        (FindsRow table id r)) }
     ensures fit { IfOk result (λ r. IfSome r (λ row. IsSomeAnd (slice_get (shapes_of (K.shaped keeper.old)) table) (λ t. IsRowOf t row))) }
-    ensures began { Goes (IsLost (K.marks keeper.old) (K.marks keeper.new)) Stays (K.began keeper.old) (K.began keeper.new) }
-    ensures cause { HasCause (K.marks keeper.old) (K.marks keeper.new) result }
+    ensures began { BeganStays K.Keeper keeper.old keeper.new }
+    ensures cause { HasCause K.Keeper keeper.old keeper.new result }
     ensures mode { K.in_transaction keeper.new ≡ K.in_transaction keeper.old }
     ensures shaped { K.shaped keeper.new ≡ K.shaped keeper.old }
     ensures loan { K.loan keeper.new ≡ K.loan keeper.old }
@@ -142,11 +142,12 @@ pub(crate) fn find_rows<K: Keeper>(
     after: u32,
 ) -> Result<Vec<Row>, KeeperEnd>
     requires { IsSome (slice_get (shapes_of (K.shaped keeper.old)) table) }
-    ensures found { IfOk result (λ rows. Goes (IsLost (K.marks keeper.old) (K.marks keeper.new)) (FindsRows table after rows.items) (K.told keeper.old) (K.told keeper.new)) }
+    ensures found { IfOk result (λ rows. Becomes K.Keeper keeper.old keeper.new
+        (FindsRows table after rows.items)) }
     ensures fit { IfOk result (λ rows. IsSomeAnd (slice_get (shapes_of (K.shaped keeper.old)) table) (λ t. All (IsRowOf t) rows.items)) }
     ensures visits { VisitsPast table after (K.told keeper.old) (K.visited keeper.old) (K.visited keeper.new) }
-    ensures err { OnErr result (Goes (IsLost (K.marks keeper.old) (K.marks keeper.new)) Stays (K.told keeper.old) (K.told keeper.new)) }
-    ensures cause { HasCause (K.marks keeper.old) (K.marks keeper.new) result }
+    ensures err { OnErr result (Becomes K.Keeper keeper.old keeper.new Stays) }
+    ensures cause { HasCause K.Keeper keeper.old keeper.new result }
     ensures mode { K.in_transaction keeper.new ≡ K.in_transaction keeper.old }
     ensures shaped { K.shaped keeper.new ≡ K.shaped keeper.old }
     ensures loan { K.loan keeper.new ≡ K.loan keeper.old }

@@ -3,11 +3,11 @@ ghost use Rattle.std.specs.Prelude.{◌≡◌, ◌∷◌, [], false, Err, IfOk, 
 ghost use Rattle.std.specs.List.{All};
 ghost use Rattle.serde_json.specs.Data.{member, no_members};
 ghost use Rattle.serde_json.specs.View.{members_view, view as json_view};
-ghost use Rattle.fx_base.specs.Silence.{Goes, IsLost};
+ghost use Rattle.fx_base.specs.Silence.{IsLost};
 ghost use Rattle.fx_base.specs.Telling.{Stays};
 ghost use Rattle.fx_trees.specs.Lawful.{IsLawfulSchema};
 ghost use Rattle.row_queries.specs.TableRows.{AreCellsOf};
-ghost use Rattle.row_keeper.specs.Causes.{HasCause};
+ghost use Rattle.row_keeper.specs.Over.{Becomes, HasCause};
 ghost use Rattle.row_keeper.specs.declared.keeper.KeeperEnd.TheVariants.{Failed};
 ghost use Rattle.row_requests.specs.Page.{ReachesPage, ShowsPage, VisitsPage, page_data, page_reply as page_bytes, row_data, with_values};
 ghost use Rattle.row_requests.specs.PageRows.{AreShown};
@@ -98,10 +98,10 @@ pub fn show_page<K: Keeper>(
     requires sound { AreSound schema.now (K.told keeper.old) }
     ensures done { IfOk result (λ r. ShowsPage (IsLost (K.marks keeper.old) (K.marks keeper.new)) schema.now.tables table.now after (K.told keeper.old) (said r) (K.told keeper.new)) }
     ensures whole { IfOk result IsReply }
-    ensures still { Goes (IsLost (K.marks keeper.old) (K.marks keeper.new)) Stays (K.told keeper.old) (K.told keeper.new) }
+    ensures still { Becomes K.Keeper keeper.old keeper.new Stays }
     ensures visits { VisitsPage schema.now.tables table.now after (K.told keeper.old) (K.visited keeper.old) (K.visited keeper.new) }
     ensures reached { IsErrOf result Failed → ReachesPage schema.now.tables table.now }
-    ensures cause { HasCause (K.marks keeper.old) (K.marks keeper.new) result }
+    ensures cause { HasCause K.Keeper keeper.old keeper.new result }
     ensures idle { K.in_transaction keeper.new ≡ false }
     ensures shaped { K.shaped keeper.new ≡ K.shaped keeper.old }
     ensures loan { K.loan keeper.new ≡ K.loan keeper.old }

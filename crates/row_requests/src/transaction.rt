@@ -1,15 +1,14 @@
 // Posted changes in one transaction.
 ghost use Rattle.std.specs.Prelude.{◌≡◌, ◌≤◌, true, false, IfOk, OnErr, length, string_bytes, map, Some};
 ghost use Rattle.serde_json.specs.View.{items_view, view as json_view};
-ghost use Rattle.fx_base.specs.Silence.{Goes, IsLost};
 ghost use Rattle.fx_base.specs.Telling.{Stays};
 ghost use Rattle.fx_trees.specs.Lawful.{IsLawfulSchema};
-ghost use Rattle.row_keeper.specs.Causes.{HasCause};
 ghost use Rattle.row_requests.specs.DeskRows.{Acts, accepted_data, accepted_reply as accepted_bytes, id_data, outcome_reply};
 ghost use Rattle.row_requests.specs.Prepared.{IsPrepared};
 ghost use Rattle.request_checks.specs.Replies.{IsReply, said};
 ghost use Rattle.row_requests.specs.Sound.{AreSound};
 ghost use Rattle.row_requests.specs.Steps.{Performs, HaveDetail};
+ghost use Rattle.row_keeper.specs.Over.{Becomes, BeganStays, HasCause};
 
 use crate::bodies::{Change, Posted};
 use crate::changes::{Changed, change_one};
@@ -45,11 +44,12 @@ fn change_rows<K: Keeper>(
     requires lawful { IsLawfulSchema schema.now }
     requires sound { AreSound schema.now (K.told keeper.old) }
     requires few { length changes.now ≤ 1000 }
-    ensures done { IfOk result (λ o. Goes (IsLost (K.marks keeper.old) (K.marks keeper.new)) (Performs schema.now.tables changes.now o) (K.told keeper.old) (K.told keeper.new)) }
+    ensures done { IfOk result (λ o. Becomes K.Keeper keeper.old keeper.new
+        (Performs schema.now.tables changes.now o)) }
     ensures sound { IfOk result (λ o. AreSound schema.now (K.told keeper.new)) }
     ensures detail { IfOk result HaveDetail }
-    ensures began { Goes (IsLost (K.marks keeper.old) (K.marks keeper.new)) Stays (K.began keeper.old) (K.began keeper.new) }
-    ensures cause { HasCause (K.marks keeper.old) (K.marks keeper.new) result }
+    ensures began { BeganStays K.Keeper keeper.old keeper.new }
+    ensures cause { HasCause K.Keeper keeper.old keeper.new result }
     ensures open { K.in_transaction keeper.new ≡ true }
     ensures shaped { K.shaped keeper.new ≡ K.shaped keeper.old }
     ensures loan { K.loan keeper.new ≡ K.loan keeper.old }
@@ -135,11 +135,12 @@ fn prepare_rows<K: Keeper>(
     requires lawful { IsLawfulSchema schema.now }
     requires sound { AreSound schema.now (K.told keeper.old) }
     requires few { length posted.now.changes ≤ 1000 }
-    ensures done { IfOk result (λ p. Goes (IsLost (K.marks keeper.old) (K.marks keeper.new)) (Performs schema.now.tables posted.now.changes p.outcome) (K.told keeper.old) (K.told keeper.new)) }
+    ensures done { IfOk result (λ p. Becomes K.Keeper keeper.old keeper.new
+        (Performs schema.now.tables posted.now.changes p.outcome)) }
     ensures sound { IfOk result (λ p. AreSound schema.now (K.told keeper.new)) }
     ensures prepared { IfOk result (IsPrepared posted.now.seq) }
-    ensures began { Goes (IsLost (K.marks keeper.old) (K.marks keeper.new)) Stays (K.began keeper.old) (K.began keeper.new) }
-    ensures cause { HasCause (K.marks keeper.old) (K.marks keeper.new) result }
+    ensures began { BeganStays K.Keeper keeper.old keeper.new }
+    ensures cause { HasCause K.Keeper keeper.old keeper.new result }
     ensures open { K.in_transaction keeper.new ≡ true }
     ensures shaped { K.shaped keeper.new ≡ K.shaped keeper.old }
     ensures loan { K.loan keeper.new ≡ K.loan keeper.old }
@@ -165,10 +166,11 @@ pub(crate) fn act_rows<K: Keeper>(
     requires lawful { IsLawfulSchema schema.now }
     requires sound { AreSound schema.now (K.told keeper.old) }
     requires few { length posted.now.changes ≤ 1000 }
-    ensures done { IfOk result (λ p. Goes (IsLost (K.marks keeper.old) (K.marks keeper.new)) (Acts schema.now.tables posted.now.changes p.outcome) (K.told keeper.old) (K.told keeper.new)) }
+    ensures done { IfOk result (λ p. Becomes K.Keeper keeper.old keeper.new
+        (Acts schema.now.tables posted.now.changes p.outcome)) }
     ensures prepared { IfOk result (IsPrepared posted.now.seq) }
-    ensures stopped { OnErr result (Goes (IsLost (K.marks keeper.old) (K.marks keeper.new)) Stays (K.told keeper.old) (K.told keeper.new)) }
-    ensures cause { HasCause (K.marks keeper.old) (K.marks keeper.new) result }
+    ensures stopped { OnErr result (Becomes K.Keeper keeper.old keeper.new Stays) }
+    ensures cause { HasCause K.Keeper keeper.old keeper.new result }
     ensures idle { K.in_transaction keeper.new ≡ false }
     ensures shaped { K.shaped keeper.new ≡ K.shaped keeper.old }
     ensures loan { K.loan keeper.new ≡ K.loan keeper.old }

@@ -1,7 +1,7 @@
 //! What an event or an input that passed its checks does.
 ghost use Rattle.std.specs.Option.{option_to_list};
 ghost use Rattle.std.specs.Prelude.{◌≡◌, ◌<◌, ◌++◌, [], IfErr, IfOk, IfSome, IsSome, OnErr, OnOk, Some, false, length, option_map, vec_capacity, vec_len};
-ghost use Rattle.fx_base.specs.Silence.{Goes, IsLost};
+ghost use Rattle.fx_base.specs.Silence.{IsLost};
 ghost use Rattle.fx_base.specs.Telling.{Stays};
 ghost use Rattle.fx_data.specs.ValueView.{view};
 ghost use Rattle.fx_trees.specs.declared.sources.Source.TheVariants as source;
@@ -9,7 +9,6 @@ ghost use Rattle.recalc.specs.app_semantics.Sound.{IsSound};
 ghost use Rattle.request_checks.specs.Checked.{SessionsKeepReplies};
 ghost use Rattle.request_checks.specs.Directory.{put as put_into};
 ghost use Rattle.request_checks.specs.Replies.{IsReply, said};
-ghost use Rattle.row_keeper.specs.Causes.{HasCause};
 ghost use Rattle.row_requests.specs.Sound.{AreSound};
 ghost use Rattle.session_requests.specs.Triggers.{ItemFits};
 ghost use Rattle.session_state.specs.Changes.{FitsNames};
@@ -29,6 +28,7 @@ ghost use Rattle.session_requests.specs.Whole.{GivenAndWrites, InputGivenWrites,
 ghost use Rattle.session_requests.specs.Writable.{AreAll, EffectMayWrite, GivenMayWrite, TargetMayWrite};
 ghost use Rattle.session_requests.specs.declared.input.Input.{Input as Asked};
 ghost use Rattle.view_text.specs.RefusalText.{Fits};
+ghost use Rattle.row_keeper.specs.Over.{Becomes, HasCause};
 
 use crate::app_cells::App;
 use crate::input::Given;
@@ -194,20 +194,22 @@ pub(crate) fn end_input<K: Keeper, L: Ledger>(
     ensures done { IfOk result (λ r. EndsInput (IsLost (K.marks keeper.old) (K.marks keeper.new)) app.now moment name.now body.now seq session (value_of cache.old) verdict (K.told keeper.old) sessions.old.items (said r) (K.told keeper.new) sessions.new.items) }
     ensures whole { IfOk result IsReply }
     ensures stopped { OnErr result (sessions.new.items ≡ sessions.old.items) }
-    ensures left { OnErr result (Goes (IsLost (K.marks keeper.old) (K.marks keeper.new)) Stays (K.told keeper.old) (K.told keeper.new)) }
+    ensures left { OnErr result (Becomes K.Keeper keeper.old keeper.new Stays) }
     ensures fit { SessionsFit app.now.names sessions.new.items }
     ensures kept { SessionsKeepReplies sessions.new.items }
     ensures rows { AreSound app.now.names.schema (K.told keeper.new) }
     ensures shaped { K.shaped keeper.new ≡ Some app.now.names.schema }
     ensures idle { K.in_transaction keeper.new ≡ false }
-    ensures cause { HasCause (K.marks keeper.old) (K.marks keeper.new) result }
+    ensures cause { HasCause K.Keeper keeper.old keeper.new result }
     ensures cached { (s : SessionState) → find name.now sessions.new.items ≡ Some s → IsCached app.now s (K.told keeper.new) moment cache.new }
-    ensures tables { Goes (IsLost (K.marks keeper.old) (K.marks keeper.new)) (AreTablesBut wrote.new.items) (K.told keeper.old) (K.told keeper.new) }
+    ensures tables { Becomes K.Keeper keeper.old keeper.new (AreTablesBut wrote.new.items) }
     ensures sources { AreSources app.now.names wrote.new.items }
     ensures clean { IsLeftBut app.now wrote.new.items cache.old cache.new }
     ensures wrote { IfOk result (λ r. InputWrites (IsLost (K.marks keeper.old) (K.marks keeper.new)) app.now moment session (value_of cache.old) verdict (K.told keeper.old) (K.told keeper.new) wrote.new.items) }
-    ensures only { Goes (IsLost (K.marks keeper.old) (K.marks keeper.new)) (λ t u. AreAll (GivenMayWrite app.now verdict) wrote.new.items) (K.told keeper.old) (K.told keeper.new) }
-    ensures cut { OnErr result (Goes (IsLost (K.marks keeper.old) (K.marks keeper.new)) (λ t u. AreAll (IsInAll (InputGivenWrites app.now moment session (value_of cache.old) verdict t)) wrote.new.items) (K.told keeper.old) (K.told keeper.new)) }
+    ensures only { Becomes K.Keeper keeper.old keeper.new
+        (λ t u. AreAll (GivenMayWrite app.now verdict) wrote.new.items) }
+    ensures cut { OnErr result (Becomes K.Keeper keeper.old keeper.new
+        (λ t u. AreAll (IsInAll (InputGivenWrites app.now moment session (value_of cache.old) verdict t)) wrote.new.items)) }
     ensures loan { K.loan keeper.new ≡ K.loan keeper.old }
 {
     match verdict {
@@ -256,20 +258,22 @@ pub(crate) fn end_event<K: Keeper, L: Ledger>(
     ensures done { IfOk result (λ r. EndsEvent (IsLost (K.marks keeper.old) (K.marks keeper.new)) app.now moment name.now body.now seq session (value_of cache.old) verdict (K.told keeper.old) sessions.old.items (said r) (K.told keeper.new) sessions.new.items) }
     ensures whole { IfOk result IsReply }
     ensures stopped { OnErr result (sessions.new.items ≡ sessions.old.items) }
-    ensures left { OnErr result (Goes (IsLost (K.marks keeper.old) (K.marks keeper.new)) Stays (K.told keeper.old) (K.told keeper.new)) }
+    ensures left { OnErr result (Becomes K.Keeper keeper.old keeper.new Stays) }
     ensures fit { SessionsFit app.now.names sessions.new.items }
     ensures kept { SessionsKeepReplies sessions.new.items }
     ensures rows { AreSound app.now.names.schema (K.told keeper.new) }
     ensures shaped { K.shaped keeper.new ≡ Some app.now.names.schema }
     ensures idle { K.in_transaction keeper.new ≡ false }
-    ensures cause { HasCause (K.marks keeper.old) (K.marks keeper.new) result }
+    ensures cause { HasCause K.Keeper keeper.old keeper.new result }
     ensures cached { (s : SessionState) → find name.now sessions.new.items ≡ Some s → IsCached app.now s (K.told keeper.new) moment cache.new }
-    ensures tables { Goes (IsLost (K.marks keeper.old) (K.marks keeper.new)) (AreTablesBut wrote.new.items) (K.told keeper.old) (K.told keeper.new) }
+    ensures tables { Becomes K.Keeper keeper.old keeper.new (AreTablesBut wrote.new.items) }
     ensures sources { AreSources app.now.names wrote.new.items }
     ensures clean { IsLeftBut app.now wrote.new.items cache.old cache.new }
     ensures wrote { IfOk result (λ r. EventWrites (IsLost (K.marks keeper.old) (K.marks keeper.new)) app.now moment session (value_of cache.old) verdict (K.told keeper.old) (K.told keeper.new) wrote.new.items) }
-    ensures only { Goes (IsLost (K.marks keeper.old) (K.marks keeper.new)) (λ t u. AreAll (TargetMayWrite app.now verdict) wrote.new.items) (K.told keeper.old) (K.told keeper.new) }
-    ensures cut { OnErr result (Goes (IsLost (K.marks keeper.old) (K.marks keeper.new)) (λ t u. AreAll (IsInAll (TargetWrites app.now moment session (value_of cache.old) verdict t)) wrote.new.items) (K.told keeper.old) (K.told keeper.new)) }
+    ensures only { Becomes K.Keeper keeper.old keeper.new
+        (λ t u. AreAll (TargetMayWrite app.now verdict) wrote.new.items) }
+    ensures cut { OnErr result (Becomes K.Keeper keeper.old keeper.new
+        (λ t u. AreAll (IsInAll (TargetWrites app.now moment session (value_of cache.old) verdict t)) wrote.new.items)) }
     ensures loan { K.loan keeper.new ≡ K.loan keeper.old }
 {
     match verdict {
@@ -370,20 +374,22 @@ fn take_effect<K: Keeper, L: Ledger>(
     ensures done { IfOk result (λ r. TakesEffect (IsLost (K.marks keeper.old) (K.marks keeper.new)) app.now moment trigger (option_map view item) name.now body.now seq session (K.told keeper.old) sessions.old.items (said r) (K.told keeper.new) sessions.new.items) }
     ensures whole { IfOk result IsReply }
     ensures stopped { OnErr result (sessions.new.items ≡ sessions.old.items) }
-    ensures left { OnErr result (Goes (IsLost (K.marks keeper.old) (K.marks keeper.new)) Stays (K.told keeper.old) (K.told keeper.new)) }
+    ensures left { OnErr result (Becomes K.Keeper keeper.old keeper.new Stays) }
     ensures fit { SessionsFit app.now.names sessions.new.items }
     ensures kept { SessionsKeepReplies sessions.new.items }
     ensures rows { AreSound app.now.names.schema (K.told keeper.new) }
     ensures shaped { K.shaped keeper.new ≡ Some app.now.names.schema }
     ensures idle { K.in_transaction keeper.new ≡ false }
-    ensures cause { HasCause (K.marks keeper.old) (K.marks keeper.new) result }
+    ensures cause { HasCause K.Keeper keeper.old keeper.new result }
     ensures cached { (s : SessionState) → find name.now sessions.new.items ≡ Some s → IsCached app.now s (K.told keeper.new) moment cache.new }
-    ensures tables { Goes (IsLost (K.marks keeper.old) (K.marks keeper.new)) (AreTablesBut wrote.new.items) (K.told keeper.old) (K.told keeper.new) }
+    ensures tables { Becomes K.Keeper keeper.old keeper.new (AreTablesBut wrote.new.items) }
     ensures sources { AreSources app.now.names wrote.new.items }
     ensures clean { IsLeftBut app.now wrote.new.items cache.old cache.new }
     ensures wrote { IfOk result (λ r. EffectWrites (IsLost (K.marks keeper.old) (K.marks keeper.new)) app.now moment trigger (option_map view item) (option_to_list given) session (K.told keeper.old) (K.told keeper.new) wrote.new.items) }
-    ensures only { Goes (IsLost (K.marks keeper.old) (K.marks keeper.new)) (λ t u. AreAll (EffectMayWrite app.now (option_to_list given) trigger) wrote.new.items) (K.told keeper.old) (K.told keeper.new) }
-    ensures cut { OnErr result (Goes (IsLost (K.marks keeper.old) (K.marks keeper.new)) (λ t u. AreAll (IsInAll (GivenAndWrites app.now moment trigger (option_map view item) (option_to_list given) session t)) wrote.new.items) (K.told keeper.old) (K.told keeper.new)) }
+    ensures only { Becomes K.Keeper keeper.old keeper.new
+        (λ t u. AreAll (EffectMayWrite app.now (option_to_list given) trigger) wrote.new.items) }
+    ensures cut { OnErr result (Becomes K.Keeper keeper.old keeper.new
+        (λ t u. AreAll (IsInAll (GivenAndWrites app.now moment trigger (option_map view item) (option_to_list given) session t)) wrote.new.items)) }
     ensures loan { K.loan keeper.new ≡ K.loan keeper.old }
 {
     let entry = make_room(alloc, app, sessions, cache, name, body, wrote, given)?;

@@ -2,7 +2,8 @@
 ghost use Rattle.std.specs.Prelude.{◌≡◌, ◌++◌, [], ℕ, IfOk, IfSome, OnOk, Some, true};
 ghost use Rattle.std.specs.List.{Contains};
 ghost use Rattle.std.specs.Option.{option_to_list};
-ghost use Rattle.recalc.specs.Asking.{HasRead, IsHeardOf, ToldRows, keeping};
+ghost use Rattle.recalc.specs.Asking.{IsHeardOf, ToldRows};
+ghost use Rattle.recalc.specs.AskingOver.{HasRead};
 ghost use Rattle.recalc.specs.app_cells.Leaning.{cell_behind as behind};
 ghost use Rattle.recalc.specs.app_semantics.Holding.{HoldsFitting};
 ghost use Rattle.recalc.specs.app_semantics.Needed.{is_alone};
@@ -14,8 +15,8 @@ ghost use Rattle.fx_trees.specs.declared.sources.Source.{Source as Src};
 ghost use Rattle.recalc.specs.Changes.{IsLeftBut};
 ghost use Rattle.recalc.specs.Kept.{IsInOrder, value_of};
 ghost use Rattle.recalc.specs.Outcomes.{IsRightOver};
-ghost use Rattle.row_keeper.specs.Causes.{HasCause};
 ghost use Rattle.session_requests.specs.Grounds.{IsFreshBehind};
+ghost use Rattle.row_keeper.specs.Over.{HasCause};
 
 use crate::app_cells::App;
 use fx_base::Memory;
@@ -92,9 +93,8 @@ pub(crate) fn refresh_behind<K: Keeper, L: Ledger>(
     ensures right { IsRightOver app.now session.now (K.told keeper.old) moment cache.old → IsRightOver app.now session.now (K.told keeper.new) moment cache.new }
     ensures fresh { OnOk result (IsRightOver app.now session.now (K.told keeper.old) moment cache.old → (tables : ToldRows) (x : Src) → IsHeardOf (K.told keeper.new) tables → IsAmong x (sources_in core.now) →
         IsFreshBehind (present app.now session.now tables moment) (value_of cache.new) x) }
-    ensures read { HasRead (keeping (K.told keeper.old) (K.began keeper.old) (K.shaped keeper.old) (K.in_transaction keeper.old) (K.marks keeper.old) (K.visited keeper.old) (K.loan keeper.old))
-        (keeping (K.told keeper.new) (K.began keeper.new) (K.shaped keeper.new) (K.in_transaction keeper.new) (K.marks keeper.new) (K.visited keeper.new) (K.loan keeper.new)) }
-    ensures cause { HasCause (K.marks keeper.old) (K.marks keeper.new) result }
+    ensures read { HasRead K.Keeper keeper.old keeper.new }
+    ensures cause { HasCause K.Keeper keeper.old keeper.new result }
 {
     let reads = core.reads(alloc)?;
     let cells = cells_behind(alloc, app, reads.as_slice())?;

@@ -1,14 +1,14 @@
 //! Sessions are opened, each in one transaction.
 ghost use Rattle.std.specs.Prelude.{◌≡◌, [], IfOk, OnErr, Some, false, true};
-ghost use Rattle.fx_base.specs.Silence.{Goes, IsLost};
+ghost use Rattle.fx_base.specs.Silence.{IsLost};
 ghost use Rattle.fx_base.specs.Telling.{Stays};
 ghost use Rattle.recalc.specs.app_semantics.Sound.{IsSound};
-ghost use Rattle.row_keeper.specs.Causes.{HasCause};
 ghost use Rattle.row_requests.specs.Sound.{AreSound};
 ghost use Rattle.row_requests.specs.Written.{AreTablesBut};
 ghost use Rattle.session_state.specs.Sessions.{opened};
 ghost use Rattle.session_requests.specs.Caching.{AreLater, AreSources, IsCached};
 ghost use Rattle.session_requests.specs.Opening.{CanOpen, OpensNew, OpensNewWriting};
+ghost use Rattle.row_keeper.specs.Over.{Becomes, BeganStays, HasCause};
 
 use crate::app_cells::App;
 use crate::running::open;
@@ -41,13 +41,13 @@ fn prepare_session<K: Keeper, L: Ledger>(
     ensures opens { IfOk result (λ s. OpensNew (IsLost (K.marks keeper.old) (K.marks keeper.new)) app.now moment (K.told keeper.old) (K.told keeper.new) s) }
     ensures wrote { IfOk result (λ s. OpensNewWriting (IsLost (K.marks keeper.old) (K.marks keeper.new)) app.now moment (K.told keeper.old) (K.told keeper.new) s wrote.new.items) }
     ensures rows { AreSound app.now.names.schema (K.told keeper.new) }
-    ensures began { Goes (IsLost (K.marks keeper.old) (K.marks keeper.new)) Stays (K.began keeper.old) (K.began keeper.new) }
+    ensures began { BeganStays K.Keeper keeper.old keeper.new }
     ensures shaped { K.shaped keeper.new ≡ Some app.now.names.schema }
     ensures open { K.in_transaction keeper.new ≡ true }
     ensures cached { IfOk result (λ s. IsCached app.now s (K.told keeper.new) moment cache.new) }
     ensures later { AreLater wrote.new.items (K.began keeper.new) (K.told keeper.new) }
     ensures sources { AreSources app.now.names wrote.new.items }
-    ensures cause { HasCause (K.marks keeper.old) (K.marks keeper.new) result }
+    ensures cause { HasCause K.Keeper keeper.old keeper.new result }
     ensures loan { K.loan keeper.new ≡ K.loan keeper.old }
 {
     let before = Session::new(alloc, &app.names)?;
@@ -90,14 +90,14 @@ pub fn open_session<K: Keeper, L: Ledger>(
     requires wrote { wrote.old.items ≡ [] }
     ensures opens { IfOk result (λ s. OpensNew (IsLost (K.marks keeper.old) (K.marks keeper.new)) app.now moment (K.told keeper.old) (K.told keeper.new) s) }
     ensures wrote { IfOk result (λ s. OpensNewWriting (IsLost (K.marks keeper.old) (K.marks keeper.new)) app.now moment (K.told keeper.old) (K.told keeper.new) s wrote.new.items) }
-    ensures stopped { OnErr result (Goes (IsLost (K.marks keeper.old) (K.marks keeper.new)) Stays (K.told keeper.old) (K.told keeper.new)) }
+    ensures stopped { OnErr result (Becomes K.Keeper keeper.old keeper.new Stays) }
     ensures rows { AreSound app.now.names.schema (K.told keeper.new) }
     ensures shaped { K.shaped keeper.new ≡ Some app.now.names.schema }
     ensures idle { K.in_transaction keeper.new ≡ false }
     ensures cached { IfOk result (λ s. IsCached app.now s (K.told keeper.new) moment cache.new) }
-    ensures tables { Goes (IsLost (K.marks keeper.old) (K.marks keeper.new)) (AreTablesBut wrote.new.items) (K.told keeper.old) (K.told keeper.new) }
+    ensures tables { Becomes K.Keeper keeper.old keeper.new (AreTablesBut wrote.new.items) }
     ensures sources { AreSources app.now.names wrote.new.items }
-    ensures cause { HasCause (K.marks keeper.old) (K.marks keeper.new) result }
+    ensures cause { HasCause K.Keeper keeper.old keeper.new result }
     ensures loan { K.loan keeper.new ≡ K.loan keeper.old }
 {
     match keeper.begin() {

@@ -1,7 +1,5 @@
 //! Performing a behaviour formula of an app.
 ghost use Rattle.std.specs.Prelude.{◌≡◌, ◌≤◌, Some, IfOk, OnErr, drop, length, option_map, take, true};
-ghost use Rattle.fx_base.specs.Silence.{Goes, IsLost};
-ghost use Rattle.fx_base.specs.Telling.{Stays};
 ghost use Rattle.fx_data.specs.TypeView.{shape};
 ghost use Rattle.fx_data.specs.ValueView.{view};
 ghost use Rattle.fx_scalar.specs.ScalarFunctions.{IsToday};
@@ -10,7 +8,6 @@ ghost use Rattle.fx_typing.specs.Typing.{item_of};
 ghost use Rattle.fx_value.specs.Fits.{fits_in};
 ghost use Rattle.recalc.specs.app_semantics.Sound.{IsSound};
 ghost use Rattle.recalc.specs.Changes.{IsLeftBut};
-ghost use Rattle.row_keeper.specs.Causes.{HasCause};
 ghost use Rattle.row_requests.specs.Sound.{AreSound};
 ghost use Rattle.session_state.specs.Changes.{FitsNames};
 ghost use Rattle.session_requests.specs.Caching.{AreLater, AreSessionsBut, AreSources, IsCached, LeavesBut};
@@ -18,6 +15,7 @@ ghost use Rattle.session_requests.specs.Performing.{Acts, IsActing, Leaves};
 ghost use Rattle.fx_behave.specs.Writable.{MayWrite};
 ghost use Rattle.session_requests.specs.Whole.{FormulaWrites, IsInAll};
 ghost use Rattle.session_requests.specs.Writable.{AreAll};
+ghost use Rattle.row_keeper.specs.Over.{Becomes, BeganStays, HasCause};
 
 use crate::accepted::{Accepted, SoundApp};
 use crate::acting_laws::one_source_value;
@@ -64,25 +62,28 @@ pub fn perform<K: Keeper, L: Ledger>(
     requires sources { AreSources app.now.names wrote.old.items }
     requires but { AreSessionsBut app.now.names wrote.old.items before.now session.old }
     requires later { AreLater wrote.old.items (K.began keeper.old) (K.told keeper.old) }
-    ensures acted { IfOk result (λ v. Goes (IsLost (K.marks keeper.old) (K.marks keeper.new))
-        (λ t u. Acts app.now moment info.now (option_map view item) t session.old (view v) u session.new (drop (length wrote.old.items) wrote.new.items)) (K.told keeper.old) (K.told keeper.new)) }
+    ensures acted { IfOk result (λ v. Becomes K.Keeper keeper.old keeper.new
+        (λ t u. Acts app.now moment info.now (option_map view item) t session.old (view v) u session.new (drop (length wrote.old.items) wrote.new.items))) }
     ensures prefix { take (length wrote.old.items) wrote.new.items ≡ wrote.old.items }
     ensures cached { IsCached app.now session.new (K.told keeper.new) moment cache.new }
     ensures sources { AreSources app.now.names wrote.new.items }
     ensures clean { LeavesBut app.now wrote.old.items cache.old wrote.new.items cache.new }
     ensures but { AreSessionsBut app.now.names wrote.new.items before.now session.new }
     ensures later { AreLater wrote.new.items (K.began keeper.new) (K.told keeper.new) }
-    ensures leaves { Goes (IsLost (K.marks keeper.old) (K.marks keeper.new)) (λ t u. Leaves app.now moment t session.old u session.new) (K.told keeper.old) (K.told keeper.new) }
+    ensures leaves { Becomes K.Keeper keeper.old keeper.new
+        (λ t u. Leaves app.now moment t session.old u session.new) }
     ensures fits { FitsNames app.now.names session.new }
     ensures value { IfOk result (λ v. fits_in (view v) (shape info.now.ty) ≡ true) }
     ensures rows { AreSound app.now.names.schema (K.told keeper.new) }
-    ensures began { Goes (IsLost (K.marks keeper.old) (K.marks keeper.new)) Stays (K.began keeper.old) (K.began keeper.new) }
+    ensures began { BeganStays K.Keeper keeper.old keeper.new }
     ensures shaped { K.shaped keeper.new ≡ Some app.now.names.schema }
     ensures open { K.in_transaction keeper.new ≡ true }
-    ensures cause { HasCause (K.marks keeper.old) (K.marks keeper.new) result }
+    ensures cause { HasCause K.Keeper keeper.old keeper.new result }
     ensures visited { K.visited keeper.old ≤ K.visited keeper.new }
-    ensures only { Goes (IsLost (K.marks keeper.old) (K.marks keeper.new)) (λ t u. AreAll (MayWrite info.now.core) (drop (length wrote.old.items) wrote.new.items)) (K.told keeper.old) (K.told keeper.new) }
-    ensures cut { OnErr result (Goes (IsLost (K.marks keeper.old) (K.marks keeper.new)) (λ t u. AreAll (IsInAll (FormulaWrites app.now moment info.now (option_map view item) t session.old)) (drop (length wrote.old.items) wrote.new.items)) (K.told keeper.old) (K.told keeper.new)) }
+    ensures only { Becomes K.Keeper keeper.old keeper.new
+        (λ t u. AreAll (MayWrite info.now.core) (drop (length wrote.old.items) wrote.new.items)) }
+    ensures cut { OnErr result (Becomes K.Keeper keeper.old keeper.new
+        (λ t u. AreAll (IsInAll (FormulaWrites app.now moment info.now (option_map view item) t session.old)) (drop (length wrote.old.items) wrote.new.items))) }
     ensures loan { K.loan keeper.new ≡ K.loan keeper.old }
 {
     let day = today(alloc, moment)?;
@@ -124,25 +125,28 @@ fn perform_over<'a, A: SoundApp, K: Keeper, L: Ledger, S: Start>(
     requires but { AreSessionsBut (A.app app.now).names wrote.old.items before.now session.old }
     requires later { AreLater wrote.old.items (K.began keeper.old) (K.told keeper.old) }
     requires clean { IsLeftBut (A.app app.now) wrote.old.items S.start cache.old }
-    ensures acted { IfOk result (λ v. Goes (IsLost (K.marks keeper.old) (K.marks keeper.new))
-        (λ t u. Acts (A.app app.now) moment info.now (option_map view item) t session.old (view v) u session.new (drop (length wrote.old.items) wrote.new.items)) (K.told keeper.old) (K.told keeper.new)) }
+    ensures acted { IfOk result (λ v. Becomes K.Keeper keeper.old keeper.new
+        (λ t u. Acts (A.app app.now) moment info.now (option_map view item) t session.old (view v) u session.new (drop (length wrote.old.items) wrote.new.items))) }
     ensures prefix { take (length wrote.old.items) wrote.new.items ≡ wrote.old.items }
     ensures cached { IsCached (A.app app.now) session.new (K.told keeper.new) moment cache.new }
     ensures sources { AreSources (A.app app.now).names wrote.new.items }
     ensures clean { IsLeftBut (A.app app.now) wrote.new.items S.start cache.new }
     ensures but { AreSessionsBut (A.app app.now).names wrote.new.items before.now session.new }
     ensures later { AreLater wrote.new.items (K.began keeper.new) (K.told keeper.new) }
-    ensures leaves { Goes (IsLost (K.marks keeper.old) (K.marks keeper.new)) (λ t u. Leaves (A.app app.now) moment t session.old u session.new) (K.told keeper.old) (K.told keeper.new) }
+    ensures leaves { Becomes K.Keeper keeper.old keeper.new
+        (λ t u. Leaves (A.app app.now) moment t session.old u session.new) }
     ensures fits { FitsNames (A.app app.now).names session.new }
     ensures value { IfOk result (λ v. fits_in (view v) (shape info.now.ty) ≡ true) }
     ensures rows { AreSound (A.app app.now).names.schema (K.told keeper.new) }
-    ensures began { Goes (IsLost (K.marks keeper.old) (K.marks keeper.new)) Stays (K.began keeper.old) (K.began keeper.new) }
+    ensures began { BeganStays K.Keeper keeper.old keeper.new }
     ensures shaped { K.shaped keeper.new ≡ Some (A.app app.now).names.schema }
     ensures open { K.in_transaction keeper.new ≡ true }
-    ensures cause { HasCause (K.marks keeper.old) (K.marks keeper.new) result }
+    ensures cause { HasCause K.Keeper keeper.old keeper.new result }
     ensures visited { K.visited keeper.old ≤ K.visited keeper.new }
-    ensures only { Goes (IsLost (K.marks keeper.old) (K.marks keeper.new)) (λ t u. AreAll (MayWrite info.now.core) (drop (length wrote.old.items) wrote.new.items)) (K.told keeper.old) (K.told keeper.new) }
-    ensures cut { OnErr result (Goes (IsLost (K.marks keeper.old) (K.marks keeper.new)) (λ t u. AreAll (IsInAll (FormulaWrites (A.app app.now) moment info.now (option_map view item) t session.old)) (drop (length wrote.old.items) wrote.new.items)) (K.told keeper.old) (K.told keeper.new)) }
+    ensures only { Becomes K.Keeper keeper.old keeper.new
+        (λ t u. AreAll (MayWrite info.now.core) (drop (length wrote.old.items) wrote.new.items)) }
+    ensures cut { OnErr result (Becomes K.Keeper keeper.old keeper.new
+        (λ t u. AreAll (IsInAll (FormulaWrites (A.app app.now) moment info.now (option_map view item) t session.old)) (drop (length wrote.old.items) wrote.new.items))) }
     ensures loan { K.loan keeper.new ≡ K.loan keeper.old }
 {
     // Called for what they say: the app is sound, a source gives one value, and a whole performing goes on from where one is

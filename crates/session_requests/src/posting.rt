@@ -1,16 +1,17 @@
 //! A session sends events and inputs.
 ghost use Rattle.std.specs.Prelude.{◌≡◌, [], ℕ, IfErr, IfOk, IsSome, Ok, OnErr, OnOk, Some, false};
-ghost use Rattle.fx_base.specs.Silence.{Goes, IsLost};
+ghost use Rattle.fx_base.specs.Silence.{IsLost};
 ghost use Rattle.fx_base.specs.Telling.{Stays};
 ghost use Rattle.fx_scalar.specs.ScalarFunctions.{IsToday};
+ghost use Rattle.recalc.specs.AskingOver.{HasRead};
 ghost use Rattle.recalc.specs.app_semantics.Present.{present};
 ghost use Rattle.recalc.specs.app_semantics.Sound.{IsSound};
-ghost use Rattle.recalc.specs.Asking.{HasRead, IsHeardOf, ToldRows, keeping};
+ghost use Rattle.recalc.specs.Asking.{IsHeardOf, ToldRows};
 ghost use Rattle.recalc.specs.Values.{CellsFit, value_of as value_of_cells};
 ghost use Rattle.request_checks.specs.Checked.{SessionsKeepReplies};
 ghost use Rattle.request_checks.specs.Directory.{find};
 ghost use Rattle.request_checks.specs.Replies.{IsReply, said};
-ghost use Rattle.row_keeper.specs.Causes.{HasCause};
+ghost use Rattle.row_keeper.specs.Over.{Becomes, HasCause};
 ghost use Rattle.row_keeper.specs.Tables.{rows_told};
 ghost use Rattle.row_requests.specs.Sound.{AreSound};
 ghost use Rattle.row_requests.specs.Written.{AreTablesBut};
@@ -77,20 +78,22 @@ pub fn send_input<K: Keeper, L: Ledger>(
     ensures done { IfOk result (λ r. SendsInput (IsLost (K.marks keeper.old) (K.marks keeper.new)) app.now moment name.now body.now input (K.told keeper.old) sessions.old.items (said r) (K.told keeper.new) sessions.new.items) }
     ensures whole { IfOk result IsReply }
     ensures stopped { OnErr result (sessions.new.items ≡ sessions.old.items) }
-    ensures left { OnErr result (Goes (IsLost (K.marks keeper.old) (K.marks keeper.new)) Stays (K.told keeper.old) (K.told keeper.new)) }
+    ensures left { OnErr result (Becomes K.Keeper keeper.old keeper.new Stays) }
     ensures fit { SessionsFit app.now.names sessions.new.items }
     ensures kept { SessionsKeepReplies sessions.new.items }
     ensures rows { AreSound app.now.names.schema (K.told keeper.new) }
     ensures shaped { K.shaped keeper.new ≡ Some app.now.names.schema }
     ensures idle { K.in_transaction keeper.new ≡ false }
-    ensures cause { HasCause (K.marks keeper.old) (K.marks keeper.new) result }
+    ensures cause { HasCause K.Keeper keeper.old keeper.new result }
     ensures cached { (s : SessionState) → find name.now sessions.new.items ≡ Some s → IsCached app.now s (K.told keeper.new) moment cache.new }
-    ensures tables { Goes (IsLost (K.marks keeper.old) (K.marks keeper.new)) (AreTablesBut wrote.new.items) (K.told keeper.old) (K.told keeper.new) }
+    ensures tables { Becomes K.Keeper keeper.old keeper.new (AreTablesBut wrote.new.items) }
     ensures sources { AreSources app.now.names wrote.new.items }
     ensures clean { IsLeftBut app.now wrote.new.items cache.old cache.new }
     ensures wrote { IfOk result (λ r. SendsInputWriting (IsLost (K.marks keeper.old) (K.marks keeper.new)) app.now moment name.now body.now input (K.told keeper.old) sessions.old.items (said r) (K.told keeper.new) sessions.new.items wrote.new.items) }
-    ensures only { Goes (IsLost (K.marks keeper.old) (K.marks keeper.new)) (λ t u. AreAll (InputMayWrite app.now input) wrote.new.items) (K.told keeper.old) (K.told keeper.new) }
-    ensures cut { OnErr result (Goes (IsLost (K.marks keeper.old) (K.marks keeper.new)) (λ t u. AreAll (IsInAll (InputPerforms app.now moment name.now input t sessions.old.items)) wrote.new.items) (K.told keeper.old) (K.told keeper.new)) }
+    ensures only { Becomes K.Keeper keeper.old keeper.new
+        (λ t u. AreAll (InputMayWrite app.now input) wrote.new.items) }
+    ensures cut { OnErr result (Becomes K.Keeper keeper.old keeper.new
+        (λ t u. AreAll (IsInAll (InputPerforms app.now moment name.now input t sessions.old.items)) wrote.new.items)) }
     ensures loan { K.loan keeper.new ≡ K.loan keeper.old }
 {
     match place_of(sessions, name) {
@@ -124,9 +127,8 @@ fn look_for_input<K: Keeper, L: Ledger>(
     ensures cached { IsCached app.now session.now (K.told keeper.new) moment cache.new }
     ensures clean { IsLeftBut app.now [] cache.old cache.new }
     ensures fresh { OnOk result ∥ ((tables : ToldRows) → IsHeardOf (K.told keeper.new) tables → AreFreshAt (present app.now session.now tables moment) (InputLooksAt app.now input.now) (value_of cache.new)) ∥₁ }
-    ensures read { HasRead (keeping (K.told keeper.old) (K.began keeper.old) (K.shaped keeper.old) (K.in_transaction keeper.old) (K.marks keeper.old) (K.visited keeper.old) (K.loan keeper.old))
-        (keeping (K.told keeper.new) (K.began keeper.new) (K.shaped keeper.new) (K.in_transaction keeper.new) (K.marks keeper.new) (K.visited keeper.new) (K.loan keeper.new)) }
-    ensures cause { HasCause (K.marks keeper.old) (K.marks keeper.new) result }
+    ensures read { HasRead K.Keeper keeper.old keeper.new }
+    ensures cause { HasCause K.Keeper keeper.old keeper.new result }
 {
     fitting_holds();
     match control_named(&app.names, &input.control) {
@@ -167,20 +169,22 @@ fn act_input<K: Keeper, L: Ledger>(
     ensures done { IfOk result (λ r. SendsInput (IsLost (K.marks keeper.old) (K.marks keeper.new)) app.now moment name.now body.now input (K.told keeper.old) sessions.old.items (said r) (K.told keeper.new) sessions.new.items) }
     ensures whole { IfOk result IsReply }
     ensures stopped { OnErr result (sessions.new.items ≡ sessions.old.items) }
-    ensures left { OnErr result (Goes (IsLost (K.marks keeper.old) (K.marks keeper.new)) Stays (K.told keeper.old) (K.told keeper.new)) }
+    ensures left { OnErr result (Becomes K.Keeper keeper.old keeper.new Stays) }
     ensures fit { SessionsFit app.now.names sessions.new.items }
     ensures kept { SessionsKeepReplies sessions.new.items }
     ensures rows { AreSound app.now.names.schema (K.told keeper.new) }
     ensures shaped { K.shaped keeper.new ≡ Some app.now.names.schema }
     ensures idle { K.in_transaction keeper.new ≡ false }
-    ensures cause { HasCause (K.marks keeper.old) (K.marks keeper.new) result }
+    ensures cause { HasCause K.Keeper keeper.old keeper.new result }
     ensures cached { (s : SessionState) → find name.now sessions.new.items ≡ Some s → IsCached app.now s (K.told keeper.new) moment cache.new }
-    ensures tables { Goes (IsLost (K.marks keeper.old) (K.marks keeper.new)) (AreTablesBut wrote.new.items) (K.told keeper.old) (K.told keeper.new) }
+    ensures tables { Becomes K.Keeper keeper.old keeper.new (AreTablesBut wrote.new.items) }
     ensures sources { AreSources app.now.names wrote.new.items }
     ensures clean { IsLeftBut app.now wrote.new.items cache.old cache.new }
     ensures wrote { IfOk result (λ r. SendsInputWriting (IsLost (K.marks keeper.old) (K.marks keeper.new)) app.now moment name.now body.now input (K.told keeper.old) sessions.old.items (said r) (K.told keeper.new) sessions.new.items wrote.new.items) }
-    ensures only { Goes (IsLost (K.marks keeper.old) (K.marks keeper.new)) (λ t u. AreAll (InputMayWrite app.now input) wrote.new.items) (K.told keeper.old) (K.told keeper.new) }
-    ensures cut { OnErr result (Goes (IsLost (K.marks keeper.old) (K.marks keeper.new)) (λ t u. AreAll (IsInAll (InputPerforms app.now moment name.now input t sessions.old.items)) wrote.new.items) (K.told keeper.old) (K.told keeper.new)) }
+    ensures only { Becomes K.Keeper keeper.old keeper.new
+        (λ t u. AreAll (InputMayWrite app.now input) wrote.new.items) }
+    ensures cut { OnErr result (Becomes K.Keeper keeper.old keeper.new
+        (λ t u. AreAll (IsInAll (InputPerforms app.now moment name.now input t sessions.old.items)) wrote.new.items)) }
     ensures loan { K.loan keeper.new ≡ K.loan keeper.old }
 {
     fitting_holds();
@@ -227,20 +231,22 @@ pub fn send_event<K: Keeper, L: Ledger>(
     ensures done { IfOk result (λ r. SendsEvent (IsLost (K.marks keeper.old) (K.marks keeper.new)) app.now moment name.now body.now event.now (K.told keeper.old) sessions.old.items (said r) (K.told keeper.new) sessions.new.items) }
     ensures whole { IfOk result IsReply }
     ensures stopped { OnErr result (sessions.new.items ≡ sessions.old.items) }
-    ensures left { OnErr result (Goes (IsLost (K.marks keeper.old) (K.marks keeper.new)) Stays (K.told keeper.old) (K.told keeper.new)) }
+    ensures left { OnErr result (Becomes K.Keeper keeper.old keeper.new Stays) }
     ensures fit { SessionsFit app.now.names sessions.new.items }
     ensures kept { SessionsKeepReplies sessions.new.items }
     ensures rows { AreSound app.now.names.schema (K.told keeper.new) }
     ensures shaped { K.shaped keeper.new ≡ Some app.now.names.schema }
     ensures idle { K.in_transaction keeper.new ≡ false }
-    ensures cause { HasCause (K.marks keeper.old) (K.marks keeper.new) result }
+    ensures cause { HasCause K.Keeper keeper.old keeper.new result }
     ensures cached { (s : SessionState) → find name.now sessions.new.items ≡ Some s → IsCached app.now s (K.told keeper.new) moment cache.new }
-    ensures tables { Goes (IsLost (K.marks keeper.old) (K.marks keeper.new)) (AreTablesBut wrote.new.items) (K.told keeper.old) (K.told keeper.new) }
+    ensures tables { Becomes K.Keeper keeper.old keeper.new (AreTablesBut wrote.new.items) }
     ensures sources { AreSources app.now.names wrote.new.items }
     ensures clean { IsLeftBut app.now wrote.new.items cache.old cache.new }
     ensures wrote { IfOk result (λ r. SendsEventWriting (IsLost (K.marks keeper.old) (K.marks keeper.new)) app.now moment name.now body.now event.now (K.told keeper.old) sessions.old.items (said r) (K.told keeper.new) sessions.new.items wrote.new.items) }
-    ensures only { Goes (IsLost (K.marks keeper.old) (K.marks keeper.new)) (λ t u. AreAll (EventMayWrite app.now event.now) wrote.new.items) (K.told keeper.old) (K.told keeper.new) }
-    ensures cut { OnErr result (Goes (IsLost (K.marks keeper.old) (K.marks keeper.new)) (λ t u. AreAll (IsInAll (EventPerforms app.now moment name.now event.now t sessions.old.items)) wrote.new.items) (K.told keeper.old) (K.told keeper.new)) }
+    ensures only { Becomes K.Keeper keeper.old keeper.new
+        (λ t u. AreAll (EventMayWrite app.now event.now) wrote.new.items) }
+    ensures cut { OnErr result (Becomes K.Keeper keeper.old keeper.new
+        (λ t u. AreAll (IsInAll (EventPerforms app.now moment name.now event.now t sessions.old.items)) wrote.new.items)) }
     ensures loan { K.loan keeper.new ≡ K.loan keeper.old }
 {
     match place_of(sessions, name) {
@@ -274,9 +280,8 @@ fn look_for_event<K: Keeper, L: Ledger>(
     ensures cached { IsCached app.now session.now (K.told keeper.new) moment cache.new }
     ensures clean { IsLeftBut app.now [] cache.old cache.new }
     ensures fresh { OnOk result ∥ ((tables : ToldRows) → IsHeardOf (K.told keeper.new) tables → AreFreshAt (present app.now session.now tables moment) (EventLooksAt app.now event.now) (value_of cache.new)) ∥₁ }
-    ensures read { HasRead (keeping (K.told keeper.old) (K.began keeper.old) (K.shaped keeper.old) (K.in_transaction keeper.old) (K.marks keeper.old) (K.visited keeper.old) (K.loan keeper.old))
-        (keeping (K.told keeper.new) (K.began keeper.new) (K.shaped keeper.new) (K.in_transaction keeper.new) (K.marks keeper.new) (K.visited keeper.new) (K.loan keeper.new)) }
-    ensures cause { HasCause (K.marks keeper.old) (K.marks keeper.new) result }
+    ensures read { HasRead K.Keeper keeper.old keeper.new }
+    ensures cause { HasCause K.Keeper keeper.old keeper.new result }
 {
     fitting_holds();
     match control_named(&app.names, &event.control) {
@@ -317,20 +322,22 @@ fn act_event<K: Keeper, L: Ledger>(
     ensures done { IfOk result (λ r. SendsEvent (IsLost (K.marks keeper.old) (K.marks keeper.new)) app.now moment name.now body.now event.now (K.told keeper.old) sessions.old.items (said r) (K.told keeper.new) sessions.new.items) }
     ensures whole { IfOk result IsReply }
     ensures stopped { OnErr result (sessions.new.items ≡ sessions.old.items) }
-    ensures left { OnErr result (Goes (IsLost (K.marks keeper.old) (K.marks keeper.new)) Stays (K.told keeper.old) (K.told keeper.new)) }
+    ensures left { OnErr result (Becomes K.Keeper keeper.old keeper.new Stays) }
     ensures fit { SessionsFit app.now.names sessions.new.items }
     ensures kept { SessionsKeepReplies sessions.new.items }
     ensures rows { AreSound app.now.names.schema (K.told keeper.new) }
     ensures shaped { K.shaped keeper.new ≡ Some app.now.names.schema }
     ensures idle { K.in_transaction keeper.new ≡ false }
-    ensures cause { HasCause (K.marks keeper.old) (K.marks keeper.new) result }
+    ensures cause { HasCause K.Keeper keeper.old keeper.new result }
     ensures cached { (s : SessionState) → find name.now sessions.new.items ≡ Some s → IsCached app.now s (K.told keeper.new) moment cache.new }
-    ensures tables { Goes (IsLost (K.marks keeper.old) (K.marks keeper.new)) (AreTablesBut wrote.new.items) (K.told keeper.old) (K.told keeper.new) }
+    ensures tables { Becomes K.Keeper keeper.old keeper.new (AreTablesBut wrote.new.items) }
     ensures sources { AreSources app.now.names wrote.new.items }
     ensures clean { IsLeftBut app.now wrote.new.items cache.old cache.new }
     ensures wrote { IfOk result (λ r. SendsEventWriting (IsLost (K.marks keeper.old) (K.marks keeper.new)) app.now moment name.now body.now event.now (K.told keeper.old) sessions.old.items (said r) (K.told keeper.new) sessions.new.items wrote.new.items) }
-    ensures only { Goes (IsLost (K.marks keeper.old) (K.marks keeper.new)) (λ t u. AreAll (EventMayWrite app.now event.now) wrote.new.items) (K.told keeper.old) (K.told keeper.new) }
-    ensures cut { OnErr result (Goes (IsLost (K.marks keeper.old) (K.marks keeper.new)) (λ t u. AreAll (IsInAll (EventPerforms app.now moment name.now event.now t sessions.old.items)) wrote.new.items) (K.told keeper.old) (K.told keeper.new)) }
+    ensures only { Becomes K.Keeper keeper.old keeper.new
+        (λ t u. AreAll (EventMayWrite app.now event.now) wrote.new.items) }
+    ensures cut { OnErr result (Becomes K.Keeper keeper.old keeper.new
+        (λ t u. AreAll (IsInAll (EventPerforms app.now moment name.now event.now t sessions.old.items)) wrote.new.items)) }
     ensures loan { K.loan keeper.new ≡ K.loan keeper.old }
 {
     fitting_holds();
@@ -364,9 +371,8 @@ fn judge_event<K: Keeper, L: Ledger>(
         IsVerdict (present app.now session.now (rows_told (K.told keeper.new)) moment) (value_of_cells valued.now) (event_target_of app.now.names session.now (value_of_cells valued.now) event.now) v) }
     ensures target { IfOk result (λ v. IfOk v (λ t. IsTarget app.now.names (value_of_cells valued.now) t)) }
     ensures detail { IfOk result (λ v. IfErr v (λ r. Fits r.code r.detail)) }
-    ensures read { HasRead (keeping (K.told keeper.old) (K.began keeper.old) (K.shaped keeper.old) (K.in_transaction keeper.old) (K.marks keeper.old) (K.visited keeper.old) (K.loan keeper.old))
-        (keeping (K.told keeper.new) (K.began keeper.new) (K.shaped keeper.new) (K.in_transaction keeper.new) (K.marks keeper.new) (K.visited keeper.new) (K.loan keeper.new)) }
-    ensures cause { HasCause (K.marks keeper.old) (K.marks keeper.new) result }
+    ensures read { HasRead K.Keeper keeper.old keeper.new }
+    ensures cause { HasCause K.Keeper keeper.old keeper.new result }
 {
     fitting_holds();
     let id = id_name(alloc)?;

@@ -1,11 +1,10 @@
 //! Accepted events and inputs, each in one transaction.
 ghost use Rattle.std.specs.Prelude.{◌≡◌, IfOk, OnErr, OnOk, Some, drop, false, length, option_map, take, true};
-ghost use Rattle.fx_base.specs.Silence.{Goes, IsLost};
+ghost use Rattle.fx_base.specs.Silence.{IsLost};
 ghost use Rattle.fx_base.specs.Telling.{Stays};
 ghost use Rattle.fx_data.specs.ValueView.{view};
 ghost use Rattle.recalc.specs.app_semantics.Sound.{IsSound};
 ghost use Rattle.request_checks.specs.Replies.{IsReply, said};
-ghost use Rattle.row_keeper.specs.Causes.{HasCause};
 ghost use Rattle.row_requests.specs.Sound.{AreSound};
 ghost use Rattle.row_requests.specs.Written.{AreTablesBut};
 ghost use Rattle.recalc.specs.app_cells.declared.app.App.{App as AnApp};
@@ -17,6 +16,7 @@ ghost use Rattle.session_requests.specs.Triggers.{ItemFits};
 ghost use Rattle.session_requests.specs.Whole.{IsInAll, RequestWrites};
 ghost use Rattle.session_requests.specs.Writable.{AreAll, RequestMayWrite};
 ghost use Rattle.session_state.specs.Changes.{FitsNames};
+ghost use Rattle.row_keeper.specs.Over.{Becomes, BeganStays, HasCause};
 
 use crate::acting_laws::one_acting;
 use crate::app_cells::App;
@@ -71,10 +71,10 @@ fn prepare<K: Keeper, L: Ledger>(
     ensures kept { IfOk result (λ r. r.kept.items ≡ said r.reply) }
     ensures whole { IfOk result (λ r. IsReply r.reply) }
     ensures rows { AreSound app.now.names.schema (K.told keeper.new) }
-    ensures began { Goes (IsLost (K.marks keeper.old) (K.marks keeper.new)) Stays (K.began keeper.old) (K.began keeper.new) }
+    ensures began { BeganStays K.Keeper keeper.old keeper.new }
     ensures shaped { K.shaped keeper.new ≡ Some app.now.names.schema }
     ensures open { K.in_transaction keeper.new ≡ true }
-    ensures cause { HasCause (K.marks keeper.old) (K.marks keeper.new) result }
+    ensures cause { HasCause K.Keeper keeper.old keeper.new result }
     ensures cached { IfOk result (λ r. IsCached app.now r.session (K.told keeper.new) moment cache.new) }
     ensures pending { IsPending app.now before.now (K.began keeper.new) moment wrote.new.items cache.new }
     ensures later { AreLater wrote.new.items (K.began keeper.new) (K.told keeper.new) }
@@ -82,8 +82,10 @@ fn prepare<K: Keeper, L: Ledger>(
     ensures clean { LeavesBut app.now wrote.old.items cache.old wrote.new.items cache.new }
     ensures wrote { IfOk result (λ r. AcceptsWriting (IsLost (K.marks keeper.old) (K.marks keeper.new)) app.now moment trigger (option_map view item) session (K.told keeper.old) (K.told keeper.new) (drop (length wrote.old.items) wrote.new.items)) }
     ensures prefix { take (length wrote.old.items) wrote.new.items ≡ wrote.old.items }
-    ensures only { Goes (IsLost (K.marks keeper.old) (K.marks keeper.new)) (λ t u. AreAll (RequestMayWrite app.now trigger) (drop (length wrote.old.items) wrote.new.items)) (K.told keeper.old) (K.told keeper.new) }
-    ensures cut { OnErr result (Goes (IsLost (K.marks keeper.old) (K.marks keeper.new)) (λ t u. AreAll (IsInAll (RequestWrites app.now moment trigger (option_map view item) (scene t (begun session)))) (drop (length wrote.old.items) wrote.new.items)) (K.told keeper.old) (K.told keeper.new)) }
+    ensures only { Becomes K.Keeper keeper.old keeper.new
+        (λ t u. AreAll (RequestMayWrite app.now trigger) (drop (length wrote.old.items) wrote.new.items)) }
+    ensures cut { OnErr result (Becomes K.Keeper keeper.old keeper.new
+        (λ t u. AreAll (IsInAll (RequestWrites app.now moment trigger (option_map view item) (scene t (begun session)))) (drop (length wrote.old.items) wrote.new.items))) }
     ensures loan { K.loan keeper.new ≡ K.loan keeper.old }
 {
     // The law is called for what it says: a formula does one thing at most.
@@ -157,20 +159,23 @@ fn transact<K: Keeper, L: Ledger>(
     ensures accepts { IfOk result (λ r. Accepts (IsLost (K.marks keeper.old) (K.marks keeper.new)) app.now moment trigger (option_map view item) seq session (K.told keeper.old) (said r.reply) (K.told keeper.new) r.session) }
     ensures kept { IfOk result (λ r. r.kept.items ≡ said r.reply) }
     ensures whole { IfOk result (λ r. IsReply r.reply) }
-    ensures stopped { OnErr result (Goes (IsLost (K.marks keeper.old) (K.marks keeper.new)) Stays (K.told keeper.old) (K.told keeper.new)) }
+    ensures stopped { OnErr result (Becomes K.Keeper keeper.old keeper.new Stays) }
     ensures rows { AreSound app.now.names.schema (K.told keeper.new) }
     ensures shaped { K.shaped keeper.new ≡ Some app.now.names.schema }
     ensures idle { K.in_transaction keeper.new ≡ false }
-    ensures cause { HasCause (K.marks keeper.old) (K.marks keeper.new) result }
+    ensures cause { HasCause K.Keeper keeper.old keeper.new result }
     ensures cached { IfOk result (λ r. IsCached app.now r.session (K.told keeper.new) moment cache.new) }
     ensures pending { OnErr result (IsPending app.now before.now (K.told keeper.new) moment wrote.new.items cache.new) }
-    ensures tables { OnOk result (Goes (IsLost (K.marks keeper.old) (K.marks keeper.new)) (AreTablesBut wrote.new.items) (K.told keeper.old) (K.told keeper.new)) }
+    ensures tables { OnOk result (Becomes K.Keeper keeper.old keeper.new
+        (AreTablesBut wrote.new.items)) }
     ensures sources { AreSources app.now.names wrote.new.items }
     ensures clean { LeavesBut app.now wrote.old.items cache.old wrote.new.items cache.new }
     ensures wrote { IfOk result (λ r. AcceptsWriting (IsLost (K.marks keeper.old) (K.marks keeper.new)) app.now moment trigger (option_map view item) session (K.told keeper.old) (K.told keeper.new) (drop (length wrote.old.items) wrote.new.items)) }
     ensures prefix { take (length wrote.old.items) wrote.new.items ≡ wrote.old.items }
-    ensures only { Goes (IsLost (K.marks keeper.old) (K.marks keeper.new)) (λ t u. AreAll (RequestMayWrite app.now trigger) (drop (length wrote.old.items) wrote.new.items)) (K.told keeper.old) (K.told keeper.new) }
-    ensures cut { OnErr result (Goes (IsLost (K.marks keeper.old) (K.marks keeper.new)) (λ t u. AreAll (IsInAll (RequestWrites app.now moment trigger (option_map view item) (scene t (begun session)))) (drop (length wrote.old.items) wrote.new.items)) (K.told keeper.old) (K.told keeper.new)) }
+    ensures only { Becomes K.Keeper keeper.old keeper.new
+        (λ t u. AreAll (RequestMayWrite app.now trigger) (drop (length wrote.old.items) wrote.new.items)) }
+    ensures cut { OnErr result (Becomes K.Keeper keeper.old keeper.new
+        (λ t u. AreAll (IsInAll (RequestWrites app.now moment trigger (option_map view item) (scene t (begun session)))) (drop (length wrote.old.items) wrote.new.items))) }
     ensures loan { K.loan keeper.new ≡ K.loan keeper.old }
 {
     // The law is called for what it says: a formula does one thing at most.
@@ -232,20 +237,22 @@ pub fn accept_request<K: Keeper, L: Ledger>(
     ensures accepts { IfOk result (λ r. Accepts (IsLost (K.marks keeper.old) (K.marks keeper.new)) app.now moment trigger (option_map view item) seq session (K.told keeper.old) (said r.reply) (K.told keeper.new) r.session) }
     ensures kept { IfOk result (λ r. r.kept.items ≡ said r.reply) }
     ensures whole { IfOk result (λ r. IsReply r.reply) }
-    ensures stopped { OnErr result (Goes (IsLost (K.marks keeper.old) (K.marks keeper.new)) Stays (K.told keeper.old) (K.told keeper.new)) }
+    ensures stopped { OnErr result (Becomes K.Keeper keeper.old keeper.new Stays) }
     ensures rows { AreSound app.now.names.schema (K.told keeper.new) }
     ensures shaped { K.shaped keeper.new ≡ Some app.now.names.schema }
     ensures idle { K.in_transaction keeper.new ≡ false }
-    ensures cause { HasCause (K.marks keeper.old) (K.marks keeper.new) result }
+    ensures cause { HasCause K.Keeper keeper.old keeper.new result }
     ensures cached { IfOk result (λ r. IsCached app.now r.session (K.told keeper.new) moment cache.new) }
     ensures undone { OnErr result (IsCached app.now before.now (K.told keeper.new) moment cache.new) }
-    ensures tables { Goes (IsLost (K.marks keeper.old) (K.marks keeper.new)) (AreTablesBut wrote.new.items) (K.told keeper.old) (K.told keeper.new) }
+    ensures tables { Becomes K.Keeper keeper.old keeper.new (AreTablesBut wrote.new.items) }
     ensures sources { AreSources app.now.names wrote.new.items }
     ensures clean { LeavesBut app.now wrote.old.items cache.old wrote.new.items cache.new }
     ensures wrote { IfOk result (λ r. AcceptsWriting (IsLost (K.marks keeper.old) (K.marks keeper.new)) app.now moment trigger (option_map view item) session (K.told keeper.old) (K.told keeper.new) (drop (length wrote.old.items) wrote.new.items)) }
     ensures prefix { take (length wrote.old.items) wrote.new.items ≡ wrote.old.items }
-    ensures only { Goes (IsLost (K.marks keeper.old) (K.marks keeper.new)) (λ t u. AreAll (RequestMayWrite app.now trigger) (drop (length wrote.old.items) wrote.new.items)) (K.told keeper.old) (K.told keeper.new) }
-    ensures cut { OnErr result (Goes (IsLost (K.marks keeper.old) (K.marks keeper.new)) (λ t u. AreAll (IsInAll (RequestWrites app.now moment trigger (option_map view item) (scene t (begun session)))) (drop (length wrote.old.items) wrote.new.items)) (K.told keeper.old) (K.told keeper.new)) }
+    ensures only { Becomes K.Keeper keeper.old keeper.new
+        (λ t u. AreAll (RequestMayWrite app.now trigger) (drop (length wrote.old.items) wrote.new.items)) }
+    ensures cut { OnErr result (Becomes K.Keeper keeper.old keeper.new
+        (λ t u. AreAll (IsInAll (RequestWrites app.now moment trigger (option_map view item) (scene t (begun session)))) (drop (length wrote.old.items) wrote.new.items))) }
     ensures loan { K.loan keeper.new ≡ K.loan keeper.old }
 {
     match transact(
