@@ -52,25 +52,19 @@ one_anchor a b e =
     }
 
 -- ---- what is fixed, of a world as it is left and as it is made
--- all on which it stands
-pub stands_same : (h g : Anchor) (i c j p k d l q : ℕ) (x y : Option ℕ) (m n : Bool) → fixed_in h i c j p x m ≡ fixed_in g k d l q y n → AreOne h g
-stands_same h g i c j p k d l q x y m n e = let both = ap (λ (f : Fixed). f.loans) e in one_anchor h g cc
+-- It stands on the same, over what was lent
+pub record AreLent (h g : Anchor) (i c j p k d l q : ℕ) (x y : Option ℕ) : Type 0 where
+  pub one : AreOne h g
+  pub session : i ≡ k
+  pub cache : c ≡ d
+  pub keeper : j ≡ l
+  pub wrote : p ≡ q
+  pub loan : x ≡ y
 
--- the loans are those that were lent
-pub session_same : (h g : Anchor) (i c j p k d l q : ℕ) (x y : Option ℕ) (m n : Bool) → fixed_in h i c j p x m ≡ fixed_in g k d l q y n → i ≡ k
-session_same h g i c j p k d l q x y m n e = let both = ap (λ (f : Fixed). f.loans) e in cc
-
-pub cache_same : (h g : Anchor) (i c j p k d l q : ℕ) (x y : Option ℕ) (m n : Bool) → fixed_in h i c j p x m ≡ fixed_in g k d l q y n → c ≡ d
-cache_same h g i c j p k d l q x y m n e = let both = ap (λ (f : Fixed). f.loans) e in cc
-
-pub keeper_same : (h g : Anchor) (i c j p k d l q : ℕ) (x y : Option ℕ) (m n : Bool) → fixed_in h i c j p x m ≡ fixed_in g k d l q y n → j ≡ l
-keeper_same h g i c j p k d l q x y m n e = let both = ap (λ (f : Fixed). f.loans) e in cc
-
-pub wrote_same : (h g : Anchor) (i c j p k d l q : ℕ) (x y : Option ℕ) (m n : Bool) → fixed_in h i c j p x m ≡ fixed_in g k d l q y n → p ≡ q
-wrote_same h g i c j p k d l q x y m n e = let both = ap (λ (f : Fixed). f.loans) e in cc
-
-pub loan_same : (h g : Anchor) (i c j p k d l q : ℕ) (x y : Option ℕ) (m n : Bool) → fixed_in h i c j p x m ≡ fixed_in g k d l q y n → x ≡ y
-loan_same h g i c j p k d l q x y m n e = let both = ap (λ (f : Fixed). f.loans) e in cc
+pub lent_same : (h g : Anchor) (i c j p k d l q : ℕ) (x y : Option ℕ) (m n : Bool) → fixed_in h i c j p x m ≡ fixed_in g k d l q y n → AreLent h g i c j p k d l q x y
+lent_same h g i c j p k d l q x y m n e =
+    let both = ap (λ (f : Fixed). f.loans) e in
+    record { one = one_anchor h g cc; session = cc; cache = cc; keeper = cc; wrote = cc; loan = cc }
 
 -- as many were written earlier
 pub count_same : (n : ℕ) (xs ys : List Source) → n ≤ length xs → take n xs ≡ ys → n ≡ length ys

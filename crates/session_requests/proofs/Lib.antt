@@ -31,3 +31,4 @@ pub mod Giving
 pub mod Written
 pub mod Writable
 pub mod Cuts
+pub mod Transactions

@@ -18,6 +18,7 @@ pub mod Running
 pub mod Writable
 pub mod Whole
 pub mod Requests
+pub mod Transactions
 pub mod Opening
 pub mod EventLaws
 pub mod Anchors

@@ -3,12 +3,13 @@ ghost use Rattle.std.specs.Prelude.{◌≡◌, [], IfOk, OnErr, Some, false, tru
 ghost use Rattle.fx_base.specs.Silence.{IsLost};
 ghost use Rattle.fx_base.specs.Telling.{Stays};
 ghost use Rattle.recalc.specs.app_semantics.Sound.{IsSound};
+ghost use Rattle.row_keeper.specs.Over.{Becomes, HasCause};
 ghost use Rattle.row_requests.specs.Sound.{AreSound};
 ghost use Rattle.row_requests.specs.Written.{AreTablesBut};
 ghost use Rattle.session_state.specs.Sessions.{opened};
-ghost use Rattle.session_requests.specs.Caching.{AreLater, AreSources, IsCached};
+ghost use Rattle.session_requests.specs.Caching.{AreSources, IsCached};
 ghost use Rattle.session_requests.specs.Opening.{CanOpen, OpensNew, OpensNewWriting};
-ghost use Rattle.row_keeper.specs.Over.{Becomes, BeganStays, HasCause};
+ghost use Rattle.session_requests.specs.Transactions.{CanGoBack, GoesOn};
 
 use crate::app_cells::App;
 use crate::running::open;
@@ -38,17 +39,11 @@ fn prepare_session<K: Keeper, L: Ledger>(
     requires cached { IsCached app.now (opened app.now.names) (K.told keeper.old) moment cache.old }
     requires began { K.began keeper.old ≡ K.told keeper.old }
     requires wrote { wrote.old.items ≡ [] }
-    ensures opens { IfOk result (λ s. OpensNew (IsLost (K.marks keeper.old) (K.marks keeper.new)) app.now moment (K.told keeper.old) (K.told keeper.new) s) }
     ensures wrote { IfOk result (λ s. OpensNewWriting (IsLost (K.marks keeper.old) (K.marks keeper.new)) app.now moment (K.told keeper.old) (K.told keeper.new) s wrote.new.items) }
-    ensures rows { AreSound app.now.names.schema (K.told keeper.new) }
-    ensures began { BeganStays K.Keeper keeper.old keeper.new }
-    ensures shaped { K.shaped keeper.new ≡ Some app.now.names.schema }
-    ensures open { K.in_transaction keeper.new ≡ true }
     ensures cached { IfOk result (λ s. IsCached app.now s (K.told keeper.new) moment cache.new) }
-    ensures later { AreLater wrote.new.items (K.began keeper.new) (K.told keeper.new) }
-    ensures sources { AreSources app.now.names wrote.new.items }
+    ensures undoable { CanGoBack K.Keeper app.now moment (opened app.now.names) cache.new keeper.new wrote.new.items }
+    ensures goes_on { GoesOn K.Keeper app.now cache.old cache.new keeper.old keeper.new wrote.old.items wrote.new.items }
     ensures cause { HasCause K.Keeper keeper.old keeper.new result }
-    ensures loan { K.loan keeper.new ≡ K.loan keeper.old }
 {
     let before = Session::new(alloc, &app.names)?;
     let mut session = Session::new(alloc, &app.names)?;

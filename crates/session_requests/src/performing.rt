@@ -1,5 +1,5 @@
 //! Performing a behaviour formula of an app.
-ghost use Rattle.std.specs.Prelude.{◌≡◌, ◌≤◌, Some, IfOk, OnErr, drop, length, option_map, take, true};
+ghost use Rattle.std.specs.Prelude.{◌≡◌, IfOk, OnErr, drop, length, option_map, true};
 ghost use Rattle.fx_data.specs.TypeView.{shape};
 ghost use Rattle.fx_data.specs.ValueView.{view};
 ghost use Rattle.fx_scalar.specs.ScalarFunctions.{IsToday};
@@ -7,15 +7,12 @@ ghost use Rattle.fx_semantics.specs.Sound.{IsItemFit};
 ghost use Rattle.fx_typing.specs.Typing.{item_of};
 ghost use Rattle.fx_value.specs.Fits.{fits_in};
 ghost use Rattle.recalc.specs.app_semantics.Sound.{IsSound};
-ghost use Rattle.recalc.specs.Changes.{IsLeftBut};
-ghost use Rattle.row_requests.specs.Sound.{AreSound};
-ghost use Rattle.session_state.specs.Changes.{FitsNames};
-ghost use Rattle.session_requests.specs.Caching.{AreLater, AreSessionsBut, AreSources, IsCached, LeavesBut};
+ghost use Rattle.row_keeper.specs.Over.{Becomes, HasCause};
 ghost use Rattle.session_requests.specs.Performing.{Acts, IsActing, Leaves};
+ghost use Rattle.session_requests.specs.Transactions.{GoesOn, IsUnderWay};
 ghost use Rattle.fx_behave.specs.Writable.{MayWrite};
 ghost use Rattle.session_requests.specs.Whole.{FormulaWrites, IsInAll};
 ghost use Rattle.session_requests.specs.Writable.{AreAll};
-ghost use Rattle.row_keeper.specs.Over.{Becomes, BeganStays, HasCause};
 
 use crate::accepted::{Accepted, SoundApp};
 use crate::acting_laws::one_source_value;
@@ -53,38 +50,20 @@ pub fn perform<K: Keeper, L: Ledger>(
 ) -> Result<Value, KeeperEnd>
     requires sound { IsSound app.now }
     requires acting { IsActing app.now info.now }
-    requires fits { FitsNames app.now.names session.old }
     requires item { IsItemFit (option_map view item) (item_of app.now.names info.now.cell.item) }
-    requires shaped { K.shaped keeper.old ≡ Some app.now.names.schema }
-    requires rows { AreSound app.now.names.schema (K.told keeper.old) }
-    requires begun { K.in_transaction keeper.old ≡ true }
-    requires cached { IsCached app.now session.old (K.told keeper.old) moment cache.old }
-    requires sources { AreSources app.now.names wrote.old.items }
-    requires but { AreSessionsBut app.now.names wrote.old.items before.now session.old }
-    requires later { AreLater wrote.old.items (K.began keeper.old) (K.told keeper.old) }
+    requires under_way { IsUnderWay K.Keeper app.now moment before.now session.old cache.old keeper.old wrote.old.items }
     ensures acted { IfOk result (λ v. Becomes K.Keeper keeper.old keeper.new
         (λ t u. Acts app.now moment info.now (option_map view item) t session.old (view v) u session.new (drop (length wrote.old.items) wrote.new.items))) }
-    ensures prefix { take (length wrote.old.items) wrote.new.items ≡ wrote.old.items }
-    ensures cached { IsCached app.now session.new (K.told keeper.new) moment cache.new }
-    ensures sources { AreSources app.now.names wrote.new.items }
-    ensures clean { LeavesBut app.now wrote.old.items cache.old wrote.new.items cache.new }
-    ensures but { AreSessionsBut app.now.names wrote.new.items before.now session.new }
-    ensures later { AreLater wrote.new.items (K.began keeper.new) (K.told keeper.new) }
-    ensures leaves { Becomes K.Keeper keeper.old keeper.new
-        (λ t u. Leaves app.now moment t session.old u session.new) }
-    ensures fits { FitsNames app.now.names session.new }
     ensures value { IfOk result (λ v. fits_in (view v) (shape info.now.ty) ≡ true) }
-    ensures rows { AreSound app.now.names.schema (K.told keeper.new) }
-    ensures began { BeganStays K.Keeper keeper.old keeper.new }
-    ensures shaped { K.shaped keeper.new ≡ Some app.now.names.schema }
-    ensures open { K.in_transaction keeper.new ≡ true }
-    ensures cause { HasCause K.Keeper keeper.old keeper.new result }
-    ensures visited { K.visited keeper.old ≤ K.visited keeper.new }
-    ensures only { Becomes K.Keeper keeper.old keeper.new
-        (λ t u. AreAll (MayWrite info.now.core) (drop (length wrote.old.items) wrote.new.items)) }
     ensures cut { OnErr result (Becomes K.Keeper keeper.old keeper.new
         (λ t u. AreAll (IsInAll (FormulaWrites app.now moment info.now (option_map view item) t session.old)) (drop (length wrote.old.items) wrote.new.items))) }
-    ensures loan { K.loan keeper.new ≡ K.loan keeper.old }
+    ensures only { Becomes K.Keeper keeper.old keeper.new
+        (λ t u. AreAll (MayWrite info.now.core) (drop (length wrote.old.items) wrote.new.items)) }
+    ensures leaves { Becomes K.Keeper keeper.old keeper.new
+        (λ t u. Leaves app.now moment t session.old u session.new) }
+    ensures under_way { IsUnderWay K.Keeper app.now moment before.now session.new cache.new keeper.new wrote.new.items }
+    ensures goes_on { GoesOn K.Keeper app.now cache.old cache.new keeper.old keeper.new wrote.old.items wrote.new.items }
+    ensures cause { HasCause K.Keeper keeper.old keeper.new result }
 {
     let day = today(alloc, moment)?;
     let accepted = Accepted::new(app);
@@ -114,40 +93,22 @@ fn perform_over<'a, A: SoundApp, K: Keeper, L: Ledger, S: Start>(
 ) -> Result<Value, KeeperEnd>
     requires day { IsToday moment (view day.now) }
     requires earlier { earlier ≡ length wrote.old.items }
+    requires start { S.start ≡ cache.old }
     requires acting { IsActing (A.app app.now) info.now }
-    requires fits { FitsNames (A.app app.now).names session.old }
     requires item { IsItemFit (option_map view item) (item_of (A.app app.now).names info.now.cell.item) }
-    requires shaped { K.shaped keeper.old ≡ Some (A.app app.now).names.schema }
-    requires rows { AreSound (A.app app.now).names.schema (K.told keeper.old) }
-    requires begun { K.in_transaction keeper.old ≡ true }
-    requires cached { IsCached (A.app app.now) session.old (K.told keeper.old) moment cache.old }
-    requires sources { AreSources (A.app app.now).names wrote.old.items }
-    requires but { AreSessionsBut (A.app app.now).names wrote.old.items before.now session.old }
-    requires later { AreLater wrote.old.items (K.began keeper.old) (K.told keeper.old) }
-    requires clean { IsLeftBut (A.app app.now) wrote.old.items S.start cache.old }
+    requires under_way { IsUnderWay K.Keeper (A.app app.now) moment before.now session.old cache.old keeper.old wrote.old.items }
     ensures acted { IfOk result (λ v. Becomes K.Keeper keeper.old keeper.new
         (λ t u. Acts (A.app app.now) moment info.now (option_map view item) t session.old (view v) u session.new (drop (length wrote.old.items) wrote.new.items))) }
-    ensures prefix { take (length wrote.old.items) wrote.new.items ≡ wrote.old.items }
-    ensures cached { IsCached (A.app app.now) session.new (K.told keeper.new) moment cache.new }
-    ensures sources { AreSources (A.app app.now).names wrote.new.items }
-    ensures clean { IsLeftBut (A.app app.now) wrote.new.items S.start cache.new }
-    ensures but { AreSessionsBut (A.app app.now).names wrote.new.items before.now session.new }
-    ensures later { AreLater wrote.new.items (K.began keeper.new) (K.told keeper.new) }
-    ensures leaves { Becomes K.Keeper keeper.old keeper.new
-        (λ t u. Leaves (A.app app.now) moment t session.old u session.new) }
-    ensures fits { FitsNames (A.app app.now).names session.new }
     ensures value { IfOk result (λ v. fits_in (view v) (shape info.now.ty) ≡ true) }
-    ensures rows { AreSound (A.app app.now).names.schema (K.told keeper.new) }
-    ensures began { BeganStays K.Keeper keeper.old keeper.new }
-    ensures shaped { K.shaped keeper.new ≡ Some (A.app app.now).names.schema }
-    ensures open { K.in_transaction keeper.new ≡ true }
-    ensures cause { HasCause K.Keeper keeper.old keeper.new result }
-    ensures visited { K.visited keeper.old ≤ K.visited keeper.new }
-    ensures only { Becomes K.Keeper keeper.old keeper.new
-        (λ t u. AreAll (MayWrite info.now.core) (drop (length wrote.old.items) wrote.new.items)) }
     ensures cut { OnErr result (Becomes K.Keeper keeper.old keeper.new
         (λ t u. AreAll (IsInAll (FormulaWrites (A.app app.now) moment info.now (option_map view item) t session.old)) (drop (length wrote.old.items) wrote.new.items))) }
-    ensures loan { K.loan keeper.new ≡ K.loan keeper.old }
+    ensures only { Becomes K.Keeper keeper.old keeper.new
+        (λ t u. AreAll (MayWrite info.now.core) (drop (length wrote.old.items) wrote.new.items)) }
+    ensures leaves { Becomes K.Keeper keeper.old keeper.new
+        (λ t u. Leaves (A.app app.now) moment t session.old u session.new) }
+    ensures under_way { IsUnderWay K.Keeper (A.app app.now) moment before.now session.new cache.new keeper.new wrote.new.items }
+    ensures goes_on { GoesOn K.Keeper (A.app app.now) cache.old cache.new keeper.old keeper.new wrote.old.items wrote.new.items }
+    ensures cause { HasCause K.Keeper keeper.old keeper.new result }
 {
     // Called for what they say: the app is sound, a source gives one value, and a whole performing goes on from where one is
     // cut off.

@@ -1,16 +1,14 @@
 //! Formulas that act in a request, one after another.
-ghost use Rattle.std.specs.Prelude.{◌≡◌, IfOk, None, OnErr, OnOk, Some, drop, length, option_map, take, true};
+ghost use Rattle.std.specs.Prelude.{IfOk, None, OnErr, OnOk, drop, length, option_map};
 ghost use Rattle.recalc.specs.app_semantics.Sound.{IsSound};
 ghost use Rattle.fx_data.specs.ValueView.{view};
-ghost use Rattle.row_requests.specs.Sound.{AreSound};
-ghost use Rattle.session_requests.specs.Caching.{AreLater, AreSessionsBut, AreSources, IsCached, LeavesBut};
-ghost use Rattle.session_requests.specs.Running.{ActsWriting, IsShown, IsTriggered, Opens, OpensWriting, Runs, RunsWriting, ShowsWriting};
+ghost use Rattle.row_keeper.specs.Over.{Becomes, HasCause};
+ghost use Rattle.session_requests.specs.Running.{ActsWriting, OpensWriting, RunsWriting, ShowsWriting};
 ghost use Rattle.session_requests.specs.Scenes.{scene};
+ghost use Rattle.session_requests.specs.Transactions.{GoesOn, IsUnderWay};
 ghost use Rattle.session_requests.specs.Triggers.{ItemFits, cell_at as cell_of};
 ghost use Rattle.session_requests.specs.Whole.{IsInAll, RequestWrites, ScreenWrites, TriggerWrites};
 ghost use Rattle.session_requests.specs.Writable.{AreAll, RequestMayWrite, ScreenMayWrite, TriggerMayWrite};
-ghost use Rattle.session_state.specs.Changes.{FitsNames};
-ghost use Rattle.row_keeper.specs.Over.{Becomes, BeganStays, HasCause};
 
 use crate::acting_laws::one_acting;
 use crate::app_cells::App;
@@ -40,36 +38,17 @@ fn act<K: Keeper, L: Ledger>(
     steps: &mut Steps<L>,
 ) -> Result<Value, KeeperEnd>
     requires sound { IsSound app.now }
-    requires fits { FitsNames app.now.names session.old }
-    requires shaped { K.shaped keeper.old ≡ Some app.now.names.schema }
-    requires rows { AreSound app.now.names.schema (K.told keeper.old) }
-    requires begun { K.in_transaction keeper.old ≡ true }
-    requires cached { IsCached app.now session.old (K.told keeper.old) moment cache.old }
-    requires but { AreSessionsBut app.now.names wrote.old.items before.now session.old }
-    requires later { AreLater wrote.old.items (K.began keeper.old) (K.told keeper.old) }
-    requires sources { AreSources app.now.names wrote.old.items }
     requires item { ItemFits app.now trigger (option_map view item) }
-    ensures done { IfOk result (λ v. Becomes K.Keeper keeper.old keeper.new
-        (λ t u. IsTriggered app.now moment trigger (option_map view item) (scene t session.old) (view v) (scene u session.new))) }
-    ensures fits { FitsNames app.now.names session.new }
-    ensures rows { AreSound app.now.names.schema (K.told keeper.new) }
-    ensures began { BeganStays K.Keeper keeper.old keeper.new }
-    ensures shaped { K.shaped keeper.new ≡ Some app.now.names.schema }
-    ensures open { K.in_transaction keeper.new ≡ true }
-    ensures cause { HasCause K.Keeper keeper.old keeper.new result }
-    ensures cached { IsCached app.now session.new (K.told keeper.new) moment cache.new }
-    ensures but { AreSessionsBut app.now.names wrote.new.items before.now session.new }
-    ensures later { AreLater wrote.new.items (K.began keeper.new) (K.told keeper.new) }
-    ensures sources { AreSources app.now.names wrote.new.items }
-    ensures clean { LeavesBut app.now wrote.old.items cache.old wrote.new.items cache.new }
+    requires under_way { IsUnderWay K.Keeper app.now moment before.now session.old cache.old keeper.old wrote.old.items }
     ensures wrote { IfOk result (λ v. Becomes K.Keeper keeper.old keeper.new
         (λ t u. ActsWriting app.now moment (cell_of trigger app.now) (option_map view item) (scene t session.old) (view v) (scene u session.new) (drop (length wrote.old.items) wrote.new.items))) }
-    ensures prefix { take (length wrote.old.items) wrote.new.items ≡ wrote.old.items }
-    ensures only { Becomes K.Keeper keeper.old keeper.new
-        (λ t u. AreAll (TriggerMayWrite app.now trigger) (drop (length wrote.old.items) wrote.new.items)) }
     ensures cut { OnErr result (Becomes K.Keeper keeper.old keeper.new
         (λ t u. AreAll (IsInAll (TriggerWrites app.now moment trigger (option_map view item) (scene t session.old))) (drop (length wrote.old.items) wrote.new.items))) }
-    ensures loan { K.loan keeper.new ≡ K.loan keeper.old }
+    ensures only { Becomes K.Keeper keeper.old keeper.new
+        (λ t u. AreAll (TriggerMayWrite app.now trigger) (drop (length wrote.old.items) wrote.new.items)) }
+    ensures under_way { IsUnderWay K.Keeper app.now moment before.now session.new cache.new keeper.new wrote.new.items }
+    ensures goes_on { GoesOn K.Keeper app.now cache.old cache.new keeper.old keeper.new wrote.old.items wrote.new.items }
+    ensures cause { HasCause K.Keeper keeper.old keeper.new result }
 {
     // The law is called for what it says of formulas that act.
     all_typings_are_lawful();
@@ -97,35 +76,16 @@ fn show<K: Keeper, L: Ledger>(
     steps: &mut Steps<L>,
 ) -> Result<(), KeeperEnd>
     requires sound { IsSound app.now }
-    requires fits { FitsNames app.now.names session.old }
-    requires shaped { K.shaped keeper.old ≡ Some app.now.names.schema }
-    requires rows { AreSound app.now.names.schema (K.told keeper.old) }
-    requires begun { K.in_transaction keeper.old ≡ true }
-    requires cached { IsCached app.now session.old (K.told keeper.old) moment cache.old }
-    requires but { AreSessionsBut app.now.names wrote.old.items before.now session.old }
-    requires later { AreLater wrote.old.items (K.began keeper.old) (K.told keeper.old) }
-    requires sources { AreSources app.now.names wrote.old.items }
-    ensures done { OnOk result (Becomes K.Keeper keeper.old keeper.new
-        (λ t u. IsShown app.now moment (scene t session.old) (scene u session.new))) }
-    ensures fits { FitsNames app.now.names session.new }
-    ensures rows { AreSound app.now.names.schema (K.told keeper.new) }
-    ensures began { BeganStays K.Keeper keeper.old keeper.new }
-    ensures shaped { K.shaped keeper.new ≡ Some app.now.names.schema }
-    ensures open { K.in_transaction keeper.new ≡ true }
-    ensures cause { HasCause K.Keeper keeper.old keeper.new result }
-    ensures cached { IsCached app.now session.new (K.told keeper.new) moment cache.new }
-    ensures but { AreSessionsBut app.now.names wrote.new.items before.now session.new }
-    ensures later { AreLater wrote.new.items (K.began keeper.new) (K.told keeper.new) }
-    ensures sources { AreSources app.now.names wrote.new.items }
-    ensures clean { LeavesBut app.now wrote.old.items cache.old wrote.new.items cache.new }
+    requires under_way { IsUnderWay K.Keeper app.now moment before.now session.old cache.old keeper.old wrote.old.items }
     ensures wrote { OnOk result (Becomes K.Keeper keeper.old keeper.new
         (λ t u. ShowsWriting app.now moment (scene t session.old) (scene u session.new) (drop (length wrote.old.items) wrote.new.items))) }
-    ensures prefix { take (length wrote.old.items) wrote.new.items ≡ wrote.old.items }
-    ensures only { Becomes K.Keeper keeper.old keeper.new
-        (λ t u. AreAll (ScreenMayWrite app.now) (drop (length wrote.old.items) wrote.new.items)) }
     ensures cut { OnErr result (Becomes K.Keeper keeper.old keeper.new
         (λ t u. AreAll (IsInAll (ScreenWrites app.now moment (scene t session.old))) (drop (length wrote.old.items) wrote.new.items))) }
-    ensures loan { K.loan keeper.new ≡ K.loan keeper.old }
+    ensures only { Becomes K.Keeper keeper.old keeper.new
+        (λ t u. AreAll (ScreenMayWrite app.now) (drop (length wrote.old.items) wrote.new.items)) }
+    ensures under_way { IsUnderWay K.Keeper app.now moment before.now session.new cache.new keeper.new wrote.new.items }
+    ensures goes_on { GoesOn K.Keeper app.now cache.old cache.new keeper.old keeper.new wrote.old.items wrote.new.items }
+    ensures cause { HasCause K.Keeper keeper.old keeper.new result }
 {
     session.take_navigated();
     let screen = Trigger::OnVisible(session.screen());
@@ -152,36 +112,17 @@ pub(crate) fn run<K: Keeper, L: Ledger>(
     steps: &mut Steps<L>,
 ) -> Result<Value, KeeperEnd>
     requires sound { IsSound app.now }
-    requires fits { FitsNames app.now.names session.old }
-    requires shaped { K.shaped keeper.old ≡ Some app.now.names.schema }
-    requires rows { AreSound app.now.names.schema (K.told keeper.old) }
-    requires begun { K.in_transaction keeper.old ≡ true }
-    requires cached { IsCached app.now session.old (K.told keeper.old) moment cache.old }
-    requires but { AreSessionsBut app.now.names wrote.old.items before.now session.old }
-    requires later { AreLater wrote.old.items (K.began keeper.old) (K.told keeper.old) }
-    requires sources { AreSources app.now.names wrote.old.items }
     requires item { ItemFits app.now trigger (option_map view item) }
-    ensures done { IfOk result (λ v. Becomes K.Keeper keeper.old keeper.new
-        (λ t u. Runs app.now moment trigger (option_map view item) (scene t session.old) (view v) (scene u session.new))) }
-    ensures fits { FitsNames app.now.names session.new }
-    ensures rows { AreSound app.now.names.schema (K.told keeper.new) }
-    ensures began { BeganStays K.Keeper keeper.old keeper.new }
-    ensures shaped { K.shaped keeper.new ≡ Some app.now.names.schema }
-    ensures open { K.in_transaction keeper.new ≡ true }
-    ensures cause { HasCause K.Keeper keeper.old keeper.new result }
-    ensures cached { IsCached app.now session.new (K.told keeper.new) moment cache.new }
-    ensures but { AreSessionsBut app.now.names wrote.new.items before.now session.new }
-    ensures later { AreLater wrote.new.items (K.began keeper.new) (K.told keeper.new) }
-    ensures sources { AreSources app.now.names wrote.new.items }
-    ensures clean { LeavesBut app.now wrote.old.items cache.old wrote.new.items cache.new }
+    requires under_way { IsUnderWay K.Keeper app.now moment before.now session.old cache.old keeper.old wrote.old.items }
     ensures wrote { IfOk result (λ v. Becomes K.Keeper keeper.old keeper.new
         (λ t u. RunsWriting app.now moment trigger (option_map view item) (scene t session.old) (view v) (scene u session.new) (drop (length wrote.old.items) wrote.new.items))) }
-    ensures prefix { take (length wrote.old.items) wrote.new.items ≡ wrote.old.items }
-    ensures only { Becomes K.Keeper keeper.old keeper.new
-        (λ t u. AreAll (RequestMayWrite app.now trigger) (drop (length wrote.old.items) wrote.new.items)) }
     ensures cut { OnErr result (Becomes K.Keeper keeper.old keeper.new
         (λ t u. AreAll (IsInAll (RequestWrites app.now moment trigger (option_map view item) (scene t session.old))) (drop (length wrote.old.items) wrote.new.items))) }
-    ensures loan { K.loan keeper.new ≡ K.loan keeper.old }
+    ensures only { Becomes K.Keeper keeper.old keeper.new
+        (λ t u. AreAll (RequestMayWrite app.now trigger) (drop (length wrote.old.items) wrote.new.items)) }
+    ensures under_way { IsUnderWay K.Keeper app.now moment before.now session.new cache.new keeper.new wrote.new.items }
+    ensures goes_on { GoesOn K.Keeper app.now cache.old cache.new keeper.old keeper.new wrote.old.items wrote.new.items }
+    ensures cause { HasCause K.Keeper keeper.old keeper.new result }
 {
     // The law is called for what it says: a formula does one thing at most.
     one_acting();
@@ -211,30 +152,12 @@ pub(crate) fn open<K: Keeper, L: Ledger>(
     steps: &mut Steps<L>,
 ) -> Result<(), KeeperEnd>
     requires sound { IsSound app.now }
-    requires fits { FitsNames app.now.names session.old }
-    requires shaped { K.shaped keeper.old ≡ Some app.now.names.schema }
-    requires rows { AreSound app.now.names.schema (K.told keeper.old) }
-    requires begun { K.in_transaction keeper.old ≡ true }
-    requires cached { IsCached app.now session.old (K.told keeper.old) moment cache.old }
-    requires but { AreSessionsBut app.now.names wrote.old.items before.now session.old }
-    requires later { AreLater wrote.old.items (K.began keeper.old) (K.told keeper.old) }
-    requires sources { AreSources app.now.names wrote.old.items }
-    ensures done { OnOk result (Becomes K.Keeper keeper.old keeper.new
-        (λ t u. Opens app.now moment (scene t session.old) (scene u session.new))) }
-    ensures fits { FitsNames app.now.names session.new }
-    ensures rows { AreSound app.now.names.schema (K.told keeper.new) }
-    ensures began { BeganStays K.Keeper keeper.old keeper.new }
-    ensures shaped { K.shaped keeper.new ≡ Some app.now.names.schema }
-    ensures open { K.in_transaction keeper.new ≡ true }
-    ensures cause { HasCause K.Keeper keeper.old keeper.new result }
-    ensures cached { IsCached app.now session.new (K.told keeper.new) moment cache.new }
-    ensures but { AreSessionsBut app.now.names wrote.new.items before.now session.new }
-    ensures later { AreLater wrote.new.items (K.began keeper.new) (K.told keeper.new) }
-    ensures sources { AreSources app.now.names wrote.new.items }
+    requires under_way { IsUnderWay K.Keeper app.now moment before.now session.old cache.old keeper.old wrote.old.items }
     ensures wrote { OnOk result (Becomes K.Keeper keeper.old keeper.new
         (λ t u. OpensWriting app.now moment (scene t session.old) (scene u session.new) (drop (length wrote.old.items) wrote.new.items))) }
-    ensures prefix { take (length wrote.old.items) wrote.new.items ≡ wrote.old.items }
-    ensures loan { K.loan keeper.new ≡ K.loan keeper.old }
+    ensures under_way { IsUnderWay K.Keeper app.now moment before.now session.new cache.new keeper.new wrote.new.items }
+    ensures goes_on { GoesOn K.Keeper app.now cache.old cache.new keeper.old keeper.new wrote.old.items wrote.new.items }
+    ensures cause { HasCause K.Keeper keeper.old keeper.new result }
 {
     act(
         alloc,

@@ -1,22 +1,19 @@
 //! Accepted events and inputs, each in one transaction.
-ghost use Rattle.std.specs.Prelude.{◌≡◌, IfOk, OnErr, OnOk, Some, drop, false, length, option_map, take, true};
-ghost use Rattle.fx_base.specs.Silence.{IsLost};
+ghost use Rattle.std.specs.Prelude.{◌≡◌, IfOk, OnErr, drop, length, option_map};
 ghost use Rattle.fx_base.specs.Telling.{Stays};
 ghost use Rattle.fx_data.specs.ValueView.{view};
 ghost use Rattle.recalc.specs.app_semantics.Sound.{IsSound};
 ghost use Rattle.request_checks.specs.Replies.{IsReply, said};
-ghost use Rattle.row_requests.specs.Sound.{AreSound};
-ghost use Rattle.row_requests.specs.Written.{AreTablesBut};
 ghost use Rattle.recalc.specs.app_cells.declared.app.App.{App as AnApp};
 ghost use Rattle.recalc.specs.Kept.{IsInOrder};
-ghost use Rattle.session_requests.specs.Caching.{AreLater, AreSessionsBut, AreSources, AreTouched, IsCached, IsPending, LeavesBut};
-ghost use Rattle.session_requests.specs.Requests.{Accepts, AcceptsWriting, accepted_reply};
+ghost use Rattle.session_requests.specs.Caching.{AreSources, AreTouched, IsCached, IsPending};
+ghost use Rattle.row_keeper.specs.Over.{Becomes, HasCause};
+ghost use Rattle.session_requests.specs.Requests.{accepted_reply};
 ghost use Rattle.session_requests.specs.Scenes.{begun, quiet, scene};
+ghost use Rattle.session_requests.specs.Transactions.{CanBegin, CanGoBack, GoesOn, HasEnded, IsAccepted, IsUnderWay};
 ghost use Rattle.session_requests.specs.Triggers.{ItemFits};
 ghost use Rattle.session_requests.specs.Whole.{IsInAll, RequestWrites};
 ghost use Rattle.session_requests.specs.Writable.{AreAll, RequestMayWrite};
-ghost use Rattle.session_state.specs.Changes.{FitsNames};
-ghost use Rattle.row_keeper.specs.Over.{Becomes, BeganStays, HasCause};
 
 use crate::acting_laws::one_acting;
 use crate::app_cells::App;
@@ -58,35 +55,16 @@ fn prepare<K: Keeper, L: Ledger>(
     steps: &mut Steps<L>,
 ) -> Result<Accepted, KeeperEnd>
     requires sound { IsSound app.now }
-    requires fits { FitsNames app.now.names session }
-    requires shaped { K.shaped keeper.old ≡ Some app.now.names.schema }
-    requires rows { AreSound app.now.names.schema (K.told keeper.old) }
-    requires begun { K.in_transaction keeper.old ≡ true }
     requires item { ItemFits app.now trigger (option_map view item) }
-    requires cached { IsCached app.now session (K.told keeper.old) moment cache.old }
-    requires but { AreSessionsBut app.now.names wrote.old.items before.now session }
-    requires later { AreLater wrote.old.items (K.began keeper.old) (K.told keeper.old) }
-    requires sources { AreSources app.now.names wrote.old.items }
-    ensures accepts { IfOk result (λ r. Accepts (IsLost (K.marks keeper.old) (K.marks keeper.new)) app.now moment trigger (option_map view item) seq session (K.told keeper.old) (said r.reply) (K.told keeper.new) r.session) }
-    ensures kept { IfOk result (λ r. r.kept.items ≡ said r.reply) }
-    ensures whole { IfOk result (λ r. IsReply r.reply) }
-    ensures rows { AreSound app.now.names.schema (K.told keeper.new) }
-    ensures began { BeganStays K.Keeper keeper.old keeper.new }
-    ensures shaped { K.shaped keeper.new ≡ Some app.now.names.schema }
-    ensures open { K.in_transaction keeper.new ≡ true }
-    ensures cause { HasCause K.Keeper keeper.old keeper.new result }
-    ensures cached { IfOk result (λ r. IsCached app.now r.session (K.told keeper.new) moment cache.new) }
-    ensures pending { IsPending app.now before.now (K.began keeper.new) moment wrote.new.items cache.new }
-    ensures later { AreLater wrote.new.items (K.began keeper.new) (K.told keeper.new) }
-    ensures sources { AreSources app.now.names wrote.new.items }
-    ensures clean { LeavesBut app.now wrote.old.items cache.old wrote.new.items cache.new }
-    ensures wrote { IfOk result (λ r. AcceptsWriting (IsLost (K.marks keeper.old) (K.marks keeper.new)) app.now moment trigger (option_map view item) session (K.told keeper.old) (K.told keeper.new) (drop (length wrote.old.items) wrote.new.items)) }
-    ensures prefix { take (length wrote.old.items) wrote.new.items ≡ wrote.old.items }
-    ensures only { Becomes K.Keeper keeper.old keeper.new
-        (λ t u. AreAll (RequestMayWrite app.now trigger) (drop (length wrote.old.items) wrote.new.items)) }
+    requires under_way { IsUnderWay K.Keeper app.now moment before.now session cache.old keeper.old wrote.old.items }
+    ensures accepted { IfOk result (IsAccepted K.Keeper app.now moment trigger (option_map view item) seq session cache.new keeper.old keeper.new (drop (length wrote.old.items) wrote.new.items)) }
     ensures cut { OnErr result (Becomes K.Keeper keeper.old keeper.new
         (λ t u. AreAll (IsInAll (RequestWrites app.now moment trigger (option_map view item) (scene t (begun session)))) (drop (length wrote.old.items) wrote.new.items))) }
-    ensures loan { K.loan keeper.new ≡ K.loan keeper.old }
+    ensures only { Becomes K.Keeper keeper.old keeper.new
+        (λ t u. AreAll (RequestMayWrite app.now trigger) (drop (length wrote.old.items) wrote.new.items)) }
+    ensures undoable { CanGoBack K.Keeper app.now moment before.now cache.new keeper.new wrote.new.items }
+    ensures goes_on { GoesOn K.Keeper app.now cache.old cache.new keeper.old keeper.new wrote.old.items wrote.new.items }
+    ensures cause { HasCause K.Keeper keeper.old keeper.new result }
 {
     // The law is called for what it says: a formula does one thing at most.
     one_acting();
@@ -148,35 +126,17 @@ fn transact<K: Keeper, L: Ledger>(
     steps: &mut Steps<L>,
 ) -> Result<Accepted, KeeperEnd>
     requires sound { IsSound app.now }
-    requires fits { FitsNames app.now.names session }
-    requires shaped { K.shaped keeper.old ≡ Some app.now.names.schema }
-    requires rows { AreSound app.now.names.schema (K.told keeper.old) }
-    requires idle { K.in_transaction keeper.old ≡ false }
     requires item { ItemFits app.now trigger (option_map view item) }
-    requires cached { IsCached app.now session (K.told keeper.old) moment cache.old }
-    requires but { AreSessionsBut app.now.names wrote.old.items before.now session }
-    requires sources { AreSources app.now.names wrote.old.items }
-    ensures accepts { IfOk result (λ r. Accepts (IsLost (K.marks keeper.old) (K.marks keeper.new)) app.now moment trigger (option_map view item) seq session (K.told keeper.old) (said r.reply) (K.told keeper.new) r.session) }
-    ensures kept { IfOk result (λ r. r.kept.items ≡ said r.reply) }
-    ensures whole { IfOk result (λ r. IsReply r.reply) }
+    requires ready { CanBegin K.Keeper app.now moment before.now session cache.old keeper.old wrote.old.items }
+    ensures accepted { IfOk result (IsAccepted K.Keeper app.now moment trigger (option_map view item) seq session cache.new keeper.old keeper.new (drop (length wrote.old.items) wrote.new.items)) }
     ensures stopped { OnErr result (Becomes K.Keeper keeper.old keeper.new Stays) }
-    ensures rows { AreSound app.now.names.schema (K.told keeper.new) }
-    ensures shaped { K.shaped keeper.new ≡ Some app.now.names.schema }
-    ensures idle { K.in_transaction keeper.new ≡ false }
-    ensures cause { HasCause K.Keeper keeper.old keeper.new result }
-    ensures cached { IfOk result (λ r. IsCached app.now r.session (K.told keeper.new) moment cache.new) }
     ensures pending { OnErr result (IsPending app.now before.now (K.told keeper.new) moment wrote.new.items cache.new) }
-    ensures tables { OnOk result (Becomes K.Keeper keeper.old keeper.new
-        (AreTablesBut wrote.new.items)) }
-    ensures sources { AreSources app.now.names wrote.new.items }
-    ensures clean { LeavesBut app.now wrote.old.items cache.old wrote.new.items cache.new }
-    ensures wrote { IfOk result (λ r. AcceptsWriting (IsLost (K.marks keeper.old) (K.marks keeper.new)) app.now moment trigger (option_map view item) session (K.told keeper.old) (K.told keeper.new) (drop (length wrote.old.items) wrote.new.items)) }
-    ensures prefix { take (length wrote.old.items) wrote.new.items ≡ wrote.old.items }
-    ensures only { Becomes K.Keeper keeper.old keeper.new
-        (λ t u. AreAll (RequestMayWrite app.now trigger) (drop (length wrote.old.items) wrote.new.items)) }
     ensures cut { OnErr result (Becomes K.Keeper keeper.old keeper.new
         (λ t u. AreAll (IsInAll (RequestWrites app.now moment trigger (option_map view item) (scene t (begun session)))) (drop (length wrote.old.items) wrote.new.items))) }
-    ensures loan { K.loan keeper.new ≡ K.loan keeper.old }
+    ensures only { Becomes K.Keeper keeper.old keeper.new
+        (λ t u. AreAll (RequestMayWrite app.now trigger) (drop (length wrote.old.items) wrote.new.items)) }
+    ensures ended { HasEnded K.Keeper app.now cache.old cache.new keeper.old keeper.new wrote.old.items wrote.new.items }
+    ensures cause { HasCause K.Keeper keeper.old keeper.new result }
 {
     // The law is called for what it says: a formula does one thing at most.
     one_acting();
@@ -226,34 +186,17 @@ pub fn accept_request<K: Keeper, L: Ledger>(
     steps: &mut Steps<L>,
 ) -> Result<Accepted, KeeperEnd>
     requires sound { IsSound app.now }
-    requires fits { FitsNames app.now.names session }
-    requires shaped { K.shaped keeper.old ≡ Some app.now.names.schema }
-    requires rows { AreSound app.now.names.schema (K.told keeper.old) }
-    requires idle { K.in_transaction keeper.old ≡ false }
     requires item { ItemFits app.now trigger (option_map view item) }
-    requires cached { IsCached app.now session (K.told keeper.old) moment cache.old }
-    requires but { AreSessionsBut app.now.names wrote.old.items before.now session }
-    requires sources { AreSources app.now.names wrote.old.items }
-    ensures accepts { IfOk result (λ r. Accepts (IsLost (K.marks keeper.old) (K.marks keeper.new)) app.now moment trigger (option_map view item) seq session (K.told keeper.old) (said r.reply) (K.told keeper.new) r.session) }
-    ensures kept { IfOk result (λ r. r.kept.items ≡ said r.reply) }
-    ensures whole { IfOk result (λ r. IsReply r.reply) }
+    requires ready { CanBegin K.Keeper app.now moment before.now session cache.old keeper.old wrote.old.items }
+    ensures accepted { IfOk result (IsAccepted K.Keeper app.now moment trigger (option_map view item) seq session cache.new keeper.old keeper.new (drop (length wrote.old.items) wrote.new.items)) }
     ensures stopped { OnErr result (Becomes K.Keeper keeper.old keeper.new Stays) }
-    ensures rows { AreSound app.now.names.schema (K.told keeper.new) }
-    ensures shaped { K.shaped keeper.new ≡ Some app.now.names.schema }
-    ensures idle { K.in_transaction keeper.new ≡ false }
-    ensures cause { HasCause K.Keeper keeper.old keeper.new result }
-    ensures cached { IfOk result (λ r. IsCached app.now r.session (K.told keeper.new) moment cache.new) }
     ensures undone { OnErr result (IsCached app.now before.now (K.told keeper.new) moment cache.new) }
-    ensures tables { Becomes K.Keeper keeper.old keeper.new (AreTablesBut wrote.new.items) }
-    ensures sources { AreSources app.now.names wrote.new.items }
-    ensures clean { LeavesBut app.now wrote.old.items cache.old wrote.new.items cache.new }
-    ensures wrote { IfOk result (λ r. AcceptsWriting (IsLost (K.marks keeper.old) (K.marks keeper.new)) app.now moment trigger (option_map view item) session (K.told keeper.old) (K.told keeper.new) (drop (length wrote.old.items) wrote.new.items)) }
-    ensures prefix { take (length wrote.old.items) wrote.new.items ≡ wrote.old.items }
-    ensures only { Becomes K.Keeper keeper.old keeper.new
-        (λ t u. AreAll (RequestMayWrite app.now trigger) (drop (length wrote.old.items) wrote.new.items)) }
     ensures cut { OnErr result (Becomes K.Keeper keeper.old keeper.new
         (λ t u. AreAll (IsInAll (RequestWrites app.now moment trigger (option_map view item) (scene t (begun session)))) (drop (length wrote.old.items) wrote.new.items))) }
-    ensures loan { K.loan keeper.new ≡ K.loan keeper.old }
+    ensures only { Becomes K.Keeper keeper.old keeper.new
+        (λ t u. AreAll (RequestMayWrite app.now trigger) (drop (length wrote.old.items) wrote.new.items)) }
+    ensures ended { HasEnded K.Keeper app.now cache.old cache.new keeper.old keeper.new wrote.old.items wrote.new.items }
+    ensures cause { HasCause K.Keeper keeper.old keeper.new result }
 {
     match transact(
         alloc, app, before, session, cache, keeper, moment, trigger, item, seq, wrote, steps,

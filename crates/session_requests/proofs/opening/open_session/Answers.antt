@@ -32,17 +32,17 @@ returns-in-Ok-settle-clause-tables g c =
     let second = c.prepare_session.new.keeper in
     let third = c.settle.new.keeper in
     tables_through c.prepare_session.new.wrote.items (marks old) (marks first) (marks second) (marks third)
-    (λ (t u : Tables). Opens c.args.app.now c.args.moment (scene t (opened c.args.app.now.names)) (scene u c.in-Ok-prepare_session.ensures.opens.end)) (told old) (told first) (told second) (told third) (began second)
+    (λ (t u : Tables). Opens c.args.app.now c.args.moment (scene t (opened c.args.app.now.names)) (scene u c.in-Ok-prepare_session.ensures.wrote.0.end)) (told old) (told first) (told second) (told third) (began second)
     c.begin.ensures.cause.later c.prepare_session.ensures.cause.later c.settle.ensures.cause.later
-    c.begin.ensures.tables c.in-Ok-prepare_session.ensures.opens.opens (c.in-Ok-settle.ensures.kept refl)
-    (subst (λ (z : Option Tables). Goes (IsLost (marks first) (marks second)) Stays z (began second)) c.in-Ok.ensures.ok.1 c.prepare_session.ensures.began)
-    (g.met.K.Keeper.heard second) c.prepare_session.ensures.later
+    c.begin.ensures.tables c.in-Ok-prepare_session.ensures.wrote.0.opens (c.in-Ok-settle.ensures.kept refl)
+    (subst (λ (z : Option Tables). Goes (IsLost (marks first) (marks second)) Stays z (began second)) c.in-Ok.ensures.ok.1 c.prepare_session.ensures.goes_on.began)
+    (g.met.K.Keeper.heard second) c.prepare_session.ensures.undoable.later
 
 pub returns-in-Ok-settle-clause-opens : goal.returns-in-Ok-settle-clause-opens
 returns-in-Ok-settle-clause-opens g c =
     let told = g.K.Keeper.told in
     let marks = g.K.Keeper.marks in
-    let h = c.in-Ok-prepare_session.ensures.opens in
+    let h = c.in-Ok-prepare_session.ensures.wrote.0 in
     let old = c.args.keeper.now in
     let first = c.begin.new.self in
     let second = c.prepare_session.new.keeper in

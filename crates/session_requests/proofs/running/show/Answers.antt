@@ -1,10 +1,7 @@
-use Rattle.std.proofs.Common.{[], ◌∙◌, ap, drop, length}
+use Rattle.std.proofs.Common.{◌∙◌, ap, drop, length}
 use Rattle.fx_base.specs.Silence.{IsLost}
 use Rattle.session_state.specs.Sessions.{SessionState}
 use Rattle.session_requests.proofs.Written.{shown_written}
-use Rattle.session_requests.proofs.RequestFitting.{fits_arrived}
-use Rattle.session_requests.proofs.Resting.{arrived_but}
-use Rattle.session_requests.proofs.Undone.{but_then, cached_as}
 use Rattle.session_requests.proofs.Writable.{only_more}
 use Rattle.session_requests.specs.Writable.{ScreenMayWrite, TriggerMayWrite}
 use Rattle.session_requests.specs.declared.trigger.Trigger.TheVariants.{OnVisible}
@@ -13,33 +10,8 @@ use Rattle.row_keeper.specs.Tables.{Tables}
 use Rattle.session_requests.proofs.Cuts.{cut_more, on_any, screen_in}
 use Rattle.session_requests.specs.Scenes.{scene}
 use Rattle.session_requests.specs.Whole.{IsInAll, ScreenWrites, TriggerWrites}
+use Rattle.session_requests.proofs.Transactions.{arrived_under_way}
 use Rattle.session_requests.proofs.running.show.Goals as goal
-
-pub act-requires-clause-fits : goal.act-requires-clause-fits
-act-requires-clause-fits g c = fits_arrived c.args.app.now.names c.args.session.now c.take_navigated.new.self c.take_navigated.ensures.taken c.requires.fits
-
-pub act-requires-clause-cached : goal.act-requires-clause-cached
-act-requires-clause-cached g c =
-    cached_as c.args.app.now c.args.session.now c.take_navigated.new.self (g.K.Keeper.told c.args.keeper.now) c.args.moment c.args.cache.now c.requires.sound
-    (arrived_but c.args.app.now.names [] c.args.session.now c.take_navigated.new.self c.take_navigated.ensures.taken) c.requires.cached
-
-pub act-requires-clause-but : goal.act-requires-clause-but
-act-requires-clause-but g c =
-    but_then c.args.app.now.names c.args.wrote.now.items c.args.before.now c.args.session.now c.take_navigated.new.self c.requires.but
-    (arrived_but c.args.app.now.names c.args.wrote.now.items c.args.session.now c.take_navigated.new.self c.take_navigated.ensures.taken)
-
-pub returns-clause-fits : goal.returns-clause-fits
-returns-clause-fits g c = fits_arrived c.args.app.now.names c.act.new.session c.take_navigated-2.new.self c.take_navigated-2.ensures.taken c.in_ok-act.ensures.fits
-
-pub returns-clause-cached : goal.returns-clause-cached
-returns-clause-cached g c =
-    cached_as c.args.app.now c.act.new.session c.take_navigated-2.new.self (g.K.Keeper.told c.act.new.keeper) c.args.moment c.act.new.cache c.requires.sound
-    (arrived_but c.args.app.now.names [] c.act.new.session c.take_navigated-2.new.self c.take_navigated-2.ensures.taken) c.in_ok-act.ensures.cached
-
-pub returns-clause-but : goal.returns-clause-but
-returns-clause-but g c =
-    but_then c.args.app.now.names c.act.new.wrote.items c.args.before.now c.act.new.session c.take_navigated-2.new.self c.in_ok-act.ensures.but
-    (arrived_but c.args.app.now.names c.act.new.wrote.items c.act.new.session c.take_navigated-2.new.self c.take_navigated-2.ensures.taken)
 
 pub returns-clause-wrote : goal.returns-clause-wrote
 returns-clause-wrote g c =
@@ -64,3 +36,13 @@ returns-in_err-act-clause-cut g c =
     on_any _ (cut_more (IsLost (marks c.args.keeper.now) (marks c.act.new.keeper)) (λ (t : Tables). IsInAll (TriggerWrites c.args.app.now c.args.moment (OnVisible c.screen.result) None (scene t c.take_navigated.new.self)))
     (λ (t : Tables). IsInAll (ScreenWrites c.args.app.now c.args.moment (scene t c.args.session.now))) (drop (length c.args.wrote.now.items) c.act.new.wrote.items) (told c.args.keeper.now) (told c.act.new.keeper)
     (screen_in c.args.app.now c.args.moment c.screen.result c.args.session.now c.take_navigated.new.self c.take_navigated.ensures.taken (c.screen.ensures ∙ ap (λ (s : SessionState). s.screen) c.take_navigated.ensures.taken)) c.in_err-act.ensures.cut)
+
+pub act-requires-clause-under_way : goal.act-requires-clause-under_way
+act-requires-clause-under_way g c =
+    arrived_under_way g.K.Keeper c.args.app.now c.args.moment c.args.before.now c.args.session.now c.take_navigated.new.self c.args.cache.now c.args.keeper.now c.args.wrote.now.items c.requires.sound
+    c.take_navigated.ensures.taken c.requires.under_way
+
+pub returns-clause-under_way : goal.returns-clause-under_way
+returns-clause-under_way g c =
+    arrived_under_way g.K.Keeper c.args.app.now c.args.moment c.args.before.now c.act.new.session c.take_navigated-2.new.self c.act.new.cache c.act.new.keeper c.act.new.wrote.items c.requires.sound
+    c.take_navigated-2.ensures.taken c.act.ensures.under_way
