@@ -1,7 +1,5 @@
 -- What changes nothing that formulas read: notices, the last request, and where a session navigated.
 use Rattle.std.proofs.Common.{◌≡◌, ℕ, Bool, false, List, [], Option, Some, None, refl, sym, subst, ap, ◌∙◌}
-use Rattle.fx_base.specs.Silence.{Goes}
-use Rattle.fx_data.specs.Values.{Data}
 use Rattle.fx_trees.specs.Reads.{IsAmong}
 use Rattle.fx_trees.specs.declared.names.Names.{Names}
 use Rattle.fx_trees.specs.declared.sources.Source.{Source}
@@ -17,10 +15,7 @@ use Rattle.session_state.specs.Once as once
 use Rattle.session_state.specs.Sessions.{SessionState}
 use Rattle.session_requests.specs.Acting.{answered}
 use Rattle.session_requests.specs.Caching.{AreLater, AreSessionsBut, IsCached}
-use Rattle.session_requests.specs.Running.{IsFollowed, IsTriggered, Runs}
-use Rattle.session_requests.specs.Scenes.{arrived, quiet, scene, unasked}
-use Rattle.session_requests.specs.declared.trigger.Trigger.{Trigger}
-use Rattle.session_requests.proofs.Chains.{goes_as}
+use Rattle.session_requests.specs.Scenes.{arrived, quiet, unasked}
 use Rattle.session_requests.proofs.RequestFitting.{still_held, with_rest}
 use Rattle.session_requests.proofs.Undone.{but_then, cached_as}
 
@@ -68,12 +63,6 @@ later_first ws began told e = λ t u p q k far.
 -- where no screen was navigated to, nothing follows
 pub arrived_same : (s : SessionState) → s.navigated ≡ false → arrived s ≡ s
 arrived_same s e = λ i. record s { navigated = sym e i }
-
-pub run_alone : (lost : Type 0) (a : App) (m : ℕ) (trigger : Trigger) (item : Option Data) (s r q : SessionState) (value : Data) (x y : Option Tables) → r.navigated ≡ false → q ≡ arrived r →
-    Goes lost (λ (t u : Tables). IsTriggered a m trigger item (scene t s) value (scene u r)) x y → Goes lost (λ (t u : Tables). Runs a m trigger item (scene t s) value (scene u q)) x y
-run_alone lost a m trigger item s r q value x y e d h =
-    goes_as lost (λ (t u : Tables). IsTriggered a m trigger item (scene t s) value (scene u r)) (λ (t u : Tables). Runs a m trigger item (scene t s) value (scene u q))
-    (λ t u acts. record { end = scene u r; acts = acts; follows = subst (λ (b : Bool). IsFollowed a m b (scene u r) (scene u q)) (sym e) (ap (scene u) (d ∙ arrived_same r e)) }) x y h
 
 -- a session that is found in the place of one that was found is that one
 pub before_is : (name : List ℕ) (sessions later lent : List (Named SessionState)) (s r : SessionState) → find name sessions ≡ Some s → lent ≡ later → later ≡ sessions → find name lent ≡ Some r → s ≡ r

@@ -1,5 +1,5 @@
 -- A transaction of a session begins, goes on, and can be taken back.
-use Rattle.std.proofs.Common.{◌≡◌, ◌≤◌, ℕ, List, [], Option, None, Some, length, take, true, false, refl, subst, sym, ◌∙◌, arith}
+use Rattle.std.proofs.Common.{◌≡◌, ℕ, List, [], Option, None, Some, length, take, true, false, refl, subst, sym, ◌∙◌, arith}
 use Rattle.std.proofs.Math.Seq.{take-length}
 use Rattle.std.specs.Prelude.{IsSome}
 use Rattle.fx_base.proofs.Silences.{goes_two}

@@ -1,4 +1,4 @@
-use Rattle.std.proofs.Common.{List, Some, [], ap, drop, length, subst, sym, ◌++◌, ◌≡◌, ◌∙◌}
+use Rattle.std.proofs.Common.{List, Some, ap, drop, length, subst, sym, ◌++◌, ◌≡◌, ◌∙◌}
 use Rattle.std.specs.Option.{option_to_list}
 use Rattle.fx_trees.specs.declared.sources.Source.{Source}
 use Rattle.request_checks.specs.Directory.{find}

@@ -1,4 +1,4 @@
-use Rattle.std.proofs.Common.{Option, [], drop, length, option_map, subst}
+use Rattle.std.proofs.Common.{[], drop, length, option_map, subst}
 use Rattle.fx_base.specs.Silence.{Goes, IsLost}
 use Rattle.fx_data.specs.ValueView.{view}
 use Rattle.row_keeper.specs.Tables.{Tables}
