@@ -103,20 +103,24 @@ class File:
         (self.cut_logic if path.endswith(".antt") else self.cut_code)()
 
     def cut_logic(self):
-        name, is_mutual = None, False
+        name, is_mutual, section = None, False, None
         for number, line in enumerate(self.lines):
             if not line.strip() or line.lstrip().startswith("--"):
                 continue
             inside = len(line) - len(line.lstrip())
             if inside == 0:
                 is_mutual = bool(re.match(r"(?:abbrev |pub |unfoldable )*mutual\b", line))
+                # (what definitions share stands at the head of a section: it belongs to each of them)
+                section = number if re.match(r"module\s", line) else None
                 is_use = re.match(r"(?:pub )?(?:use|mod)\s", line)
                 head = HEAD.match(line)
-                name = None if is_mutual or is_use else head[1] if head else name
-            elif is_mutual and inside == 2:
-                name = HEAD.match(line.strip())[1]
+                name = None if is_mutual or section is not None or is_use else head[1] if head else name
+            elif (is_mutual or section is not None) and inside == 2:
+                head = HEAD.match(line.strip())
+                name = head[1] if head else name
             if name:
-                self.items.setdefault(name, []).append(number)
+                lines = self.items.setdefault(name, [] if section is None else [section])
+                lines.append(number)
 
     def cut_code(self):
         for number, line in enumerate(self.lines):
