@@ -1,0 +1,13 @@
+pub mod Meanings
+pub mod RowidLemmas
+pub mod FormLemmas
+pub mod ReadLemmas
+pub mod MakeLemmas
+pub mod CallLemmas
+pub mod EntryLemmas
+pub mod NumberLemmas
+pub mod SeatLemmas
+pub mod LineLemmas
+pub mod MarkLemmas
+pub mod LastLemmas
+pub mod BodyLemmas

@@ -1,0 +1,10 @@
+pub mod Schema
+pub mod Texts
+pub mod Queries
+pub mod Tests
+pub mod Forms
+pub mod UnderWay
+pub mod Lines
+pub mod Marks
+pub mod Lasts
+pub mod Body
