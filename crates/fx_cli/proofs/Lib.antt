@@ -1,7 +1,9 @@
 pub mod Opened
 pub mod Replays
 pub mod Reported
+pub mod Runs
 pub mod Said
 pub mod Samples
-pub mod Written
+pub mod Served
 pub mod ViewedSession
+pub mod Written

@@ -2,14 +2,20 @@
 use Rattle.std.proofs.Common.{◌≡◌, ℕ, inl, inr, List, Option, Some, String, refl, sym, ◌∙◌, subst, false, true, nat_eq, eq-eqb}
 use Rattle.std.specs.declared.alloc.Global.{Global}
 use Rattle.app_cells.specs.declared.app.App.{App}
+use Rattle.fx_base.specs.Faults.{Rose}
 use Rattle.fx_base.specs.Telling.{Tells}
+use Rattle.fx_cli.specs.declared.files.Files as files
 use Rattle.fx_cli.specs.declared.replay.ReplayEnd.{ReplayEnd}
 use Rattle.fx_cli.specs.declared.replay.ReplayEnd.TheVariants as replay
 use Rattle.fx_cli.specs.declared.report.Report.{Report}
 use Rattle.fx_cli.specs.declared.report.Report.TheVariants.{Shown, Checked, Broken, Usage, OutOfMemory, Unread, KeeperFault, OtherSchema, Replayed}
+use Rattle.fx_cli.specs.declared.sink.Sink as sink
 use Rattle.fx_cli.specs.declared.words.Form.TheVariants.{View, Check, Serve}
-use Rattle.fx_cli.specs.Report.{EndsService, EndsWith, IsIdle, IsService, IsSaid, IsTimeless, Leaves, LeavesKeeper, Reports, Wanted, status_of, text_of, text_of_end}
-use Rattle.fx_cli.specs.Telling.{Contents, Grows}
+use Rattle.fx_cli.specs.Outside.{Work, WorkSight}
+use Rattle.fx_cli.specs.Report.{EndsService, EndsWith, IsIdle, IsReadOnceAtMost, IsService, IsSaid, IsTimeless, LeavesKeeper, Reports, Wanted, status_of, text_of, text_of_end}
+use Rattle.fx_cli.specs.Run.{LeavesAlone}
+use Rattle.fx_cli.specs.Words.{service, wanted}
+use Rattle.fx_cli.specs.Telling.{Grows}
 use Rattle.fx_cli.proofs.Reported.{not_both, not_served, not_view}
 
 -- statuses differ
@@ -17,18 +23,18 @@ other : (m n : ℕ) → nat_eq m n ≡ false → m ≡ n → ⊥
 other m n h e = let same : nat_eq m n ≡ true = eq-eqb m n e in cc
 
 -- a replay that ends with 0 is done
-pub is_done : {F : Type 0} (told : F → Option Contents) (asked : F → List (List ℕ)) (faults : F → ℕ) (old new : F) (shows : App → String Global → Type 0) (ends : App → Report → Type 0) (wanted : Wanted) (r : Report) → Reports told asked faults old new shows ends wanted r → status_of r ≡ 0 → (name : List ℕ) → wanted ≡ Some (Serve, name) → r ≡ Replayed replay.Done
-is_done told asked faults old new shows ends wanted (Shown text) h e name is = absurd (not_both wanted h.takes.name name h.takes.asks.is_wanted is)
-is_done told asked faults old new shows ends wanted (Checked text) h e name is = absurd (not_served wanted h.takes.name name h.takes.asks.is_wanted is)
-is_done told asked faults old new shows ends wanted (Broken text) h e name is = absurd (other 1 0 refl e)
-is_done told asked faults old new shows ends wanted Usage h e name is = absurd (other 2 0 refl e)
-is_done told asked faults old new shows ends wanted OutOfMemory h e name is = absurd (other 3 0 refl e)
-is_done told asked faults old new shows ends wanted (Unread text) h e name is = absurd (other 4 0 refl e)
-is_done told asked faults old new shows ends wanted KeeperFault h e name is = absurd (other 5 0 refl e)
-is_done told asked faults old new shows ends wanted OtherSchema h e name is = absurd (other 8 0 refl e)
-is_done told asked faults old new shows ends wanted (Replayed replay.Done) h e name is = refl
-is_done told asked faults old new shows ends wanted (Replayed replay.Fault) h e name is = absurd (other 6 0 refl e)
-is_done told asked faults old new shows ends wanted (Replayed replay.Full) h e name is = absurd (other 9 0 refl e)
+pub is_done : {F : Type 0} (f : files.Ghosts F) (old new : F) (shows : App → String Global → Type 0) (ends : App → Report → Type 0) (wanted : Wanted) (r : Report) → Reports f old new shows ends wanted r → status_of r ≡ 0 → (name : List ℕ) → wanted ≡ Some (Serve, name) → r ≡ Replayed replay.Done
+is_done f old new shows ends wanted (Shown text) h e name is = absurd (not_both wanted h.takes.name name h.takes.asks.is_wanted is)
+is_done f old new shows ends wanted (Checked text) h e name is = absurd (not_served wanted h.takes.name name h.takes.asks.is_wanted is)
+is_done f old new shows ends wanted (Broken text) h e name is = absurd (other 1 0 refl e)
+is_done f old new shows ends wanted Usage h e name is = absurd (other 2 0 refl e)
+is_done f old new shows ends wanted OutOfMemory h e name is = absurd (other 3 0 refl e)
+is_done f old new shows ends wanted (Unread text) h e name is = absurd (other 4 0 refl e)
+is_done f old new shows ends wanted KeeperFault h e name is = absurd (other 5 0 refl e)
+is_done f old new shows ends wanted OtherSchema h e name is = absurd (other 8 0 refl e)
+is_done f old new shows ends wanted (Replayed replay.Done) h e name is = refl
+is_done f old new shows ends wanted (Replayed replay.Fault) h e name is = absurd (other 6 0 refl e)
+is_done f old new shows ends wanted (Replayed replay.Full) h e name is = absurd (other 9 0 refl e)
 
 -- one that ends with 5 or 8 couldn't open its keeper
 pub is_keeper_fault : (r : Report) → status_of r ≡ 5 → r ≡ KeeperFault
@@ -72,73 +78,67 @@ is_fault (Replayed replay.Fault) e = refl
 is_fault (Replayed replay.Full) e = absurd (other 9 6 refl e)
 
 -- what was replayed, up to this end
-pub replay_at : (end : ReplayEnd) → {F : Type 0} (told : F → Option Contents) (asked : F → List (List ℕ)) (faults : F → ℕ) (old new : F) (shows : App → String Global → Type 0) (ends : App → Report → Type 0) (wanted : Wanted) (r : Report) → Reports told asked faults old new shows ends wanted r → r ≡ Replayed end → (o o' : Option (List ℕ)) → Tells (Grows (text_of r)) o o'
-    → IsService told asked old new wanted (λ app. ends app (Replayed end)) × Tells (Grows (text_of_end end)) o o'
-replay_at end told asked faults old new shows ends wanted r h e o o' t =
-    (subst (λ x. Reports told asked faults old new shows ends wanted x) e h, subst (λ x. Tells (Grows (text_of x)) o o') e t)
-
--- the replay of an app that couldn't open its keeper
-pub unopened_at : {F : Type 0} (told : F → Option Contents) (asked : F → List (List ℕ)) (faults : F → ℕ) (old new : F) (shows : App → String Global → Type 0) (ends : App → Report → Type 0) (wanted : Wanted) (r : Report) → Reports told asked faults old new shows ends wanted r → r ≡ KeeperFault
-    → IsService told asked old new wanted (λ app. ends app KeeperFault)
-unopened_at told asked faults old new shows ends wanted r h e = subst (λ x. Reports told asked faults old new shows ends wanted x) e h
-
-pub differing_at : {F : Type 0} (told : F → Option Contents) (asked : F → List (List ℕ)) (faults : F → ℕ) (old new : F) (shows : App → String Global → Type 0) (ends : App → Report → Type 0) (wanted : Wanted) (r : Report) → Reports told asked faults old new shows ends wanted r → r ≡ OtherSchema
-    → IsService told asked old new wanted (λ app. ends app OtherSchema)
-differing_at told asked faults old new shows ends wanted r h e = subst (λ x. Reports told asked faults old new shows ends wanted x) e h
+pub replay_at : (end : ReplayEnd) → {F : Type 0} (f : files.Ghosts F) (old new : F) (shows : App → String Global → Type 0) (ends : App → Report → Type 0) (wanted : Wanted) (r : Report) → Reports f old new shows ends wanted r → r ≡ Replayed end → (o o' : Option (List ℕ)) → Tells (Grows (text_of r)) o o'
+    → IsService f old new wanted (λ app. ends app (Replayed end)) × Tells (Grows (text_of_end end)) o o'
+replay_at end f old new shows ends wanted r h e o o' t =
+    (subst (λ x. Reports f old new shows ends wanted x) e h, subst (λ x. Tells (Grows (text_of x)) o o') e t)
 
 -- a status other than 7 is that of the report, and its text was written
-pub said_with : (r : Report) (status n : ℕ) (sink_rose : Type 0) (o o' : Option (List ℕ)) → IsSaid r status sink_rose o o' → nat_eq n 7 ≡ false → status ≡ n
-    → (status_of r ≡ n) × Tells (Grows (text_of r)) o o'
-said_with r status n sink_rose o o' (inl h) other e = (sym h.0 ∙ e, h.1)
-said_with r status n sink_rose o o' (inr h) other e = let seven : n ≡ 7 = sym e ∙ h.0 in let same = rw seven at other in absurd (cc)
+pub said_with : {O : Type 0} (see : sink.Ghosts O) (o o' : O) (r : Report) (status n : ℕ) → IsSaid see o o' r status → nat_eq n 7 ≡ false → status ≡ n
+    → (status_of r ≡ n) × Tells (Grows (text_of r)) (see.told o) (see.told o')
+said_with see o o' r status n (inl h) other e = (sym h.0 ∙ e, h.1)
+said_with see o o' r status n (inr h) other e = let seven : n ≡ 7 = sym e ∙ h.0 in let same = rw seven at other in absurd (cc)
 
 -- how a run ends is how its report ends, but for a fault of the sink
-pub or_fault : (wanted status : ℕ) (r : Report) (files_rose sink_rose : Type 0) (o o' : Option (List ℕ)) → IsSaid r status sink_rose o o'
-    → EndsWith wanted (status_of r) files_rose sink_rose → EndsWith wanted status files_rose sink_rose
-or_fault wanted status r files_rose sink_rose o o' (inl h) ends = rw h.0 ends
-or_fault wanted status r files_rose sink_rose o o' (inr h) ends = inr (inr (inr h.1))
+pub or_fault : {O : Type 0} (see : sink.Ghosts O) (o o' : O) (wanted status : ℕ) (r : Report) (files_rose : Type 0) → IsSaid see o o' r status
+    → EndsWith wanted (status_of r) files_rose (Rose (see.faults o) (see.faults o')) → EndsWith wanted status files_rose (Rose (see.faults o) (see.faults o'))
+or_fault see o o' wanted status r files_rose (inl h) ends = rw h.0 ends
+or_fault see o o' wanted status r files_rose (inr h) ends = inr (inr (inr h.1))
 
-pub or_fault_replayed : (status : ℕ) (r : Report) (files_rose sink_rose : Type 0) (o o' : Option (List ℕ)) → IsSaid r status sink_rose o o'
-    → EndsService (status_of r) files_rose sink_rose → EndsService status files_rose sink_rose
-or_fault_replayed status r files_rose sink_rose o o' (inl h) ends = rw h.0 ends
-or_fault_replayed status r files_rose sink_rose o o' (inr h) ends = inr (inr (inr (inr (inr (inr (inr h.1))))))
+pub or_fault_replayed : {O : Type 0} (see : sink.Ghosts O) (o o' : O) (status : ℕ) (r : Report) (files_rose : Type 0) → IsSaid see o o' r status
+    → EndsService (status_of r) files_rose (Rose (see.faults o) (see.faults o')) → EndsService status files_rose (Rose (see.faults o) (see.faults o'))
+or_fault_replayed see o o' status r files_rose (inl h) ends = rw h.0 ends
+or_fault_replayed see o o' status r files_rose (inr h) ends = inr (inr (inr (inr (inr (inr (inr h.1))))))
 
--- what a view leaves alone
-pub viewed_leaves : (w : Wanted) (name : List ℕ) (files doors clock once keeper stopped : Type 0) (r : Report) → w ≡ Some (View, name) → (r ≡ Usage → ⊥) → doors → (IsTimeless r → clock) → once → keeper
-    → Leaves w files doors clock once keeper stopped r
-viewed_leaves w name files doors clock once keeper stopped (Shown text) is known same timeless read kept = (same, kept)
-viewed_leaves w name files doors clock once keeper stopped (Checked text) is known same timeless read kept = (same, timeless tt, kept)
-viewed_leaves w name files doors clock once keeper stopped (Broken text) is known same timeless read kept = (same, timeless tt, kept)
-viewed_leaves w name files doors clock once keeper stopped Usage is known same timeless read kept = absurd (known refl)
-viewed_leaves w name files doors clock once keeper stopped OutOfMemory is known same timeless read kept = (same, λ h. absurd (not_both w name h.0 is h.1), λ _. (read, kept), λ h. absurd (not_view w h.0 name h.1 is))
-viewed_leaves w name files doors clock once keeper stopped (Unread text) is known same timeless read kept = (same, timeless tt, kept)
-viewed_leaves w name files doors clock once keeper stopped KeeperFault is known same timeless read kept = (same, timeless tt)
-viewed_leaves w name files doors clock once keeper stopped OtherSchema is known same timeless read kept = (same, timeless tt)
-viewed_leaves w name files doors clock once keeper stopped (Replayed end) is known same timeless read kept = tt
+module _ {D K F C : Type 0} (see : WorkSight D K F C) (words : List (String Global)) (old new : Work D K F C) where
+  -- what a view leaves alone
+  pub viewed_leaves : (name : List ℕ) (r : Report) → wanted words ≡ Some (View, name) → (r ≡ Usage → ⊥) → new.doors ≡ old.doors → (IsTimeless r → new.clock ≡ old.clock)
+      → IsReadOnceAtMost see.clock.told old.clock new.clock → new.keeper ≡ old.keeper → LeavesAlone see words old new r
+  viewed_leaves name (Shown text) is known same timeless read kept = (same, kept)
+  viewed_leaves name (Checked text) is known same timeless read kept = (same, timeless tt, kept)
+  viewed_leaves name (Broken text) is known same timeless read kept = (same, timeless tt, kept)
+  viewed_leaves name Usage is known same timeless read kept = absurd (known refl)
+  viewed_leaves name OutOfMemory is known same timeless read kept =
+      (same, λ h. absurd (not_both (wanted words) name h.0 is h.1), λ _. (read, kept), λ h. absurd (not_view (wanted words) h.0 name h.1 is))
+  viewed_leaves name (Unread text) is known same timeless read kept = (same, timeless tt, kept)
+  viewed_leaves name KeeperFault is known same timeless read kept = (same, timeless tt)
+  viewed_leaves name OtherSchema is known same timeless read kept = (same, timeless tt)
+  viewed_leaves name (Replayed end) is known same timeless read kept = tt
 
--- and a replay
-pub replayed_leaves : (w : Wanted) (name : List ℕ) (files doors clock once keeper stopped : Type 0) (r : Report) → w ≡ Some (Serve, name) → (r ≡ Usage → ⊥) → (IsIdle r → doors × clock) → LeavesKeeper keeper stopped r
-    → Leaves w files doors clock once keeper stopped r
-replayed_leaves w name files doors clock once keeper stopped (Shown text) is known idle kept = ((idle tt).0, kept)
-replayed_leaves w name files doors clock once keeper stopped (Checked text) is known idle kept = ((idle tt).0, (idle tt).1, kept)
-replayed_leaves w name files doors clock once keeper stopped (Broken text) is known idle kept = ((idle tt).0, (idle tt).1, kept)
-replayed_leaves w name files doors clock once keeper stopped Usage is known idle kept = absurd (known refl)
-replayed_leaves w name files doors clock once keeper stopped OutOfMemory is known idle kept = ((idle tt).0, λ _. ((idle tt).1, kept), λ h. absurd (not_both w h.0 name h.1 is), λ h. absurd (not_served w h.0 name h.1 is))
-replayed_leaves w name files doors clock once keeper stopped (Unread text) is known idle kept = ((idle tt).0, (idle tt).1, kept)
-replayed_leaves w name files doors clock once keeper stopped KeeperFault is known idle kept = idle tt
-replayed_leaves w name files doors clock once keeper stopped OtherSchema is known idle kept = idle tt
-replayed_leaves w name files doors clock once keeper stopped (Replayed end) is known idle kept = tt
+  -- and a replay
+  pub replayed_leaves : (name : List ℕ) (r : Report) → wanted words ≡ Some (Serve, name) → (r ≡ Usage → ⊥) → (IsIdle r → (new.doors ≡ old.doors) × (new.clock ≡ old.clock))
+      → LeavesKeeper see.keeper (service words).store old.keeper new.keeper r → LeavesAlone see words old new r
+  replayed_leaves name (Shown text) is known idle kept = ((idle tt).0, kept)
+  replayed_leaves name (Checked text) is known idle kept = ((idle tt).0, (idle tt).1, kept)
+  replayed_leaves name (Broken text) is known idle kept = ((idle tt).0, (idle tt).1, kept)
+  replayed_leaves name Usage is known idle kept = absurd (known refl)
+  replayed_leaves name OutOfMemory is known idle kept =
+      ((idle tt).0, λ _. ((idle tt).1, kept), λ h. absurd (not_both (wanted words) h.0 name h.1 is), λ h. absurd (not_served (wanted words) h.0 name h.1 is))
+  replayed_leaves name (Unread text) is known idle kept = ((idle tt).0, (idle tt).1, kept)
+  replayed_leaves name KeeperFault is known idle kept = idle tt
+  replayed_leaves name OtherSchema is known idle kept = idle tt
+  replayed_leaves name (Replayed end) is known idle kept = tt
 
--- and a check, which leaves all but the files
-pub checked_leaves : (w : Wanted) (name : List ℕ) (files doors clock once keeper stopped : Type 0) (r : Report) → w ≡ Some (Check, name) → (r ≡ Usage → ⊥) → doors → clock → keeper
-    → Leaves w files doors clock once keeper stopped r
-checked_leaves w name files doors clock once keeper stopped (Shown text) is known same still kept = (same, kept)
-checked_leaves w name files doors clock once keeper stopped (Checked text) is known same still kept = (same, still, kept)
-checked_leaves w name files doors clock once keeper stopped (Broken text) is known same still kept = (same, still, kept)
-checked_leaves w name files doors clock once keeper stopped Usage is known same still kept = absurd (known refl)
-checked_leaves w name files doors clock once keeper stopped OutOfMemory is known same still kept =
-    (same, λ h. absurd (not_served w name h.0 is h.1), λ h. absurd (not_view w name h.0 is h.1), λ _. (still, kept))
-checked_leaves w name files doors clock once keeper stopped (Unread text) is known same still kept = (same, still, kept)
-checked_leaves w name files doors clock once keeper stopped KeeperFault is known same still kept = (same, still)
-checked_leaves w name files doors clock once keeper stopped OtherSchema is known same still kept = (same, still)
-checked_leaves w name files doors clock once keeper stopped (Replayed end) is known same still kept = tt
+  -- and a check, which leaves all but the files
+  pub checked_leaves : (name : List ℕ) (r : Report) → wanted words ≡ Some (Check, name) → (r ≡ Usage → ⊥) → new.doors ≡ old.doors → new.clock ≡ old.clock → new.keeper ≡ old.keeper
+      → LeavesAlone see words old new r
+  checked_leaves name (Shown text) is known same still kept = (same, kept)
+  checked_leaves name (Checked text) is known same still kept = (same, still, kept)
+  checked_leaves name (Broken text) is known same still kept = (same, still, kept)
+  checked_leaves name Usage is known same still kept = absurd (known refl)
+  checked_leaves name OutOfMemory is known same still kept =
+      (same, λ h. absurd (not_served (wanted words) name h.0 is h.1), λ h. absurd (not_view (wanted words) name h.0 is h.1), λ _. (still, kept))
+  checked_leaves name (Unread text) is known same still kept = (same, still, kept)
+  checked_leaves name KeeperFault is known same still kept = (same, still)
+  checked_leaves name OtherSchema is known same still kept = (same, still)
+  checked_leaves name (Replayed end) is known same still kept = tt

@@ -20,7 +20,7 @@ use Rattle.office.specs.app_loader.Verdicts.{IsOneApp}
 use Rattle.office.specs.app_semantics.Sound.{IsSound}
 use Rattle.app_wire.specs.Framing.{Asked}
 use Rattle.row_keeper.specs.Causes.{HasCause}
-use Rattle.row_keeper.specs.Tables.{Tables}
+use Rattle.row_keeper.specs.declared.keeper.Keeper.{Ghosts}
 use Rattle.row_keeper.specs.declared.keeper.KeeperEnd.{KeeperEnd}
 use Rattle.row_keeper.specs.declared.keeper.KeeperEnd.TheVariants.{Failed, Memory}
 use Rattle.sample_load.specs.Counts.{HasRows}
@@ -33,6 +33,7 @@ use Rattle.fx_cli.specs.Sampled.{EndsSample, IsGenerated, IsPlayed, IsSampled, I
 use Rattle.fx_cli.specs.Words.{app_if, wanted}
 use Rattle.fx_cli.specs.declared.report.Report.{Report}
 use Rattle.fx_cli.specs.declared.report.Report.TheVariants.{Shown, Checked, Broken, Usage, OutOfMemory, Unread, KeeperFault, OtherSchema, Replayed}
+use Rattle.fx_cli.specs.declared.sink.Sink as sink
 use Rattle.fx_cli.specs.declared.words.Form.{Form}
 use Rattle.fx_cli.specs.declared.words.Form.TheVariants.{View, Check}
 
@@ -49,21 +50,21 @@ performs_more moment old before [] mid between h x at later step = (
 performs_more moment old before (y ∷ ys) mid between h x at later step = (h.0, h.1, h.2, performs_more moment y.state y.marks ys mid between h.3 x at later step)
 
 -- the requests were put over a keeper that was given back, and the rows were counted then
-pub sampled_over : {K : Type 0} (told : K → Option Tables) (marks : K → Marks) (all : List Asked) (replies : List (List ℕ)) (old : Standing) (sessions : ℕ) (k l : K) (t : Result (String Global) KeeperEnd)
-    → (state : State) × (state.tables ≡ told k) × (sessions ≡ length state.sessions) × IsPlayed all replies old (record { state = state; marks = marks k })
-    → IsLater (marks k) (marks l)
-    → IfOk t (λ text. (rows : ℕ) × Goes (IsLost (marks k) (marks l)) (HasRows rows) (told k) (told l) × (string_bytes text ≡ summary rows sessions replies))
-    → IfOk t (λ text. (state : State) × (state.tables ≡ told l) × IsSampled all old (record { state = state; marks = marks l }) (string_bytes text))
-sampled_over told marks all replies old sessions k l (Err e) played later h = tt
-sampled_over told marks all replies old sessions k l (Ok text) played later h = (
-  record played.0 { tables = told l },
+pub sampled_over : {K : Type 0} (g : Ghosts K) (all : List Asked) (replies : List (List ℕ)) (old : Standing) (sessions : ℕ) (k l : K) (t : Result (String Global) KeeperEnd)
+    → (state : State) × (state.tables ≡ g.told k) × (sessions ≡ length state.sessions) × IsPlayed all replies old (record { state = state; marks = g.marks k })
+    → IsLater (g.marks k) (g.marks l)
+    → IfOk t (λ text. (rows : ℕ) × Goes (IsLost (g.marks k) (g.marks l)) (HasRows rows) (g.told k) (g.told l) × (string_bytes text ≡ summary rows sessions replies))
+    → IfOk t (λ text. (state : State) × (state.tables ≡ g.told l) × IsSampled all old (record { state = state; marks = g.marks l }) (string_bytes text))
+sampled_over g all replies old sessions k l (Err e) played later h = tt
+sampled_over g all replies old sessions k l (Ok text) played later h = (
+  record played.0 { tables = g.told l },
   refl,
   record {
     replies = replies;
-    between = record { state = played.0; marks = marks k };
+    between = record { state = played.0; marks = g.marks k };
     played = played.3;
     rows = h.0;
-    counted = subst (λ y. Goes (IsLost (marks k) (marks l)) (HasRows h.0) y (told l)) (sym played.1) h.1;
+    counted = subst (λ y. Goes (IsLost (g.marks k) (g.marks l)) (HasRows h.0) y (g.told l)) (sym played.1) h.1;
     others = refl;
     later = later;
     told = h.2 ∙ ap (λ (n : ℕ). summary h.0 n replies) played.2;
@@ -71,39 +72,39 @@ sampled_over told marks all replies old sessions k l (Ok text) played later h = 
 )
 
 -- an app that was put to the requests is the sample
-pub sample_app : {K : Type 0} (n : ℕ) (told : K → Option Tables) (attached : K → Option (Option (List ℕ))) (marks : K → Marks) (attaches : K → List ℕ → K → Type 0) (old new : K) (a : App) (r : Report)
-    → JudgedApp app_text (Ok a) → EndsSample n told attached marks attaches old new a r → ReportsSample n told attached marks attaches old new r
-sample_app n told attached marks attaches old new a (Shown text) judged h = record { app = a; judged = judged; ends = h }
-sample_app n told attached marks attaches old new a (Checked text) judged h = absurd h
-sample_app n told attached marks attaches old new a (Broken text) judged h = absurd h
-sample_app n told attached marks attaches old new a Usage judged h = absurd h
-sample_app n told attached marks attaches old new a OutOfMemory judged h = tt
-sample_app n told attached marks attaches old new a (Unread text) judged h = absurd h
-sample_app n told attached marks attaches old new a KeeperFault judged h = record { app = a; judged = judged; ends = h }
-sample_app n told attached marks attaches old new a OtherSchema judged h = record { app = a; judged = judged; ends = h }
-sample_app n told attached marks attaches old new a (Replayed end) judged h = absurd h
+pub sample_app : {K : Type 0} (g : Ghosts K) (n : ℕ) (old new : K) (a : App) (r : Report)
+    → JudgedApp app_text (Ok a) → EndsSample g n old new a r → ReportsSample g n old new r
+sample_app g n old new a (Shown text) judged h = record { app = a; judged = judged; ends = h }
+sample_app g n old new a (Checked text) judged h = absurd h
+sample_app g n old new a (Broken text) judged h = absurd h
+sample_app g n old new a Usage judged h = absurd h
+sample_app g n old new a OutOfMemory judged h = tt
+sample_app g n old new a (Unread text) judged h = absurd h
+sample_app g n old new a KeeperFault judged h = record { app = a; judged = judged; ends = h }
+sample_app g n old new a OtherSchema judged h = record { app = a; judged = judged; ends = h }
+sample_app g n old new a (Replayed end) judged h = absurd h
 
 -- a text that is refused
-pub sample_refused : {K : Type 0} (n : ℕ) (told : K → Option Tables) (attached : K → Option (Option (List ℕ))) (marks : K → Marks) (attaches : K → List ℕ → K → Type 0) (old new : K) (e : AppEnd) (r : Report)
-    → judged.Tells (λ bs. JudgedApp app_text (Err bs)) e → IsRefusal e r → ReportsSample n told attached marks attaches old new r
-sample_refused n told attached marks attaches old new (end.Refused all) (Broken text) tells is = (all.items, tells, is)
-sample_refused n told attached marks attaches old new e OutOfMemory tells is = tt
-sample_refused n told attached marks attaches old new e r tells is = absurd is
+pub sample_refused : {K : Type 0} (g : Ghosts K) (n : ℕ) (old new : K) (e : AppEnd) (r : Report)
+    → judged.Tells (λ bs. JudgedApp app_text (Err bs)) e → IsRefusal e r → ReportsSample g n old new r
+sample_refused g n old new (end.Refused all) (Broken text) tells is = (all.items, tells, is)
+sample_refused g n old new e OutOfMemory tells is = tt
+sample_refused g n old new e r tells is = absurd is
 
 -- what is told of requests that were put over an opened keeper, or of what stopped them
-pub told_ends : {K : Type 0} (n : ℕ) (told : K → Option Tables) (attached : K → Option (Option (List ℕ))) (marks : K → Marks) (attaches : K → List ℕ → K → Type 0) (old opened new : K) (a : App)
+pub told_ends : {K : Type 0} (g : Ghosts K) (n : ℕ) (old opened new : K) (a : App)
     (t : Result (String Global) KeeperEnd) (r : Report)
-    → IsSound a → CanOpen a.names → IsAsked [] told attached marks attaches (schema_of a) None old opened
-    → IfOk t (λ text. (state : State) × (state.tables ≡ told new)
-    × IsSampled (requests n) (record { state = started a (told opened); marks = marks opened }) (record { state = state; marks = marks new }) (string_bytes text))
-    → HasCause (marks opened) (marks new) t → IsLater (marks old) (marks opened) → IsTold t r → EndsSample n told attached marks attaches old new a r
-told_ends n told attached marks attaches old opened new a (Ok text) r sound opens asked sampled cause later is =
-    subst (λ x. EndsSample n told attached marks attaches old new a x) (sym is)
+    → IsSound a → CanOpen a.names → IsAsked g [] (schema_of a) None old opened
+    → IfOk t (λ text. (state : State) × (state.tables ≡ g.told new)
+    × IsSampled (requests n) (record { state = started a (g.told opened); marks = g.marks opened }) (record { state = state; marks = g.marks new }) (string_bytes text))
+    → HasCause (g.marks opened) (g.marks new) t → IsLater (g.marks old) (g.marks opened) → IsTold t r → EndsSample g n old new a r
+told_ends g n old opened new a (Ok text) r sound opens asked sampled cause later is =
+    subst (λ x. EndsSample g n old new a x) (sym is)
     (record { accepted = sound; opens = opens; opened = opened; is_opened = asked; state = sampled.0; tables = sampled.1; served = sampled.2 })
-told_ends n told attached marks attaches old opened new a (Err Memory) r sound opens asked sampled cause later is =
-    subst (λ x. EndsSample n told attached marks attaches old new a x) (sym is) tt
-told_ends n told attached marks attaches old opened new a (Err Failed) r sound opens asked sampled cause later is =
-    subst (λ x. EndsSample n told attached marks attaches old new a x) (sym is) (rose_before (marks old).faults (marks opened).faults (marks new).faults later.faults (cause.failed refl))
+told_ends g n old opened new a (Err Memory) r sound opens asked sampled cause later is =
+    subst (λ x. EndsSample g n old new a x) (sym is) tt
+told_ends g n old opened new a (Err Failed) r sound opens asked sampled cause later is =
+    subst (λ x. EndsSample g n old new a x) (sym is) (rose_before (g.marks old).faults (g.marks opened).faults (g.marks new).faults later.faults (cause.failed refl))
 
 -- ---- statuses
 
@@ -111,60 +112,60 @@ apart : (m n status : ℕ) → nat_eq m n ≡ false → status ≡ m → status 
 apart m n status h e k = let same : nat_eq m n ≡ true = eq-eqb m n (sym e ∙ k) in cc
 
 -- one that ends with 0 was put to the requests
-pub is_generated : {K : Type 0} (n : ℕ) (told : K → Option Tables) (attached : K → Option (Option (List ℕ))) (marks : K → Marks) (attaches : K → List ℕ → K → Type 0) (old new : K) (r : Report) (status : ℕ) (sink_rose : Type 0) (o o' : Option (List ℕ))
-    → ReportsSample n told attached marks attaches old new r → IsSaid r status sink_rose o o' → status ≡ 0 → IsGenerated n told attached marks attaches old new o o'
-is_generated n told attached marks attaches old new r status s o o' h (inr k) e = absurd (apart 7 0 status refl k.0 e)
-is_generated n told attached marks attaches old new (Shown text) status s o o' h (inl k) e = record { text = string_bytes text; sample = h; written = k.1 }
-is_generated n told attached marks attaches old new (Checked text) status s o o' h (inl k) e = absurd h
-is_generated n told attached marks attaches old new (Broken text) status s o o' h (inl k) e = absurd (apart 1 0 status refl k.0 e)
-is_generated n told attached marks attaches old new Usage status s o o' h (inl k) e = absurd h
-is_generated n told attached marks attaches old new OutOfMemory status s o o' h (inl k) e = absurd (apart 3 0 status refl k.0 e)
-is_generated n told attached marks attaches old new (Unread text) status s o o' h (inl k) e = absurd h
-is_generated n told attached marks attaches old new KeeperFault status s o o' h (inl k) e = absurd (apart 5 0 status refl k.0 e)
-is_generated n told attached marks attaches old new OtherSchema status s o o' h (inl k) e = absurd (apart 8 0 status refl k.0 e)
-is_generated n told attached marks attaches old new (Replayed end) status s o o' h (inl k) e = absurd h
+pub is_generated : {K O : Type 0} (g : Ghosts K) (see : sink.Ghosts O) (n : ℕ) (old new : K) (r : Report) (status : ℕ) (o o' : O)
+    → ReportsSample g n old new r → IsSaid see o o' r status → status ≡ 0 → IsGenerated g n old new (see.told o) (see.told o')
+is_generated g see n old new r status o o' h (inr k) e = absurd (apart 7 0 status refl k.0 e)
+is_generated g see n old new (Shown text) status o o' h (inl k) e = record { text = string_bytes text; sample = h; written = k.1 }
+is_generated g see n old new (Checked text) status o o' h (inl k) e = absurd h
+is_generated g see n old new (Broken text) status o o' h (inl k) e = absurd (apart 1 0 status refl k.0 e)
+is_generated g see n old new Usage status o o' h (inl k) e = absurd h
+is_generated g see n old new OutOfMemory status o o' h (inl k) e = absurd (apart 3 0 status refl k.0 e)
+is_generated g see n old new (Unread text) status o o' h (inl k) e = absurd h
+is_generated g see n old new KeeperFault status o o' h (inl k) e = absurd (apart 5 0 status refl k.0 e)
+is_generated g see n old new OtherSchema status o o' h (inl k) e = absurd (apart 8 0 status refl k.0 e)
+is_generated g see n old new (Replayed end) status o o' h (inl k) e = absurd h
 
 -- one that ends with 5 counted a fault of the keeper
-pub sample_fault : {K : Type 0} (n : ℕ) (told : K → Option Tables) (attached : K → Option (Option (List ℕ))) (marks : K → Marks) (attaches : K → List ℕ → K → Type 0) (old new : K) (r : Report) (status : ℕ) (sink_rose : Type 0) (o o' : Option (List ℕ))
-    → ReportsSample n told attached marks attaches old new r → IsSaid r status sink_rose o o' → status ≡ 5 → Rose (marks old).faults (marks new).faults
-sample_fault n told attached marks attaches old new r status s o o' h (inr k) e = absurd (apart 7 5 status refl k.0 e)
-sample_fault n told attached marks attaches old new (Shown text) status s o o' h (inl k) e = absurd (apart 0 5 status refl k.0 e)
-sample_fault n told attached marks attaches old new (Checked text) status s o o' h (inl k) e = absurd h
-sample_fault n told attached marks attaches old new (Broken text) status s o o' h (inl k) e = absurd (apart 1 5 status refl k.0 e)
-sample_fault n told attached marks attaches old new Usage status s o o' h (inl k) e = absurd h
-sample_fault n told attached marks attaches old new OutOfMemory status s o o' h (inl k) e = absurd (apart 3 5 status refl k.0 e)
-sample_fault n told attached marks attaches old new (Unread text) status s o o' h (inl k) e = absurd h
-sample_fault n told attached marks attaches old new KeeperFault status s o o' h (inl k) e = h.ends
-sample_fault n told attached marks attaches old new OtherSchema status s o o' h (inl k) e = absurd (apart 8 5 status refl k.0 e)
-sample_fault n told attached marks attaches old new (Replayed end) status s o o' h (inl k) e = absurd h
+pub sample_fault : {K O : Type 0} (g : Ghosts K) (see : sink.Ghosts O) (n : ℕ) (old new : K) (r : Report) (status : ℕ) (o o' : O)
+    → ReportsSample g n old new r → IsSaid see o o' r status → status ≡ 5 → Rose (g.marks old).faults (g.marks new).faults
+sample_fault g see n old new r status o o' h (inr k) e = absurd (apart 7 5 status refl k.0 e)
+sample_fault g see n old new (Shown text) status o o' h (inl k) e = absurd (apart 0 5 status refl k.0 e)
+sample_fault g see n old new (Checked text) status o o' h (inl k) e = absurd h
+sample_fault g see n old new (Broken text) status o o' h (inl k) e = absurd (apart 1 5 status refl k.0 e)
+sample_fault g see n old new Usage status o o' h (inl k) e = absurd h
+sample_fault g see n old new OutOfMemory status o o' h (inl k) e = absurd (apart 3 5 status refl k.0 e)
+sample_fault g see n old new (Unread text) status o o' h (inl k) e = absurd h
+sample_fault g see n old new KeeperFault status o o' h (inl k) e = h.ends
+sample_fault g see n old new OtherSchema status o o' h (inl k) e = absurd (apart 8 5 status refl k.0 e)
+sample_fault g see n old new (Replayed end) status o o' h (inl k) e = absurd h
 
 -- none ends with 6
-pub never_six : {K : Type 0} (n : ℕ) (told : K → Option Tables) (attached : K → Option (Option (List ℕ))) (marks : K → Marks) (attaches : K → List ℕ → K → Type 0) (old new : K) (r : Report) (status : ℕ) (sink_rose : Type 0) (o o' : Option (List ℕ))
-    → ReportsSample n told attached marks attaches old new r → IsSaid r status sink_rose o o' → status ≡ 6 → ⊥
-never_six n told attached marks attaches old new r status s o o' h (inr k) e = apart 7 6 status refl k.0 e
-never_six n told attached marks attaches old new (Shown text) status s o o' h (inl k) e = apart 0 6 status refl k.0 e
-never_six n told attached marks attaches old new (Checked text) status s o o' h (inl k) e = h
-never_six n told attached marks attaches old new (Broken text) status s o o' h (inl k) e = apart 1 6 status refl k.0 e
-never_six n told attached marks attaches old new Usage status s o o' h (inl k) e = h
-never_six n told attached marks attaches old new OutOfMemory status s o o' h (inl k) e = apart 3 6 status refl k.0 e
-never_six n told attached marks attaches old new (Unread text) status s o o' h (inl k) e = h
-never_six n told attached marks attaches old new KeeperFault status s o o' h (inl k) e = apart 5 6 status refl k.0 e
-never_six n told attached marks attaches old new OtherSchema status s o o' h (inl k) e = apart 8 6 status refl k.0 e
-never_six n told attached marks attaches old new (Replayed end) status s o o' h (inl k) e = h
+pub never_six : {K O : Type 0} (g : Ghosts K) (see : sink.Ghosts O) (n : ℕ) (old new : K) (r : Report) (status : ℕ) (o o' : O)
+    → ReportsSample g n old new r → IsSaid see o o' r status → status ≡ 6 → ⊥
+never_six g see n old new r status o o' h (inr k) e = apart 7 6 status refl k.0 e
+never_six g see n old new (Shown text) status o o' h (inl k) e = apart 0 6 status refl k.0 e
+never_six g see n old new (Checked text) status o o' h (inl k) e = h
+never_six g see n old new (Broken text) status o o' h (inl k) e = apart 1 6 status refl k.0 e
+never_six g see n old new Usage status o o' h (inl k) e = h
+never_six g see n old new OutOfMemory status o o' h (inl k) e = apart 3 6 status refl k.0 e
+never_six g see n old new (Unread text) status o o' h (inl k) e = h
+never_six g see n old new KeeperFault status o o' h (inl k) e = apart 5 6 status refl k.0 e
+never_six g see n old new OtherSchema status o o' h (inl k) e = apart 8 6 status refl k.0 e
+never_six g see n old new (Replayed end) status o o' h (inl k) e = h
 
 -- a sample that breaks a rule ends with 1
-pub sample_spoilt : IsOneApp → {K : Type 0} (n : ℕ) (told : K → Option Tables) (attached : K → Option (Option (List ℕ))) (marks : K → Marks) (attaches : K → List ℕ → K → Type 0) (old new : K) (r : Report) (status : ℕ) (sink_rose : Type 0) (o o' : Option (List ℕ))
-    → ReportsSample n told attached marks attaches old new r → IsSaid r status sink_rose o o' → (bs : List Break) → JudgedApp app_text (Err bs) → EndsWith 1 status ⊥ sink_rose
-sample_spoilt apps n told attached marks attaches old new r status s o o' h (inr k) bs is = inr (inr (inr k.1))
-sample_spoilt apps n told attached marks attaches old new (Shown text) status s o o' h (inl k) bs is = absurd (apps app_text h.app bs h.judged is)
-sample_spoilt apps n told attached marks attaches old new (Checked text) status s o o' h (inl k) bs is = absurd h
-sample_spoilt apps n told attached marks attaches old new (Broken text) status s o o' h (inl k) bs is = inl k.0
-sample_spoilt apps n told attached marks attaches old new Usage status s o o' h (inl k) bs is = absurd h
-sample_spoilt apps n told attached marks attaches old new OutOfMemory status s o o' h (inl k) bs is = inr (inl k.0)
-sample_spoilt apps n told attached marks attaches old new (Unread text) status s o o' h (inl k) bs is = absurd h
-sample_spoilt apps n told attached marks attaches old new KeeperFault status s o o' h (inl k) bs is = absurd (apps app_text h.app bs h.judged is)
-sample_spoilt apps n told attached marks attaches old new OtherSchema status s o o' h (inl k) bs is = absurd (apps app_text h.app bs h.judged is)
-sample_spoilt apps n told attached marks attaches old new (Replayed end) status s o o' h (inl k) bs is = absurd h
+pub sample_spoilt : IsOneApp → {K O : Type 0} (g : Ghosts K) (see : sink.Ghosts O) (n : ℕ) (old new : K) (r : Report) (status : ℕ) (o o' : O)
+    → ReportsSample g n old new r → IsSaid see o o' r status → (bs : List Break) → JudgedApp app_text (Err bs) → EndsWith 1 status ⊥ (Rose (see.faults o) (see.faults o'))
+sample_spoilt apps g see n old new r status o o' h (inr k) bs is = inr (inr (inr k.1))
+sample_spoilt apps g see n old new (Shown text) status o o' h (inl k) bs is = absurd (apps app_text h.app bs h.judged is)
+sample_spoilt apps g see n old new (Checked text) status o o' h (inl k) bs is = absurd h
+sample_spoilt apps g see n old new (Broken text) status o o' h (inl k) bs is = inl k.0
+sample_spoilt apps g see n old new Usage status o o' h (inl k) bs is = absurd h
+sample_spoilt apps g see n old new OutOfMemory status o o' h (inl k) bs is = inr (inl k.0)
+sample_spoilt apps g see n old new (Unread text) status o o' h (inl k) bs is = absurd h
+sample_spoilt apps g see n old new KeeperFault status o o' h (inl k) bs is = absurd (apps app_text h.app bs h.judged is)
+sample_spoilt apps g see n old new OtherSchema status o o' h (inl k) bs is = absurd (apps app_text h.app bs h.judged is)
+sample_spoilt apps g see n old new (Replayed end) status o o' h (inl k) bs is = absurd h
 
 -- ---- words
 

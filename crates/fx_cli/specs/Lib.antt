@@ -1,8 +1,11 @@
 pub mod Disk
 pub mod Held
 pub mod Opening
+pub mod Outside
 pub mod Plain
 pub mod Report
+pub mod Run
 pub mod Sampled
+pub mod Statuses
 pub mod Telling
 pub mod Words

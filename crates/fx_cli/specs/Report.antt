@@ -2,7 +2,6 @@
 use Rattle.std.specs.Prelude.{◌≡◌, ℕ, ◌+◌, ◌++◌, [], ◌∷◌, ◌⊎◌, List, Option, Some, None, IsSome, Result, Ok, Err, String, codes, flat_map, option_map, string_bytes, take}
 use Rattle.std.specs.declared.alloc.Global.{Global}
 use Rattle.fx_base.specs.Faults.{Rose}
-use Rattle.fx_base.specs.Silence.{Marks}
 use Rattle.fx_base.specs.Telling.{Tells}
 use Rattle.app_cells.specs.declared.app.App.{App}
 use Rattle.app_plans.specs.Plans.{checked_text}
@@ -13,15 +12,17 @@ use Rattle.fx_trees.specs.declared.broken.Broken.{Broken as Break}
 use Rattle.fx_trees.specs.declared.app_end.AppEnd.{AppEnd}
 use Rattle.fx_trees.specs.declared.app_end.AppEnd.TheVariants as end
 use Rattle.fx_trees.specs.declared.schema.Schema.{Schema}
-use Rattle.row_keeper.specs.Tables.{Tables}
+use Rattle.row_keeper.specs.declared.keeper.Keeper as keeper
 use Rattle.app_file.specs.Files.{most_bytes}
 use Rattle.office.specs.State.{schema_of}
 use Rattle.fx_cli.specs.Held.{Standing}
-use Rattle.fx_cli.specs.Opening.{Counted, IsAsked, IsServed, IsStopped}
+use Rattle.fx_cli.specs.Opening.{Counted, IsAsked, IsServed, IsStopped, Unsaid}
+use Rattle.fx_cli.specs.declared.files.Files as files
 use Rattle.fx_cli.specs.declared.replay.ReplayEnd.{ReplayEnd}
 use Rattle.fx_cli.specs.declared.replay.ReplayEnd.TheVariants as replay
 use Rattle.fx_cli.specs.declared.report.Report.{Report}
 use Rattle.fx_cli.specs.declared.report.Report.TheVariants.{Shown, Checked, Broken, Usage, OutOfMemory, Unread, KeeperFault, OtherSchema, Replayed}
+use Rattle.fx_cli.specs.declared.sink.Sink as sink
 use Rattle.fx_cli.specs.declared.words.Form.{Form}
 use Rattle.fx_cli.specs.declared.words.Form.TheVariants.{View, Check, Serve}
 use Rattle.fx_cli.specs.Telling.{AreFirst, Contents, Grows, GrowsInPart}
@@ -62,22 +63,22 @@ abbrev pub Wants : Form → Wanted → Type 0
 Wants form wanted = (name : List ℕ) × (wanted ≡ Some (form, name))
 
 -- This name is the file that is wanted, and the one that the files were asked for.
-pub record AsksFor {F : Type 0} (asked : F → List (List ℕ)) (old new : F) (wanted : Wanted) (form : Form) (name : List ℕ) : Type 0 where
+pub record AsksFor {F : Type 0} (f : files.Ghosts F) (old new : F) (wanted : Wanted) (form : Form) (name : List ℕ) : Type 0 where
   pub is_wanted : wanted ≡ Some (form, name)
-  pub grown : asked new ≡ asked old ++ name ∷ []
+  pub grown : f.asked new ≡ f.asked old ++ name ∷ []
 
 -- The file that is wanted is the one that was asked for, and these are its first bytes, where that is told.
-pub record Takes {F : Type 0} (told : F → Option Contents) (asked : F → List (List ℕ)) (old new : F) (wanted : Wanted) (form : Form) (bytes : List ℕ) : Type 0 where
+pub record Takes {F : Type 0} (f : files.Ghosts F) (old new : F) (wanted : Wanted) (form : Form) (bytes : List ℕ) : Type 0 where
   pub name : List ℕ
-  pub asks : AsksFor asked old new wanted form name
-  pub first : AreFirst (told old) name (most_read form) bytes
+  pub asks : AsksFor f old new wanted form name
+  pub first : AreFirst (f.told old) name (most_read form) bytes
 
 -- it is told that these are the first bytes of the file that is wanted
-pub record HasFile {F : Type 0} (told : F → Option Contents) (files : F) (wanted : Wanted) (form : Form) (bytes : List ℕ) : Type 0 where
+pub record HasFile {F : Type 0} (f : files.Ghosts F) (files : F) (wanted : Wanted) (form : Form) (bytes : List ℕ) : Type 0 where
   pub name : List ℕ
   pub contents : Contents
   pub is_wanted : wanted ≡ Some (form, name)
-  pub is_told : told files ≡ Some contents
+  pub is_told : f.told files ≡ Some contents
   pub first : option_map (take (most_read form)) (contents name) ≡ Some bytes
 
 -- the bytes of a file, judged as its form is: a text of named formulas, or an app file
@@ -87,69 +88,67 @@ JudgedAs Check = JudgedApp
 JudgedAs Serve = JudgedApp
 
 -- The file is named formulas that break no rule, and was shown so.
-pub record IsView {F : Type 0} (told : F → Option Contents) (asked : F → List (List ℕ)) (old new : F) (wanted : Wanted) (shows : App → Type 0) : Type 0 where
+pub record IsView {F : Type 0} (f : files.Ghosts F) (old new : F) (wanted : Wanted) (shows : App → Type 0) : Type 0 where
   pub bytes : List ℕ
   pub app : App
-  pub takes : Takes told asked old new wanted View bytes
+  pub takes : Takes f old new wanted View bytes
   pub judged : Judged bytes (Ok app)
   pub shown : shows app
 
 -- The file is an app, of which this is told: how many formulas and tables it has, and where formulas take rows.
-pub record IsCheck {F : Type 0} (told : F → Option Contents) (asked : F → List (List ℕ)) (old new : F) (wanted : Wanted) (text : List ℕ) : Type 0 where
+pub record IsCheck {F : Type 0} (f : files.Ghosts F) (old new : F) (wanted : Wanted) (text : List ℕ) : Type 0 where
   pub bytes : List ℕ
   pub app : App
-  pub takes : Takes told asked old new wanted Check bytes
+  pub takes : Takes f old new wanted Check bytes
   pub judged : JudgedApp bytes (Ok app)
   pub lines : text ≡ checked_text app
 
 -- The file is an app, and serving it came to this.
-pub record IsService {F : Type 0} (told : F → Option Contents) (asked : F → List (List ℕ)) (old new : F) (wanted : Wanted) (ends : App → Type 0) : Type 0 where
+pub record IsService {F : Type 0} (f : files.Ghosts F) (old new : F) (wanted : Wanted) (ends : App → Type 0) : Type 0 where
   pub bytes : List ℕ
   pub app : App
-  pub takes : Takes told asked old new wanted Serve bytes
+  pub takes : Takes f old new wanted Serve bytes
   pub judged : JudgedApp bytes (Ok app)
   pub ended : ends app
 
 -- The file breaks rules, and this is a line for each break.
-pub record IsBroken {F : Type 0} (told : F → Option Contents) (asked : F → List (List ℕ)) (old new : F) (wanted : Wanted) (text : List ℕ) : Type 0 where
+pub record IsBroken {F : Type 0} (f : files.Ghosts F) (old new : F) (wanted : Wanted) (text : List ℕ) : Type 0 where
   pub form : Form
   pub bytes : List ℕ
   pub breaks : List Break
-  pub takes : Takes told asked old new wanted form bytes
+  pub takes : Takes f old new wanted form bytes
   pub judged : JudgedAs form bytes (Err breaks)
   pub lines : text ≡ flat_map ended_line breaks
 
 -- A fault of the files was counted, which were asked for the file alone, and this says so.
-pub record IsMissed {F : Type 0} (asked : F → List (List ℕ)) (faults : F → ℕ) (old new : F) (wanted : Wanted) (text : List ℕ) : Type 0 where
+pub record IsMissed {F : Type 0} (f : files.Ghosts F) (old new : F) (wanted : Wanted) (text : List ℕ) : Type 0 where
   pub form : Form
   pub name : List ℕ
-  pub asks : AsksFor asked old new wanted form name
-  pub rose : Rose (faults old) (faults new)
+  pub asks : AsksFor f old new wanted form name
+  pub rose : Rose (f.faults old) (f.faults new)
   pub line : text ≡ unread_text name
 
 -- When serving an app comes to each report: a call failed that opens the keeper over the store of a name, the keeper keeps
 -- another schema, or it was served up to an end, as `serves` says.
-abbrev pub EndsOver : {K : Type 0} (name : List ℕ) (told : K → Option Tables) (attached : K → Option (Option (List ℕ))) (marks : K → Marks) (attaches : K → List ℕ → K → Type 0) (old new : K)
-    (serves : ReplayEnd → Standing → Standing → Type 0) → App → Report → Type 0
-EndsOver name told attached marks attaches old new serves app KeeperFault = IsStopped name told attached marks attaches Counted old new
-EndsOver name told attached marks attaches old new serves app OtherSchema = (other : Schema) × IsAsked name told attached marks attaches (schema_of app) (Some other) old new
-EndsOver name told attached marks attaches old new serves app (Replayed end) = IsServed name told attached marks attaches old new app (serves end)
-EndsOver name told attached marks attaches old new serves app OutOfMemory = Unit {0}
-EndsOver name told attached marks attaches old new serves app r = ⊥
+abbrev pub EndsOver : {K : Type 0} → keeper.Ghosts K → List ℕ → K → K → (ReplayEnd → Standing → Standing → Type 0) → App → Report → Type 0
+EndsOver g store old new serves app KeeperFault = IsStopped g store Counted old new
+EndsOver g store old new serves app OtherSchema = (other : Schema) × IsAsked g store (schema_of app) (Some other) old new
+EndsOver g store old new serves app (Replayed end) = IsServed g store old new app (serves end)
+EndsOver g store old new serves app OutOfMemory = Unit {0}
+EndsOver g store old new serves app r = ⊥
 
 -- When a run that wants this comes to each report. The values of an app were shown so, as `shows` says, and serving an app
 -- came to the report, as `ends` says.
-abbrev pub Reports : {F : Type 0} (told : F → Option Contents) (asked : F → List (List ℕ)) (faults : F → ℕ) (old new : F)
-    (shows : App → String Global → Type 0) (ends : App → Report → Type 0) → Wanted → Report → Type 0
-Reports told asked faults old new shows ends wanted (Shown text) = IsView told asked old new wanted (λ app. shows app text)
-Reports told asked faults old new shows ends wanted (Checked text) = IsCheck told asked old new wanted (string_bytes text)
-Reports told asked faults old new shows ends wanted (Broken text) = IsBroken told asked old new wanted (string_bytes text)
-Reports told asked faults old new shows ends wanted Usage = wanted ≡ None
-Reports told asked faults old new shows ends wanted OutOfMemory = IsSome wanted
-Reports told asked faults old new shows ends wanted (Unread text) = IsMissed asked faults old new wanted (string_bytes text)
-Reports told asked faults old new shows ends wanted KeeperFault = IsService told asked old new wanted (λ app. ends app KeeperFault)
-Reports told asked faults old new shows ends wanted OtherSchema = IsService told asked old new wanted (λ app. ends app OtherSchema)
-Reports told asked faults old new shows ends wanted (Replayed end) = IsService told asked old new wanted (λ app. ends app (Replayed end))
+abbrev pub Reports : {F : Type 0} → files.Ghosts F → F → F → (App → String Global → Type 0) → (App → Report → Type 0) → Wanted → Report → Type 0
+Reports f old new shows ends wanted (Shown text) = IsView f old new wanted (λ app. shows app text)
+Reports f old new shows ends wanted (Checked text) = IsCheck f old new wanted (string_bytes text)
+Reports f old new shows ends wanted (Broken text) = IsBroken f old new wanted (string_bytes text)
+Reports f old new shows ends wanted Usage = wanted ≡ None
+Reports f old new shows ends wanted OutOfMemory = IsSome wanted
+Reports f old new shows ends wanted (Unread text) = IsMissed f old new wanted (string_bytes text)
+Reports f old new shows ends wanted KeeperFault = IsService f old new wanted (λ app. ends app KeeperFault)
+Reports f old new shows ends wanted OtherSchema = IsService f old new wanted (λ app. ends app OtherSchema)
+Reports f old new shows ends wanted (Replayed end) = IsService f old new wanted (λ app. ends app (Replayed end))
 
 -- nothing was shown, and nothing was served
 abbrev pub no_show : App → String Global → Type 0
@@ -188,30 +187,16 @@ IsReadOnceAtMost told old new = (new ≡ old) ⊎ ((moment : ℕ) × Tick moment
 
 -- What a run that serves an app and came to a report left alone of the keeper: all, but where it was opened. For want of memory a call may
 -- have stopped that opens it.
-abbrev pub LeavesKeeper : Type 0 → Type 0 → Report → Type 0
-LeavesKeeper keeper stopped (Shown text) = keeper
-LeavesKeeper keeper stopped (Checked text) = keeper
-LeavesKeeper keeper stopped (Broken text) = keeper
-LeavesKeeper keeper stopped Usage = keeper
-LeavesKeeper keeper stopped OutOfMemory = keeper ⊎ stopped
-LeavesKeeper keeper stopped (Unread text) = keeper
-LeavesKeeper keeper stopped KeeperFault = Unit {0}
-LeavesKeeper keeper stopped OtherSchema = Unit {0}
-LeavesKeeper keeper stopped (Replayed end) = Unit {0}
-
--- What a run that came to a report left alone: the files, the doors, the clock, or the clock but for one reading, and the
--- keeper. For want of memory where an app is served a call may have stopped that opens the keeper.
-abbrev pub Leaves : Wanted → Type 0 → Type 0 → Type 0 → Type 0 → Type 0 → Type 0 → Report → Type 0
-Leaves wanted files doors clock once keeper stopped (Shown text) = doors × keeper
-Leaves wanted files doors clock once keeper stopped (Checked text) = doors × clock × keeper
-Leaves wanted files doors clock once keeper stopped (Broken text) = doors × clock × keeper
-Leaves wanted files doors clock once keeper stopped Usage = files × doors × clock × keeper
-Leaves wanted files doors clock once keeper stopped OutOfMemory =
-    doors × (Wants Serve wanted → clock × (keeper ⊎ stopped)) × (Wants View wanted → once × keeper) × (Wants Check wanted → clock × keeper)
-Leaves wanted files doors clock once keeper stopped (Unread text) = doors × clock × keeper
-Leaves wanted files doors clock once keeper stopped KeeperFault = doors × clock
-Leaves wanted files doors clock once keeper stopped OtherSchema = doors × clock
-Leaves wanted files doors clock once keeper stopped (Replayed end) = Unit {0}
+abbrev pub LeavesKeeper : {K : Type 0} → keeper.Ghosts K → List ℕ → K → K → Report → Type 0
+LeavesKeeper g store old new (Shown text) = new ≡ old
+LeavesKeeper g store old new (Checked text) = new ≡ old
+LeavesKeeper g store old new (Broken text) = new ≡ old
+LeavesKeeper g store old new Usage = new ≡ old
+LeavesKeeper g store old new OutOfMemory = (new ≡ old) ⊎ IsStopped g store Unsaid old new
+LeavesKeeper g store old new (Unread text) = new ≡ old
+LeavesKeeper g store old new KeeperFault = Unit {0}
+LeavesKeeper g store old new OtherSchema = Unit {0}
+LeavesKeeper g store old new (Replayed end) = Unit {0}
 
 -- it says that a file of this name could not be read, or memory ran out
 abbrev pub IsUnread : List ℕ → Report → Type 0
@@ -281,10 +266,10 @@ text_of (Replayed end) = text_of_end end
 
 -- a report was said: the run ends with its status and wrote its text, or a fault of the sink was counted, the run ends with
 -- 7 and wrote a first part of the text
-abbrev pub IsSaid : Report → ℕ → Type 0 → Option (List ℕ) → Option (List ℕ) → Type 0
-IsSaid report status sink_rose out out_now =
-    ((status ≡ status_of report) × Tells (Grows (text_of report)) out out_now)
-    ⊎ ((status ≡ 7) × sink_rose × Tells (GrowsInPart (text_of report)) out out_now)
+abbrev pub IsSaid : {O : Type 0} → sink.Ghosts O → O → O → Report → ℕ → Type 0
+IsSaid o old new report status =
+    ((status ≡ status_of report) × Tells (Grows (text_of report)) (o.told old) (o.told new))
+    ⊎ ((status ≡ 7) × Rose (o.faults old) (o.faults new) × Tells (GrowsInPart (text_of report)) (o.told old) (o.told new))
 
 -- a run ended with this status, or for want of memory, or by a counted fault
 abbrev pub EndsWith : ℕ → ℕ → Type 0 → Type 0 → Type 0

@@ -13,7 +13,7 @@ use Rattle.office.specs.Answers.{Exchange}
 use Rattle.office.specs.State.{State, schema_of}
 use Rattle.office.specs.Step.{Step}
 use Rattle.office.specs.app_loader.Judged.{JudgedApp}
-use Rattle.row_keeper.specs.Tables.{Tables}
+use Rattle.row_keeper.specs.declared.keeper.Keeper.{Ghosts}
 use Rattle.row_keeper.specs.declared.keeper.KeeperEnd.{KeeperEnd}
 use Rattle.row_keeper.specs.declared.keeper.KeeperEnd.TheVariants.{Failed, Memory}
 use Rattle.sample_load.specs.Counts.{HasRows}
@@ -55,12 +55,12 @@ pub record IsSampled (asked : List Asked) (old new : Standing) (text : List ℕ)
   pub told : text ≡ summary rows (length between.state.sessions) replies
 
 -- when putting an app to the requests comes to each report, over a keeper that is opened with the store of the empty name
-abbrev pub EndsSample : {K : Type 0} (n : ℕ) (told : K → Option Tables) (attached : K → Option (Option (List ℕ))) (marks : K → Marks) (attaches : K → List ℕ → K → Type 0) (old new : K) → App → Report → Type 0
-EndsSample n told attached marks attaches old new app (Shown text) = IsServed [] told attached marks attaches old new app (λ a b. IsSampled (requests n) a b (string_bytes text))
-EndsSample n told attached marks attaches old new app KeeperFault = Rose (marks old).faults (marks new).faults
-EndsSample n told attached marks attaches old new app OtherSchema = (other : Schema) × IsAsked [] told attached marks attaches (schema_of app) (Some other) old new
-EndsSample n told attached marks attaches old new app OutOfMemory = Unit {0}
-EndsSample n told attached marks attaches old new app r = ⊥
+abbrev pub EndsSample : {K : Type 0} → Ghosts K → ℕ → K → K → App → Report → Type 0
+EndsSample g n old new app (Shown text) = IsServed g [] old new app (λ a b. IsSampled (requests n) a b (string_bytes text))
+EndsSample g n old new app KeeperFault = Rose (g.marks old).faults (g.marks new).faults
+EndsSample g n old new app OtherSchema = (other : Schema) × IsAsked g [] (schema_of app) (Some other) old new
+EndsSample g n old new app OutOfMemory = Unit {0}
+EndsSample g n old new app r = ⊥
 
 -- the text of the sample is an app, and putting it to the requests came to this
 pub record IsSample (ended : App → Type 0) : Type 0 where
@@ -69,18 +69,18 @@ pub record IsSample (ended : App → Type 0) : Type 0 where
   pub ends : ended app
 
 -- when a run comes to each report that wants the sample load of a number
-abbrev pub ReportsSample : {K : Type 0} (n : ℕ) (told : K → Option Tables) (attached : K → Option (Option (List ℕ))) (marks : K → Marks) (attaches : K → List ℕ → K → Type 0) (old new : K) → Report → Type 0
-ReportsSample n told attached marks attaches old new (Shown text) = IsSample (λ app. EndsSample n told attached marks attaches old new app (Shown text))
-ReportsSample n told attached marks attaches old new (Broken text) = (bs : List Break) × JudgedApp app_text (Err bs) × (string_bytes text ≡ flat_map ended_line bs)
-ReportsSample n told attached marks attaches old new OutOfMemory = Unit {0}
-ReportsSample n told attached marks attaches old new KeeperFault = IsSample (λ app. EndsSample n told attached marks attaches old new app KeeperFault)
-ReportsSample n told attached marks attaches old new OtherSchema = IsSample (λ app. EndsSample n told attached marks attaches old new app OtherSchema)
-ReportsSample n told attached marks attaches old new r = ⊥
+abbrev pub ReportsSample : {K : Type 0} → Ghosts K → ℕ → K → K → Report → Type 0
+ReportsSample g n old new (Shown text) = IsSample (λ app. EndsSample g n old new app (Shown text))
+ReportsSample g n old new (Broken text) = (bs : List Break) × JudgedApp app_text (Err bs) × (string_bytes text ≡ flat_map ended_line bs)
+ReportsSample g n old new OutOfMemory = Unit {0}
+ReportsSample g n old new KeeperFault = IsSample (λ app. EndsSample g n old new app KeeperFault)
+ReportsSample g n old new OtherSchema = IsSample (λ app. EndsSample g n old new app OtherSchema)
+ReportsSample g n old new r = ⊥
 
 -- The sample was put to its requests, over a keeper that was opened for it, and what is told of that was written.
-pub record IsGenerated {K : Type 0} (n : ℕ) (told : K → Option Tables) (attached : K → Option (Option (List ℕ))) (marks : K → Marks) (attaches : K → List ℕ → K → Type 0) (old new : K) (out out_now : Option (List ℕ)) : Type 0 where
+pub record IsGenerated {K : Type 0} (g : Ghosts K) (n : ℕ) (old new : K) (out out_now : Option (List ℕ)) : Type 0 where
   pub text : List ℕ
-  pub sample : IsSample (λ app. IsServed [] told attached marks attaches old new app (λ a b. IsSampled (requests n) a b text))
+  pub sample : IsSample (λ app. IsServed g [] old new app (λ a b. IsSampled (requests n) a b text))
   pub written : Tells (Grows text) out out_now
 
 -- the report of what is told, or of what stopped the requests

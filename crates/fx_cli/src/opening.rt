@@ -18,11 +18,11 @@ pub(crate) fn open_keeper<K: Keeper>(
 ) -> Result<Option<Schema>, KeeperEnd>
     requires idle { K.in_transaction keeper.old ≡ false }
     requires lawful { IsLawfulSchema schema.now }
-    ensures asked { IfOk result (λ other. IsAsked name.now K.told K.attached K.marks K.attaches schema.now other keeper.old keeper.new) }
+    ensures asked { IfOk result (λ other. IsAsked K.Keeper name.now schema.now other keeper.old keeper.new) }
     ensures shaped { IfOk result (λ other. IfNone other (K.shaped keeper.new ≡ Some schema.now)) }
     ensures sound { IfOk result (λ other. IfNone other (AreSound schema.now (K.told keeper.new))) }
-    ensures stopped { OnErr result (IsStopped name.now K.told K.attached K.marks K.attaches Unsaid keeper.old keeper.new) }
-    ensures failed { IsErrOf result Failed → IsStopped name.now K.told K.attached K.marks K.attaches Counted keeper.old keeper.new }
+    ensures stopped { OnErr result (IsStopped K.Keeper name.now Unsaid keeper.old keeper.new) }
+    ensures failed { IsErrOf result Failed → IsStopped K.Keeper name.now Counted keeper.old keeper.new }
     ensures idle { K.in_transaction keeper.new ≡ false }
     ensures later { IsLater (K.marks keeper.old) (K.marks keeper.new) }
 {

@@ -9,10 +9,11 @@ ghost use Rattle.office.specs.State.{State, schema_of, started};
 ghost use Rattle.row_requests.specs.Sound.{AreSound};
 ghost use Rattle.session_state.specs.Changes.{HoldsTables};
 ghost use Rattle.fx_cli.specs.Held.{Serves};
-ghost use Rattle.fx_cli.specs.Opening.{IsStopped, Unsaid};
+ghost use Rattle.fx_cli.specs.Outside.{work_of, work_sight};
 ghost use Rattle.fx_cli.specs.Plain.{IsShown, IsShownNow};
-ghost use Rattle.fx_cli.specs.Report.{EndsOver, IsChecking, IsIdle, IsReadOnceAtMost, IsRefusal, IsShowing, IsTimeless, IsUnread, Leaves, LeavesKeeper, Reports, fault_text, keeper_text, limit_text, memory_text, no_service, no_show, schema_text, status_of, status_of_end, text_of, text_of_end, unread_text, usage_text};
-ghost use Rattle.fx_cli.specs.Words.{service, wanted};
+ghost use Rattle.fx_cli.specs.Report as by_parts;
+ghost use Rattle.fx_cli.specs.Report.{EndsOver, IsChecking, IsIdle, IsReadOnceAtMost, IsRefusal, IsShowing, IsTimeless, IsUnread, LeavesKeeper, fault_text, keeper_text, limit_text, memory_text, no_service, no_show, schema_text, status_of, status_of_end, text_of, text_of_end, unread_text, usage_text};
+ghost use Rattle.fx_cli.specs.Run.{LeavesAlone, Reports};
 ghost use Rattle.fx_cli.specs.declared.words.Form.TheVariants.{Check, Serve, View};
 
 use crate::files::{FileEnd, Files};
@@ -171,13 +172,11 @@ pub fn carry_out<D: Doors, K: Keeper, F: Files, C: Clock, L: Ledger>(
     steps: &mut Steps<L>,
 ) -> Report
     requires idle { K.in_transaction keeper.old ≡ false }
-    ensures reports { Reports F.told F.asked F.faults files.old files.new
-        (λ app text. IsShownNow (C.told clock.old) (C.told clock.new) app (string_bytes text))
-        (EndsOver (service words.now).store K.told K.attached K.marks K.attaches keeper.old keeper.new
-        (λ end old new. Serves (service words.now).port (service words.now).most (D.single doors.old) old new (D.faults doors.old) (D.faults doors.new) (C.told clock.old) (C.told clock.new) (D.told doors.old) (D.told doors.new) end)) (wanted words.now) result }
+    ensures reports { Reports (work_sight D.Doors K.Keeper F.Files C.Clock) words.now
+        (work_of doors.old keeper.old files.old clock.old) (work_of doors.new keeper.new files.new clock.new) result }
     ensures cause { result ≡ Report.Replayed ReplayEnd.Fault → Rose (D.faults doors.old) (D.faults doors.new) }
-    ensures leaves { Leaves (wanted words.now) (files.new ≡ files.old) (doors.new ≡ doors.old) (clock.new ≡ clock.old) (IsReadOnceAtMost C.told clock.old clock.new)
-        (keeper.new ≡ keeper.old) (IsStopped (service words.now).store K.told K.attached K.marks K.attaches Unsaid keeper.old keeper.new) result }
+    ensures leaves { LeavesAlone (work_sight D.Doors K.Keeper F.Files C.Clock) words.now
+        (work_of doors.old keeper.old files.old clock.old) (work_of doors.new keeper.new files.new clock.new) result }
     ensures later { F.faults files.old ≤ F.faults files.new }
     ensures doors_later { D.faults doors.old ≤ D.faults doors.new }
     ensures keeper_later { IsLater (K.marks keeper.old) (K.marks keeper.new) }
@@ -209,7 +208,7 @@ fn view_file<F: Files, C: Clock, L: Ledger>(
     clock: &mut C,
     steps: &mut Steps<L>,
 ) -> Report
-    ensures reports { Reports F.told F.asked F.faults files.old files.new
+    ensures reports { by_parts.Reports F.Files files.old files.new
         (λ app text. IsShownNow (C.told clock.old) (C.told clock.new) app (string_bytes text)) no_service (Some (View, name.now)) result }
     ensures timeless { IsTimeless result → clock.new ≡ clock.old }
     ensures clock { IsReadOnceAtMost C.told clock.old clock.new }
@@ -229,7 +228,7 @@ fn view_file<F: Files, C: Clock, L: Ledger>(
 
 /// Checks an app's file. Nothing is evaluated, and no keeper is called.
 fn check_file<F: Files>(alloc: Global, name: &str, files: &mut F) -> Report
-    ensures reports { Reports F.told F.asked F.faults files.old files.new no_show no_service (Some (Check, name.now)) result }
+    ensures reports { by_parts.Reports F.Files files.old files.new no_show no_service (Some (Check, name.now)) result }
     ensures later { F.faults files.old ≤ F.faults files.new }
     ensures told { F.told files.new ≡ F.told files.old }
 {
@@ -279,12 +278,12 @@ fn serve_file<D: Doors, K: Keeper, F: Files, C: Clock, L: Ledger>(
     steps: &mut Steps<L>,
 ) -> Report
     requires idle { K.in_transaction keeper.old ≡ false }
-    ensures reports { Reports F.told F.asked F.faults files.old files.new no_show
-        (EndsOver service.entry.store.now K.told K.attached K.marks K.attaches keeper.old keeper.new
+    ensures reports { by_parts.Reports F.Files files.old files.new no_show
+        (EndsOver K.Keeper service.entry.store.now keeper.old keeper.new
         (λ end old new. Serves service.entry.port service.entry.most (D.single doors.old) old new (D.faults doors.old) (D.faults doors.new) (C.told clock.old) (C.told clock.new) (D.told doors.old) (D.told doors.new) end)) (Some (Serve, name.now)) result }
     ensures cause { result ≡ Report.Replayed ReplayEnd.Fault → Rose (D.faults doors.old) (D.faults doors.new) }
     ensures unheld { IsIdle result → (doors.new ≡ doors.old) × (clock.new ≡ clock.old) }
-    ensures unopened { LeavesKeeper (keeper.new ≡ keeper.old) (IsStopped service.entry.store.now K.told K.attached K.marks K.attaches Unsaid keeper.old keeper.new) result }
+    ensures unopened { LeavesKeeper K.Keeper service.entry.store.now keeper.old keeper.new result }
     ensures later { F.faults files.old ≤ F.faults files.new }
     ensures doors_later { D.faults doors.old ≤ D.faults doors.new }
     ensures keeper_later { IsLater (K.marks keeper.old) (K.marks keeper.new) }
@@ -318,11 +317,11 @@ fn serve_app<D: Doors, K: Keeper, C: Clock, L: Ledger>(
     requires app { IsSound app }
     requires loaded { IsLoaded app }
     requires opens { CanOpen app.names }
-    ensures ends { EndsOver service.entry.store.now K.told K.attached K.marks K.attaches keeper.old keeper.new
+    ensures ends { EndsOver K.Keeper service.entry.store.now keeper.old keeper.new
         (λ end old new. Serves service.entry.port service.entry.most (D.single doors.old) old new (D.faults doors.old) (D.faults doors.new) (C.told clock.old) (C.told clock.new) (D.told doors.old) (D.told doors.new) end) app result }
     ensures cause { result ≡ Report.Replayed ReplayEnd.Fault → Rose (D.faults doors.old) (D.faults doors.new) }
     ensures unheld { IsIdle result → (doors.new ≡ doors.old) × (clock.new ≡ clock.old) }
-    ensures unopened { LeavesKeeper (keeper.new ≡ keeper.old) (IsStopped service.entry.store.now K.told K.attached K.marks K.attaches Unsaid keeper.old keeper.new) result }
+    ensures unopened { LeavesKeeper K.Keeper service.entry.store.now keeper.old keeper.new result }
     ensures doors_later { D.faults doors.old ≤ D.faults doors.new }
     ensures keeper_later { IsLater (K.marks keeper.old) (K.marks keeper.new) }
     ensures idle { K.in_transaction keeper.new ≡ false }

@@ -1,5 +1,5 @@
 //! A sample load: an app is put to requests of its own, and what came of them is told.
-ghost use Rattle.std.specs.Prelude.{◌≡◌, ◌≢◌, ◌≤◌, ℕ, Err, IfOk, List, Some, false, length, map, string_bytes};
+ghost use Rattle.std.specs.Prelude.{◌≡◌, ◌≤◌, ℕ, Err, IfOk, List, Some, false, length, map, string_bytes};
 ghost use Rattle.std.specs.List.{All};
 ghost use Rattle.app_wire.specs.Framing.{asked};
 ghost use Rattle.fx_base.specs.Faults.{Rose};
@@ -17,7 +17,7 @@ ghost use Rattle.sample_load.specs.Sample.{app_text as sample_text};
 ghost use Rattle.sample_load.specs.Summary.{summary as summary_of};
 ghost use Rattle.fx_cli.specs.Held.{standing};
 ghost use Rattle.fx_cli.specs.Report.{EndsWith, IsSaid};
-ghost use Rattle.fx_cli.specs.Sampled.{EndsSample, IsGenerated, IsPlayed, IsSampled, IsTold, ReportsSample};
+ghost use Rattle.fx_cli.specs.Sampled.{EndsSample, IsPlayed, IsSampled, IsTold, ReportsSample};
 ghost use Rattle.row_keeper.specs.Causes as by_marks;
 ghost use Rattle.row_keeper.specs.Over.{Becomes, HasCause};
 
@@ -48,12 +48,8 @@ pub(crate) fn run_sample<K: Keeper, O: Sink, L: Ledger>(
 ) -> Status
     requires idle { K.in_transaction keeper.old ≡ false }
     requires few { n ≤ 1000000 }
-    ensures sample { (report : Report) × ReportsSample n K.told K.attached K.marks K.attaches keeper.old keeper.new report
-        × IsSaid report result.0 (Rose (O.faults out.old) (O.faults out.new)) (O.told out.old) (O.told out.new) }
-    ensures generated { result.0 ≡ 0 → IsGenerated n K.told K.attached K.marks K.attaches keeper.old keeper.new (O.told out.old) (O.told out.new) }
-    ensures refused { (bs : List Broken) → JudgedApp sample_text (Err bs) → EndsWith 1 result.0 ⊥ (Rose (O.faults out.old) (O.faults out.new)) }
-    ensures keeper_fault { result.0 ≡ 5 → Rose (K.marks keeper.old).faults (K.marks keeper.new).faults }
-    ensures fault { result.0 ≢ 6 }
+    ensures sampled { (report : Report) × ReportsSample K.Keeper n keeper.old keeper.new report × IsSaid O.Sink out.old out.new report result.0 }
+    ensures spoilt { (bs : List Broken) → JudgedApp sample_text (Err bs) → EndsWith 1 result.0 ⊥ (Rose (O.faults out.old) (O.faults out.new)) }
     ensures keeper_later { IsLater (K.marks keeper.old) (K.marks keeper.new) }
     ensures out_later { O.faults out.old ≤ O.faults out.new }
     ensures idle { K.in_transaction keeper.new ≡ false }
@@ -73,7 +69,7 @@ fn put_sample<K: Keeper, L: Ledger>(
 ) -> Report
     requires idle { K.in_transaction keeper.old ≡ false }
     requires few { n ≤ 1000000 }
-    ensures reports { ReportsSample n K.told K.attached K.marks K.attaches keeper.old keeper.new result }
+    ensures reports { ReportsSample K.Keeper n keeper.old keeper.new result }
     ensures later { IsLater (K.marks keeper.old) (K.marks keeper.new) }
     ensures idle { K.in_transaction keeper.new ≡ false }
 {
@@ -98,7 +94,7 @@ fn put_app<K: Keeper, L: Ledger>(
     requires app { IsSound app }
     requires loaded { IsLoaded app }
     requires opens { CanOpen app.names }
-    ensures ends { EndsSample n K.told K.attached K.marks K.attaches keeper.old keeper.new app result }
+    ensures ends { EndsSample K.Keeper n keeper.old keeper.new app result }
     ensures later { IsLater (K.marks keeper.old) (K.marks keeper.new) }
     ensures idle { K.in_transaction keeper.new ≡ false }
 {

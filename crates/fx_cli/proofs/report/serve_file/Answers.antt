@@ -8,24 +8,24 @@ use Rattle.fx_cli.proofs.report.serve_file.Goals as goal
 
 pub returns-clause-reports : goal.returns-clause-reports
 returns-clause-reports g c =
-    let taken : Takes g.F.Files.told g.F.Files.asked c.args.files.now c.read.new.self (Some (Serve, c.args.name.now)) Serve c.in-Ok.file.items = record {
+    let taken : Takes g.F.Files c.args.files.now c.read.new.self (Some (Serve, c.args.name.now)) Serve c.in-Ok.file.items = record {
       name = c.args.name.now;
       asks = record { is_wanted = refl; grown = c.in-Ok.ensures.asked };
       first = c.in-Ok.ensures.bytes;
     } in
     let tells = subst (λ bs. Tells (λ breaks. JudgedAs Serve bs (Err breaks)) c.in-Err.end) c.deref.ensures.value c.in-Err.ensures.refused in
-    reports_refused g.F.Files.told g.F.Files.asked g.F.Files.faults c.args.files.now c.read.new.self no_show
-    (EndsOver c.args.service.store.now g.K.Keeper.told g.K.Keeper.attached g.K.Keeper.marks g.K.Keeper.attaches c.args.keeper.now c.args.keeper.now (λ end old new. Serves c.args.service.port c.args.service.most (g.D.Doors.single c.args.doors.now) old new (g.D.Doors.faults c.args.doors.now) (g.D.Doors.faults c.args.doors.now) (g.C.Clock.told c.args.clock.now) (g.C.Clock.told c.args.clock.now) (g.D.Doors.told c.args.doors.now) (g.D.Doors.told c.args.doors.now) end))
+    reports_refused g.F.Files c.args.files.now c.read.new.self no_show
+    (EndsOver g.K.Keeper c.args.service.store.now c.args.keeper.now c.args.keeper.now (λ end old new. Serves c.args.service.port c.args.service.most (g.D.Doors.single c.args.doors.now) old new (g.D.Doors.faults c.args.doors.now) (g.D.Doors.faults c.args.doors.now) (g.C.Clock.told c.args.clock.now) (g.C.Clock.told c.args.clock.now) (g.D.Doors.told c.args.doors.now) (g.D.Doors.told c.args.doors.now) end))
     Serve c.args.name.now c.in-Ok.file.items c.in-Err.end c.refuse.result taken tells c.refuse.ensures
 
 pub returns-in-Ok-load-clause-reports : goal.returns-in-Ok-load-clause-reports
 returns-in-Ok-load-clause-reports g c =
-    let taken : Takes g.F.Files.told g.F.Files.asked c.args.files.now c.read.new.self (Some (Serve, c.args.name.now)) Serve c.in-Ok.file.items = record {
+    let taken : Takes g.F.Files c.args.files.now c.read.new.self (Some (Serve, c.args.name.now)) Serve c.in-Ok.file.items = record {
       name = c.args.name.now;
       asks = record { is_wanted = refl; grown = c.in-Ok.ensures.asked };
       first = c.in-Ok.ensures.bytes;
     } in
-    reports_over c.args.service.store.now g.F.Files.told g.F.Files.asked g.F.Files.faults c.args.files.now c.read.new.self g.K.Keeper.told g.K.Keeper.attached g.K.Keeper.marks g.K.Keeper.attaches c.args.keeper.now c.serve_app.new.keeper
+    reports_over g.F.Files g.K.Keeper c.args.service.store.now c.args.files.now c.read.new.self c.args.keeper.now c.serve_app.new.keeper
     (λ end old new. Serves c.args.service.port c.args.service.most (g.D.Doors.single c.args.doors.now) old new (g.D.Doors.faults c.args.doors.now) (g.D.Doors.faults c.serve_app.new.doors) (g.C.Clock.told c.args.clock.now) (g.C.Clock.told c.serve_app.new.clock) (g.D.Doors.told c.args.doors.now) (g.D.Doors.told c.serve_app.new.doors) end)
     c.args.name.now c.in-Ok.file.items c.in-Ok-load.app c.serve_app.result taken (rw c.deref.ensures.value at c.in-Ok-load.ensures.app) c.serve_app.ensures.ends
 

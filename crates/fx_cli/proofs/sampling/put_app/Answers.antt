@@ -15,5 +15,5 @@ returns-in-Ok-None-clause-ends g c =
     let sampled = subst (λ (all : List Asked). IfOk c.put_over.result (λ text. (state : State) × (state.tables ≡ told new)
     × IsSampled all (record { state = started c.args.app (told opened); marks = marks opened }) (record { state = state; marks = marks new }) (string_bytes text)))
     (ap (map asked) c.deref.ensures.value ∙ c.in-Ok-requests.ensures) c.put_over.ensures.sampled in
-    told_ends c.args.n told g.K.Keeper.attached marks g.K.Keeper.attaches c.args.keeper.now opened new c.args.app c.put_over.result c.report_of.result
+    told_ends g.K.Keeper c.args.n c.args.keeper.now opened new c.args.app c.put_over.result c.report_of.result
     c.requires.app c.requires.opens (rw c.in-Ok-None.field-0-is at c.in-Ok-None.ensures.asked) sampled c.put_over.ensures.cause c.in-Ok-None.ensures.later c.report_of.ensures

@@ -6,5 +6,5 @@ use Rattle.fx_cli.proofs.sampling.put_sample.Goals as goal
 
 pub returns-in-Err-clause-reports : goal.returns-in-Err-clause-reports
 returns-in-Err-clause-reports g c =
-    sample_refused c.args.n g.K.Keeper.told g.K.Keeper.attached g.K.Keeper.marks g.K.Keeper.attaches c.args.keeper.now c.args.keeper.now c.in-Err.end c.refuse.result
+    sample_refused g.K.Keeper c.args.n c.args.keeper.now c.args.keeper.now c.in-Err.end c.refuse.result
     (subst (λ bs. Tells (λ breaks. JudgedApp bs (Err breaks)) c.in-Err.end) c.app_text.ensures c.in-Err.ensures.refused) c.refuse.ensures
