@@ -16,7 +16,7 @@ use Rattle.row_queries.specs.declared.rows.Row.{Row}
 use Rattle.row_queries.specs.declared.rows.RowList.{RowList}
 use Rattle.row_keeper.proofs.RowLists.{order_more}
 use Rattle.sql_keeper.specs.Given.{IsGivenOf}
-use Rattle.sql_keeper.proofs.RowLemmas.{all_more}
+use Rattle.row_lines.proofs.CellLemmas.{all_more}
 
 -- ---- a pass over rows
 

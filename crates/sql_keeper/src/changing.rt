@@ -5,12 +5,12 @@ ghost use Rattle.row_queries.specs.TableRows.{AreCellsOf};
 
 use crate::changes::Changes;
 use crate::database::Database;
-use crate::lines::line_of;
 use crate::reading::body_now;
 use crate::rules::{broken_rule, fullness};
 use crate::tallies::{Tally, all_rows};
 use fx_trees::TableShape;
 use row_keeper::{KeeperEnd, Put};
+use row_lines::lines::line_of;
 use row_queries::Cells;
 use std::alloc::Global;
 

@@ -2,7 +2,7 @@
 ghost use Rattle.std.specs.Prelude.{◌≡◌, ◌≤◌, ◌^◌};
 ghost use Rattle.row_queries.specs.Ranges.{in_range, in_ranges, is_before_end};
 
-use crate::pieces::piece_at;
+use row_lines::pieces::piece_at;
 use row_queries::KeyRange;
 
 /// The number of no row: one more than the last that a row may have.

@@ -5,13 +5,13 @@ ghost use Rattle.row_keeper.specs.Changes.{NamesItsColumn};
 
 use crate::changes::Changes;
 use crate::database::Database;
-use crate::pieces::piece_at;
 use crate::statements::{self, number_in};
 use crate::tallies::{Count, is_full};
 use fx_base::Memory;
 use fx_trees::Column;
 use row_keeper::rules::{is_empty, weight};
 use row_keeper::{KeeperEnd, RowRefusal, RowRule};
+use row_lines::pieces::piece_at;
 use row_queries::Cells;
 use sqlite::Row as Answer;
 use std::alloc::Global;

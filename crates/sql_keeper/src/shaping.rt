@@ -1,16 +1,16 @@
 // The schema that a database keeps.
 ghost use Rattle.std.specs.Prelude.{◌≢◌, IfOk, IfSome};
-ghost use Rattle.sql_keeper.specs.Bodies.{schema_bytes};
+ghost use Rattle.row_lines.specs.Bodies.{schema_bytes};
 
 use crate::database::Database;
-use crate::lines::row_of;
-use crate::schemas::schema_of;
 use crate::statements::{self, bytes_in, number_in};
 use crate::tallies::{Count, Tally, no_rows};
 use crate::writing::Writing;
 use fx_base::Memory;
 use fx_trees::{Schema, TableShape};
 use row_keeper::KeeperEnd;
+use row_lines::lines::row_of;
+use row_lines::schemas::schema_of;
 use sqlite::Row as Answer;
 use std::alloc::Global;
 

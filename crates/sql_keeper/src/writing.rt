@@ -1,7 +1,6 @@
 // What is written to a database, each time in one transaction.
 
 use crate::changes::{Change, Changes};
-use crate::pieces::piece_at;
 use crate::statements::{
     commit, make_tables, put_line, put_mark, put_shape, put_tab, set_last, set_line, take_line,
     take_mark,
@@ -9,6 +8,7 @@ use crate::statements::{
 use crate::tallies::Tally;
 use fx_trees::{Column, Schema};
 use row_keeper::KeeperEnd;
+use row_lines::pieces::piece_at;
 use sqlite::{Alter, Connection, Transaction};
 
 /// What is written in one transaction.

@@ -1,7 +1,7 @@
 use Rattle.std.proofs.Common.{subst, sym}
 use Rattle.row_queries.specs.TableRows.{AreCellsOf}
-use Rattle.sql_keeper.proofs.RowLemmas.{scalar_in}
-use Rattle.sql_keeper.proofs.lines.line_of.Goals as goal
+use Rattle.row_lines.proofs.CellLemmas.{scalar_in}
+use Rattle.row_lines.proofs.lines.line_of.Goals as goal
 
 pub push_cell-requires : goal.push_cell-requires
 push_cell-requires c =

@@ -1,6 +1,6 @@
 // Pieces of bytes: four bytes of length, and then so many bytes.
 ghost use Rattle.std.specs.Prelude.{◌≡◌, ◌++◌, OnOk};
-ghost use Rattle.sql_keeper.specs.Bodies.{piece};
+ghost use Rattle.row_lines.specs.Bodies.{piece};
 
 use fx_base::Memory;
 

@@ -1,8 +1,8 @@
 use Rattle.std.proofs.Common.{◌+◌, take, subst, sym}
 use Rattle.fx_data.specs.ValueView.{view}
 use Rattle.row_queries.specs.TableRows.{AreCellsOf}
-use Rattle.sql_keeper.proofs.RowLemmas.{cells_on}
-use Rattle.sql_keeper.proofs.lines.cells_of.Goals as goal
+use Rattle.row_lines.proofs.CellLemmas.{cells_on}
+use Rattle.row_lines.proofs.lines.cells_of.Goals as goal
 
 pub loop-column-preserved : goal.loop-column-preserved
 loop-column-preserved c =

@@ -6,7 +6,7 @@ ghost use Rattle.fx_data.specs.Values.{Data};
 ghost use Rattle.fx_value.specs.Keys.{key_bytes};
 ghost use Rattle.fx_value.specs.Order.{IsScalar};
 ghost use Rattle.row_queries.specs.TableRows.{AreCellsOf, IsHeldRow};
-ghost use Rattle.sql_keeper.specs.Bodies.{line_bytes, piece};
+ghost use Rattle.row_lines.specs.Bodies.{line_bytes, piece};
 
 use crate::pieces::{push_piece, split_piece};
 use crate::values::value_of;

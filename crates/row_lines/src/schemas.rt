@@ -1,6 +1,6 @@
 // The bodies of schemas.
 ghost use Rattle.std.specs.Prelude.{◌≡◌, ◌++◌, IfOk, IfSome, OnOk, flat_map};
-ghost use Rattle.sql_keeper.specs.Bodies.{column_bytes, piece, schema_bytes, table_bytes, truth_byte, type_byte};
+ghost use Rattle.row_lines.specs.Bodies.{column_bytes, piece, schema_bytes, table_bytes, truth_byte, type_byte};
 
 use crate::pieces::{push_piece, split_piece};
 use fx_base::{InOrder, Memory};
