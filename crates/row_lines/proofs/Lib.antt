@@ -1,1 +1,4 @@
 pub mod CellLemmas
+pub mod LineLemmas
+pub mod PieceLemmas
+pub mod SchemaLemmas

@@ -7,6 +7,8 @@ ghost use Rattle.fx_value.specs.Keys.{key_bytes};
 ghost use Rattle.fx_value.specs.Order.{IsScalar};
 ghost use Rattle.row_queries.specs.TableRows.{AreCellsOf, IsHeldRow};
 ghost use Rattle.row_lines.specs.Bodies.{line_bytes, piece};
+ghost use Rattle.row_lines.specs.FromBytes.{cells_in};
+ghost use Rattle.row_lines.specs.Laws.{HasShortKey};
 
 use crate::pieces::{push_piece, split_piece};
 use crate::values::value_of;
@@ -21,17 +23,20 @@ use std::alloc::Global;
 /// Adds the key of a cell as a piece.
 fn push_cell(alloc: Global, body: &mut Vec<u8>, cell: &Value) -> Result<(), Memory>
     requires { IsScalar (view cell.now) }
-    ensures { OnOk result (body.new.items ≡ body.old.items ++ piece (key_bytes (view cell.now))) }
+    ensures ok { OnOk result (body.new.items ≡ body.old.items ++ piece (key_bytes (view cell.now))) }
+    ensures short { OnOk result (HasShortKey (view cell.now)) }
 {
     let key = key_of(alloc, cell)?;
     push_piece(body, &key)
 }
 
-/// The body of the line of a row with these cells.
+/// The body of the line of a row with these cells, of which they can be read again.
 pub fn line_of(alloc: Global, columns: &[Column], cells: &Cells) -> Result<Vec<u8>, Memory>
     requires { AreCellsOf columns.now cells.now }
-    ensures { IfOk result (λ body. body.items ≡ line_bytes cells.now) }
+    ensures body { IfOk result (λ body. body.items ≡ line_bytes cells.now) }
+    ensures told { IfOk result (λ body. cells_in columns.now body.items ≡ cells.now) }
 {
+    cells_are_proper(cells);
     let mut body = Vec::new(alloc);
     let items = cells.as_slice();
     for cell in items {
@@ -69,6 +74,7 @@ pub fn row_of(
     ensures held { IfOk result (λ o. IfSome o (λ row. IsHeldRow table.now row)) }
     ensures id { IfOk result (λ o. IfSome o (λ row. row.id ≡ id)) }
     ensures line { IfOk result (λ o. IfSome o (λ row. line_bytes row.cells ≡ body.now)) }
+    ensures told { IfOk result (λ o. IfSome o (λ row. row.cells ≡ cells_in table.now.columns body.now)) }
 {
     if id == 0 {
         return Ok(None);

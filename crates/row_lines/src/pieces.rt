@@ -1,12 +1,14 @@
 // Pieces of bytes: four bytes of length, and then so many bytes.
 ghost use Rattle.std.specs.Prelude.{◌≡◌, ◌++◌, OnOk};
 ghost use Rattle.row_lines.specs.Bodies.{piece};
+ghost use Rattle.row_lines.specs.Laws.{IsShort};
 
 use fx_base::Memory;
 
 /// Adds these bytes as a piece.
 pub fn push_piece(body: &mut Vec<u8>, bytes: &[u8]) -> Result<(), Memory>
-    ensures { OnOk result (body.new.items ≡ body.old.items ++ piece bytes.now) }
+    ensures ok { OnOk result (body.new.items ≡ body.old.items ++ piece bytes.now) }
+    ensures short { OnOk result (IsShort bytes.now) }
 {
     // No piece is so long that its length needs more than four bytes: memory would have run out before.
     let Ok(len) = u32::try_from(bytes.len()) else {

@@ -1,6 +1,9 @@
 // The bodies of schemas.
-ghost use Rattle.std.specs.Prelude.{◌≡◌, ◌++◌, IfOk, IfSome, OnOk, flat_map};
+ghost use Rattle.std.specs.Prelude.{◌≡◌, ◌++◌, IfOk, IfSome, OnOk, encode_utf8_all, flat_map};
+ghost use Rattle.std.specs.List.{AllByRecursion};
 ghost use Rattle.row_lines.specs.Bodies.{column_bytes, piece, schema_bytes, table_bytes, truth_byte, type_byte};
+ghost use Rattle.row_lines.specs.FromBytes.{schema_in, type_in};
+ghost use Rattle.row_lines.specs.Laws.{HasShortName, HasTypeByte, HasTypeBytes, HaveTypeBytes, IsShortName, IsShortTable};
 
 use crate::pieces::{push_piece, split_piece};
 use fx_base::{InOrder, Memory};
@@ -20,11 +23,20 @@ fn type_byte(ty: &Ty) -> u8
     }
 }
 
+/// Adds a name as a piece.
+fn push_name(body: &mut Vec<u8>, name: &Words) -> Result<(), Memory>
+    ensures ok { OnOk result (body.new.items ≡ body.old.items ++ piece (encode_utf8_all name.now)) }
+    ensures short { OnOk result (IsShortName name.now) }
+{
+    push_piece(body, name.as_str().as_bytes())
+}
+
 /// Adds a column.
 fn push_column(body: &mut Vec<u8>, column: &Column) -> Result<(), Memory>
-    ensures { OnOk result (body.new.items ≡ body.old.items ++ column_bytes column.now) }
+    ensures ok { OnOk result (body.new.items ≡ body.old.items ++ column_bytes column.now) }
+    ensures short { OnOk result (HasShortName column.now) }
 {
-    push_piece(body, column.name.as_str().as_bytes())?;
+    push_name(body, &column.name)?;
     body.extend_from_slice(&[
         type_byte(&column.ty),
         u8::from(column.required),
@@ -36,17 +48,20 @@ fn push_column(body: &mut Vec<u8>, column: &Column) -> Result<(), Memory>
 
 /// The bytes of a table.
 fn table_bytes(alloc: Global, table: &TableShape) -> Result<Vec<u8>, Memory>
-    ensures { IfOk result (λ bytes. bytes.items ≡ table_bytes table.now) }
+    ensures ok { IfOk result (λ bytes. bytes.items ≡ table_bytes table.now) }
+    ensures name { OnOk result (IsShortName table.now.name) }
+    ensures columns { OnOk result (AllByRecursion HasShortName table.now.columns) }
 {
     let mut bytes = Vec::new(alloc);
-    push_piece(&mut bytes, table.name.as_str().as_bytes())?;
+    push_name(&mut bytes, &table.name)?;
     push_columns(&mut bytes, table.columns.as_slice())?;
     Ok(bytes)
 }
 
 /// Adds columns.
 fn push_columns(body: &mut Vec<u8>, columns: &[Column]) -> Result<(), Memory>
-    ensures { OnOk result (body.new.items ≡ body.old.items ++ flat_map column_bytes columns.now) }
+    ensures ok { OnOk result (body.new.items ≡ body.old.items ++ flat_map column_bytes columns.now) }
+    ensures short { OnOk result (AllByRecursion HasShortName columns.now) }
 {
     for column in columns {
         push_column(body, column)?;
@@ -56,15 +71,17 @@ fn push_columns(body: &mut Vec<u8>, columns: &[Column]) -> Result<(), Memory>
 
 /// Adds a table as a piece.
 fn push_table(alloc: Global, body: &mut Vec<u8>, table: &TableShape) -> Result<(), Memory>
-    ensures { OnOk result (body.new.items ≡ body.old.items ++ piece (table_bytes table.now)) }
+    ensures ok { OnOk result (body.new.items ≡ body.old.items ++ piece (table_bytes table.now)) }
+    ensures short { OnOk result (IsShortTable table.now) }
 {
     let bytes = table_bytes(alloc, table)?;
     push_piece(body, &bytes)
 }
 
-/// The body of a schema.
+/// The body of a schema, of which it can be read again where a byte stands for the type of each column.
 pub fn body_of(alloc: Global, schema: &Schema) -> Result<Vec<u8>, Memory>
-    ensures { IfOk result (λ body. body.items ≡ schema_bytes schema.now) }
+    ensures body { IfOk result (λ body. body.items ≡ schema_bytes schema.now) }
+    ensures told { IfOk result (λ body. HaveTypeBytes schema.now → schema_in body.items ≡ schema.now) }
 {
     let mut body = Vec::new(alloc);
     let tables = schema.tables.as_slice();
@@ -74,7 +91,9 @@ pub fn body_of(alloc: Global, schema: &Schema) -> Result<Vec<u8>, Memory>
     Ok(body)
 }
 
-fn type_of(byte: u8) -> Ty {
+fn type_of(byte: u8) -> Ty
+    ensures { type_in (type_byte result) ≡ result }
+{
     match byte {
         0 => Ty::Number,
         1 => Ty::Text,
@@ -93,7 +112,9 @@ fn name_of(alloc: Global, bytes: &[u8]) -> Result<Option<Words>, Memory> {
 }
 
 /// A column out of the bytes that begin with it, with those behind it.
-fn split_column(alloc: Global, bytes: &[u8]) -> Result<Option<(Column, &[u8])>, Memory> {
+fn split_column(alloc: Global, bytes: &[u8]) -> Result<Option<(Column, &[u8])>, Memory>
+    ensures { IfOk result (λ o. IfSome o (λ it. HasTypeByte it.0)) }
+{
     let Some((name, rest)) = split_piece(bytes) else {
         return Ok(None);
     };
@@ -114,7 +135,9 @@ fn split_column(alloc: Global, bytes: &[u8]) -> Result<Option<(Column, &[u8])>, 
 }
 
 /// The columns of these bytes.
-fn columns_of(alloc: Global, bytes: &[u8]) -> Result<Option<ColumnList>, Memory> {
+fn columns_of(alloc: Global, bytes: &[u8]) -> Result<Option<ColumnList>, Memory>
+    ensures { IfOk result (λ o. IfSome o (λ columns. AllByRecursion HasTypeByte columns)) }
+{
     let mut columns = InOrder::new(alloc);
     let mut rest = bytes;
     // Each column takes some bytes, so there are no more columns than bytes.
@@ -132,7 +155,9 @@ fn columns_of(alloc: Global, bytes: &[u8]) -> Result<Option<ColumnList>, Memory>
 }
 
 /// The table of these bytes.
-fn table_of(alloc: Global, bytes: &[u8]) -> Result<Option<TableShape>, Memory> {
+fn table_of(alloc: Global, bytes: &[u8]) -> Result<Option<TableShape>, Memory>
+    ensures { IfOk result (λ o. IfSome o (λ table. HasTypeBytes table)) }
+{
     let Some((name, rest)) = split_piece(bytes) else {
         return Ok(None);
     };
@@ -146,7 +171,9 @@ fn table_of(alloc: Global, bytes: &[u8]) -> Result<Option<TableShape>, Memory> {
 }
 
 /// The tables of these bytes.
-fn tables_of(alloc: Global, bytes: &[u8]) -> Result<Option<TableList>, Memory> {
+fn tables_of(alloc: Global, bytes: &[u8]) -> Result<Option<TableList>, Memory>
+    ensures { IfOk result (λ o. IfSome o (λ tables. AllByRecursion HasTypeBytes tables)) }
+{
     let mut tables = InOrder::new(alloc);
     let mut rest = bytes;
     for _ in 0..bytes.len() {
@@ -164,7 +191,8 @@ fn tables_of(alloc: Global, bytes: &[u8]) -> Result<Option<TableList>, Memory> {
 
 /// The schema of a body, if it is one of a schema.
 pub fn schema_of(alloc: Global, body: &[u8]) -> Result<Option<Schema>, Memory>
-    ensures { IfOk result (λ o. IfSome o (λ schema. schema_bytes schema ≡ body.now)) }
+    ensures body { IfOk result (λ o. IfSome o (λ schema. schema_bytes schema ≡ body.now)) }
+    ensures told { IfOk result (λ o. IfSome o (λ schema. schema ≡ schema_in body.now)) }
 {
     let Some(tables) = tables_of(alloc, body)? else {
         return Ok(None);

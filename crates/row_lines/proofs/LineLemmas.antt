@@ -1,0 +1,73 @@
+-- Of the line of a row its cells are read.
+use Rattle.std.proofs.Common.{◌≡◌, ◌∙◌, ℕ, ◌^◌, ◌<◌, ◌≤◌, true, false, ℤ, pos, negsuc, ◌+ℤ◌, ◌-ℤ◌, List, [], ◌∷◌, ap, arith, length, map, refl, subst, take, unsigned_abs}
+use Rattle.std.proofs.lemmas.Int.{ints}
+use Rattle.std.proofs.lemmas.List.{take_all}
+use Rattle.std.proofs.lemmas.Nat.{from_be_bytes-to_be_bytes_4, from_be_bytes-to_be_bytes_8}
+use Rattle.std.proofs.lemmas.Str.{chars-encodes}
+use Rattle.std.specs.List.{AllByRecursion}
+use Rattle.fx_data.specs.Days.{IsDay}
+use Rattle.fx_data.specs.TypeView.{shape}
+use Rattle.fx_data.specs.ValueView.{view}
+use Rattle.fx_data.specs.Values.{Data, blank, number, text, boolean, date, rec, tab, fault}
+use Rattle.fx_data.specs.declared.types.Ty.{Ty}
+use Rattle.fx_data.specs.declared.types.Ty.TheVariants as ty
+use Rattle.fx_data.specs.declared.values.Value.{Value}
+use Rattle.fx_number.specs.Decimal.{IsInRange}
+use Rattle.fx_trees.specs.declared.schema.Column.{Column}
+use Rattle.fx_value.specs.Fits.{fits_in}
+use Rattle.fx_value.specs.Keys.{IsProper, key_bytes}
+use Rattle.fx_value.specs.Order.{IsScalar}
+use Rattle.row_queries.specs.TableRows.{AreCellsOf}
+use Rattle.row_lines.specs.Bodies.{line_bytes}
+use Rattle.row_lines.specs.FromBytes.{behind_piece, cells_in, value_in}
+use Rattle.row_lines.specs.Laws.{HasShortKey}
+use Rattle.row_lines.proofs.PieceLemmas.{behind_piece-piece, first_piece-piece}
+
+number_fits : (z : ℤ) → IsInRange z → unsigned_abs (z +ℤ pos (2 ^ 63)) < 2 ^ 64
+number_fits (pos n) h = grind (arith, ints)
+number_fits (negsuc n) h = grind (arith, ints)
+
+number_back : (z : ℤ) → IsInRange z → pos (unsigned_abs (z +ℤ pos (2 ^ 63))) -ℤ pos (2 ^ 63) ≡ z
+number_back (pos n) h = grind (arith, ints)
+number_back (negsuc n) h = grind (arith, ints)
+
+day_fits : (z : ℤ) → IsDay z → unsigned_abs (z +ℤ pos (2 ^ 31)) < 2 ^ 32
+day_fits (pos n) h = grind (arith, ints)
+day_fits (negsuc n) h = grind (arith, ints)
+
+day_back : (z : ℤ) → IsDay z → pos (unsigned_abs (z +ℤ pos (2 ^ 31))) -ℤ pos (2 ^ 31) ≡ z
+day_back (pos n) h = grind (arith, ints)
+day_back (negsuc n) h = grind (arith, ints)
+
+pub value_in-key_bytes : (t : Ty) (d : Data) → IsScalar d → fits_in d (shape t) ≡ true → IsProper d → value_in t (key_bytes d) ≡ d
+value_in-key_bytes t blank s f p = refl
+value_in-key_bytes t (rec fs) s f p = absurd s
+value_in-key_bytes t (tab rs) s f p = absurd s
+value_in-key_bytes t (fault k cs) s f p = absurd s
+value_in-key_bytes ty.Number (number z) s f p =
+    ap (λ n. number (pos n -ℤ pos (2 ^ 63))) (from_be_bytes-to_be_bytes_8 (unsigned_abs (z +ℤ pos (2 ^ 63))) (number_fits z p)) ∙ ap number (number_back z p)
+value_in-key_bytes ty.Text (text cs) s f p = ap text (chars-encodes cs p)
+value_in-key_bytes ty.Boolean (boolean true) s f p = refl
+value_in-key_bytes ty.Boolean (boolean false) s f p = refl
+value_in-key_bytes ty.Date (date z) s f p =
+    ap (λ n. date (pos n -ℤ pos (2 ^ 31))) (from_be_bytes-to_be_bytes_4 (unsigned_abs (z +ℤ pos (2 ^ 31))) (day_fits z p)) ∙ ap date (day_back z p)
+value_in-key_bytes _ _ s f p = cc
+
+pub lines_tell : (cs : List Column) (ds : List Data) → AreCellsOf cs ds → AllByRecursion IsProper ds → AllByRecursion HasShortKey ds → cells_in cs (line_bytes ds) ≡ ds
+lines_tell [] [] a p h = refl
+lines_tell [] (d ∷ ds) a p h = absurd a
+lines_tell (c ∷ cs) [] a p h = absurd a
+lines_tell (c ∷ cs) (d ∷ ds) a p h =
+    let body = line_bytes (d ∷ ds) in
+    let key = key_bytes d in
+    ap (λ bytes. value_in c.ty bytes ∷ cells_in cs (behind_piece body)) (first_piece-piece key (line_bytes ds) h.0)
+    ∙ ap (λ bytes. value_in c.ty key ∷ cells_in cs bytes) (behind_piece-piece key (line_bytes ds) h.0)
+    ∙ ap (λ e. e ∷ cells_in cs (line_bytes ds)) (value_in-key_bytes c.ty d a.0 a.1 p.0)
+    ∙ ap (λ es. d ∷ es) (lines_tell cs ds a.2 p.1 h.1)
+
+-- the same of a line that was written value by value
+pub line_tells : (cs : List Column) (values : List Value) (n : ℕ) (cells : List Data) (body : List ℕ) → map view values ≡ cells → length values ≤ n
+    → body ≡ line_bytes (map view (take n values)) → AllByRecursion HasShortKey (map view (take n values)) → AreCellsOf cs cells → AllByRecursion IsProper cells → cells_in cs body ≡ cells
+line_tells cs values n cells body e l b short fit proper =
+    let whole : map view (take n values) ≡ cells = ap (λ vs. map view vs) (take_all n values l) ∙ e in
+    ap (λ bytes. cells_in cs bytes) (b ∙ ap line_bytes whole) ∙ lines_tell cs cells fit proper (subst (AllByRecursion HasShortKey) whole short)
