@@ -1,5 +1,5 @@
 -- Of the line of a row its cells are read.
-use Rattle.std.proofs.Common.{◌≡◌, ◌∙◌, ℕ, ◌^◌, ◌<◌, ◌≤◌, true, false, ℤ, pos, negsuc, ◌+ℤ◌, ◌-ℤ◌, List, [], ◌∷◌, ap, arith, length, map, refl, subst, take, unsigned_abs}
+use Rattle.std.proofs.Common.{◌≡◌, ◌∙◌, ℕ, ◌^◌, ◌<◌, ◌≤◌, true, false, ℤ, pos, negsuc, ◌+ℤ◌, ◌-ℤ◌, List, [], ◌∷◌, ap, arith, length, map, refl, subst, suc, take, unsigned_abs, zero}
 use Rattle.std.proofs.lemmas.Int.{ints}
 use Rattle.std.proofs.lemmas.List.{take_all}
 use Rattle.std.proofs.lemmas.Nat.{from_be_bytes-to_be_bytes_4, from_be_bytes-to_be_bytes_8}
@@ -17,9 +17,9 @@ use Rattle.fx_trees.specs.declared.schema.Column.{Column}
 use Rattle.fx_value.specs.Fits.{fits_in}
 use Rattle.fx_value.specs.Keys.{IsProper, key_bytes}
 use Rattle.fx_value.specs.Order.{IsScalar}
-use Rattle.row_queries.specs.TableRows.{AreCellsOf}
+use Rattle.row_queries.specs.TableRows.{AreCellsOf, value_at}
 use Rattle.row_lines.specs.Bodies.{line_bytes}
-use Rattle.row_lines.specs.FromBytes.{behind_piece, cells_in, value_in}
+use Rattle.row_lines.specs.FromBytes.{behind_piece, behind_pieces, cells_in, first_piece, piece_in, value_in}
 use Rattle.row_lines.specs.Laws.{HasShortKey}
 use Rattle.row_lines.proofs.PieceLemmas.{behind_piece-piece, first_piece-piece}
 
@@ -65,7 +65,18 @@ lines_tell (c ∷ cs) (d ∷ ds) a p h =
     ∙ ap (λ e. e ∷ cells_in cs (line_bytes ds)) (value_in-key_bytes c.ty d a.0 a.1 p.0)
     ∙ ap (λ es. d ∷ es) (lines_tell cs ds a.2 p.1 h.1)
 
--- the same of a line that was written value by value
+behind_pieces-behind : (place : ℕ) (bytes : List ℕ) → behind_piece (behind_pieces place bytes) ≡ behind_pieces place (behind_piece bytes)
+behind_pieces-behind zero bytes = refl
+behind_pieces-behind (suc place) bytes = ap behind_piece (behind_pieces-behind place bytes)
+
+pub pieces_tell : (ds : List Data) (place : ℕ) → AllByRecursion HasShortKey ds → place < length ds → piece_in place (line_bytes ds) ≡ key_bytes (value_at ds place)
+pieces_tell [] place h l = absurd (omega (arith, l))
+pieces_tell (d ∷ ds) zero h l = first_piece-piece (key_bytes d) (line_bytes ds) h.0
+pieces_tell (d ∷ ds) (suc place) h l =
+    ap first_piece (behind_pieces-behind place (line_bytes (d ∷ ds)) ∙ ap (λ bytes. behind_pieces place bytes) (behind_piece-piece (key_bytes d) (line_bytes ds) h.0))
+    ∙ pieces_tell ds place h.1 (omega (arith, l))
+
+-- the cells of a line that was written value by value
 pub line_tells : (cs : List Column) (values : List Value) (n : ℕ) (cells : List Data) (body : List ℕ) → map view values ≡ cells → length values ≤ n
     → body ≡ line_bytes (map view (take n values)) → AllByRecursion HasShortKey (map view (take n values)) → AreCellsOf cs cells → AllByRecursion IsProper cells → cells_in cs body ≡ cells
 line_tells cs values n cells body e l b short fit proper =

@@ -18,6 +18,14 @@ first_piece bytes = take (first_length bytes) (drop 4 bytes)
 abbrev pub behind_piece : List ℕ → List ℕ
 behind_piece bytes = drop (first_length bytes) (drop 4 bytes)
 
+-- the bytes behind so many pieces, and the piece that comes first there
+abbrev pub behind_pieces : ℕ → List ℕ → List ℕ
+behind_pieces zero bytes = bytes
+behind_pieces (suc place) bytes = behind_piece (behind_pieces place bytes)
+
+abbrev pub piece_in : ℕ → List ℕ → List ℕ
+piece_in place bytes = first_piece (behind_pieces place bytes)
+
 abbrev pub truth_in : ℕ → Bool
 truth_in zero = false
 truth_in (suc b) = true

@@ -8,9 +8,9 @@ use Rattle.fx_trees.specs.declared.schema.Schema.{Schema}
 use Rattle.fx_trees.specs.declared.schema.TableShape.{TableShape}
 use Rattle.fx_trees.specs.Lawful.{IsLawfulSchema}
 use Rattle.fx_value.specs.Keys.{IsProper, key_bytes}
-use Rattle.row_queries.specs.TableRows.{AreCellsOf}
+use Rattle.row_queries.specs.TableRows.{AreCellsOf, value_at}
 use Rattle.row_lines.specs.Bodies.{line_bytes, schema_bytes, table_bytes, type_byte}
-use Rattle.row_lines.specs.FromBytes.{cells_in, schema_in, type_in}
+use Rattle.row_lines.specs.FromBytes.{cells_in, piece_in, schema_in, type_in}
 
 -- bytes whose length four bytes say
 abbrev pub IsShort : List ℕ → Type 0
@@ -23,6 +23,10 @@ HasShortKey d = IsShort (key_bytes d)
 abbrev pub LinesTell : Type 0
 LinesTell = (columns : List Column) (cells : List Data) → AreCellsOf columns cells → AllByRecursion IsProper cells → AllByRecursion HasShortKey cells
     → cells_in columns (line_bytes cells) ≡ cells
+
+-- the key of each cell is the piece at its place
+abbrev pub PiecesTell : Type 0
+PiecesTell = (cells : List Data) (place : ℕ) → AllByRecursion HasShortKey cells → place < length cells → piece_in place (line_bytes cells) ≡ key_bytes (value_at cells place)
 
 abbrev pub IsShortName : List ℕ → Type 0
 IsShortName name = (all_scalars name ≡ true) × IsShort (encode_utf8_all name)

@@ -1,6 +1,7 @@
 // Pieces of bytes: four bytes of length, and then so many bytes.
-ghost use Rattle.std.specs.Prelude.{◌≡◌, ◌++◌, OnOk};
+ghost use Rattle.std.specs.Prelude.{◌≡◌, ◌++◌, IfSome, OnOk};
 ghost use Rattle.row_lines.specs.Bodies.{piece};
+ghost use Rattle.row_lines.specs.FromBytes.{behind_piece, first_piece, piece_in};
 ghost use Rattle.row_lines.specs.Laws.{IsShort};
 
 use fx_base::Memory;
@@ -20,7 +21,10 @@ pub fn push_piece(body: &mut Vec<u8>, bytes: &[u8]) -> Result<(), Memory>
 }
 
 /// The bytes of the first piece, and those behind it.
-pub fn split_piece(bytes: &[u8]) -> Option<(&[u8], &[u8])> {
+pub fn split_piece(bytes: &[u8]) -> Option<(&[u8], &[u8])>
+    ensures first { IfSome result (λ parts. parts.0.now ≡ first_piece bytes.now) }
+    ensures behind { IfSome result (λ parts. parts.1.now ≡ behind_piece bytes.now) }
+{
     if bytes.len() < 4 {
         return None;
     }
@@ -33,9 +37,11 @@ pub fn split_piece(bytes: &[u8]) -> Option<(&[u8], &[u8])> {
 }
 
 /// The bytes of the piece at a place, counted from 0.
-pub fn piece_at(body: &[u8], place: u16) -> Option<&[u8]> {
+pub fn piece_at(body: &[u8], place: u16) -> Option<&[u8]>
+    ensures { IfSome result (λ bytes. bytes.now ≡ piece_in place body.now) }
+{
     let mut rest = body;
-    for _ in 0..place {
+    for _passed in 0..place {
         let (_, behind) = split_piece(rest)?;
         rest = behind;
     }
