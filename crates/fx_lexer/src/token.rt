@@ -5,7 +5,7 @@ use fx_number::Memory;
 use std::alloc::{AllocError, AllocFailed};
 
 /// A name that is kept for an operator or a value.
-#[derive(Clone, Copy, Debug, PartialEq, Eq)]
+#[derive(Clone, Copy, Debug)]
 pub enum Word {
     And,
     Or,
@@ -18,7 +18,7 @@ pub enum Word {
 }
 
 /// A mark of one or two characters.
-#[derive(Clone, Copy, Debug, PartialEq, Eq)]
+#[derive(Clone, Copy, Debug)]
 pub enum Symbol {
     OpenParen,
     CloseParen,
@@ -51,7 +51,7 @@ pub enum Symbol {
 }
 
 /// What a token is.
-#[derive(Clone, Copy, Debug, PartialEq, Eq)]
+#[derive(Clone, Copy, Debug)]
 pub enum TokenKind {
     /// Digits, and maybe a point and digits.
     Number,
@@ -70,7 +70,7 @@ pub enum TokenKind {
 }
 
 /// The text of the source from the byte `at` up to but without the byte `upto`.
-#[derive(Clone, Copy, Debug, PartialEq, Eq)]
+#[derive(Clone, Copy)]
 pub struct Token {
     pub kind: TokenKind,
     pub at: u32,
@@ -78,7 +78,7 @@ pub struct Token {
 }
 
 /// What is wrong with a bad token.
-#[derive(Clone, Copy, Debug, PartialEq, Eq)]
+#[derive(Clone, Copy)]
 pub enum LexWhat {
     /// A number that is out of range.
     Number,
@@ -91,14 +91,14 @@ pub enum LexWhat {
 }
 
 /// The first bad token: the byte where it begins, and what is wrong with it.
-#[derive(Clone, Copy, Debug, PartialEq, Eq)]
+#[derive(Clone, Copy)]
 pub struct LexErr {
     pub at: u32,
     pub what: LexWhat,
 }
 
 /// Why no tokens are answered.
-#[derive(Clone, Copy, Debug, PartialEq, Eq)]
+#[derive(Clone, Copy)]
 pub enum LexEnd {
     Bad(LexErr),
     Memory,
