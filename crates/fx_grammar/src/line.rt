@@ -1,7 +1,7 @@
 //! The lines of the grammar, loosest first.
 
 /// The lines whose parts, two or more, make one node.
-#[derive(Clone, Copy, Debug, PartialEq, Eq)]
+#[derive(Clone, Copy)]
 pub enum Join {
     /// `;`, without a last one.
     Chain,
@@ -14,14 +14,14 @@ pub enum Join {
 }
 
 /// What stands between parts.
-#[derive(Clone, Copy, Debug, PartialEq, Eq)]
+#[derive(Clone, Copy)]
 pub enum Separator {
     Between(Join),
     Comma,
 }
 
 /// The lines that group to the left.
-#[derive(Clone, Copy, Debug, PartialEq, Eq)]
+#[derive(Clone, Copy)]
 pub enum Left {
     /// `in exactin`
     Member,
@@ -34,7 +34,7 @@ pub enum Left {
 }
 
 /// A line of the grammar.
-#[derive(Clone, Copy, Debug, PartialEq, Eq)]
+#[derive(Clone, Copy)]
 pub enum Line {
     /// Formulas in turn, and maybe a last `;`.
     Chain,
@@ -54,7 +54,7 @@ pub enum Line {
 }
 
 /// A token that is looked for by itself.
-#[derive(Clone, Copy, Debug, PartialEq, Eq)]
+#[derive(Clone, Copy)]
 pub enum Mark {
     OpenParen,
     CloseParen,

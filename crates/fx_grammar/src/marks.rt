@@ -6,7 +6,7 @@ use fx_base::Memory;
 use std::alloc::Global;
 
 /// What is doubled in a text.
-#[derive(Clone, Copy, Debug, PartialEq, Eq)]
+#[derive(Clone, Copy)]
 pub enum Marks {
     /// `"`
     Quote,
