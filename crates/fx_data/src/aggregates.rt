@@ -3,7 +3,7 @@
 use fx_number::Num;
 
 /// How many numbers there are, their sum in ten-thousandths, and the least and the greatest of them.
-#[derive(Clone, Copy, Debug)]
+#[derive(Clone, Copy)]
 pub struct Totals {
     pub count: u64,
     pub sum: i128,

@@ -8,7 +8,7 @@ use crate::Day;
 use jiff_core::civil::{Date, days_in_month};
 
 /// A date of the calendar: its year, its month from 1 to 12, and its day of the month from 1.
-#[derive(Clone, Copy, Debug, PartialEq, Eq)]
+#[derive(Clone, Copy)]
 pub struct CivilDate {
     pub year: u16,
     pub month: u8,

@@ -1,7 +1,7 @@
 //! The operators that compare.
 
 /// An operator that compares two scalars.
-#[derive(Clone, Copy, Debug, PartialEq, Eq)]
+#[derive(Clone, Copy, Debug)]
 pub enum Cmp {
     /// `=`
     Eq,

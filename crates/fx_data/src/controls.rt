@@ -1,7 +1,7 @@
 //! The kinds of controls.
 
 /// A kind of control.
-#[derive(Clone, Copy, Debug, PartialEq, Eq)]
+#[derive(Clone, Copy, Debug)]
 pub enum Control {
     Label,
     Button,

@@ -11,7 +11,7 @@ const FIRST: i32 = -25567;
 const LAST: i32 = 2932896;
 
 /// A day from 1900-01-01 to 9999-12-31, kept as its number of days since 1970-01-01.
-#[derive(Clone, Copy, Debug)]
+#[derive(Clone, Copy)]
 pub struct Day {
     days: i32,
 }

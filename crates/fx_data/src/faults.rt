@@ -7,7 +7,7 @@ use fx_number::Memory;
 use std::alloc::Global;
 
 /// The kind of an error, as `FirstError.Kind` names it.
-#[derive(Clone, Copy, Debug, PartialEq, Eq)]
+#[derive(Clone, Copy, PartialEq, Eq)]
 pub enum Kind {
     /// A division by zero.
     Div0,
