@@ -1,5 +1,5 @@
 //! The types that calls answer.
-ghost use Rattle.std.specs.Prelude.{◌≡◌, ◌∷◌, IfOk, map};
+ghost use Rattle.std.specs.Prelude.{◌≡◌, ◌∷◌, Ok, map};
 ghost use Rattle.fx_data.specs.TypeView.{shape};
 ghost use Rattle.fx_data.specs.Types.{column_list};
 ghost use Rattle.fx_typing.specs.WellTyped as typing;
@@ -7,7 +7,6 @@ ghost use Rattle.fx_typing.specs.Answers.{Answers};
 ghost use Rattle.fx_operators.specs.Tables.{table_columns};
 ghost use Rattle.fx_typing.specs.TypedView.{typed};
 
-use fx_base::Memory;
 use fx_data::types::{Columns, Ty};
 use fx_trees::Rule;
 use fx_trees::rows::Answer;
@@ -27,7 +26,7 @@ pub fn answer_type(alloc: Global, answer: Answer, common: &Ty, parts: &[Typed]) 
         Some((first, rest)) => answer_type_behind(alloc, answer, common, first, rest),
         None => match answer {
             Answer::Scalar(scalar) => Ok(scalar.ty()),
-            Answer::Common => Ok(common.copy(alloc)?),
+            Answer::Common => same(alloc, common),
             _ => Err(Wrong::Refused(Rule::WrongType)),
         },
     }
@@ -45,12 +44,12 @@ fn answer_type_behind(
 {
     match answer {
         Answer::Scalar(scalar) => Ok(scalar.ty()),
-        Answer::Common => Ok(common.copy(alloc)?),
-        Answer::Same => Ok(first.ty.copy(alloc)?),
-        Answer::Row => Ok(row_type(alloc, &first.ty)?),
+        Answer::Common => same(alloc, common),
+        Answer::Same => same(alloc, &first.ty),
+        Answer::Row => row_type(alloc, &first.ty),
         Answer::Found => match rest {
-            [_, formula, ..] => Ok(formula.ty.copy(alloc)?),
-            _ => Ok(row_type(alloc, &first.ty)?),
+            [_, formula, ..] => same(alloc, &formula.ty),
+            _ => row_type(alloc, &first.ty),
         },
         Answer::Added => {
             let columns = add_columns(alloc, rest, columns_of(alloc, &first.ty)?)?;
@@ -79,9 +78,16 @@ fn answer_type_behind(
     }
 }
 
+// The same type once more.
+fn same(alloc: Global, ty: &Ty) -> Result<Ty, Wrong>
+    ensures { Answers shape (Ok (shape ty.now)) result }
+{
+    Ok(ty.copy(alloc)?)
+}
+
 // A row of a table.
-fn row_type(alloc: Global, table: &Ty) -> Result<Ty, Memory>
-    ensures { IfOk result (λ t. shape t ≡ typing.row_type (shape table.now)) }
+fn row_type(alloc: Global, table: &Ty) -> Result<Ty, Wrong>
+    ensures { Answers shape (Ok (typing.row_type (shape table.now))) result }
 {
     match table {
         Ty::Tab(columns) => Ok(Ty::Rec(columns.copy(alloc)?)),

@@ -9,7 +9,7 @@ use fx_trees::expr::Op;
 use fx_trees::functions::Fun;
 
 /// The type that `=` and `<>` compare two operands by.
-#[derive(Clone, Copy, Debug, PartialEq, Eq)]
+#[derive(Clone, Copy)]
 enum Compared {
     Numbers,
     Texts,
