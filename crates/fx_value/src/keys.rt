@@ -1,5 +1,5 @@
 // The keys of scalars.
-ghost use Rattle.std.specs.Prelude.{◌≡◌, IfOk};
+ghost use Rattle.std.specs.Prelude.{◌≡◌, ◌∷◌, IfOk};
 ghost use Rattle.fx_data.specs.ValueView.{view};
 ghost use Rattle.fx_value.specs.Keys.{key_bytes, IsProper, KeysOrder, KeysTell};
 ghost use Rattle.fx_value.specs.Order.{IsScalar};
@@ -13,27 +13,30 @@ pub fn key_of(alloc: Global, v: &Value) -> Result<Vec<u8>, Memory>
     requires { IsScalar (view v.now) }
     ensures { IfOk result (λ k. k.items ≡ key_bytes (view v.now)) }
 {
-    let mut key = Vec::new(alloc);
     match v {
-        Value::Blank => key.push(0)?,
+        Value::Blank => key(alloc, 0, &[]),
         Value::Number(number) => {
             // Shifted by 2^63, so that bytes without a sign order as the numbers do.
             let shifted = i128::from(number.units()) + (1 << 63);
-            key.push(1)?;
-            key.extend_from_slice(&(shifted as u64).to_be_bytes())?;
+            key(alloc, 1, &(shifted as u64).to_be_bytes())
         }
-        Value::Text(text) => {
-            key.push(1)?;
-            key.extend_from_slice(text.as_str().as_bytes())?;
-        }
-        Value::Boolean(truth) => key.extend_from_slice(&[1, u8::from(*truth)])?,
+        Value::Text(text) => key(alloc, 1, text.as_str().as_bytes()),
+        Value::Boolean(truth) => key(alloc, 1, &[u8::from(*truth)]),
         Value::Date(day) => {
             let shifted = i64::from(day.days()) + (1 << 31);
-            key.push(1)?;
-            key.extend_from_slice(&(shifted as u32).to_be_bytes())?;
+            key(alloc, 1, &(shifted as u32).to_be_bytes())
         }
         _ => unreachable!(),
     }
+}
+
+// A key: 0 for blank and else 1, and behind it the bytes of the value.
+fn key(alloc: Global, head: u8, bytes: &[u8]) -> Result<Vec<u8>, Memory>
+    ensures { IfOk result (λ k. k.items ≡ head ∷ bytes.now) }
+{
+    let mut key = Vec::new(alloc);
+    key.push(head)?;
+    key.extend_from_slice(bytes)?;
     Ok(key)
 }
 

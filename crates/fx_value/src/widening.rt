@@ -45,8 +45,10 @@ fn widen_record(alloc: Global, fields: Fields, columns: &Columns) -> Result<Fiel
     let mut items = fields.into_items();
     let mut wide = Vec::with_capacity(alloc, types.len())?;
     for (name, ty) in types {
-        let value = take_value(&mut items, name);
-        wide.push((name.copy(alloc)?, widen(alloc, value, ty)?))?;
+        wide.push((
+            name.copy(alloc)?,
+            widen(alloc, take_value(&mut items, name), ty)?,
+        ))?;
     }
     Ok(Fields::from_rising(wide))
 }

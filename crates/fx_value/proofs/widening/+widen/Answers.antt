@@ -28,7 +28,7 @@ widen_record-widen-requires t c =
     let old = field_list c.args.fields in
     let new = field_list (fields_view c.loop-name.items.items) in
     let item = c.loop-name-item.result in
-    let v = c.take_value-value.ensures.value in
+    let v = c.take_value.ensures.value in
     let s = stands_next old new types c.loop-name.name-index item c.loop-name-test.true c.loop-name-item.is c.loop-name.invariant.stand in
     let columns = c.as_slice-types.ensures.columns in
     (grind (arith, column_is_smaller), rw (v, s) (field_can_widen c.args.fields types (rw columns c.requires) c.into_items-items.ensures.rising (rw columns c.as_slice-types.ensures.rising) c.loop-name.name-index item c.loop-name-test.true c.loop-name-item.is))
@@ -38,19 +38,19 @@ widen_record-loop-name-preserved t c =
     let types = c.as_slice-types.result.now in
     let old = field_list c.args.fields in
     let new = field_list (fields_view c.loop-name.items.items) in
-    let newer = field_list (fields_view c.take_value-value.new.items.items) in
+    let newer = field_list (fields_view c.take_value.new.items.items) in
     let item = c.loop-name-item.result in
     let i = c.loop-name.name-index in
     let inv = c.loop-name.invariant in
     let p = c.in_ok-push.ensures.items in
     let n = c.in_ok-copy.ensures in
-    let v = c.take_value-value.ensures.value in
+    let v = c.take_value.ensures.value in
     let s = stands_next old new types i item c.loop-name-test.true c.loop-name-item.is inv.stand in
     let as_wide = c.in_ok-widen.ensures.value ∙ ap (λ d. widened d (shape item.1)) (v ∙ s) in
     record {
       value = rw (p, n) (next_value c.loop-name.wide.items types i item c.in_ok-widen.field-0 c.loop-name-test.true c.loop-name-item.is old inv.value as_wide);
       fits = rw (p, n) (next_fits c.loop-name.wide.items types i item c.in_ok-widen.field-0 c.loop-name-test.true c.loop-name-item.is inv.fits c.in_ok-widen.ensures.fits);
-      stand = stands_after old new types i item c.loop-name-test.true c.loop-name-item.is inv.stand newer (rw c.as_slice-types.ensures.columns c.as_slice-types.ensures.rising) c.take_value-value.ensures.others;
+      stand = stands_after old new types i item c.loop-name-test.true c.loop-name-item.is inv.stand newer (rw c.as_slice-types.ensures.columns c.as_slice-types.ensures.rising) c.take_value.ensures.others;
     }
 
 pub widen_record-from_rising-requires : goal.widen_record-from_rising-requires
