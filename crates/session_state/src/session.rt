@@ -137,20 +137,28 @@ impl Session {
         ensures { IfOk result (λ s. s ≡ self.now) }
     {
         let alloc = self.alloc;
-        Ok(Session {
+        // Filled part by part, so that one session, and not each part by itself, ends where memory runs out.
+        let mut copy = Session {
             alloc,
             screen: self.screen,
             navigated: self.navigated,
             variables: copy_of_values(alloc, &self.variables)?,
             collections: copy_of_values(alloc, &self.collections)?,
             weight: self.weight,
-            inputs: copy_of_inputs(alloc, &self.inputs)?,
-            chosen: Vec::from_slice(alloc, &self.chosen)?,
-            caller: self.caller.copy(alloc)?,
-            notices: copy_of_texts(alloc, &self.notices)?,
-            spare_variables: Vec::with_capacity(alloc, self.spare_variables.capacity())?,
-            spare_collections: Vec::with_capacity(alloc, self.spare_collections.capacity())?,
-        })
+            inputs: Vec::new(alloc),
+            chosen: Vec::new(alloc),
+            caller: Caller::new(alloc),
+            notices: Vec::new(alloc),
+            spare_variables: Vec::new(alloc),
+            spare_collections: Vec::new(alloc),
+        };
+        copy.inputs = copy_of_inputs(alloc, &self.inputs)?;
+        copy.chosen = Vec::from_slice(alloc, &self.chosen)?;
+        copy.caller = self.caller.copy(alloc)?;
+        copy.notices = copy_of_texts(alloc, &self.notices)?;
+        copy.spare_variables = Vec::with_capacity(alloc, self.spare_variables.capacity())?;
+        copy.spare_collections = Vec::with_capacity(alloc, self.spare_collections.capacity())?;
+        Ok(copy)
     }
 
     /// Makes room for the variables and the collections that an edited app has.

@@ -1,7 +1,7 @@
 //! What the number of a request means.
 
 /// What the number of a request means.
-#[derive(Clone, Copy, Debug, PartialEq, Eq)]
+#[derive(Clone, Copy, PartialEq, Eq)]
 pub enum Turn {
     /// It is the next number.
     New,
