@@ -9,7 +9,6 @@ use fx_scalar::{Decision, decide, decide_match, exhausted_value, is_blank};
 use fx_trees::Form;
 
 /// Where a form stands before a part.
-#[derive(Drop)]
 pub enum Course {
     /// Conditions, of which none was false yet.
     All,
@@ -25,6 +24,21 @@ pub enum Course {
     Recover(Value),
     /// Values, of which each was blank or an empty text.
     Coalesce,
+}
+
+// By hand, so that it is called: what is derived is opened wherever a value may end, which costs proofs seconds each time.
+impl Drop for Course {
+    fn drop(self) {
+        match self {
+            Course::All => {}
+            Course::Any => {}
+            Course::If => {}
+            Course::Switch => {}
+            Course::Match(_) => {}
+            Course::Recover(_) => {}
+            Course::Coalesce => {}
+        }
+    }
 }
 
 /// What the value of a part makes of a form.
