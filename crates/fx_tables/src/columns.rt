@@ -66,10 +66,11 @@ fn rows_with(alloc: Global, rows: Rows, name: &Words, values: Vec<Value>) -> Res
     let mut wider = Vec::with_capacity(alloc, items.len())?;
     let mut left = values.into_iter();
     for row in items {
+        let name = name.copy(alloc)?;
         let Some(value) = left.next() else {
             unreachable!()
         };
-        wider.push(with_field(row, name.copy(alloc)?, value)?)?;
+        wider.push(with_field(row, name, value)?)?;
     }
     Ok(Rows::from_items(wider))
 }

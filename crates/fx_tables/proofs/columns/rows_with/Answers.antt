@@ -13,7 +13,7 @@ loop-row-preserved c =
     let values = c.in-Some-next.ensures.items in
     let n = c.args.name.now in
     let v = c.in-Some-next.value in
-    let made = c.in_ok-with_field.ensures ∙ ap (λ m. with_field m (view v) c.in-Some.row) c.in_ok-copy.ensures in
+    let made = c.in_ok-with_field.ensures ∙ ap (λ m. with_field m (view v) c.in-Some.row) c.in_ok-name.ensures in
     record {
       value = rw c.in_ok-push.ensures.items (step_with n c.loop-row.wider.items c.in-Some.row rest c.loop-row.row-iterator.rest.items v c.next-in-loop-row.new.self.rest.items c.loop-row.left.rest.items _ _ left values made c.loop-row.invariant.value);
       lacks = All-rest (λ (r : Row). item_of n r ≡ None) c.in-Some.row rest _ left c.loop-row.invariant.lacks;
