@@ -215,14 +215,14 @@ fn contains(alloc: Global, row: &Row, column: u16, part: &Value) -> Result<bool,
 fn starts_with(alloc: Global, text: &Words, part: &Words) -> Result<bool, Memory>
     ensures { IfOk result (λ b. b ≡ begins (default_case_fold text.now) (default_case_fold part.now)) }
 {
-    Ok(fx_builtins::starts_with(alloc, text, part)?)
+    fx_builtins::starts_with(alloc, text, part)
 }
 
 // Whether a text has a part somewhere, without case.
 fn has_part(alloc: Global, text: &Words, part: &Words) -> Result<bool, Memory>
     ensures { IfOk result (λ b. b ≡ has_part_in (default_case_fold text.now) (default_case_fold part.now)) }
 {
-    Ok(fx_builtins::contains(alloc, text, part)?)
+    fx_builtins::contains(alloc, text, part)
 }
 
 // The text in a column, or an empty one. The empty one is lent by the caller, so that no text is copied.

@@ -92,7 +92,7 @@ impl Model for Tests {
 }
 
 /// What a row test comes to.
-#[derive(Clone, Copy, Debug, PartialEq, Eq)]
+#[derive(Clone, Copy)]
 pub enum Held {
     Yes,
     No,
