@@ -4,7 +4,7 @@ use crate::Memory;
 use std::alloc::{AllocError, AllocFailed};
 
 /// Why there is no answer.
-#[derive(Clone, Copy, Debug, PartialEq, Eq)]
+#[derive(Clone, Copy)]
 pub enum OrMemory<E> {
     /// It is refused, for this reason.
     Refused(E),

@@ -23,7 +23,7 @@ use std::alloc::{AllocError, AllocFailed};
 use std::sync::ledger::Ledger;
 
 /// Why an evaluation gave no value.
-#[derive(Clone, Copy, Debug, PartialEq, Eq)]
+#[derive(Clone, Copy)]
 pub enum Stop {
     /// Memory ran out.
     Memory,

@@ -39,7 +39,7 @@ use fx_typing::{
 use std::alloc::Global;
 
 /// What the place of a formula allows.
-#[derive(Clone, Copy, Debug, PartialEq, Eq)]
+#[derive(Clone, Copy)]
 pub enum Place {
     /// A value alone.
     Pure,

@@ -15,7 +15,7 @@ pub use memory::Memory;
 pub use spelling::{read, spelling_laws, text};
 
 /// Why an operation has no number.
-#[derive(Clone, Copy, Debug, PartialEq, Eq)]
+#[derive(Clone, Copy)]
 pub enum NumErr {
     /// The exact result, rounded, is out of range.
     Overflow,
@@ -26,7 +26,7 @@ pub enum NumErr {
 }
 
 /// How a number is rounded.
-#[derive(Clone, Copy, Debug, PartialEq, Eq)]
+#[derive(Clone, Copy)]
 pub enum Way {
     /// To the nearest, half away from zero.
     Near,

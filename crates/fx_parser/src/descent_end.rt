@@ -6,7 +6,7 @@ use fx_base::Memory;
 use std::alloc::{AllocError, AllocFailed};
 
 /// Why the descent has no tree.
-#[derive(Clone, Copy, Debug, PartialEq, Eq)]
+#[derive(Clone, Copy)]
 pub enum End {
     /// There is none within the limit.
     Refused,

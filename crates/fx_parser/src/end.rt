@@ -6,7 +6,7 @@ use fx_lexer::LexErr;
 use std::alloc::{AllocError, AllocFailed};
 
 /// Why a text is no formula, or no named formulas. Places are bytes, counted from 0.
-#[derive(Clone, Copy, Debug, PartialEq, Eq)]
+#[derive(Clone, Copy)]
 pub enum ParseEnd {
     /// The first token that is none.
     Lex(LexErr),

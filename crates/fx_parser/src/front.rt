@@ -10,7 +10,7 @@ use fx_lexer::{Symbol, Word};
 use fx_trees::expr::Op;
 
 /// What turns the value behind it.
-#[derive(Clone, Copy, Debug, PartialEq, Eq)]
+#[derive(Clone, Copy)]
 pub enum Sign {
     Minus,
     Not,

@@ -10,7 +10,7 @@ use fx_trees::expr::Expr;
 use std::alloc::Global;
 
 /// Why a formula is not read back.
-#[derive(Clone, Copy, Debug, PartialEq, Eq)]
+#[derive(Clone, Copy)]
 pub enum ReadBackEnd {
     /// Its text has 2^32 bytes or more.
     TooLong,

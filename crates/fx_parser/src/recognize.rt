@@ -11,7 +11,7 @@ use fx_grammar::Item;
 use std::alloc::Global;
 
 /// Whether tokens have a tree.
-#[derive(Clone, Copy, Debug, PartialEq, Eq)]
+#[derive(Clone, Copy)]
 pub enum Verdict {
     HasTree,
     /// There is none: the tokens before this place may go on to have a tree, and not together with

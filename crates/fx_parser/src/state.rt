@@ -1,7 +1,7 @@
 //! What a reader of tokens has before it, and what each token is to it.
 
 /// What the tokens are to be.
-#[derive(Clone, Copy, Debug, PartialEq, Eq)]
+#[derive(Clone, Copy)]
 pub enum Whole {
     Formula,
     /// Formulas with names, a `;` between them.
@@ -9,7 +9,7 @@ pub enum Whole {
 }
 
 /// What is open around the place where the reader stands.
-#[derive(Clone, Copy, Debug, PartialEq, Eq)]
+#[derive(Clone, Copy)]
 pub enum Frame {
     /// `(` around a formula.
     Group,
@@ -24,7 +24,7 @@ pub enum Frame {
 }
 
 /// What may come next.
-#[derive(Clone, Copy, Debug, PartialEq, Eq)]
+#[derive(Clone, Copy)]
 pub enum State {
     /// `=` or an operand: nothing has been read.
     Start,
@@ -66,7 +66,7 @@ pub enum State {
 }
 
 /// What a token is where an operand begins.
-#[derive(Clone, Copy, Debug, PartialEq, Eq)]
+#[derive(Clone, Copy)]
 pub enum Begin {
     Leaf,
     Name,
@@ -87,7 +87,7 @@ pub enum Begin {
 }
 
 /// What a token is behind an operand.
-#[derive(Clone, Copy, Debug, PartialEq, Eq)]
+#[derive(Clone, Copy)]
 pub enum Follow {
     /// `(`
     Call,
@@ -106,7 +106,7 @@ pub enum Follow {
 }
 
 /// What a token does.
-#[derive(Clone, Copy, Debug, PartialEq, Eq)]
+#[derive(Clone, Copy)]
 pub enum Move {
     Stay(State),
     /// Opens this.

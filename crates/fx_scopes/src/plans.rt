@@ -20,7 +20,7 @@ use fx_trees::signatures::{SigShape, signature_in};
 use fx_typing::Piece;
 
 /// What the place of a node allows.
-#[derive(Clone, Copy, Debug, PartialEq, Eq)]
+#[derive(Clone, Copy)]
 pub enum Grant {
     /// A value alone.
     Nothing,
@@ -41,7 +41,7 @@ pub enum Grant {
 }
 
 /// What a part stands in.
-#[derive(Clone, Copy, Debug, PartialEq, Eq)]
+#[derive(Clone, Copy)]
 pub enum Standing {
     /// In what the whole stands in.
     Plain,
@@ -54,7 +54,7 @@ pub enum Standing {
 }
 
 /// How a part is judged.
-#[derive(Clone, Copy, Debug, PartialEq, Eq)]
+#[derive(Clone, Copy)]
 pub struct Plan {
     pub standing: Standing,
     pub grant: Grant,

@@ -24,7 +24,7 @@ use fx_typing::Piece;
 use std::alloc::Global;
 
 /// Where a node stands, beside the scopes around it.
-#[derive(Clone, Copy, Debug, PartialEq, Eq)]
+#[derive(Clone, Copy)]
 pub struct Stand {
     /// Whether an error is caught around it.
     pub catches: bool,

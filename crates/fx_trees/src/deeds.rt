@@ -6,7 +6,7 @@ use fx_base::{InOrder, Memory};
 use std::alloc::Global;
 
 /// Rows that change: those of a table of the schema, or of a collection.
-#[derive(Clone, Copy, Debug, PartialEq, Eq)]
+#[derive(Clone, Copy)]
 pub enum Target {
     Table(u16),
     Gathered(u32),

@@ -147,7 +147,7 @@ pub enum Fun {
 }
 
 /// A pure function that has a tree of its own, since it evaluates only the parts that it needs.
-#[derive(Clone, Copy, Debug, PartialEq, Eq)]
+#[derive(Clone, Copy, PartialEq, Eq)]
 pub enum Form {
     /// `&&`, `And`
     All,
@@ -159,7 +159,7 @@ pub enum Form {
 }
 
 /// A function that changes state.
-#[derive(Clone, Copy, Debug, PartialEq, Eq)]
+#[derive(Clone, Copy, PartialEq, Eq)]
 pub enum Acting {
     Set,
     UpdateContext,

@@ -14,7 +14,7 @@ pub enum SortOrder {
 }
 
 /// An enumeration, whose members are texts of their names.
-#[derive(Clone, Copy, Debug, PartialEq, Eq)]
+#[derive(Clone, Copy)]
 pub enum Enumeration {
     SortOrder,
     TimeUnit,

@@ -7,7 +7,7 @@ use crate::functions::{Form, Fun};
 use fx_data::types::Ty;
 
 /// A type without parts.
-#[derive(Clone, Copy, Debug, PartialEq, Eq)]
+#[derive(Clone, Copy)]
 pub enum Scalar {
     Blank,
     Number,
@@ -17,7 +17,7 @@ pub enum Scalar {
 }
 
 /// What stands at a place of a call.
-#[derive(Clone, Copy, Debug, PartialEq, Eq)]
+#[derive(Clone, Copy)]
 pub enum Takes {
     /// A value that is coerced to this type.
     Scalar(Scalar),
@@ -54,7 +54,7 @@ pub enum Takes {
 }
 
 /// How the arguments of a call end.
-#[derive(Clone, Copy, Debug, PartialEq, Eq)]
+#[derive(Clone, Copy)]
 pub enum Ending {
     /// With any number that is between the least and the greatest.
     Open,
@@ -65,7 +65,7 @@ pub enum Ending {
 }
 
 /// The type of what a call answers.
-#[derive(Clone, Copy, Debug, PartialEq, Eq)]
+#[derive(Clone, Copy)]
 pub enum Answer {
     /// This type.
     Scalar(Scalar),
@@ -92,7 +92,7 @@ pub enum Answer {
 }
 
 /// What a function takes and answers.
-#[derive(Clone, Copy, Debug, PartialEq, Eq)]
+#[derive(Clone, Copy)]
 pub struct Row {
     pub first: Takes,
     pub second: Takes,

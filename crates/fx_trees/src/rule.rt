@@ -3,7 +3,7 @@ ghost use Rattle.std.specs.Prelude.{◌≡◌};
 ghost use Rattle.fx_trees.specs.Rules.{number_of, name_of};
 
 /// A rule that an app can break, with its number from 1 on.
-#[derive(Clone, Copy, Debug, PartialEq, Eq)]
+#[derive(Clone, Copy)]
 pub enum Rule {
     /// A character or a word that begins no token.
     BadToken,

@@ -5,7 +5,7 @@ ghost use Rattle.fx_trees.specs.Signatures as table;
 use crate::functions::{Acting, Form, Fun};
 
 /// How the arguments of a call choose the function.
-#[derive(Clone, Copy, Debug, PartialEq, Eq)]
+#[derive(Clone, Copy, PartialEq, Eq)]
 pub enum SigShape {
     /// Always this function.
     One(Fun),
@@ -29,7 +29,7 @@ pub enum SigShape {
 
 /// A function's entry in the table of functions: its name, how its arguments choose what is called,
 /// and how many arguments it takes.
-#[derive(Clone, Copy, Debug)]
+#[derive(Clone, Copy)]
 pub struct Signature {
     pub name: &'static str,
     pub shape: SigShape,

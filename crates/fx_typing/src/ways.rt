@@ -17,7 +17,7 @@ use fx_value::joining::join;
 use std::alloc::Global;
 
 /// How a value comes to a type.
-#[derive(Clone, Copy, Debug, PartialEq, Eq)]
+#[derive(Clone, Copy)]
 pub enum Way {
     /// It stands as it is.
     Same,
