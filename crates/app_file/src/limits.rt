@@ -10,7 +10,7 @@ use fx_trees::TableShape;
 use std::alloc::Global;
 
 /// What is counted in an app file.
-#[derive(Clone, Copy, Debug, PartialEq, Eq)]
+#[derive(Clone, Copy)]
 pub enum Limit {
     /// The bytes of a formula that stands by itself.
     Formula,

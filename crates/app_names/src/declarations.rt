@@ -13,7 +13,7 @@ use fx_trees::signatures::{SigShape, Signature, signature_in};
 use std::alloc::Global;
 
 /// What a value is given to.
-#[derive(Clone, Copy, Debug, PartialEq, Eq)]
+#[derive(Clone, Copy, PartialEq, Eq)]
 pub enum Thing {
     /// A variable: of the screen of this number, or a global one.
     Variable(Option<u32>),

@@ -4,7 +4,6 @@ ghost use Rattle.std.specs.List.{All};
 ghost use Rattle.fx_base.specs.Telling.{Stays};
 ghost use Rattle.fx_data.specs.ValueView.{view};
 ghost use Rattle.fx_value.specs.Keys.{key_bytes};
-ghost use Rattle.fx_value.specs.Order.{IsScalar};
 ghost use Rattle.row_queries.specs.TableRows.{IsRowOf, id_value as id_value_of};
 ghost use Rattle.row_keeper.specs.Numbered.{one_row as one_row_query};
 ghost use Rattle.row_keeper.specs.Over.{Becomes, BeganStays, HasCause};
@@ -33,6 +32,13 @@ fn id_value(id: u32) -> Value
     }
 }
 
+/// The key of a row's number.
+fn id_key(alloc: Global, id: u32) -> Result<Key, Memory>
+    ensures { IfOk result (λ k. k ≡ key_bytes (id_value_of id)) }
+{
+    Key::of(alloc, &id_value(id))
+}
+
 /// The first bytes after a key.
 fn end_of(alloc: Global, key: &Key) -> Result<Key, Memory>
     ensures { IfOk result (λ k. k ≡ after_key key.now) }
@@ -42,22 +48,20 @@ fn end_of(alloc: Global, key: &Key) -> Result<Key, Memory>
     Ok(Key::from_bytes(bytes))
 }
 
-/// The range of a value's key alone.
-fn only(alloc: Global, value: &Value) -> Result<KeyRange, Memory>
-    requires { IsScalar (view value.now) }
-    ensures { IfOk result (λ r. r ≡ only_key (key_bytes (view value.now))) }
+/// The range of a number's key alone.
+fn only(alloc: Global, id: u32) -> Result<KeyRange, Memory>
+    ensures { IfOk result (λ r. r ≡ only_key (key_bytes (id_value_of id))) }
 {
-    let from = Key::of(alloc, value)?;
+    let from = id_key(alloc, id)?;
     let upto = Some(end_of(alloc, &from)?);
     Ok(KeyRange { from, upto })
 }
 
-/// The range of the keys after a value's.
-fn beyond(alloc: Global, value: &Value) -> Result<KeyRange, Memory>
-    requires { IsScalar (view value.now) }
-    ensures { IfOk result (λ r. r ≡ beyond_key (key_bytes (view value.now))) }
+/// The range of the keys after a number's.
+fn beyond(alloc: Global, id: u32) -> Result<KeyRange, Memory>
+    ensures { IfOk result (λ r. r ≡ beyond_key (key_bytes (id_value_of id))) }
 {
-    let from = end_of(alloc, &Key::of(alloc, value)?)?;
+    let from = end_of(alloc, &id_key(alloc, id)?)?;
     Ok(KeyRange { from, upto: None })
 }
 
@@ -74,15 +78,13 @@ fn alone(alloc: Global, range: KeyRange) -> Result<InOrder<KeyRange>, Memory>
 fn one_row(alloc: Global, table: u16, id: u32) -> Result<Query, Memory>
     ensures { IfOk result (λ q. q ≡ one_row_query table id) }
 {
-    let value = id_value(id);
-    let ranges = alone(alloc, only(alloc, &value)?)?;
     Ok(Query {
         table,
         column: 0,
-        ranges,
+        ranges: alone(alloc, only(alloc, id)?)?,
         // Beside the range, by which a keeper finds the row: the test decides by the number itself.
         test: Test {
-            node: TestNode::Compare(Cmp::Eq, 0, value),
+            node: TestNode::Compare(Cmp::Eq, 0, id_value(id)),
         },
         order: None,
         take: None,
@@ -96,7 +98,7 @@ fn next_rows(alloc: Global, table: u16, after: u32) -> Result<Query, Memory>
     Ok(Query {
         table,
         column: 0,
-        ranges: alone(alloc, beyond(alloc, &id_value(after))?)?,
+        ranges: alone(alloc, beyond(alloc, after)?)?,
         test: Test {
             node: TestNode::All,
         },

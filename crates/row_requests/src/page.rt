@@ -60,8 +60,7 @@ fn page_json(alloc: Global, columns: &[Column], rows: &[Row], more: bool) -> Res
     requires { AreShown columns.now rows.now }
     ensures { IfOk result (λ v. json_view v ≡ page_data columns.now rows.now more) }
 {
-    let rows = Json::from(rows_json(alloc, columns, rows)?);
-    Ok(json!(in alloc; {"more": more, "rows": rows})?)
+    Ok(json!(in alloc; {"more": more, "rows": rows_json(alloc, columns, rows)?})?)
 }
 
 /// The rows of a page.

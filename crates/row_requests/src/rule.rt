@@ -6,7 +6,7 @@ ghost use Rattle.row_requests.specs.Changes.{kept_rule, rule_name};
 use row_keeper::RowRule;
 
 /// A rule of rows.
-#[derive(Clone, Copy, Debug, PartialEq, Eq)]
+#[derive(Clone, Copy)]
 pub enum Rule {
     /// What is given is named after a column, other than `ID`.
     Column,

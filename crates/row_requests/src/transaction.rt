@@ -83,8 +83,7 @@ fn ids_json(alloc: Global, ids: &[u32]) -> Result<Vec<Json>, Memory>
 fn accepted_json(alloc: Global, seq: u32, ids: &[u32]) -> Result<Json, Memory>
     ensures { IfOk result (λ v. json_view v ≡ accepted_data seq ids.now) }
 {
-    let ids = Json::from(ids_json(alloc, ids)?);
-    Ok(json!(in alloc; {"ids": ids, "seq": seq})?)
+    Ok(json!(in alloc; {"ids": ids_json(alloc, ids)?, "seq": seq})?)
 }
 
 /// The reply to accepted changes.
