@@ -222,7 +222,7 @@ fn starts_with(alloc: Global, text: &Words, part: &Words) -> Result<bool, Memory
 fn has_part(alloc: Global, text: &Words, part: &Words) -> Result<bool, Memory>
     ensures { IfOk result (λ b. b ≡ has_part_in (default_case_fold text.now) (default_case_fold part.now)) }
 {
-    fx_builtins::contains(alloc, text, part)
+    Ok(fx_builtins::contains(alloc, text, part)?)
 }
 
 // The text in a column, or an empty one. The empty one is lent by the caller, so that no text is copied.
