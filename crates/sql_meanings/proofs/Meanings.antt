@@ -1,5 +1,7 @@
 -- Each text is its command, under the schema of the four tables.
-use Rattle.std.proofs.Common.{◌≡◌, ℕ, pos, List, [], ◌∷◌, codes, false, refl}
+use Rattle.std.proofs.Common.{◌≡◌, ℕ, pos, List, [], ◌∷◌, codes, length, false, Ok, Err, Result, refl}
+use Rattle.sqlite_resolve.specs.declared.compiled.Compiled.{Compiled}
+use Rattle.sqlite_resolve.specs.declared.error.CompileError.{CompileError}
 use Rattle.sqlite.specs.Source.TheVariants.{Values}
 use Rattle.sqlite.specs.Command.TheVariants.{Insert, Select, Update, Delete}
 use Rattle.sqlite.specs.Query.{Query}
@@ -27,6 +29,15 @@ Deletes text at tree tests = (command_of (understood kept_schema text) ≡ Delet
 pub read_body_is : Reads read_body body_query (codes "body" ∷ [])
 unfolding understood everything
 read_body_is = (refl, refl, (refl, refl))
+
+-- the text is one statement and no more, without parameters
+abbrev pub IsWhole : List ℕ → Result Compiled CompileError → Type 0
+IsWhole text (Ok c) = (c.tail ≡ length text) × (c.names ≡ []) × (c.formats ≡ [])
+IsWhole text (Err e) = ⊥
+
+pub read_body_whole : IsWhole read_body (understood kept_schema read_body)
+unfolding understood everything
+read_body_whole = (refl, refl, refl)
 
 pub read_lasts_is : Reads read_lasts lasts_query (codes "tab" ∷ codes "last" ∷ [])
 unfolding understood everything

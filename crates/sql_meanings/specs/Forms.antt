@@ -1,12 +1,11 @@
 -- What a statement of each form makes of the tables.
-use Rattle.std.specs.Prelude.{◌≡◌, ◌≢◌, ◌⊎◌, ℕ, true, false, Bool, IsTrue, List, [], ◌∷◌, length, filter, map, if◌then◌else◌, not, IsPermutation, Result, Ok, Err, OnOk}
+use Rattle.std.specs.Prelude.{◌≡◌, ◌≢◌, ◌⊎◌, ℕ, true, false, Bool, IsTrue, List, [], ◌∷◌, length, filter, map, if◌then◌else◌, not, IsPermutation}
 use Rattle.std.specs.List.{AllByRecursion}
 use Rattle.sqlite.specs.Order.{Row}
 use Rattle.sqlite.specs.Edit.{is_taken}
 use Rattle.sqlite.specs.Schema.{Schema}
 use Rattle.sqlite.specs.Table.{Table}
 use Rattle.sqlite.specs.State.{State, IsUnchanged, IsRolledBack}
-use Rattle.sqlite.specs.declared.error.Error.{Error}
 use Rattle.sqlite_trees.specs.View.{IsShaped}
 use Rattle.sqlite_trees.specs.declared.store.Shape.TheVariants.{Table as TableShape}
 use Rattle.sql_meanings.specs.Schema.{kept_schema}
@@ -53,14 +52,3 @@ pub record GoesOn (old new : State) : Type 0 where
   pub is_open : IsTrue new.is_open
   pub under_way : new.in_transaction ≡ true
   pub committed : new.committed ≡ old.committed
-
--- What runs inside a transaction commits nothing. Where it is answered, the transaction goes on.
-pub record StaysInside {A : Type 0} (old new : State) (r : Result A Error) : Type 0 where
-  pub was_open : IsTrue new.is_open → IsTrue old.is_open
-  pub committed : IsTrue new.is_open → new.committed ≡ old.committed
-  pub goes_on : OnOk r (GoesOn old new)
-
--- A statement that reads changes nothing where it is answered.
-abbrev pub OnlyReads : {A : Type 0} → State → State → Result A Error → Type 0
-OnlyReads old new (Ok _) = IsUnchanged old new
-OnlyReads old new (Err _) = LeavesOrRollsBack old new

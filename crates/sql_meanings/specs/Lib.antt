@@ -3,6 +3,7 @@ pub mod Texts
 pub mod Queries
 pub mod Tests
 pub mod Forms
+pub mod Calls
 pub mod UnderWay
 pub mod Lines
 pub mod Marks
