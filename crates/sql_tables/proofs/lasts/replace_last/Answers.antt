@@ -1,0 +1,16 @@
+use Rattle.sqlite.specs.Held.{state}
+use Rattle.sql_meanings.proofs.CallLemmas.{goes_on, runs_inside, stops}
+use Rattle.sql_meanings.proofs.LastLemmas.{replaces_last}
+use Rattle.sql_tables.proofs.lasts.replace_last.Goals as goal
+
+pub returns-clause-ok : goal.returns-clause-ok
+returns-clause-ok g c clean up = replaces_last (state g.S.Store c.args.tx.now.conn.now) (state g.S.Store c.execute.new.self.conn.now) c.args.tab c.args.last c.execute.result up (rw (c.params-to_sql.ensures, c.params-to_sql-2.ensures) at (c.execute.ensures.runs clean up.under_way))
+
+pub returns-clause-stops : goal.returns-clause-stops
+returns-clause-stops g c = stops (state g.S.Store c.args.tx.now.conn.now) (state g.S.Store c.execute.new.self.conn.now) _ _ c.execute.result c.execute.ensures.runs
+
+pub returns-clause-on : goal.returns-clause-on
+returns-clause-on g c = goes_on (state g.S.Store c.args.tx.now.conn.now) (state g.S.Store c.execute.new.self.conn.now) _ _ c.execute.result c.execute.ensures.runs
+
+pub returns-clause-runs : goal.returns-clause-runs
+returns-clause-runs g c = runs_inside (state g.S.Store c.args.tx.now.conn.now) (state g.S.Store c.execute.new.self.conn.now) _ _ c.execute.result c.execute.ensures.runs c.execute.ensures.survives

@@ -1,0 +1,31 @@
+use Rattle.std.proofs.Common.{arith}
+use Rattle.sqlite.specs.Held.{state}
+use Rattle.sqlite.specs.State.{HasCleanDisk}
+use Rattle.sql_meanings.proofs.CallLemmas.{inside_then}
+use Rattle.sql_tables.proofs.MadeLemmas.{cleared_all, four, on_four, three}
+use Rattle.sql_tables.proofs.making.clear_tables.Goals as goal
+
+pub returns-in_err-clear_tabs-clause-runs : goal.returns-in_err-clear_tabs-clause-runs
+returns-in_err-clear_tabs-clause-runs g c = inside_then (state g.S.Store c.args.tx.now.conn.now) (state g.S.Store c.clear_shape.new.tx.conn.now) (state g.S.Store c.clear_tabs.new.tx.conn.now) c.in_ok-clear_shape.ensures.on c.clear_shape.ensures.runs c.clear_tabs.ensures.runs
+
+pub returns-in_err-clear_lines-clause-runs : goal.returns-in_err-clear_lines-clause-runs
+returns-in_err-clear_lines-clause-runs g c = three (state g.S.Store c.args.tx.now.conn.now) (state g.S.Store c.clear_shape.new.tx.conn.now) (state g.S.Store c.clear_tabs.new.tx.conn.now) (state g.S.Store c.clear_lines.new.tx.conn.now) c.in_ok-clear_shape.ensures.on c.in_ok-clear_tabs.ensures.on c.clear_shape.ensures.runs c.clear_tabs.ensures.runs c.clear_lines.ensures.runs
+
+pub returns-in_err-clear_marks-clause-runs : goal.returns-in_err-clear_marks-clause-runs
+returns-in_err-clear_marks-clause-runs g c = four (state g.S.Store c.args.tx.now.conn.now) (state g.S.Store c.clear_shape.new.tx.conn.now) (state g.S.Store c.clear_tabs.new.tx.conn.now) (state g.S.Store c.clear_lines.new.tx.conn.now) c.in_ok-clear_shape.ensures.on c.in_ok-clear_tabs.ensures.on c.clear_shape.ensures.runs c.clear_tabs.ensures.runs c.clear_lines.ensures.runs (state g.S.Store c.clear_marks.new.tx.conn.now) c.in_ok-clear_lines.ensures.on c.clear_marks.ensures.runs
+
+pub returns-clause-runs : goal.returns-clause-runs
+returns-clause-runs g c = four (state g.S.Store c.args.tx.now.conn.now) (state g.S.Store c.clear_shape.new.tx.conn.now) (state g.S.Store c.clear_tabs.new.tx.conn.now) (state g.S.Store c.clear_lines.new.tx.conn.now) c.in_ok-clear_shape.ensures.on c.in_ok-clear_tabs.ensures.on c.clear_shape.ensures.runs c.clear_tabs.ensures.runs c.clear_lines.ensures.runs (state g.S.Store c.clear_marks.new.tx.conn.now) c.in_ok-clear_lines.ensures.on c.clear_marks.ensures.runs
+
+pub returns-clause-on : goal.returns-clause-on
+returns-clause-on g c = on_four (state g.S.Store c.args.tx.now.conn.now) (state g.S.Store c.clear_shape.new.tx.conn.now) (state g.S.Store c.clear_tabs.new.tx.conn.now) (state g.S.Store c.clear_lines.new.tx.conn.now) c.in_ok-clear_shape.ensures.on c.in_ok-clear_tabs.ensures.on c.clear_shape.ensures.runs c.clear_tabs.ensures.runs c.clear_lines.ensures.runs (state g.S.Store c.clear_marks.new.tx.conn.now) c.in_ok-clear_lines.ensures.on c.clear_marks.ensures.runs c.in_ok-clear_marks.ensures.on
+
+pub returns-clause-ok : goal.returns-clause-ok
+returns-clause-ok g c clean begun =
+    let at-3 : HasCleanDisk (state g.S.Store c.clear_lines.new.tx.conn.now) = omega (arith, c.clear_marks.ensures.runs.survives.clean) in
+    let at-2 : HasCleanDisk (state g.S.Store c.clear_tabs.new.tx.conn.now) = omega (arith, c.clear_lines.ensures.runs.survives.clean) in
+    let at-1 : HasCleanDisk (state g.S.Store c.clear_shape.new.tx.conn.now) = omega (arith, c.clear_tabs.ensures.runs.survives.clean) in
+    let first = c.in_ok-clear_shape.ensures.ok at-1 begun in
+    let second = c.in_ok-clear_tabs.ensures.ok at-2 first.goes_on in
+    let third = c.in_ok-clear_lines.ensures.ok at-3 second.goes_on in
+    cleared_all (state g.S.Store c.args.tx.now.conn.now) (state g.S.Store c.clear_shape.new.tx.conn.now) (state g.S.Store c.clear_tabs.new.tx.conn.now) (state g.S.Store c.clear_lines.new.tx.conn.now) (state g.S.Store c.clear_marks.new.tx.conn.now) _ _ _ _ first second third (c.in_ok-clear_marks.ensures.ok clean third.goes_on)
