@@ -1,0 +1,4 @@
+pub mod OverlayLemmas
+pub mod MoveLemmas
+pub mod ChangeLemmas
+pub mod LineLemmas
