@@ -15,7 +15,7 @@ use Rattle.sqlite_trees.specs.Tree.{IsAscending}
 use Rattle.sqlite_keyed.proofs.ListLemmas.{IsPermutation-filter, all_weaker, ascending-filter}
 use Rattle.sql_meanings.specs.Lines.{LinesOf, has_number, with_body, without_line}
 use Rattle.row_changes.specs.Moves.{with_now}
-use Rattle.row_changes.specs.Overlay.{AreOf, LineChange, bodies_of, body_at, bytes_in, line_now, line_under, lines_from, lines_of_changes, made_lines, made_of_kept, overlay}
+use Rattle.row_changes.specs.Overlay.{AreOf, LineChange, bodies_of, body_at, bytes_in, is_unchanged, line_now, line_under, lines_from, lines_of_changes, made_lines, made_of_kept, overlay}
 use Rattle.row_changes.specs.declared.table.Change.{Change}
 use Rattle.row_changes.specs.declared.table.TableChanges.{TableChanges}
 use Rattle.row_changes.proofs.MoveLemmas.{change_in}
@@ -200,61 +200,56 @@ folded_is (e ∷ es) xs a =
 
 -- ---- the lines that are there: those that have not changed, and those that were made
 
--- no change is of the row
-abbrev pub is_unchanged : Option LineChange → Bool
-is_unchanged None = true
-is_unchanged (Some c) = false
+abbrev unchanged_in : List (ℕ × Change) → LinesOf → LinesOf
+unchanged_in es xs = filter (λ x. is_unchanged (change_in es x.0)) xs
 
-abbrev pub unchanged : List (ℕ × Change) → LinesOf → LinesOf
-unchanged es xs = filter (λ x. is_unchanged (change_in es x.0)) xs
-
-unchanged_first : (e : ℕ × Change) (es : List (ℕ × Change)) → AllByRecursion (λ (f : ℕ × Change). f.0 ≢ e.0) es → (xs : LinesOf) → unchanged es (without_line e.0 xs) ≡ unchanged (e ∷ es) xs
+unchanged_first : (e : ℕ × Change) (es : List (ℕ × Change)) → AllByRecursion (λ (f : ℕ × Change). f.0 ≢ e.0) es → (xs : LinesOf) → unchanged_in es (without_line e.0 xs) ≡ unchanged_in (e ∷ es) xs
 unchanged_first e es a [] = refl
 unchanged_first e es a (x ∷ xs) = by (x.0 == e.0) refl (unchanged_first e es a xs)
   where
-    by : (b : Bool) → (x.0 == e.0) ≡ b → unchanged es (without_line e.0 xs) ≡ unchanged (e ∷ es) xs
-        → unchanged es (cond (not b) (x ∷ without_line e.0 xs) (without_line e.0 xs)) ≡ cond (is_unchanged (change_in (e ∷ es) x.0)) (x ∷ unchanged (e ∷ es) xs) (unchanged (e ∷ es) xs)
-    by true f more = more ∙ ap (λ (o : Option LineChange). cond (is_unchanged o) (x ∷ unchanged (e ∷ es) xs) (unchanged (e ∷ es) xs)) (sym (change_first e es x.0 ∙ ap (λ b. cond b (Some (bodies_of e.1)) (change_in es x.0)) f))
+    by : (b : Bool) → (x.0 == e.0) ≡ b → unchanged_in es (without_line e.0 xs) ≡ unchanged_in (e ∷ es) xs
+        → unchanged_in es (cond (not b) (x ∷ without_line e.0 xs) (without_line e.0 xs)) ≡ cond (is_unchanged (change_in (e ∷ es) x.0)) (x ∷ unchanged_in (e ∷ es) xs) (unchanged_in (e ∷ es) xs)
+    by true f more = more ∙ ap (λ (o : Option LineChange). cond (is_unchanged o) (x ∷ unchanged_in (e ∷ es) xs) (unchanged_in (e ∷ es) xs)) (sym (change_first e es x.0 ∙ ap (λ b. cond b (Some (bodies_of e.1)) (change_in es x.0)) f))
     by false f more =
         ap (λ l. cond (is_unchanged (change_in es x.0)) (x ∷ l) l) more
-        ∙ ap (λ (o : Option LineChange). cond (is_unchanged o) (x ∷ unchanged (e ∷ es) xs) (unchanged (e ∷ es) xs)) (sym (change_first e es x.0 ∙ ap (λ b. cond b (Some (bodies_of e.1)) (change_in es x.0)) f))
+        ∙ ap (λ (o : Option LineChange). cond (is_unchanged o) (x ∷ unchanged_in (e ∷ es) xs) (unchanged_in (e ∷ es) xs)) (sym (change_first e es x.0 ∙ ap (λ b. cond b (Some (bodies_of e.1)) (change_in es x.0)) f))
 
 -- the unchanged ones of lines of which one was changed
 unchanged_now : (e : ℕ × Change) (es : List (ℕ × Change)) (now : Option (List ℕ)) (xs : LinesOf) → AllByRecursion (λ (f : ℕ × Change). f.0 ≢ e.0) es → Rising xs → (old : List ℕ) → body_at e.0 xs ≡ Some old
-    → IsPermutation (line_under e.0 now ++ unchanged (e ∷ es) xs) (unchanged es (with_now e.0 now xs))
-unchanged_now e es None xs a up old there = subst (λ l. IsPermutation l (unchanged es (without_line e.0 xs))) (unchanged_first e es a xs) (IsPermutation-refl (unchanged es (without_line e.0 xs)))
+    → IsPermutation (line_under e.0 now ++ unchanged_in (e ∷ es) xs) (unchanged_in es (with_now e.0 now xs))
+unchanged_now e es None xs a up old there = subst (λ l. IsPermutation l (unchanged_in es (without_line e.0 xs))) (unchanged_first e es a xs) (IsPermutation-refl (unchanged_in es (without_line e.0 xs)))
 unchanged_now e es (Some body) xs a up old there =
-    subst (λ l. IsPermutation l (unchanged es (with_body e.0 body xs)))
-    (ap (λ (o : Option LineChange). cond (is_unchanged o) ((e.0, body) ∷ unchanged es (without_line e.0 xs)) (unchanged es (without_line e.0 xs))) (change_none e.0 es a)
+    subst (λ l. IsPermutation l (unchanged_in es (with_body e.0 body xs)))
+    (ap (λ (o : Option LineChange). cond (is_unchanged o) ((e.0, body) ∷ unchanged_in es (without_line e.0 xs)) (unchanged_in es (without_line e.0 xs))) (change_none e.0 es a)
     ∙ ap (λ l. (e.0, body) ∷ l) (unchanged_first e es a xs))
     (IsPermutation-filter (λ x. is_unchanged (change_in es x.0)) ((e.0, body) ∷ without_line e.0 xs) (with_body e.0 body xs) (set_apart e.0 old body xs up there))
 
-all_unchanged : (xs : LinesOf) → unchanged [] xs ≡ xs
+all_unchanged : (xs : LinesOf) → unchanged_in [] xs ≡ xs
 all_unchanged [] = refl
 all_unchanged (x ∷ xs) = ap (λ l. x ∷ l) (all_unchanged xs)
 
-pub folded_parts : (es : List (ℕ × Change)) (xs : LinesOf) → KeysApart es → Had es xs → Rising xs → IsPermutation (unchanged es xs ++ lines_of_changes es) (folded es xs)
-folded_parts [] xs a h up = subst (λ l. IsPermutation l xs) (sym (append-nil (unchanged [] xs) ∙ all_unchanged xs)) (IsPermutation-refl xs)
+pub folded_parts : (es : List (ℕ × Change)) (xs : LinesOf) → KeysApart es → Had es xs → Rising xs → IsPermutation (unchanged_in es xs ++ lines_of_changes es) (folded es xs)
+folded_parts [] xs a h up = subst (λ l. IsPermutation l xs) (sym (append-nil (unchanged_in [] xs) ∙ all_unchanged xs)) (IsPermutation-refl xs)
 folded_parts (e ∷ es) xs a h up =
     let now = bytes_in e.1.now in
     let one = line_under e.0 now in
-    let left = unchanged (e ∷ es) xs in
+    let left = unchanged_in (e ∷ es) xs in
     let rest = lines_of_changes es in
     -- left ++ (one ++ rest), and one ++ left are the unchanged ones behind the change
     let turned : IsPermutation (left ++ (one ++ rest)) ((one ++ left) ++ rest) =
     subst (λ l. IsPermutation l ((one ++ left) ++ rest)) (append_assoc left one rest) (IsPermutation-append_left rest (left ++ one) (one ++ left) (IsPermutation-append_comm left one)) in
-    let behind : IsPermutation ((one ++ left) ++ rest) (unchanged es (with_now e.0 now xs) ++ rest) =
-    IsPermutation-append_left rest (one ++ left) (unchanged es (with_now e.0 now xs)) (unchanged_now e es now xs a.0 up e.1.was.items h.0) in
+    let behind : IsPermutation ((one ++ left) ++ rest) (unchanged_in es (with_now e.0 now xs) ++ rest) =
+    IsPermutation-append_left rest (one ++ left) (unchanged_in es (with_now e.0 now xs)) (unchanged_now e es now xs a.0 up e.1.was.items h.0) in
     IsPermutation-trans (left ++ (one ++ rest)) ((one ++ left) ++ rest) (folded es (with_now e.0 now xs)) turned
-    (IsPermutation-trans ((one ++ left) ++ rest) (unchanged es (with_now e.0 now xs) ++ rest) (folded es (with_now e.0 now xs)) behind
+    (IsPermutation-trans ((one ++ left) ++ rest) (unchanged_in es (with_now e.0 now xs) ++ rest) (folded es (with_now e.0 now xs)) behind
     (folded_parts es (with_now e.0 now xs) a.1 (had_rest e es xs a.0 h.1) (rising_now e.0 now xs up)))
 
 -- the lines of a table now are those that are kept and haven't changed, and those that were made, in another order
-pub overlay_parts : (t : TableChanges) (kept : LinesOf) → IsStrictlySortedBy nat_cmp (keys_of t.changed.entries) → AreOf kept t → IsPermutation (unchanged t.changed.entries kept ++ made_lines t) (overlay t kept)
+pub overlay_parts : (t : TableChanges) (kept : LinesOf) → IsStrictlySortedBy nat_cmp (keys_of t.changed.entries) → AreOf kept t → IsPermutation (unchanged_in t.changed.entries kept ++ made_lines t) (overlay t kept)
 overlay_parts t kept sorted h =
     let es = t.changed.entries in
     let a = keys_apart es sorted in
     let added = lines_from (suc t.first) t.added.items in
-    subst (λ l. IsPermutation l (overlay t kept)) (append_assoc (unchanged es kept) (lines_of_changes es) added)
-    (IsPermutation-append_left added (unchanged es kept ++ lines_of_changes es) (kept_now (made_of_kept t) kept)
-    (subst (IsPermutation (unchanged es kept ++ lines_of_changes es)) (folded_is es kept a) (folded_parts es kept a (had_all es kept a h.had) h.rising)))
+    subst (λ l. IsPermutation l (overlay t kept)) (append_assoc (unchanged_in es kept) (lines_of_changes es) added)
+    (IsPermutation-append_left added (unchanged_in es kept ++ lines_of_changes es) (kept_now (made_of_kept t) kept)
+    (subst (IsPermutation (unchanged_in es kept ++ lines_of_changes es)) (folded_is es kept a) (folded_parts es kept a (had_all es kept a h.had) h.rising)))

@@ -1,5 +1,5 @@
 -- The lines of a table as they are now: those that are kept, with what a transaction has made of them.
-use Rattle.std.specs.Prelude.{◌≡◌, ℕ, suc, ◌+◌, ◌-◌, ◌≤◌, ◌<◌, ◌==◌, nat_le, if◌then◌else◌, List, [], ◌∷◌, ◌++◌, flat_map, length, map, Option, None, Some, IfSome, option_map, slice_get, Vec}
+use Rattle.std.specs.Prelude.{◌≡◌, ℕ, suc, ◌+◌, ◌-◌, ◌≤◌, ◌<◌, ◌==◌, nat_le, Bool, true, false, if◌then◌else◌, List, [], ◌∷◌, ◌++◌, filter, flat_map, length, map, Option, None, Some, IfSome, option_map, slice_get, Vec}
 use Rattle.std.specs.BTreeMap.{get}
 use Rattle.std.specs.Borrow.{Bor}
 use Rattle.std.specs.List.{AllByRecursion}
@@ -97,3 +97,14 @@ pub record AreOf (kept : LinesOf) (t : TableChanges) : Type 0 where
   pub rising : IsAscending (λ (a b : ℕ × List ℕ). a.0 < b.0) kept
   pub given : AllByRecursion (λ (x : ℕ × List ℕ). x.0 ≤ t.first) kept
   pub had : (id : ℕ) → IfSome (change_at t id) (λ c. body_at id kept ≡ Some c.0)
+
+-- ---- the lines in two parts, as they are read
+
+-- no change is of the row
+abbrev pub is_unchanged : Option LineChange → Bool
+is_unchanged None = true
+is_unchanged (Some c) = false
+
+-- the kept lines that have not changed
+abbrev pub unchanged : TableChanges → LinesOf → LinesOf
+unchanged t kept = filter (λ x. is_unchanged (change_at t x.0)) kept
