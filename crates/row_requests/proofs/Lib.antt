@@ -1,4 +1,5 @@
 pub mod Again
+pub mod AnyKeepers
 pub mod Finds
 pub mod Floats
 pub mod Given

@@ -25,7 +25,7 @@ joins : (ids : List ℕ) (id : ℕ) (p : Result (List ℕ × Tables) Refusal) �
 joins ids id (Ok x) = ap (λ (is : List ℕ). Ok (is, x.1)) (sym (append_assoc ids (id ∷ []) x.0))
 joins ids id (Err r) = refl
 
-rest_of : (changes : List Change) (at : ℕ) (d : Change) → at < length changes → drop at changes ≡ get_or changes at d ∷ drop (at + 1) changes
+pub rest_of : (changes : List Change) (at : ℕ) (d : Change) → at < length changes → drop at changes ≡ get_or changes at d ∷ drop (at + 1) changes
 rest_of changes at d below = drop-cons changes at d below ∙ ap (λ k. get_or changes at d ∷ drop k changes) (sym (add-one at))
 
 pub goes_on : (shapes : List TableShape) (changes : List Change) (at : ℕ) (ids : List ℕ) (d : Change) (id : ℕ) (a b c : Tables) → at < length changes
@@ -41,7 +41,7 @@ breaks shapes changes at ids d r a b c below so_far one =
     so_far ∙ ap (λ cs. all_before ids (perform shapes at cs b)) (rest_of changes at d below)
     ∙ ap (λ o. all_before ids (after o (perform shapes (at + 1) (drop (at + 1) changes)))) one.0
 
-drop_all : (changes : List Change) (at : ℕ) → at ≡ length changes → drop at changes ≡ []
+pub drop_all : (changes : List Change) (at : ℕ) → at ≡ length changes → drop at changes ≡ []
 drop_all [] at e = rw e refl
 drop_all (c ∷ cs) at e = rw e (drop_all cs (length cs) refl)
 

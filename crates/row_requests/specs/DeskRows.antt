@@ -9,6 +9,7 @@ use Rattle.fx_trees.specs.declared.schema.TableShape.{TableShape}
 use Rattle.row_keeper.specs.Tables.{Tables}
 use Rattle.session_state.specs.Once.{Kept}
 use Rattle.view_text.specs.declared.refused.Refusal.{Refusal}
+use Rattle.row_requests.specs.AnyKeeper.{MayEnd}
 use Rattle.row_requests.specs.Bodies.{posted_in}
 use Rattle.row_requests.specs.Changes.{perform}
 use Rattle.request_checks.specs.Checks.{checks, desk_of}
@@ -51,10 +52,12 @@ abbrev pub desks_after : List ℕ → List ℕ → ℕ → Outcome → List (Nam
 desks_after name body seq (Ok ids) desks = put name (record { last = seq; body = body; reply = accepted_reply seq ids }) desks
 desks_after name body seq (Err r) desks = desks
 
--- a request that passed the checks: its changes act in one transaction, or the first that is refused says why
+-- A request that passed the checks: its changes act in one transaction, or the first that is refused says why. Also where no
+-- tables are told it comes to what may come of these changes.
 pub record KeepsRows (lost : Type 0) (shapes : List TableShape) (name body : List ℕ) (p : Posted) (tables : Option Tables) (desks : List (Named Kept)) (said : List ℕ) (tables' : Option Tables) (desks' : List (Named Kept)) : Type 0 where
   pub outcome : Outcome
   pub acts : Goes lost (Acts shapes p.changes outcome) tables tables'
+  pub may : MayEnd shapes 0 p.changes outcome
   pub replied : said ≡ outcome_reply p.seq outcome
   pub keeps : desks' ≡ desks_after name body p.seq outcome desks
 

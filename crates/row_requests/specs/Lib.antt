@@ -1,3 +1,4 @@
+pub mod AnyKeeper
 pub mod Bodies
 pub mod Changes
 pub mod DeskRows

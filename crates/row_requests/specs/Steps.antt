@@ -27,13 +27,14 @@ abbrev pub Performs : List TableShape → List Change → Outcome → Tables →
 Performs shapes changes (Ok ids) a b = perform shapes 0 changes a ≡ Ok (ids, b)
 Performs shapes changes (Err r) a b = perform shapes 0 changes a ≡ Err r
 
+-- what is said of a change
+abbrev pub said_of : Changed → Result ℕ Refusal
+said_of (Id id) = Ok id
+said_of (Refused r) = Err r
+
 -- a refusal has the detail of its code
 abbrev pub HasItsDetail : Refusal → Type 0
 HasItsDetail r = Fits r.code r.detail
-
-abbrev pub HasDetail : Changed → Type 0
-HasDetail (Id id) = Unit {0}
-HasDetail (Refused r) = HasItsDetail r
 
 abbrev pub HaveDetail : Outcome → Type 0
 HaveDetail (Ok ids) = Unit {0}

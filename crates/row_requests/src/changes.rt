@@ -4,10 +4,11 @@ ghost use Rattle.std.specs.List.{list_any};
 ghost use Rattle.fx_trees.specs.Lawful.{IsLawfulSchema};
 ghost use Rattle.row_keeper.specs.Over.{Becomes, BeganStays, HasCause};
 ghost use Rattle.row_keeper.specs.Tables.{columns_at, has_id, state_at};
+ghost use Rattle.row_requests.specs.AnyKeeper.{MayAdd, MayChange, MayChangeIn, MayRemove, MayReplace};
 ghost use Rattle.row_requests.specs.Changes.{add_row, change_in_table, change_row, place_of as place_of_name, remove_row, row_of};
 ghost use Rattle.request_checks.specs.Replies.{plain};
 ghost use Rattle.row_requests.specs.Sound.{AreSound};
-ghost use Rattle.row_requests.specs.Steps.{ChangesOne, Comes, HasDetail, came as came_of};
+ghost use Rattle.row_requests.specs.Steps.{ChangesOne, Comes, came as came_of, said_of};
 
 use crate::bodies::{Change, Given};
 use crate::cells::{cells_with, new_cells};
@@ -50,8 +51,7 @@ pub(crate) fn columns_of(schema: &Schema, table: u16) -> &[Column]
 
 /// What becomes of a change, by what the keeper answers.
 fn came(alloc: Global, at: u32, columns: &[Column], put: Put) -> Result<Changed, Memory>
-    ensures is { IfOk result (λ c. c ≡ came_of at columns.now put) }
-    ensures detail { IfOk result HasDetail }
+    ensures { IfOk result (λ c. c ≡ came_of at columns.now put) }
 {
     match put {
         Put::Id(id) => Ok(Changed::Id(id)),
@@ -77,7 +77,7 @@ fn insert_row<K: Keeper>(
     ensures done { IfOk result (λ c. Becomes K.Keeper keeper.old keeper.new
         (λ a b. Comes (add_row at (columns_at schema.now.tables table) table given.now a) c a b)) }
     ensures sound { IfOk result (λ c. AreSound schema.now (K.told keeper.new)) }
-    ensures detail { IfOk result HasDetail }
+    ensures may { IfOk result (λ c. MayAdd at (columns_at schema.now.tables table) given.now (said_of c)) }
     ensures began { BeganStays K.Keeper keeper.old keeper.new }
     ensures cause { HasCause K.Keeper keeper.old keeper.new result }
     ensures open { K.in_transaction keeper.new ≡ true }
@@ -114,7 +114,7 @@ fn replace_row<K: Keeper>(
     ensures done { IfOk result (λ c. Becomes K.Keeper keeper.old keeper.new
         (λ a b. Comes (change_row at (columns_at schema.now.tables table) table id given.now a (row_of id (state_at a.states table).rows)) c a b)) }
     ensures sound { IfOk result (λ c. AreSound schema.now (K.told keeper.new)) }
-    ensures detail { IfOk result HasDetail }
+    ensures may { IfOk result (λ c. MayReplace at (columns_at schema.now.tables table) id given.now (said_of c)) }
     ensures began { BeganStays K.Keeper keeper.old keeper.new }
     ensures cause { HasCause K.Keeper keeper.old keeper.new result }
     ensures open { K.in_transaction keeper.new ≡ true }
@@ -151,7 +151,7 @@ fn remove_row<K: Keeper>(
     ensures done { IfOk result (λ c. Becomes K.Keeper keeper.old keeper.new
         (λ a b. Comes (remove_row table id a (list_any (has_id id) (state_at a.states table).rows)) c a b)) }
     ensures sound { IfOk result (λ c. AreSound schema.now (K.told keeper.new)) }
-    ensures detail { IfOk result HasDetail }
+    ensures may { IfOk result (λ c. MayRemove id (said_of c)) }
     ensures began { BeganStays K.Keeper keeper.old keeper.new }
     ensures cause { HasCause K.Keeper keeper.old keeper.new result }
     ensures open { K.in_transaction keeper.new ≡ true }
@@ -202,7 +202,7 @@ fn change_table<K: Keeper>(
     ensures done { IfOk result (λ c. Becomes K.Keeper keeper.old keeper.new
         (λ a b. Comes (change_in_table schema.now.tables at change.now a (Some table)) c a b)) }
     ensures sound { IfOk result (λ c. AreSound schema.now (K.told keeper.new)) }
-    ensures detail { IfOk result HasDetail }
+    ensures may { IfOk result (λ c. MayChangeIn schema.now.tables at change.now (Some table) (said_of c)) }
     ensures began { BeganStays K.Keeper keeper.old keeper.new }
     ensures cause { HasCause K.Keeper keeper.old keeper.new result }
     ensures open { K.in_transaction keeper.new ≡ true }
@@ -233,7 +233,7 @@ pub(crate) fn change_one<K: Keeper>(
     ensures done { IfOk result (λ c. Becomes K.Keeper keeper.old keeper.new
         (ChangesOne schema.now.tables at change.now c)) }
     ensures sound { IfOk result (λ c. AreSound schema.now (K.told keeper.new)) }
-    ensures detail { IfOk result HasDetail }
+    ensures may { IfOk result (λ c. MayChange schema.now.tables at change.now (said_of c)) }
     ensures began { BeganStays K.Keeper keeper.old keeper.new }
     ensures cause { HasCause K.Keeper keeper.old keeper.new result }
     ensures open { K.in_transaction keeper.new ≡ true }

@@ -1,10 +1,9 @@
 // What is given for rows, judged.
-ghost use Rattle.std.specs.Prelude.{◌≡◌, IfOk, IfSome, option_map};
+ghost use Rattle.std.specs.Prelude.{◌≡◌, IfOk, option_map};
 ghost use Rattle.fx_data.specs.ValueView.{view};
 ghost use Rattle.fx_data.specs.Words.{scalars_of};
 ghost use Rattle.row_requests.specs.Changes.{broken as broken_of, column_named, has_type as has_type_of, judged, kept_refusal as kept_refusal_of, name_at as name_at_of, rule_of_given};
 ghost use Rattle.row_requests.specs.GivenRows.{AreScalars};
-ghost use Rattle.row_requests.specs.Steps.{HasItsDetail};
 
 use crate::bodies::Given;
 use crate::rule::Rule;
@@ -46,8 +45,7 @@ fn rule_of_given(columns: &[Column], name: &Words, value: &Option<Value>) -> Opt
 
 /// The refusal of a rule that breaks.
 fn refuse_cell(alloc: Global, at: u32, column: &str, rule: Rule) -> Result<Refusal, Memory>
-    ensures is { IfOk result (λ r. r ≡ broken_of at (scalars_of column.now) rule) }
-    ensures detail { IfOk result HasItsDetail }
+    ensures { IfOk result (λ r. r ≡ broken_of at (scalars_of column.now) rule) }
 {
     let column = Words::of(alloc, column)?;
     let rule = Words::of(alloc, rule.name())?;
@@ -65,7 +63,6 @@ pub(crate) fn judge(
     given: &Given,
 ) -> Result<Option<Refusal>, Memory>
     ensures is { IfOk result (λ r. r ≡ judged at columns.now given.now) }
-    ensures detail { IfOk result (λ r. IfSome r HasItsDetail) }
     ensures scalars { AreScalars given.now }
 {
     for (name, value) in given.as_slice() {
@@ -96,8 +93,7 @@ pub(crate) fn kept_refusal(
     columns: &[Column],
     refusal: RowRefusal,
 ) -> Result<Refusal, Memory>
-    ensures is { IfOk result (λ r. r ≡ kept_refusal_of at columns.now refusal) }
-    ensures detail { IfOk result HasItsDetail }
+    ensures { IfOk result (λ r. r ≡ kept_refusal_of at columns.now refusal) }
 {
     refuse_cell(
         alloc,

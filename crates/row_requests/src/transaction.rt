@@ -3,8 +3,9 @@ ghost use Rattle.std.specs.Prelude.{◌≡◌, ◌≤◌, true, false, IfOk, OnE
 ghost use Rattle.serde_json.specs.View.{items_view, view as json_view};
 ghost use Rattle.fx_base.specs.Telling.{Stays};
 ghost use Rattle.fx_trees.specs.Lawful.{IsLawfulSchema};
+ghost use Rattle.row_requests.specs.AnyKeeper.{MayEnd};
 ghost use Rattle.row_requests.specs.DeskRows.{Acts, accepted_data, accepted_reply as accepted_bytes, id_data, outcome_reply};
-ghost use Rattle.row_requests.specs.Prepared.{IsPrepared};
+ghost use Rattle.row_requests.specs.Prepared.{IsMade, IsPrepared};
 ghost use Rattle.request_checks.specs.Replies.{IsReply, said};
 ghost use Rattle.row_requests.specs.Sound.{AreSound};
 ghost use Rattle.row_requests.specs.Steps.{Performs, HaveDetail};
@@ -47,7 +48,7 @@ fn change_rows<K: Keeper>(
     ensures done { IfOk result (λ o. Becomes K.Keeper keeper.old keeper.new
         (Performs schema.now.tables changes.now o)) }
     ensures sound { IfOk result (λ o. AreSound schema.now (K.told keeper.new)) }
-    ensures detail { IfOk result HaveDetail }
+    ensures may { IfOk result (MayEnd schema.now.tables 0 changes.now) }
     ensures began { BeganStays K.Keeper keeper.old keeper.new }
     ensures cause { HasCause K.Keeper keeper.old keeper.new result }
     ensures open { K.in_transaction keeper.new ≡ true }
@@ -137,7 +138,7 @@ fn prepare_rows<K: Keeper>(
     ensures done { IfOk result (λ p. Becomes K.Keeper keeper.old keeper.new
         (Performs schema.now.tables posted.now.changes p.outcome)) }
     ensures sound { IfOk result (λ p. AreSound schema.now (K.told keeper.new)) }
-    ensures prepared { IfOk result (IsPrepared posted.now.seq) }
+    ensures made { IfOk result (IsMade schema.now.tables posted.now) }
     ensures began { BeganStays K.Keeper keeper.old keeper.new }
     ensures cause { HasCause K.Keeper keeper.old keeper.new result }
     ensures open { K.in_transaction keeper.new ≡ true }
@@ -167,7 +168,7 @@ pub(crate) fn act_rows<K: Keeper>(
     requires few { length posted.now.changes ≤ 1000 }
     ensures done { IfOk result (λ p. Becomes K.Keeper keeper.old keeper.new
         (Acts schema.now.tables posted.now.changes p.outcome)) }
-    ensures prepared { IfOk result (IsPrepared posted.now.seq) }
+    ensures made { IfOk result (IsMade schema.now.tables posted.now) }
     ensures stopped { OnErr result (Becomes K.Keeper keeper.old keeper.new Stays) }
     ensures cause { HasCause K.Keeper keeper.old keeper.new result }
     ensures idle { K.in_transaction keeper.new ≡ false }

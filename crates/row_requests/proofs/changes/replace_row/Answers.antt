@@ -8,10 +8,11 @@ use Rattle.std.specs.Prelude.{IfSome, length, map}
 use Rattle.fx_data.specs.ValueView.{view}
 use Rattle.row_queries.specs.TableRows.{IsRowOf}
 use Rattle.row_queries.specs.declared.rows.Row.{Row}
-use Rattle.row_keeper.specs.Changes.{Replaces}
+use Rattle.row_keeper.specs.Changes.{IsReplaced, Replaces}
 use Rattle.row_keeper.specs.Tables.{columns_at, shapes_of}
 use Rattle.row_requests.specs.Changes.{cells_with, judged}
 use Rattle.row_requests.specs.Steps.{came}
+use Rattle.row_requests.proofs.AnyKeepers.{replaced_may, unjudged_replace}
 use Rattle.row_requests.proofs.Given.{cells_fit, same_length, view_length}
 use Rattle.row_requests.proofs.Rows.{replaced_goes, unfound_goes, unjudged_goes}
 use Rattle.row_requests.proofs.Schemas.{are_apart, fits_columns, fits_there, found_sound, replaces_sound, row_cells, rows_in_order}
@@ -74,7 +75,7 @@ returns-clause-done g c =
     c.in_ok-cells.ensures ∙ ap (λ cs. cells_with c.args.given.now cs (map view c.as_slice.result.now)) c.columns_of-columns.ensures ∙ ap (cells_with c.args.given.now columns) c.as_slice.ensures in
     replaced_goes columns c.args.at c.args.table c.args.id c.args.given.now (g.K.Keeper.marks c.args.keeper.now) (g.K.Keeper.marks c.find_row.new.keeper) (g.K.Keeper.marks c.replace.new.self) before between now
     c.in_ok-row.field-0 c.in-Some.row c.in_ok-cells.cells c.in_ok-put.put c.in_ok-changed.changed c.in-Some.is passed cells_are
-    (c.in_ok-changed.ensures.is ∙ ap (λ (cs : List Column). came c.args.at cs c.in_ok-put.put) c.columns_of-columns.ensures)
+    (c.in_ok-changed.ensures ∙ ap (λ (cs : List Column). came c.args.at cs c.in_ok-put.put) c.columns_of-columns.ensures)
     c.in_ok-row.ensures.cause.later c.in_ok-put.ensures.cause.later (rows_in_order c.args.schema.now c.args.table c.requires.table before c.requires.sound) c.in_ok-row.ensures.found
     (subst (λ o. Goes (IsLost (g.K.Keeper.marks c.find_row.new.keeper) (g.K.Keeper.marks c.replace.new.self)) (Replaces (columns_at (shapes_of o) c.args.table) c.args.table c.args.id c.in_ok-cells.cells c.in_ok-put.put) between now) (c.in_ok-row.ensures.shaped ∙ c.requires.shaped) c.in_ok-put.ensures.put)
 
@@ -96,3 +97,16 @@ returns-clause-sound g c =
     between (g.K.Keeper.told c.replace.new.self)
     (found_sound c.args.schema.now c.args.table c.args.id (IsLost (g.K.Keeper.marks c.args.keeper.now) (g.K.Keeper.marks c.find_row.new.keeper)) c.in_ok-row.field-0 (g.K.Keeper.told c.args.keeper.now) between c.requires.sound c.in_ok-row.ensures.found)
     c.in_ok-put.ensures.put
+
+pub returns-in-Some-judged-clause-may : goal.returns-in-Some-judged-clause-may
+returns-in-Some-judged-clause-may g c =
+    unjudged_replace c.args.at (columns_at c.args.schema.now.tables c.args.table) c.args.id c.args.given.now c.in-Some-judged.refusal
+    (ap (λ cs. judged c.args.at cs c.args.given.now) (sym c.columns_of-columns.ensures) ∙ sym c.in_ok-judged.ensures.is ∙ c.in-Some-judged.is)
+
+pub returns-clause-may : goal.returns-clause-may
+returns-clause-may g c =
+    let columns = columns_at c.args.schema.now.tables c.args.table in
+    let passed : judged c.args.at columns c.args.given.now ≡ None = ap (λ cs. judged c.args.at cs c.args.given.now) (sym c.columns_of-columns.ensures) ∙ sym c.in_ok-judged.ensures.is ∙ c.in-None-judged.is in
+    replaced_may c.args.at columns c.args.id c.args.given.now c.in_ok-put.put c.in_ok-changed.changed passed
+    (subst (λ o. IsReplaced (columns_at (shapes_of o) c.args.table) c.args.id c.in_ok-put.put) (c.in_ok-row.ensures.shaped ∙ c.requires.shaped) c.in_ok-put.ensures.sound)
+    (c.in_ok-changed.ensures ∙ ap (λ (cs : List Column). came c.args.at cs c.in_ok-put.put) c.columns_of-columns.ensures)
