@@ -2,6 +2,11 @@
 #![tactic(auto)]
 
 mod graph;
+mod lines;
 mod names;
+mod plan;
+mod tables;
 
 pub use graph::graph_json;
+pub use lines::checked_lines;
+pub use plan::plan_json;

@@ -7,8 +7,8 @@ use Rattle.app_cells.specs.declared.app.App.{App}
 use Rattle.app_cells.specs.declared.cell.Cell.{Cell}
 use Rattle.app_cells.specs.declared.frame.Frame.{Frame}
 use Rattle.app_cells.specs.Spots.{IsFrame, IsPlaced}
-use Rattle.app_edits.specs.Edits.{IsEdited}
-use Rattle.app_edits.specs.Frames.{frame_of, without_items}
+use Rattle.app_texts.specs.Edits.{IsEdited}
+use Rattle.app_texts.specs.Frames.{frame_of, without_items}
 use Rattle.app_loader.specs.Accepted.{AreSingle}
 use Rattle.app_loader.specs.Cells.{AreShallow}
 use Rattle.app_loader.specs.JudgedFormulas.{Tells}

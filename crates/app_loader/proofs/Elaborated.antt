@@ -1,6 +1,6 @@
 -- What holds of formulas holds whatever is said of what they stand on.
 use Rattle.std.proofs.Common.{◌≡◌, ℕ, zero, suc, List, [], ◌∷◌, map, subst}
-use Rattle.fx_places.specs.NamedTypes.{HasLawfulTypes}
+use Rattle.fx_semantics.specs.NamedTypes.{HasLawfulTypes}
 use Rattle.fx_trees.specs.Reads.{AreRising}
 use Rattle.fx_trees.specs.declared.names.Names.{Names}
 use Rattle.app_cells.specs.declared.app.CellInfo.{CellInfo}

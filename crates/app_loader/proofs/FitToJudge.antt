@@ -8,13 +8,13 @@ use Rattle.app_cells.specs.declared.app.App.{App}
 use Rattle.app_cells.specs.declared.cell.Cell.{Cell}
 use Rattle.app_cells.specs.declared.cell.Spot.{Spot}
 use Rattle.app_cells.specs.declared.frame.Frame.{Frame}
-use Rattle.app_edits.specs.Edits.{IsEdited}
-use Rattle.app_edits.specs.Frames.{frame_of, written}
-use Rattle.app_edits.proofs.Counts.{single}
-use Rattle.app_edits.proofs.Standing.{all_hold}
+use Rattle.app_texts.specs.Edits.{IsEdited}
+use Rattle.app_texts.specs.Frames.{frame_of, written}
+use Rattle.app_texts.proofs.Counts.{single}
+use Rattle.app_texts.proofs.Standing.{all_hold}
 use Rattle.app_loader.specs.Accepted.{AreSingle}
 use Rattle.app_loader.specs.Cells.{AreShallow}
-use Rattle.app_edits.proofs.GivenTexts.{GivenParts, given_parts}
+use Rattle.app_texts.proofs.GivenTexts.{GivenParts, given_parts}
 use Rattle.app_loader.proofs.OneEdit.{edited_parts}
 
 abbrev IsShallow : Cell → Type 0

@@ -11,7 +11,7 @@ use Rattle.app_cells.specs.declared.app.CellInfo.{CellInfo}
 use Rattle.app_cells.specs.declared.cell.Cell.{Cell}
 use Rattle.app_cells.specs.declared.frame.Frame.{Frame}
 use Rattle.app_cells.specs.Spots.{IsFrame, IsPlaced}
-use Rattle.app_edits.specs.Frames.{frame_of, without_items, written}
+use Rattle.app_texts.specs.Frames.{frame_of, without_items, written}
 use Rattle.app_names.proofs.LawfulNames.{unbroken}
 use Rattle.app_loader.specs.Cells.{AreShallow, cell_of}
 use Rattle.app_loader.specs.Infos.{AreElaborated}

@@ -15,7 +15,7 @@ use Rattle.app_texts.specs.Files.{ReadIsSound, control_of, controls_from}
 use Rattle.app_texts.specs.Texts.{AreFormulasOf, IsReading}
 use Rattle.app_texts.proofs.Readings.{file_placed}
 use Rattle.app_texts.proofs.Spotted.{sound_frame}
-use Rattle.app_edits.specs.Frames.{without_items}
+use Rattle.app_texts.specs.Frames.{without_items}
 use Rattle.app_loader.specs.Edits.{IsLoaded, LoadedApp}
 use Rattle.app_loader.specs.Judged as judge
 use Rattle.app_loader.specs.Judged.{JudgedApp, JudgedFile, JudgedFormulas}

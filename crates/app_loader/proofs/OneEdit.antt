@@ -8,10 +8,10 @@ use Rattle.app_cells.specs.declared.cell.Spot.{Spot}
 use Rattle.app_cells.specs.declared.cell.Spot.TheVariants as spot
 use Rattle.app_cells.specs.declared.frame.Frame.{Frame}
 use Rattle.app_cells.specs.Spots.{address}
-use Rattle.app_edits.specs.Edits.{IsEdited, IsFormula, IsGiven, IsShort, bytes_of, is_named, most_bytes, no_place, with_cell}
-use Rattle.app_edits.proofs.GivenTexts.{GivenParts, given_parts}
-use Rattle.app_edits.specs.Frames.{frame_of}
-use Rattle.app_edits.specs.Places.{spot_of}
+use Rattle.app_texts.specs.Edits.{IsEdited, IsFormula, IsGiven, IsShort, bytes_of, is_named, most_bytes, no_place, with_cell}
+use Rattle.app_texts.proofs.GivenTexts.{GivenParts, given_parts}
+use Rattle.app_texts.specs.Frames.{frame_of}
+use Rattle.app_texts.specs.Places.{spot_of}
 use Rattle.app_loader.specs.Edits.{IsOneEdit, IsOneEdited, IsOneEditRefusal, JudgedEdit}
 use Rattle.app_loader.specs.Judged.{JudgedFormulas}
 use Rattle.app_loader.specs.Verdicts.{AreSameBreaks, IsSameBreak}

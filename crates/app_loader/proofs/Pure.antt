@@ -4,7 +4,7 @@ use Rattle.std.proofs.lemmas.Bool.{or_parts}
 use Rattle.fx_semantics.specs.Sound.{AreLawfulTrees, IsLawfulTree, NamesLawful}
 use Rattle.fx_trees.specs.Term.{Term, Terms, of, nil, cons, Top, list, coerce, chain, act}
 use Rattle.fx_typing.specs.Acts.{acts, any_acts, is_acting}
-use Rattle.fx_places.specs.NamedTypes.{HasLawfulTypes, HaveLawfulTypes, NamesLawfulType}
+use Rattle.fx_semantics.specs.NamedTypes.{HasLawfulTypes, HaveLawfulTypes, NamesLawfulType}
 
 top_lawful : (h : Top) → NamesLawfulType h → is_acting h ≡ false → NamesLawful h
 top_lawful (list u) t q = t

@@ -10,8 +10,8 @@ use Rattle.fx_trees.specs.declared.names.ControlName.{ControlName}
 use Rattle.fx_trees.specs.declared.names.FormulaName.{FormulaName}
 use Rattle.fx_trees.specs.declared.names.Names.{Names}
 use Rattle.fx_trees.specs.declared.names.Property.{Property}
-use Rattle.fx_places.specs.Laws.{AdmittedIsPlaced}
-use Rattle.fx_places.specs.NamedTypes.{HasLawfulTypes}
+use Rattle.fx_semantics.specs.Laws.{AdmittedIsPlaced}
+use Rattle.fx_semantics.specs.NamedTypes.{HasLawfulTypes}
 use Rattle.fx_typing.specs.Laws.{AdmittedIsTyped, AdmittedIsWanted, IsWanted, PureIsQuiet}
 use Rattle.fx_typing.specs.Rounds as rounds
 use Rattle.fx_typing.specs.Rounds.{AllSame, SameControl, SameNames, type_or_blank}

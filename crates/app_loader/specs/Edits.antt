@@ -4,8 +4,8 @@ use Rattle.fx_trees.specs.declared.broken.Broken.{Broken}
 use Rattle.app_cells.specs.declared.app.App.{App}
 use Rattle.app_cells.specs.declared.cell.Cell.{Cell}
 use Rattle.app_cells.specs.Spots.{IsFrame, IsPlaced}
-use Rattle.app_edits.specs.Edits.{IsEdited}
-use Rattle.app_edits.specs.Frames.{frame_of, written}
+use Rattle.app_texts.specs.Edits.{IsEdited}
+use Rattle.app_texts.specs.Frames.{frame_of, written}
 use Rattle.app_loader.specs.Cells.{AreShallow}
 use Rattle.app_loader.specs.Judged.{JudgedApp, JudgedFormulas}
 use Rattle.app_loader.specs.Verdicts.{AreSameBreaks, IsSameApp}

@@ -1,7 +1,7 @@
 -- Types that trees and names have.
 use Rattle.std.specs.Prelude.{List, [], ◌∷◌, All}
 use Rattle.fx_data.specs.TypeView.{shape}
-use Rattle.fx_places.specs.NamedTypes.{HasLawfulTypes}
+use Rattle.fx_semantics.specs.NamedTypes.{HasLawfulTypes}
 use Rattle.fx_semantics.specs.Sound.{IsLawfulType}
 use Rattle.fx_trees.specs.declared.names.Collection.{Collection}
 use Rattle.fx_trees.specs.declared.names.ControlName.{ControlName}

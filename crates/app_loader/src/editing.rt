@@ -1,6 +1,6 @@
 //! From an app and an edit to the edited app.
 ghost use Rattle.std.specs.Prelude.{◌≡◌, Err, IfErr, IfOk, Ok};
-ghost use Rattle.app_edits.specs.Frames.{frame_of};
+ghost use Rattle.app_texts.specs.Frames.{frame_of};
 ghost use Rattle.app_loader.specs.Edits.{IsLoaded, IsOneEdit, IsOneEdited, IsOneEditRefusal, JudgedEdit, LoadedApp};
 ghost use Rattle.app_semantics.specs.Sound.{IsSound};
 ghost use Rattle.app_loader.specs.JudgedFormulas.{Tells};
@@ -10,8 +10,7 @@ ghost use Rattle.session_state.specs.Changes.{HoldsTables};
 use crate::judging::only;
 use crate::loading::load_formulas;
 use app_cells::App;
-use app_edits::edit_cells;
-use app_texts::read_is_sound;
+use app_texts::{edit_cells, read_is_sound};
 use fx_base::OrMemory;
 use fx_data::Words;
 use fx_infer::no_deeper;

@@ -15,9 +15,8 @@ use crate::trees::look_at_tree;
 use app_cells::{Cell, CellInfo};
 use fx_base::{InOrder, Memory};
 use fx_infer::Typed;
-use fx_plan::{Site, sites};
+use fx_plan::{Site, limit_queries, sites};
 use fx_trees::{Core, Names, Schema, Source};
-use query_limits::limit_queries;
 use std::alloc::Global;
 
 /// These things in order.

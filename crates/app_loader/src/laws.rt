@@ -1,7 +1,7 @@
 // Laws of accepted apps.
 ghost use Rattle.app_loader.specs.Accepted.{AcceptedHoldsTables, AcceptedIsSound};
 
-use fx_places::admitted_is_placed;
+use fx_semantics::admitted_is_placed;
 use fx_typing::{admitted_is_typed, pure_is_quiet};
 
 /// A law, and no work: an app that is accepted is sound. Its names are lawful and those of its formulas, each formula has its

@@ -1,5 +1,5 @@
 //! What is seen of typed trees by looking at them: the columns of the types that they name rise, at every depth.
-ghost use Rattle.fx_places.specs.NamedTypes.{HasLawfulTypes, HaveLawfulTypes};
+ghost use Rattle.fx_semantics.specs.NamedTypes.{HasLawfulTypes, HaveLawfulTypes};
 ghost use Rattle.fx_trees.specs.Term.{all, parts_of};
 
 use crate::types::look_at_type;

@@ -19,8 +19,8 @@ use Rattle.fx_trees.specs.declared.names.Names.{Names}
 use Rattle.fx_trees.specs.declared.names.Property.{Property}
 use Rattle.fx_trees.specs.declared.schema.TableShape.{TableShape}
 use Rattle.fx_trees.specs.declared.sources.Source.{Source}
-use Rattle.fx_places.specs.NamedTypes.{HasLawfulTypes}
-use Rattle.fx_places.specs.Places.{IsPlaced}
+use Rattle.fx_semantics.specs.NamedTypes.{HasLawfulTypes}
+use Rattle.fx_semantics.specs.Places.{IsPlaced}
 use Rattle.fx_typing.specs.Acts.{acts}
 use Rattle.fx_typing.specs.Typing.{item_of}
 use Rattle.fx_typing.specs.WellTyped.{Context, IsTyped}

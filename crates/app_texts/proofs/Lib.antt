@@ -6,3 +6,8 @@ pub mod Formed
 pub mod Sound
 pub mod Spotted
 pub mod Readings
+pub mod FramePlaces
+pub mod Standing
+pub mod Counts
+pub mod GivenTexts
+pub mod Numbered

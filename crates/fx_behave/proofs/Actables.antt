@@ -28,7 +28,7 @@ use Rattle.fx_typing.specs.WellTyped.{Context, AreTyped, AllStand, IsRuled, IsTy
 use Rattle.fx_typing.specs.Ways.{is_comparable}
 use Rattle.fx_value.specs.Columns.{Row}
 use Rattle.fx_value.specs.Fits.{fits_in}
-use Rattle.fx_places.specs.Places.{ArePlaced, IsPlaced}
+use Rattle.fx_semantics.specs.Places.{ArePlaced, IsPlaced}
 use Rattle.fx_behave.specs.Actable.{AreActable, AreBranches, AreMatches, AreRecoveries, EndsIn, IsActable, IsActableInside, IsFallback, IsSwitch}
 use Rattle.fx_deeds.specs.Fitting.{SourceTypes}
 

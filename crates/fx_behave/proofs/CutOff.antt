@@ -22,7 +22,7 @@ use Rattle.fx_trees.specs.Term as top
 use Rattle.fx_typing.specs.Acts.{acts}
 use Rattle.fx_value.specs.Coercion.{IsCoerced}
 use Rattle.fx_value.specs.Columns.{Row}
-use Rattle.fx_places.specs.Places.{is_for_all}
+use Rattle.fx_semantics.specs.Places.{is_for_all}
 use Rattle.fx_deeds.proofs.CutOff.{deed_on, same_end, update_on}
 use Rattle.fx_deeds.proofs.Passing.{within_nowhere, within_on}
 use Rattle.fx_deeds.proofs.Single.{Same}

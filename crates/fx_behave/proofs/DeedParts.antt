@@ -24,7 +24,7 @@ use Rattle.fx_value.specs.Join.{union}
 use Rattle.fx_deeds.specs.Doable.{AnswersAs, CanDo, IsBase}
 use Rattle.fx_deeds.specs.Fitting.{AreOf, AreOfSome, CanTakeAll, SourceTypes}
 use Rattle.fx_deeds.specs.RowValues.{rows_among}
-use Rattle.fx_places.specs.Places.{are_of_screen, may_act}
+use Rattle.fx_semantics.specs.Places.{are_of_screen, may_act}
 
 -- the one deed whose change has a value for each row
 abbrev pub IsUpdating : Deed → Type 0

@@ -23,7 +23,7 @@ use Rattle.fx_value.specs.Coercion.{IsCoerced}
 use Rattle.fx_value.specs.Fits.{fits_in}
 use Rattle.fx_deeds.specs.Fitting.{SourceTypes}
 use Rattle.fx_deeds.specs.State.{Ground, State}
-use Rattle.fx_places.specs.Places.{is_for_all, may_act}
+use Rattle.fx_semantics.specs.Places.{is_for_all, may_act}
 use Rattle.fx_behave.proofs.Heads.{coerce_to, dot_type, found_at, list_there, row_lawful}
 use Rattle.fx_behave.proofs.Sequences.{acts_as}
 use Rattle.fx_behave.specs.Actable.{AreActable, CanAct, IsActable}

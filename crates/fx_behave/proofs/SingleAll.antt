@@ -27,7 +27,7 @@ use Rattle.fx_trees.specs.Term as top
 use Rattle.fx_typing.specs.Acts.{acts}
 use Rattle.fx_trees.specs.ColumnLists.{row_columns}
 use Rattle.fx_plan.specs.Limited.{limited}
-use Rattle.fx_places.specs.Places.{is_for_all}
+use Rattle.fx_semantics.specs.Places.{is_for_all}
 use Rattle.fx_deeds.proofs.Single.{Outcome, Same, answers_one, deed_once, or_error_one, two_one, update_one}
 use Rattle.fx_deeds.specs.Deeds.{OrError}
 use Rattle.fx_deeds.specs.Done.{IsDeed, IsUpdate}

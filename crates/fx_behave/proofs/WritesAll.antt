@@ -23,7 +23,7 @@ use Rattle.fx_value.specs.Columns.{Row}
 use Rattle.fx_deeds.proofs.Passing.{within_nowhere, within_on}
 use Rattle.fx_deeds.proofs.Writes as deeds
 use Rattle.fx_deeds.specs.Done.{IsDeed, IsUpdate}
-use Rattle.fx_places.specs.Places.{is_for_all}
+use Rattle.fx_semantics.specs.Places.{is_for_all}
 use Rattle.fx_behave.specs.Perform.{AreEach, ArePerformed, Decides, Doing, IsAct, IsActing, IsBranched, IsChain, IsDone, IsForAll, IsOverAll, IsRecovered, IsSwitched, IsUpdateIf, IsWithin, OfOne, Performs, matching, performing, performings, taken}
 use Rattle.fx_deeds.specs.State.{Ground, State}
 use Rattle.fx_deeds.specs.Within.{Within}

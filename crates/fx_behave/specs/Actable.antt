@@ -12,7 +12,7 @@ use Rattle.fx_trees.specs.Term.{Term}
 use Rattle.fx_typing.specs.WellTyped.{Context, IsTyped}
 use Rattle.fx_typing.specs.Ways.{is_comparable}
 use Rattle.fx_deeds.specs.Fitting.{SourceTypes}
-pub use Rattle.fx_places.specs.Places.{IsPlaced}
+pub use Rattle.fx_semantics.specs.Places.{IsPlaced}
 
 -- ---- trees
 

@@ -17,7 +17,7 @@ use Rattle.fx_trees.specs.declared.functions.Form.TheVariants as form
 use Rattle.fx_trees.specs.Term.{Term, Terms, of, nil, cons, Top}
 use Rattle.fx_trees.specs.Term as top
 use Rattle.fx_typing.specs.Acts.{acts}
-use Rattle.fx_places.specs.Places.{is_for_all}
+use Rattle.fx_semantics.specs.Places.{is_for_all}
 use Rattle.fx_deeds.specs.CutOff.{CutDeed, CutUpdate}
 use Rattle.fx_deeds.specs.State.{Frame, Giving, Ground, State}
 use Rattle.fx_deeds.specs.Within.{Within}

@@ -23,7 +23,7 @@ use Rattle.fx_typing.specs.Acts.{acts}
 use Rattle.fx_trees.specs.ColumnLists.{row_columns}
 use Rattle.fx_value.specs.Coercion.{IsCoerced}
 use Rattle.fx_plan.specs.Limited.{IsTakenValue}
-use Rattle.fx_places.specs.Places.{is_for_all}
+use Rattle.fx_semantics.specs.Places.{is_for_all}
 use Rattle.fx_deeds.specs.Deeds.{Answers, OrError}
 use Rattle.fx_deeds.specs.Done.{IsDeed, IsUpdate}
 use Rattle.fx_deeds.specs.State.{Ground, State, standing}

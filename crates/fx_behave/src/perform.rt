@@ -17,8 +17,8 @@ use fx_deeds::World;
 use fx_env::{Steps, Stop};
 use fx_eval::{Scope, eval};
 use fx_plan::laws::limited_types;
+use fx_plan::limit_queries_under;
 use fx_trees::Core;
-use query_limits::limit_queries_under;
 use std::alloc::Global;
 use std::sync::ledger::Ledger;
 

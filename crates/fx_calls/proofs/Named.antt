@@ -6,8 +6,8 @@ use Rattle.fx_trees.specs.ColumnLists.{and_then}
 use Rattle.fx_typing.specs.Deeds.{by_name}
 use Rattle.fx_typing.specs.Parts.{Part}
 use Rattle.fx_typing.specs.Answers.{Answers, Wrong}
-use Rattle.fx_nodes.specs.Lists.{named_first}
-use Rattle.fx_nodes.proofs.Exits.{goes_on, as_same}
+use Rattle.fx_operators.specs.Lists.{named_first}
+use Rattle.fx_operators.proofs.Exits.{goes_on, as_same}
 use Rattle.fx_calls.proofs.Steps.{by_name_is}
 
 -- where there is one

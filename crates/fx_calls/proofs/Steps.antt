@@ -5,7 +5,7 @@ use Rattle.fx_trees.specs.Term.{Term}
 use Rattle.fx_trees.specs.ColumnLists.{and_then}
 use Rattle.fx_typing.specs.Deeds.{by_name}
 use Rattle.fx_typing.specs.Parts.{Part, piece, meant, target, assigned}
-use Rattle.fx_nodes.specs.Lists.{named_first}
+use Rattle.fx_operators.specs.Lists.{named_first}
 
 pub by_name_is : (qs : List Part) (go : List ℕ → List Part → Result (Term × Shape) ℕ) → by_name qs go ≡ and_then (named_first qs) (λ p. go p.0 p.1)
 by_name_is [] go = refl

@@ -2,10 +2,20 @@
 #![tactic(auto)]
 
 pub mod calls;
+pub mod changing;
+pub mod collections;
 pub mod deeds;
 pub mod filtering;
+pub mod fitting;
+pub mod gathering;
+pub mod large;
+pub mod patching;
 pub mod rows;
+pub mod taken;
+pub mod values;
+pub mod variables;
 
 pub use calls::{call, call_by_shape, unless};
-pub use fx_assignments::values;
-pub use fx_row_changes::changing;
+pub use changing::Changing;
+pub use large::first_large_type;
+pub use taken::taken_name;

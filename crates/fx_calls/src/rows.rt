@@ -5,13 +5,13 @@ ghost use Rattle.fx_trees.specs.Lawful.{IsLawful};
 ghost use Rattle.fx_typing.specs.Answers.{Answers};
 ghost use Rattle.fx_typing.specs.TypedView.{typed};
 ghost use Rattle.fx_scopes.specs.PartView.{part};
-ghost use Rattle.fx_row_changes.specs.Changes.{changing_view, rows_to_change};
+ghost use Rattle.fx_calls.specs.Changes.{changing_view, rows_to_change};
 
-use fx_assignments::values::values;
+use crate::changing::Changing;
+use crate::patching::{patch_to, remove_to};
+use crate::values::values;
 use fx_data::types::Ty;
 use fx_data::words::Words;
-use fx_row_changes::changing::Changing;
-use fx_row_changes::patching::{patch_to, remove_to};
 use fx_scopes::targets::find_target;
 use fx_scopes::{Part, RowsNamed};
 use fx_trees::Rule;

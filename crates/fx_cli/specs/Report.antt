@@ -4,7 +4,7 @@ use Rattle.std.specs.declared.alloc.Global.{Global}
 use Rattle.fx_base.specs.Faults.{Rose}
 use Rattle.fx_base.specs.Telling.{Tells}
 use Rattle.app_cells.specs.declared.app.App.{App}
-use Rattle.app_plans.specs.Plans.{checked_text}
+use Rattle.app_graph.specs.Plans.{checked_text}
 use Rattle.office.specs.app_loader.Judged.{Judged, JudgedApp, longest}
 use Rattle.app_wire.specs.Moments.{Tick}
 use Rattle.fx_trees.specs.BrokenText.{ended_line}

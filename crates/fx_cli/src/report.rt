@@ -22,7 +22,7 @@ use crate::replay::{ReplayEnd, hold_all};
 use crate::view::view_text;
 use crate::words::{Form, Service, form_of, service_of};
 use app_cells::App;
-use app_plans::checked_lines;
+use app_graph::checked_lines;
 use app_wire::clock::Clock;
 use app_wire::doors::Doors;
 use app_wire::routes::Routes;

@@ -17,9 +17,9 @@ use crate::removing::id_name;
 use fx_base::Memory;
 use fx_data::{Fault, Kind, Value, Words};
 use fx_trees::{Column, TableShape};
+use row_keeper::row_tables::table;
 use row_keeper::{Put, RowRefusal, RowRule};
 use row_queries::{Cells, Row, rows_fit};
-use row_values::table;
 use std::alloc::Global;
 
 // The kind of error of a rule.

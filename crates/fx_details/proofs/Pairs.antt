@@ -4,7 +4,7 @@ use Rattle.fx_data.specs.Types.{Shape, ColumnList}
 use Rattle.fx_trees.specs.ColumnLists.{field_in, with_renamed}
 use Rattle.fx_typing.specs.Local.{Piece, label}
 use Rattle.fx_typing.specs.Details.{or_stuck, stuck_renamed, unless_there}
-use Rattle.fx_call_checks.proofs.InTurn.{behind_pair}
+use Rattle.fx_calls.proofs.InTurn.{behind_pair}
 
 pair_split : {A B : Type 0} (f : A → B) (xs : List A) (a b : A) → 2 ≤ length xs → a ≡ get_or xs 0 a → b ≡ get_or xs 1 b →
     map f xs ≡ f a ∷ f b ∷ map f (take (length xs - 2) (drop 2 xs))

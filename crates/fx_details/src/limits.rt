@@ -50,7 +50,7 @@ fn columns_depth(columns: &Columns) -> Result<usize, Memory>
     Ok(depth)
 }
 
-#[tactic(auto, using(fx_nodes::proofs::Counts::count_length))]
+#[tactic(auto, using(fx_operators::proofs::Counts::count_length))]
 // The most fields that a record or a table in a type has.
 #[cycle(most_fields)]
 fn most_fields(ty: &Ty) -> usize

@@ -17,7 +17,7 @@ use crate::texts::{commas, nothing, type_name};
 use fx_base::Memory;
 use fx_data::types::Ty;
 use fx_data::words::Words;
-use fx_nodes::given::joins_to;
+use fx_operators::given::joins_to;
 use fx_scopes::targets::{find_collection, global_variable, screen_variable};
 use fx_scopes::{Part, Place};
 use fx_trees::expr::{Expr, Node};

@@ -16,7 +16,7 @@ use crate::borrowed::all_pieces;
 use crate::mistyped::call_shape;
 use crate::texts::{nothing, word};
 use fx_base::Memory;
-use fx_call_checks::taken_name;
+use fx_calls::taken_name;
 use fx_data::types::Columns;
 use fx_data::words::Words;
 use fx_scopes::Part;

@@ -8,3 +8,5 @@ pub mod Levels
 mod Known
 pub mod Only
 mod Walked
+pub mod After
+pub mod Same

@@ -6,3 +6,6 @@ pub mod Written
 pub mod Depths
 pub mod CellView
 pub mod Limit
+pub mod GivenView
+pub mod SameTypes
+pub mod TypesView

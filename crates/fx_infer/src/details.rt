@@ -12,8 +12,7 @@ ghost use Rattle.fx_scopes.specs.SettingView.{setting};
 
 use crate::too_deep::is_too_deep;
 use fx_base::Memory;
-use fx_call_checks::first_large_type;
-use fx_calls::call_by_shape;
+use fx_calls::{call_by_shape, first_large_type};
 use fx_data::types::Ty;
 use fx_data::words::Words;
 use fx_details::borrowed::values_or_none;

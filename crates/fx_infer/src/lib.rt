@@ -8,10 +8,14 @@ pub mod details;
 pub mod elaboration;
 pub mod ends;
 pub mod flaw;
+pub mod giving;
+pub mod joining;
 pub mod judging;
 pub mod next;
+pub mod round_types;
 pub mod rounds;
 pub mod too_deep;
+pub mod typed_names;
 pub mod walking;
 
 pub use depths::no_deeper;

@@ -10,11 +10,11 @@ ghost use Rattle.fx_infer.specs.CellView.{cell};
 ghost use Rattle.fx_infer.specs.Limit.{IsRoundsLimit, Settles};
 
 use crate::next::next_types;
+use crate::round_types::{are_types_of, first_types};
+use crate::typed_names::with_types;
 use crate::{InferEnd, Written};
 use fx_base::Memory;
 use fx_data::words::Words;
-use fx_rounds::round_types::{are_types_of, first_types};
-use fx_rounds::typed_names::with_types;
 use fx_trees::names::Names;
 use fx_trees::{Broken, Rule};
 use std::alloc::Global;

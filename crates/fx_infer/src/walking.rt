@@ -16,16 +16,16 @@ ghost use Rattle.fx_scopes.specs.SettingView.{setting};
 ghost use Rattle.fx_trees.specs.Tree.{Tree};
 ghost use Rattle.fx_typing.specs.Meaning as meaning;
 ghost use Rattle.fx_infer.specs.CellView.{cell};
-ghost use Rattle.fx_rounds.specs.GivenView.{given_view};
+ghost use Rattle.fx_infer.specs.GivenView.{given_view};
 
 use crate::Written;
 use crate::below::{part_at, part_count};
 use crate::elaboration::outermost;
 use crate::flaw::Halt;
+use crate::giving::{Given, give};
 use crate::judging::judge;
 use fx_base::Memory;
 use fx_data::words::Words;
-use fx_rounds::giving::{Given, give};
 use fx_scopes::{Part, Place, Scopes, Stand, enter};
 use fx_trees::expr::Expr;
 use fx_trees::names::Names;

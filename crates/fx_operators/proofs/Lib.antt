@@ -1,2 +1,7 @@
 pub mod Heads
 pub mod StandSteps
+pub mod Counts
+pub mod Exits
+pub mod Fields
+pub mod Kept
+pub mod Walks

@@ -1,2 +1,5 @@
 pub mod ComparedView
 pub mod Tables
+pub mod Fields
+pub mod Lists
+pub mod Lowest

@@ -4,8 +4,14 @@
 pub mod acting;
 pub mod answering;
 pub mod common;
+pub mod few;
+pub mod given;
+pub mod limits;
+pub mod lists;
 pub mod local;
+pub mod lowest;
 pub mod operators;
+pub mod records;
 pub mod standing;
 
 pub use acting::acts;

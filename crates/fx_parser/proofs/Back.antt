@@ -9,8 +9,8 @@ use Rattle.fx_parser.specs.declared.end.ParseEnd.{ParseEnd}
 use Rattle.fx_parser.specs.declared.end.ParseEnd.TheVariants as end
 use Rattle.fx_parser.specs.Texts.{IsFormulaEnd}
 use Rattle.fx_parser.specs.Trees.{HasFormula}
-use Rattle.fx_printer.specs.Printing.{shown}
-use Rattle.fx_printer.specs.SameTree.{unplaced, HasTreeLike}
+use Rattle.fx_parser.specs.Printing.{shown}
+use Rattle.fx_parser.specs.SameTree.{unplaced, HasTreeLike}
 use Rattle.fx_parser.specs.declared.reading_back.ReadBackEnd.TheVariants.{Parse}
 use Rattle.fx_parser.specs.ReadBack.{MayEnd}
 

@@ -13,3 +13,16 @@ pub mod Cuts
 pub mod Ends
 pub mod Tokens
 pub mod Back
+pub mod Ahead
+pub mod PrintedLines
+pub mod Weights
+pub mod Steps
+pub mod Weaves
+pub mod Forms
+pub mod Proper
+pub mod Says
+pub mod Least
+pub mod Unplaced
+pub mod FewestIs
+pub mod Writing
+pub mod Falls

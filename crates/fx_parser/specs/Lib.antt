@@ -5,3 +5,7 @@ pub mod Texts
 pub mod Entries
 pub mod Details
 pub mod ReadBack
+pub mod Printing
+pub mod SameTree
+pub mod Doubling
+pub mod Fewest

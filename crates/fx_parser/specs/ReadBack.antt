@@ -4,7 +4,7 @@ use Rattle.fx_trees.specs.Tree.{Tree}
 use Rattle.fx_grammar.specs.declared.item.Item.{Item}
 use Rattle.fx_grammar.specs.Formulas.{HasItems, IsDeeper}
 use Rattle.fx_parser.specs.declared.end.ParseEnd.TheVariants as end
-use Rattle.fx_printer.specs.Printing.{shown}
+use Rattle.fx_parser.specs.Printing.{shown}
 use Rattle.fx_parser.specs.declared.reading_back.ReadBackEnd.{ReadBackEnd}
 use Rattle.fx_parser.specs.declared.reading_back.ReadBackEnd.TheVariants.{TooLong, Parse}
 

@@ -1,11 +1,11 @@
 ghost use Rattle.std.specs.Prelude.{◌≡◌, ℕ, List, IfOk, IfErr};
 ghost use Rattle.fx_grammar.specs.Formulas.{HasTree};
-ghost use Rattle.fx_printer.specs.SameTree.{unplaced};
+ghost use Rattle.fx_parser.specs.SameTree.{unplaced};
 ghost use Rattle.fx_parser.specs.ReadBack.{MayEnd};
 
+use crate::write::print;
 use crate::{ParseEnd, parse_formula};
 use fx_base::Memory;
-use fx_printer::print;
 use fx_trees::expr::Expr;
 use std::alloc::Global;
 

@@ -24,3 +24,4 @@ pub mod SettledPlaces
 pub mod Keeping
 pub mod Retyping
 pub mod Sizes
+pub mod RowLimits

@@ -16,3 +16,4 @@ pub mod Wholes
 pub mod Limited
 pub mod Consumers
 pub mod Settled
+pub mod Limits

@@ -5,6 +5,7 @@ mod call_names;
 pub mod conditions;
 pub mod filling;
 pub mod laws;
+mod limits;
 pub mod patterns;
 pub mod plans;
 pub mod ranges;
@@ -15,6 +16,7 @@ pub mod sketches;
 
 pub use filling::fill;
 pub use fx_trees::Site;
+pub use limits::{limit_queries, limit_queries_under};
 pub use patterns::{Pattern, PatternNode, Patterns};
 pub use plans::{Sketch, has_error, plan};
 pub use ranges::{Reach, no_row_is_missed, ranges_of};

@@ -16,3 +16,8 @@ pub mod SingleWhole
 pub mod Examples
 pub mod Wider
 pub mod RowsBack
+pub mod Stilled
+pub mod AllLawful
+pub mod PlacedParts
+pub mod PlacedDeeds
+pub mod Placed

@@ -6,3 +6,6 @@ pub mod Fresh
 pub mod Sources
 pub mod Sound
 pub mod Unique
+pub mod Places
+pub mod NamedTypes
+pub mod Laws

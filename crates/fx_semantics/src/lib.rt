@@ -2,5 +2,7 @@
 #![tactic(auto)]
 
 pub mod laws;
+pub mod place_laws;
 
 pub use laws::{one_value, typings_are_lawful, values_fit};
+pub use place_laws::{admitted_is_placed, all_typings_are_lawful};

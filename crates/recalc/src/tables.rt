@@ -13,9 +13,9 @@ use crate::fx_plan::ranges::everything;
 use fx_base::Memory;
 use fx_data::Value;
 use fx_trees::Schema;
+use row_keeper::scan_values::scan;
 use row_keeper::{Keeper, KeeperEnd};
 use row_queries::{Query, Test, TestNode, asked_once};
-use row_values::scan;
 use std::alloc::Global;
 
 /// Asks for all rows of a table.

@@ -14,3 +14,4 @@ pub mod SlotLemmas
 pub mod SoundLemmas
 pub mod StoreLemmas
 pub mod WholeLemmas
+pub mod Records

@@ -16,7 +16,7 @@ use Rattle.fx_deeds.specs.RowValues.{blank_cells, changed_cells, changed_row, co
 use Rattle.fx_deeds.specs.State.{Frame, Ground, State}
 use Rattle.fx_eval.specs.Parts.{caught_in, inner}
 use Rattle.fx_env.specs.Scopes.{Held}
-use Rattle.fx_places.specs.Places.{is_for_all}
+use Rattle.fx_semantics.specs.Places.{is_for_all}
 use Rattle.fx_scalar.specs.LazyForms.{CaughtOr, decision_of, none_left}
 use Rattle.fx_scalar.specs.declared.lazy_forms.Decision.{Decision}
 use Rattle.fx_scalar.specs.declared.lazy_forms.Decision.TheVariants.{Met, Unmet, Error}

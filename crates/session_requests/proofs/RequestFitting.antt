@@ -5,7 +5,7 @@ use Rattle.std.proofs.lemmas.Option.{slice_get_read}
 use Rattle.session_requests.specs.Performing.{IsActing}
 use Rattle.fx_data.specs.TypeView.{shape}
 use Rattle.fx_data.specs.Values.{Data}
-use Rattle.fx_places.specs.Laws.{AllTypingsLawful}
+use Rattle.fx_semantics.specs.Laws.{AllTypingsLawful}
 use Rattle.fx_semantics.specs.Sound.{IsItemFit}
 use Rattle.fx_trees.specs.declared.names.Names.{Names}
 use Rattle.fx_trees.specs.declared.sources.Source.{Source}

@@ -15,7 +15,7 @@ use crate::app_cells::App;
 use crate::performing::perform;
 use crate::trigger::{Trigger, cell_at};
 use fx_data::Value;
-use fx_places::all_typings_are_lawful;
+use fx_semantics::all_typings_are_lawful;
 use fx_trees::Source;
 use recalc::{Cache, Steps};
 use row_keeper::{Keeper, KeeperEnd};

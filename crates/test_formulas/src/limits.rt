@@ -7,9 +7,9 @@ use crate::stop::Stop;
 use crate::tree::{DEPTH, tree_text};
 use app_names::is_lawful;
 use fx_infer::{InferEnd, Written, elaborate};
+use fx_plan::limit_queries;
 use fx_trees::line as broken_line;
 use fx_trees::names::Names;
-use query_limits::limit_queries;
 use std::alloc::Global;
 
 /// The row limit.

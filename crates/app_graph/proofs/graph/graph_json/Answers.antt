@@ -1,5 +1,5 @@
 use Rattle.app_graph.specs.Graph.{graph_text}
-use Rattle.app_graph.proofs.Floats.{graph_has_none}
+use Rattle.app_graph.proofs.GraphFloats.{graph_has_none}
 use Rattle.app_graph.proofs.graph.graph_json.Goals as goal
 
 pub returns : goal.returns

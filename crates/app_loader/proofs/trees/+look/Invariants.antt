@@ -1,6 +1,6 @@
 use Rattle.std.proofs.Common.{drop}
 use Rattle.fx_trees.specs.Term.{all, parts_of, term_size, terms_size}
-use Rattle.fx_places.specs.NamedTypes.{HaveLawfulTypes}
+use Rattle.fx_semantics.specs.NamedTypes.{HaveLawfulTypes}
 use Rattle.app_loader.proofs.trees.+look.Given as goal
 
 abbrev pub decreases-look_at_tree : goal.decreases-look_at_tree

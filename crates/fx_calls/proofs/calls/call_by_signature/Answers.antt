@@ -7,7 +7,7 @@ use Rattle.fx_typing.specs.TypedView.{typed}
 use Rattle.fx_scopes.specs.MeaningView.{place}
 use Rattle.fx_scopes.specs.PartView.{part}
 use Rattle.fx_scopes.specs.SettingView.{setting}
-use Rattle.fx_nodes.proofs.Exits.{as_same}
+use Rattle.fx_operators.proofs.Exits.{as_same}
 use Rattle.fx_calls.proofs.calls.call_by_signature.Goals as goal
 
 pub returns : goal.returns

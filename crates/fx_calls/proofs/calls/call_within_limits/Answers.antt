@@ -6,7 +6,7 @@ use Rattle.fx_typing.specs.TypedView.{typed}
 use Rattle.fx_scopes.specs.MeaningView.{place}
 use Rattle.fx_scopes.specs.PartView.{part}
 use Rattle.fx_scopes.specs.SettingView.{setting}
-use Rattle.fx_nodes.proofs.Exits.{first_stops}
+use Rattle.fx_operators.proofs.Exits.{first_stops}
 use Rattle.fx_calls.proofs.calls.call_within_limits.Goals as goal
 
 pub returns-in_err-made : goal.returns-in_err-made

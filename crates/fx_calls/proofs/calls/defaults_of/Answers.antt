@@ -5,8 +5,8 @@ use Rattle.fx_typing.specs.Calls.{defaults_of}
 use Rattle.fx_typing.specs.Targets.{rows_named}
 use Rattle.fx_typing.specs.TypedView.{typed}
 use Rattle.fx_scopes.specs.PartView.{part}
-use Rattle.fx_row_changes.specs.Changes.{changing_view}
-use Rattle.fx_row_changes.proofs.RowSteps.{rows_stop}
+use Rattle.fx_calls.specs.Changes.{changing_view}
+use Rattle.fx_calls.proofs.RowSteps.{rows_stop}
 use Rattle.fx_calls.proofs.Named.{name_goes}
 use Rattle.fx_calls.proofs.calls.defaults_of.Goals as goal
 

@@ -6,7 +6,7 @@ use Rattle.fx_typing.specs.Calls.{function_by, literal_in, made_if, made_literal
 use Rattle.fx_typing.specs.declared.typed.Piece.{Piece}
 use Rattle.fx_typing.specs.TypedView.{piece, typed}
 use Rattle.fx_typing.specs.Local.{made}
-use Rattle.fx_nodes.proofs.Exits.{as_same}
+use Rattle.fx_operators.proofs.Exits.{as_same}
 use Rattle.fx_calls.proofs.Literals.{behind_first, literal_one}
 use Rattle.fx_calls.proofs.calls.make_with_literal.Goals as goal
 

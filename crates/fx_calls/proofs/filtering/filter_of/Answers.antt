@@ -7,8 +7,8 @@ use Rattle.fx_typing.specs.TypedView.{typed, piece}
 use Rattle.fx_scopes.specs.PartView.{part}
 use Rattle.fx_trees.specs.Term.{Term}
 use Rattle.fx_typing.specs.Local.{made, value}
-use Rattle.fx_row_changes.specs.Changes.{changing_view}
-use Rattle.fx_nodes.proofs.Exits.{as_same}
+use Rattle.fx_calls.specs.Changes.{changing_view}
+use Rattle.fx_operators.proofs.Exits.{as_same}
 use Rattle.fx_calls.proofs.filtering.filter_of.Goals as goal
 
 pub returns : goal.returns

@@ -3,8 +3,8 @@ use Rattle.std.proofs.lemmas.Result.{err_from_is_err_and}
 use Rattle.fx_typing.specs.Deeds.{filter_of}
 use Rattle.fx_typing.specs.TypedView.{typed}
 use Rattle.fx_scopes.specs.PartView.{part}
-use Rattle.fx_row_changes.specs.Changes.{changing_view}
-use Rattle.fx_nodes.proofs.Exits.{first_stops}
+use Rattle.fx_calls.specs.Changes.{changing_view}
+use Rattle.fx_operators.proofs.Exits.{first_stops}
 use Rattle.fx_calls.proofs.filtering.remove_from.Goals as goal
 
 pub returns-in_err-filtered : goal.returns-in_err-filtered

@@ -3,8 +3,8 @@ use Rattle.std.proofs.lemmas.Result.{err_from_is_err_and}
 use Rattle.fx_typing.specs.Targets.{rows_named}
 use Rattle.fx_typing.specs.TypedView.{typed}
 use Rattle.fx_scopes.specs.PartView.{part}
-use Rattle.fx_row_changes.specs.Changes.{changing_view, removed_from}
-use Rattle.fx_row_changes.proofs.RowSteps.{rows_stop, rows_go}
+use Rattle.fx_calls.specs.Changes.{changing_view, removed_from}
+use Rattle.fx_calls.proofs.RowSteps.{rows_stop, rows_go}
 use Rattle.fx_calls.proofs.filtering.remove_named.Goals as goal
 
 pub returns-in_err-rows : goal.returns-in_err-rows

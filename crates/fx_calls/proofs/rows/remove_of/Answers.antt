@@ -8,9 +8,9 @@ use Rattle.fx_typing.specs.declared.typed.Typed.{Typed}
 use Rattle.fx_typing.specs.TypedView.{typed}
 use Rattle.fx_scopes.specs.PartView.{part}
 use Rattle.fx_trees.specs.Term.{Term}
-use Rattle.fx_row_changes.specs.Changes.{changing_view, removed}
-use Rattle.fx_nodes.proofs.Exits.{first_stops, goes_on}
-use Rattle.fx_row_changes.proofs.RowSteps.{rows_stop, rows_go}
+use Rattle.fx_calls.specs.Changes.{changing_view, removed}
+use Rattle.fx_operators.proofs.Exits.{first_stops, goes_on}
+use Rattle.fx_calls.proofs.RowSteps.{rows_stop, rows_go}
 use Rattle.fx_calls.proofs.rows.remove_of.Goals as goal
 
 pub returns-in_err-values : goal.returns-in_err-values

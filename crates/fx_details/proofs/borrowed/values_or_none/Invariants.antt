@@ -2,7 +2,7 @@ use Rattle.std.proofs.Common.{◌≡◌, drop, map}
 use Rattle.fx_typing.specs.Parts.{values}
 use Rattle.fx_typing.specs.TypedView.{typed}
 use Rattle.fx_scopes.specs.PartView.{part}
-use Rattle.fx_nodes.specs.Lists.{behind}
+use Rattle.fx_operators.specs.Lists.{behind}
 use Rattle.fx_details.proofs.borrowed.values_or_none.Given as goal
 
 abbrev pub invariant-loop-one : goal.invariant-loop-one

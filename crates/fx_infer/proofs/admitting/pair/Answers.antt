@@ -8,7 +8,7 @@ use Rattle.fx_scopes.specs.PartView.{part}
 use Rattle.fx_scopes.specs.declared.parts.Part.{Part}
 use Rattle.fx_trees.specs.ColumnLists.{and_then}
 use Rattle.fx_typing.specs.Local.{made}
-use Rattle.fx_nodes.proofs.Exits.{as_same}
+use Rattle.fx_operators.proofs.Exits.{as_same}
 use Rattle.fx_infer.specs.Operands.{operator_of}
 use Rattle.fx_infer.proofs.Admits.{paired_is}
 use Rattle.fx_infer.proofs.admitting.pair.Goals as goal

@@ -3,7 +3,7 @@ use Rattle.fx_data.specs.TypeView.{shape}
 use Rattle.fx_data.specs.Types.{blanks}
 use Rattle.fx_typing.specs.Rounds as rounds
 use Rattle.fx_trees.specs.declared.names.Collection.{Collection}
-use Rattle.fx_rounds.specs.GivenView.{given_view}
+use Rattle.fx_infer.specs.GivenView.{given_view}
 use Rattle.fx_infer.proofs.next.collection_types.Given as goal
 
 -- what is left, behind what is there, is the whole

@@ -1,6 +1,6 @@
 use Rattle.std.proofs.Common.{map, arith}
 use Rattle.fx_infer.specs.CellView.{cell}
-use Rattle.fx_rounds.proofs.After.{items_more}
+use Rattle.fx_infer.proofs.After.{items_more}
 use Rattle.fx_infer.proofs.next.items_types.Goals as goal
 
 pub loop-number-preserved : goal.loop-number-preserved

@@ -2,10 +2,10 @@ use Rattle.std.proofs.Common.{◌≢◌, map, sym, ◌∙◌, arith}
 use Rattle.fx_typing.specs.Rounds.{AfterRounds, next_types, types_in}
 use Rattle.fx_trees.specs.declared.names.Names.{Names}
 use Rattle.fx_infer.specs.CellView.{cell}
-use Rattle.fx_rounds.specs.TypesView.{types_view}
-use Rattle.fx_rounds.proofs.After.{after_next, first_fits, next_fits, below_last, is_final, types_differ, up_to}
+use Rattle.fx_infer.specs.TypesView.{types_view}
+use Rattle.fx_infer.proofs.After.{after_next, first_fits, next_fits, below_last, is_final, types_differ, up_to}
 use Rattle.fx_infer.proofs.Only.{final_settles}
-use Rattle.fx_rounds.proofs.Same.{lawful_same}
+use Rattle.fx_infer.proofs.Same.{lawful_same}
 use Rattle.fx_infer.proofs.rounds.type_rounds.Goals as goal
 
 pub with_types-requires : goal.with_types-requires

@@ -9,7 +9,7 @@ use Rattle.fx_scopes.specs.PlanView.{head_of}
 use Rattle.fx_scopes.specs.SettingView.{setting}
 use Rattle.fx_infer.specs.Below.{forest_of, forest_from, tree_depth, forest_depth}
 use Rattle.fx_infer.proofs.Places.{part_smaller, part_shallow, part_within, size_is, depth_is}
-use Rattle.fx_rounds.specs.GivenView.{given_view}
+use Rattle.fx_infer.specs.GivenView.{given_view}
 use Rattle.fx_infer.proofs.Walked.{walked_next, walked_all}
 use Rattle.fx_infer.proofs.walking.+walk.Goals as goal
 

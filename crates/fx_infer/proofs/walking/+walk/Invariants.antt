@@ -6,7 +6,7 @@ use Rattle.fx_scopes.specs.PartView.{part}
 use Rattle.fx_scopes.specs.PlanView.{head_of}
 use Rattle.fx_scopes.specs.SettingView.{setting}
 use Rattle.fx_infer.specs.Below.{forest_of}
-use Rattle.fx_rounds.specs.GivenView.{given_view}
+use Rattle.fx_infer.specs.GivenView.{given_view}
 use Rattle.fx_infer.proofs.Walked.{Walked}
 use Rattle.fx_infer.proofs.walking.+walk.Given as goal
 

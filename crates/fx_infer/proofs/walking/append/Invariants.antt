@@ -1,5 +1,5 @@
 use Rattle.std.proofs.Common.{◌≡◌, ◌++◌, map}
-use Rattle.fx_rounds.specs.GivenView.{given_view}
+use Rattle.fx_infer.specs.GivenView.{given_view}
 use Rattle.fx_infer.proofs.walking.append.Given as goal
 
 -- what is left, behind what is there, is the whole

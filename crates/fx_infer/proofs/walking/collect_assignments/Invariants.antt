@@ -1,7 +1,7 @@
 use Rattle.std.proofs.Common.{◌≡◌, ◌++◌, drop, map}
 use Rattle.fx_typing.specs.Rounds as rounds
 use Rattle.fx_infer.specs.CellView.{cell}
-use Rattle.fx_rounds.specs.GivenView.{given_view}
+use Rattle.fx_infer.specs.GivenView.{given_view}
 use Rattle.fx_infer.proofs.walking.collect_assignments.Given as goal
 
 -- what is left, behind what is there, is the whole

@@ -1,6 +1,6 @@
 use Rattle.std.proofs.Common.{sym, ap, ◌∙◌, subst}
 use Rattle.std.specs.Str.{chars}
-use Rattle.fx_printer.specs.SameTree.{HasTreeLike}
+use Rattle.fx_parser.specs.SameTree.{HasTreeLike}
 use Rattle.fx_parser.proofs.Back.{same_tree, may_end}
 use Rattle.fx_parser.proofs.reading_back.read_back.Goals as goal
 

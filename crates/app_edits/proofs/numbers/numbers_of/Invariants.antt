@@ -1,6 +1,0 @@
-use Rattle.std.proofs.Common.{take}
-use Rattle.app_edits.specs.Numbers.{AreNumbers}
-use Rattle.app_edits.proofs.numbers.numbers_of.Given as goal
-
-abbrev pub invariant-loop-number : goal.invariant-loop-number
-invariant-loop-number l = AreNumbers l.numbers (take l.number l.cells)

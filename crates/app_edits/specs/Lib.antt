@@ -1,4 +1,0 @@
-pub mod Frames
-pub mod Places
-pub mod Edits
-pub mod Numbers

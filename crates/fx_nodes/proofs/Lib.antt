@@ -1,5 +1,0 @@
-pub mod Counts
-pub mod Exits
-pub mod Fields
-pub mod Kept
-pub mod Walks

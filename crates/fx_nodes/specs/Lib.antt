@@ -1,3 +1,0 @@
-pub mod Fields
-pub mod Lists
-pub mod Lowest

@@ -1,5 +1,0 @@
-use Rattle.fx_places.proofs.AllLawful.{all_lawful}
-use Rattle.fx_places.proofs.laws.all_typings_are_lawful.Goals as goal
-
-pub returns : goal.returns
-returns c = all_lawful c.typings_are_lawful.ensures

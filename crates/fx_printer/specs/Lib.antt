@@ -1,4 +1,0 @@
-pub mod Printing
-pub mod SameTree
-pub mod Doubling
-pub mod Fewest

@@ -1,7 +1,0 @@
-use Rattle.std.proofs.Common.{◌≡◌, map, replicate}
-use Rattle.fx_data.specs.TypeView.{shape}
-use Rattle.fx_data.specs.Types.{blanks}
-use Rattle.fx_rounds.proofs.round_types.blank_types.Given as goal
-
-abbrev pub invariant-loop : goal.invariant-loop
-invariant-loop l = map shape l.types.items ≡ replicate l.counter blanks

@@ -1,3 +1,0 @@
-pub mod GivenView
-pub mod SameTypes
-pub mod TypesView
