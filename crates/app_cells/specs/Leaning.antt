@@ -1,14 +1,14 @@
 -- Which formulas a formula leans on.
 use Rattle.std.specs.Prelude.{◌≡◌, ℕ, suc, ◌++◌, List, [], ◌∷◌, Bool, ◌&&◌, nat_eq, bytes_eq, codes, encode_utf8_all, Option, Some, None, option_map, option_and_then, slice_get}
 use Rattle.std.specs.List.{find}
-use Rattle.fx_data.specs.declared.controls.Control.{Control}
-use Rattle.fx_data.specs.declared.controls.Control.TheVariants as control
-use Rattle.fx_trees.specs.declared.names.ControlName.{ControlName}
-use Rattle.fx_trees.specs.declared.names.Names.{Names}
-use Rattle.fx_trees.specs.declared.names.Property.{Property}
-use Rattle.fx_trees.specs.declared.sources.Source.{Source}
-use Rattle.fx_trees.specs.declared.sources.Source.TheVariants as source
-use Rattle.fx_trees.specs.Reads.{IsAmong}
+use Rattle.fx_types.specs.declared.controls.Control.{Control}
+use Rattle.fx_types.specs.declared.controls.Control.TheVariants as control
+use Rattle.fx_core.specs.declared.names.ControlName.{ControlName}
+use Rattle.fx_core.specs.declared.names.Names.{Names}
+use Rattle.fx_core.specs.declared.names.Property.{Property}
+use Rattle.fx_core.specs.declared.sources.Source.{Source}
+use Rattle.fx_core.specs.declared.sources.Source.TheVariants as source
+use Rattle.fx_core.specs.Reads.{IsAmong}
 use Rattle.app_cells.specs.declared.app.CellInfo.{CellInfo}
 
 -- a property of a control, by the bytes of its name

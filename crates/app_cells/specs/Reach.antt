@@ -1,8 +1,8 @@
 -- What a formula stands on: the sources that it names, and those that the formulas name to which paths of leaning lead from it.
 use Rattle.std.specs.Prelude.{◌≡◌, ◌↔◌, ℕ, List, Bool, true, false, Some, slice_get}
-use Rattle.fx_trees.specs.Reads.{AreRising, IsAmong}
-use Rattle.fx_trees.specs.declared.sources.Source.{Source}
-use Rattle.fx_trees.specs.declared.sources.Source.TheVariants as source
+use Rattle.fx_core.specs.Reads.{AreRising, IsAmong}
+use Rattle.fx_core.specs.declared.sources.Source.{Source}
+use Rattle.fx_core.specs.declared.sources.Source.TheVariants as source
 use Rattle.app_cells.specs.Leaning.{LeansOn}
 use Rattle.app_cells.specs.declared.app.App.{App}
 use Rattle.app_cells.specs.declared.app.CellInfo.{CellInfo}

@@ -1,16 +1,16 @@
 -- The places of an app where formulas may stand, and what each makes of its formula.
 use Rattle.std.specs.Prelude.{◌≡◌, ℕ, ◌<◌, ◌≤◌, ◌^◌, ◌++◌, List, [], length, All, Bool, true, false, Option, Some, None, option_map, unwrap_or, slice_get, codes, encode_utf8_all, if◌then◌else◌}
-use Rattle.fx_data.specs.TypeView.{shape}
-use Rattle.fx_data.specs.Types.{Shape, tables, no_columns}
-use Rattle.fx_data.specs.declared.controls.Control.{Control}
-use Rattle.fx_data.specs.declared.controls.Control.TheVariants as control
-use Rattle.fx_trees.specs.BrokenText.{address_of}
-use Rattle.fx_trees.specs.Controls.{has_property, is_behaviour, is_items, property_type}
-use Rattle.fx_trees.specs.Lawful.{Has, IsColumnType, IsLawfulGallery}
-use Rattle.fx_trees.specs.Tree.{Tree}
-use Rattle.fx_trees.specs.declared.names.ControlName.{ControlName}
-use Rattle.fx_trees.specs.declared.schema.Column.{Column}
-use Rattle.fx_trees.specs.declared.schema.TableShape.{TableShape}
+use Rattle.fx_types.specs.TypeView.{shape}
+use Rattle.fx_types.specs.Types.{Shape, tables, no_columns}
+use Rattle.fx_types.specs.declared.controls.Control.{Control}
+use Rattle.fx_types.specs.declared.controls.Control.TheVariants as control
+use Rattle.fx_core.specs.BrokenText.{address_of}
+use Rattle.fx_core.specs.Controls.{has_property, is_behaviour, is_items, property_type}
+use Rattle.fx_core.specs.Lawful.{Has, IsColumnType, IsLawfulGallery}
+use Rattle.fx_core.specs.Tree.{Tree}
+use Rattle.fx_core.specs.declared.names.ControlName.{ControlName}
+use Rattle.fx_core.specs.declared.schema.Column.{Column}
+use Rattle.fx_core.specs.declared.schema.TableShape.{TableShape}
 use Rattle.app_cells.specs.declared.cell.Cell.{Cell}
 use Rattle.app_cells.specs.declared.cell.Spot.{Spot}
 use Rattle.app_cells.specs.declared.cell.Spot.TheVariants as spot

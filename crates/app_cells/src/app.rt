@@ -2,8 +2,8 @@
 
 use crate::cell::Cell;
 use fx_base::InOrder;
-use fx_data::types::Ty;
-use fx_trees::{Core, Names, Site, Sources};
+use fx_core::{Core, Names, Site, Sources};
+use fx_types::types::Ty;
 
 /// Where a formula takes rows of tables.
 pub type SiteList = InOrder<Site>;

@@ -1,8 +1,8 @@
 //! A formula, where it is written.
 
-use fx_data::types::Ty;
-use fx_data::words::Words;
-use fx_trees::expr::Expr;
+use fx_core::expr::Expr;
+use fx_types::types::Ty;
+use fx_types::words::Words;
 
 /// What a formula is the formula of.
 #[derive(Drop)]

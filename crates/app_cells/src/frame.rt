@@ -1,6 +1,6 @@
 //! What an app has beside its formulas.
 
-use fx_trees::{ControlList, Schema, ScreenList};
+use fx_core::{ControlList, Schema, ScreenList};
 
 /// What an app has beside its formulas.
 #[derive(Drop)]

@@ -1,21 +1,21 @@
 //! The places where formulas may stand, and what each makes of its formula.
 ghost use Rattle.std.specs.Prelude.{◌≡◌, ◌++◌, IfOk, Some, codes, encode_utf8_all, option_map, slice_get};
 ghost use Rattle.std.specs.Str.{IsAscii};
-ghost use Rattle.fx_data.specs.TypeView.{shape};
-ghost use Rattle.fx_trees.specs.BrokenText.{address_of};
+ghost use Rattle.fx_types.specs.TypeView.{shape};
+ghost use Rattle.fx_core.specs.BrokenText.{address_of};
 ghost use Rattle.app_cells.specs.Spots as spots;
 ghost use Rattle.app_cells.specs.Spots.{IsCell, IsSpot};
 
 use crate::cell::{Cell, Spot};
 use crate::frame::Frame;
 use fx_base::Memory;
-use fx_data::controls::Control;
-use fx_data::types::{Columns, Ty};
-use fx_data::words::Words;
-use fx_trees::address;
-use fx_trees::controls::{is_behaviour, property_ty};
-use fx_trees::expr::Expr;
-use fx_trees::names::ControlName;
+use fx_core::address;
+use fx_core::controls::{is_behaviour, property_ty};
+use fx_core::expr::Expr;
+use fx_core::names::ControlName;
+use fx_types::controls::Control;
+use fx_types::types::{Columns, Ty};
+use fx_types::words::Words;
 use std::alloc::Global;
 
 // The control of a number.

@@ -8,8 +8,8 @@ use Rattle.serde_json.specs.View.{items_view, view}
 use Rattle.serde_json.specs.declared.value.Value.{Value}
 use Rattle.fx_base.specs.declared.or_memory.OrMemory.{OrMemory}
 use Rattle.fx_base.specs.declared.or_memory.OrMemory.TheVariants.{Refused}
-use Rattle.fx_data.specs.declared.controls.Control.{Control}
-use Rattle.fx_data.specs.declared.controls.Control.TheVariants as control
+use Rattle.fx_types.specs.declared.controls.Control.{Control}
+use Rattle.fx_types.specs.declared.controls.Control.TheVariants as control
 use Rattle.app_file.specs.declared.keys.Object.TheVariants as object
 use Rattle.app_file.specs.declared.leaves.RowLimit.{RowLimit}
 use Rattle.app_file.specs.declared.screens.Screens.{Screens}

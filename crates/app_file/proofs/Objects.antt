@@ -9,8 +9,8 @@ use Rattle.serde_json.specs.View.{members_view}
 use Rattle.serde_json.specs.declared.value.Value.{Value}
 use Rattle.fx_base.specs.declared.or_memory.OrMemory.{OrMemory}
 use Rattle.fx_base.specs.declared.or_memory.OrMemory.TheVariants.{Refused, Memory}
-use Rattle.fx_data.specs.Words.{scalars_of}
-use Rattle.fx_data.specs.declared.controls.Control.{Control}
+use Rattle.fx_types.specs.Words.{scalars_of}
+use Rattle.fx_types.specs.declared.controls.Control.{Control}
 use Rattle.app_file.specs.declared.keys.Object.TheVariants as object
 use Rattle.app_file.specs.declared.leaves.Name.{Name}
 use Rattle.app_file.specs.declared.steps.Step.{Step}

@@ -6,9 +6,9 @@ use Rattle.serde_json.specs.Data.{Data}
 use Rattle.serde_json.specs.Read.{read}
 use Rattle.fx_base.specs.declared.or_memory.OrMemory.{OrMemory}
 use Rattle.fx_base.specs.declared.or_memory.OrMemory.TheVariants as end
-use Rattle.fx_trees.specs.declared.broken.Broken.{Broken}
-use Rattle.fx_trees.specs.declared.rule.Rule.{Rule}
-use Rattle.fx_trees.specs.declared.rule.Rule.TheVariants as rule
+use Rattle.fx_core.specs.declared.broken.Broken.{Broken}
+use Rattle.fx_core.specs.declared.rule.Rule.{Rule}
+use Rattle.fx_core.specs.declared.rule.Rule.TheVariants as rule
 use Rattle.app_file.specs.declared.breaks.FileBreak.{FileBreak}
 use Rattle.app_file.specs.declared.breaks.FileBreak.TheVariants as broken
 use Rattle.app_file.specs.declared.file.AppFile.{AppFile}

@@ -3,10 +3,10 @@ use Rattle.std.specs.Prelude.{ℕ, List, [], ◌∷◌, Bool, true, false, ◌&&
 use Rattle.std.specs.List.{position_from}
 use Rattle.serde_json.specs.Data.{Data}
 use Rattle.serde_json.specs.Find.{as_bool, as_number, as_str, as_u64, get}
-use Rattle.fx_data.specs.declared.controls.Control.{Control}
-use Rattle.fx_data.specs.declared.controls.Control.TheVariants as control
-use Rattle.fx_data.specs.declared.types.Ty.{Ty}
-use Rattle.fx_data.specs.declared.types.Ty.TheVariants as ty
+use Rattle.fx_types.specs.declared.controls.Control.{Control}
+use Rattle.fx_types.specs.declared.controls.Control.TheVariants as control
+use Rattle.fx_types.specs.declared.types.Ty.{Ty}
+use Rattle.fx_types.specs.declared.types.Ty.TheVariants as ty
 use Rattle.app_file.specs.declared.leaves.Format.{Format}
 use Rattle.app_file.specs.declared.leaves.Format.TheVariants.{First}
 use Rattle.app_file.specs.Forms.{Form, such, in_turn, members, by_itself, Fields, no_more, field, elements}

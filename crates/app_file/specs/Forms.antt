@@ -2,7 +2,7 @@
 use Rattle.std.specs.Prelude.{◌≡◌, ◌⊎◌, ℕ, List, [], ◌∷◌, Bool, true, false, ◌||◌, Option, Some, None, option_map, is_some, bytes_eq, slice_get, take}
 use Rattle.serde_json.specs.Data.{Data, Items, no_items, item, Members, no_members, member}
 use Rattle.serde_json.specs.Find.{as_array, as_object, get}
-use Rattle.fx_data.specs.Words.{scalars_of}
+use Rattle.fx_types.specs.Words.{scalars_of}
 use Rattle.app_file.specs.declared.steps.Step.{Step}
 use Rattle.app_file.specs.declared.steps.Step.TheVariants.{Element, Member}
 

@@ -5,8 +5,8 @@ ghost use Rattle.app_file.specs.Files.{broken_of, in_file, limit_name, passed_de
 
 use crate::limits::Limit;
 use fx_base::Memory;
-use fx_data::words::Words;
-use fx_trees::{Broken, Rule};
+use fx_core::{Broken, Rule};
+use fx_types::words::Words;
 use std::alloc::Global;
 
 /// What is broken of an app file.

@@ -1,9 +1,9 @@
 //! What an app file holds.
 
 use fx_base::InOrder;
-use fx_data::controls::Control;
-use fx_data::words::Words;
-use fx_trees::Schema;
+use fx_core::Schema;
+use fx_types::controls::Control;
+use fx_types::words::Words;
 
 /// A property that is written.
 #[derive(Drop)]

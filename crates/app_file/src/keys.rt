@@ -7,7 +7,7 @@ ghost use Rattle.app_file.specs.Keys.{is_one_of, keys_of};
 ghost use Rattle.app_file.specs.Readings.{HasOnlyKeys, IsBadObject, TellsPath};
 
 use crate::paths::{Unread, in_member, unreadable};
-use fx_data::controls::Control;
+use fx_types::controls::Control;
 use serde_json::{Map, Value as Json};
 use std::alloc::Global;
 

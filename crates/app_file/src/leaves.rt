@@ -5,9 +5,9 @@ ghost use Rattle.app_file.specs.FormOfApp as form_of_app;
 
 use crate::parts::Part;
 use crate::paths::{Unread, unreadable};
-use fx_data::controls::Control;
-use fx_data::types::Ty;
-use fx_data::words::Words;
+use fx_types::controls::Control;
+use fx_types::types::Ty;
+use fx_types::words::Words;
 use serde_json::Value as Json;
 use std::alloc::Global;
 

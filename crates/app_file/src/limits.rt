@@ -5,8 +5,8 @@ ghost use Rattle.app_file.specs.Limits as table;
 
 use crate::file::{AppFile, ControlShape, ScreenShape};
 use fx_base::Memory;
-use fx_data::words::Words;
-use fx_trees::TableShape;
+use fx_core::TableShape;
+use fx_types::words::Words;
 use std::alloc::Global;
 
 /// What is counted in an app file.

@@ -1,14 +1,14 @@
 //! The way down to a part of a file.
 ghost use Rattle.std.specs.Prelude.{◌≡◌, ◌∷◌, [], IfOk, OnOk, string_bytes};
 ghost use Rattle.fx_base.specs.declared.or_memory.OrMemory.TheVariants as end;
-ghost use Rattle.fx_data.specs.Words.{scalars_of};
+ghost use Rattle.fx_types.specs.Words.{scalars_of};
 ghost use Rattle.app_file.specs.declared.steps.Step.TheVariants as step;
 ghost use Rattle.app_file.specs.Paths.{path_text, step_text};
 ghost use Rattle.app_file.specs.Readings.{IsBelow, TellsPath};
 
 use crate::steps::Step;
 use fx_base::{Memory, OrMemory};
-use fx_data::words::Words;
+use fx_types::words::Words;
 use std::alloc::Global;
 use std::marker::Model;
 

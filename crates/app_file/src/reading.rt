@@ -16,8 +16,8 @@ use crate::parts::{read_member, read_member_or};
 use crate::paths::Unread;
 use crate::screens::Screens;
 use fx_base::{InOrder, Memory, OrMemory};
-use fx_data::words::Words;
-use fx_trees::Schema;
+use fx_core::Schema;
+use fx_types::words::Words;
 use serde_json::Value as Json;
 use std::alloc::Global;
 

@@ -15,8 +15,8 @@ use crate::leaves::Name;
 use crate::parts::{Element, Part, read_member, read_member_or};
 use crate::paths::{Unread, in_member, unread_member, unreadable};
 use fx_base::{InOrder, Memory};
-use fx_data::controls::Control;
-use fx_data::words::Words;
+use fx_types::controls::Control;
+use fx_types::words::Words;
 use serde_json::Value as Json;
 use std::alloc::Global;
 

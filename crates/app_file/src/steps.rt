@@ -1,6 +1,6 @@
 //! Steps down to a part of a file.
 
-use fx_data::words::Words;
+use fx_types::words::Words;
 
 /// A step down.
 #[derive(Drop)]

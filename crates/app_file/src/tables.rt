@@ -6,7 +6,7 @@ use crate::leaves::Name;
 use crate::parts::{Element, read_member, read_member_or};
 use crate::paths::Unread;
 use fx_base::InOrder;
-use fx_trees::{Column, TableShape};
+use fx_core::{Column, TableShape};
 use serde_json::Value as Json;
 use std::alloc::Global;
 

@@ -4,19 +4,19 @@ use Rattle.std.proofs.lemmas.Bool.{eqb-true}
 use Rattle.std.proofs.lemmas.List.Elements.{All-nil, All-cons, All-head, All-tail, All-append}
 use Rattle.std.specs.Prelude.{option_and_then}
 use Rattle.std.specs.List.{find}
-use Rattle.fx_data.specs.TypeView.{shape}
-use Rattle.fx_data.specs.Types.{Shape}
+use Rattle.fx_types.specs.TypeView.{shape}
+use Rattle.fx_types.specs.Types.{Shape}
 use Rattle.depend_graph.specs.Order.{AreBelow}
-use Rattle.fx_trees.specs.Lawful.{IsLawful}
-use Rattle.fx_trees.specs.Reads.{IsAmong, read_by, sources_among, sources_in}
-use Rattle.fx_trees.specs.SourceTypes.{formula_cell, property_cell, property_of, sources}
-use Rattle.fx_trees.specs.Term.{Term, Terms, of, nil, cons, Top, read}
-use Rattle.fx_trees.specs.declared.names.ControlName.{ControlName}
-use Rattle.fx_trees.specs.declared.names.FormulaName.{FormulaName}
-use Rattle.fx_trees.specs.declared.names.Names.{Names}
-use Rattle.fx_trees.specs.declared.names.Property.{Property}
-use Rattle.fx_trees.specs.declared.sources.Source.{Source}
-use Rattle.fx_trees.specs.declared.sources.Source.TheVariants as source
+use Rattle.fx_core.specs.Lawful.{IsLawful}
+use Rattle.fx_core.specs.Reads.{IsAmong, read_by, sources_among, sources_in}
+use Rattle.fx_core.specs.SourceTypes.{formula_cell, property_cell, property_of, sources}
+use Rattle.fx_core.specs.Term.{Term, Terms, of, nil, cons, Top, read}
+use Rattle.fx_core.specs.declared.names.ControlName.{ControlName}
+use Rattle.fx_core.specs.declared.names.FormulaName.{FormulaName}
+use Rattle.fx_core.specs.declared.names.Names.{Names}
+use Rattle.fx_core.specs.declared.names.Property.{Property}
+use Rattle.fx_core.specs.declared.sources.Source.{Source}
+use Rattle.fx_core.specs.declared.sources.Source.TheVariants as source
 use Rattle.fx_typing.specs.Laws.{AdmittedIsTyped}
 use Rattle.fx_typing.specs.Rounds.{AfterRounds, AllSame, IsFinal, SameFormula, SameNames}
 use Rattle.fx_typing.specs.Rounds as rounds

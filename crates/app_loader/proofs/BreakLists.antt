@@ -2,8 +2,8 @@
 use Rattle.std.proofs.Common.{inl, inr, ◌≡◌, ℕ, ◌+◌, ◌<◌, ◌≤◌, zero, suc, ◌++◌, List, [], ◌∷◌, true, false, nat_eq, length, get_or, take, Result, Ok, Err, MatchResult, append_assoc, refl, ap, sym, subst, ◌∙◌, arith}
 use Rattle.std.proofs.lemmas.List.{take_more, append-nil, nil_from_length}
 use Rattle.std.specs.List.{AllZip}
-use Rattle.fx_trees.specs.declared.broken.Broken.{Broken}
-use Rattle.fx_trees.specs.declared.names.Names.{Names}
+use Rattle.fx_core.specs.declared.broken.Broken.{Broken}
+use Rattle.fx_core.specs.declared.names.Names.{Names}
 use Rattle.fx_typing.specs.declared.typed.Typed.{Typed}
 use Rattle.fx_typing.specs.TypedView.{typed}
 use Rattle.app_cells.specs.declared.app.CellInfo.{CellInfo}

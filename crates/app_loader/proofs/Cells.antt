@@ -3,17 +3,17 @@ use Rattle.std.proofs.Common.{inl, inr, ◌≡◌, ℕ, zero, suc, ◌+◌, ◌+
 use Rattle.std.specs.Prelude.{◌&&◌, ◌||◌}
 use Rattle.std.specs.List.{AllZip}
 use Rattle.std.proofs.lemmas.Bool.{and_parts, eq-eqb, eqb-true, or_cases}
-use Rattle.fx_data.specs.TypeView.{shape}
-use Rattle.fx_data.specs.Types.{Shape, blanks, numbers, texts, booleans, dates, records, tables, no_columns}
-use Rattle.fx_data.specs.declared.controls.Control.{Control}
-use Rattle.fx_data.specs.declared.controls.Control.TheVariants as control
-use Rattle.fx_trees.specs.Controls.{is_behaviour, is_items, own_type, property_type}
-use Rattle.fx_trees.specs.SourceTypes.{item_columns, property_of}
-use Rattle.fx_trees.specs.Term.{Term, of, nil, cons, coerce}
-use Rattle.fx_trees.specs.declared.names.ControlName.{ControlName}
-use Rattle.fx_trees.specs.declared.names.FormulaName.{FormulaName}
-use Rattle.fx_trees.specs.declared.names.Names.{Names}
-use Rattle.fx_trees.specs.declared.names.Property.{Property}
+use Rattle.fx_types.specs.TypeView.{shape}
+use Rattle.fx_types.specs.Types.{Shape, blanks, numbers, texts, booleans, dates, records, tables, no_columns}
+use Rattle.fx_types.specs.declared.controls.Control.{Control}
+use Rattle.fx_types.specs.declared.controls.Control.TheVariants as control
+use Rattle.fx_core.specs.Controls.{is_behaviour, is_items, own_type, property_type}
+use Rattle.fx_core.specs.SourceTypes.{item_columns, property_of}
+use Rattle.fx_core.specs.Term.{Term, of, nil, cons, coerce}
+use Rattle.fx_core.specs.declared.names.ControlName.{ControlName}
+use Rattle.fx_core.specs.declared.names.FormulaName.{FormulaName}
+use Rattle.fx_core.specs.declared.names.Names.{Names}
+use Rattle.fx_core.specs.declared.names.Property.{Property}
 use Rattle.fx_typing.specs.Rounds as rounds
 use Rattle.fx_typing.specs.Rounds.{AllSame, SameControl, SameFormula, type_or_blank}
 use Rattle.fx_typing.specs.Laws.{IsWanted}
@@ -22,9 +22,9 @@ use Rattle.fx_typing.specs.Meaning.{Place, place_of}
 use Rattle.fx_typing.specs.Parts.{Part, piece, meant, target, assigned}
 use Rattle.fx_typing.specs.Typing.{at_node, judge, judge_whole, onward, outermost, position, to_wanted, whole_of}
 use Rattle.fx_typing.proofs.Frame.{at_node_ok, onward_ok}
-use Rattle.fx_trees.specs.Tree.{Tree}
-use Rattle.fx_data.specs.declared.types.Ty.{Ty}
-use Rattle.fx_data.specs.declared.types.Ty.TheVariants as ty
+use Rattle.fx_core.specs.Tree.{Tree}
+use Rattle.fx_types.specs.declared.types.Ty.{Ty}
+use Rattle.fx_types.specs.declared.types.Ty.TheVariants as ty
 use Rattle.app_loader.specs.Accepted.{AreSingle}
 use Rattle.std.specs.Str.{IsAscii}
 use Rattle.std.proofs.lemmas.Str.{IsUtf8-from_ascii, chars-IsAscii, chars_from_encodes}

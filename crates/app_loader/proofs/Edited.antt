@@ -1,8 +1,8 @@
 -- From what an edit leaves of the formulas to the edited app.
 use Rattle.std.proofs.Common.{◌≡◌, ℕ, List, [], ◌∷◌, All, map, Result, Ok, Err, IfErr, IfOk, ap, sym, subst, ◌∙◌}
 use Rattle.fx_infer.specs.Depths.{TreesAreNoDeeper}
-use Rattle.fx_trees.specs.declared.app_end.AppEnd.{AppEnd}
-use Rattle.fx_trees.specs.declared.broken.Broken.{Broken}
+use Rattle.fx_core.specs.declared.app_end.AppEnd.{AppEnd}
+use Rattle.fx_core.specs.declared.broken.Broken.{Broken}
 use Rattle.app_cells.specs.declared.app.App.{App}
 use Rattle.app_cells.specs.declared.cell.Cell.{Cell}
 use Rattle.app_cells.specs.declared.frame.Frame.{Frame}

@@ -1,8 +1,8 @@
 -- What holds of formulas holds whatever is said of what they stand on.
 use Rattle.std.proofs.Common.{◌≡◌, ℕ, zero, suc, List, [], ◌∷◌, map, subst}
 use Rattle.fx_semantics.specs.NamedTypes.{HasLawfulTypes}
-use Rattle.fx_trees.specs.Reads.{AreRising}
-use Rattle.fx_trees.specs.declared.names.Names.{Names}
+use Rattle.fx_core.specs.Reads.{AreRising}
+use Rattle.fx_core.specs.declared.names.Names.{Names}
 use Rattle.app_cells.specs.declared.app.CellInfo.{CellInfo}
 use Rattle.app_cells.specs.declared.cell.Cell.{Cell}
 use Rattle.app_loader.specs.Infos.{AreElaborated, IsElaborated}

@@ -2,10 +2,10 @@
 use Rattle.std.proofs.Common.{◌≡◌, ℕ, List, [], ◌∷◌, length, map, Result, Ok, Err, IfErr, IfOk, refl, ap, sym, subst, ◌∙◌}
 use Rattle.depend_graph.specs.Order.{IsClosedPath, IsOrder}
 use Rattle.fx_infer.specs.Limit.{IsRoundsLimit}
-use Rattle.fx_trees.specs.declared.app_end.AppEnd.{AppEnd}
-use Rattle.fx_trees.specs.declared.broken.Broken.{Broken}
-use Rattle.fx_trees.specs.declared.names.Names.{Names}
-use Rattle.fx_trees.specs.Lawful.{IsLawful}
+use Rattle.fx_core.specs.declared.app_end.AppEnd.{AppEnd}
+use Rattle.fx_core.specs.declared.broken.Broken.{Broken}
+use Rattle.fx_core.specs.declared.names.Names.{Names}
+use Rattle.fx_core.specs.Lawful.{IsLawful}
 use Rattle.fx_typing.specs.Rounds.{Cell as Seen, IsFinal, StillChanges}
 use Rattle.app_cells.specs.declared.app.App.{App}
 use Rattle.app_cells.specs.declared.app.CellInfo.{CellInfo}

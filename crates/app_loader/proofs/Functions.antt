@@ -7,13 +7,13 @@ use Rattle.app_names.specs.NameRules.{app_break, breaks_behind, name_break, name
 use Rattle.app_cells.specs.declared.cell.Cell.{Cell}
 use Rattle.app_cells.specs.declared.frame.Frame.{Frame}
 use Rattle.app_names.specs.declared.declarations.Declared.{Declared}
-use Rattle.fx_trees.specs.Signatures.{signature_in}
-use Rattle.fx_trees.specs.declared.signatures.SigShape.{SigShape}
-use Rattle.fx_trees.specs.declared.signatures.Signature.{Signature}
+use Rattle.fx_core.specs.Signatures.{signature_in}
+use Rattle.fx_core.specs.declared.signatures.SigShape.{SigShape}
+use Rattle.fx_core.specs.declared.signatures.Signature.{Signature}
 use Rattle.fx_typing.specs.Plans.{shape_in}
 use Rattle.fx_sig.specs.Entries.{Entry, entry}
-use Rattle.fx_trees.specs.Tree.{Tree, node, Forest, none, more, Head}
-use Rattle.fx_trees.specs.Tree as tree
+use Rattle.fx_core.specs.Tree.{Tree, node, Forest, none, more, Head}
+use Rattle.fx_core.specs.Tree as tree
 
 -- a name finds the same entry in both
 pub found_alike : (ss ts : List Signature) (x : List ℕ) → map entry ss ≡ map entry ts → option_map entry (signature_in ss x) ≡ option_map entry (signature_in ts x)

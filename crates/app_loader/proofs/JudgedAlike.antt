@@ -3,26 +3,26 @@ use Rattle.std.proofs.Common.{◌≡◌, ◌++◌, ℕ, suc, List, [], ◌∷◌
 use Rattle.std.specs.Prelude.{◌&&◌, ◌||◌}
 use Rattle.std.specs.Borrow.{Bor}
 use Rattle.app_loader.proofs.Functions.{found_alike, shape_alike}
-use Rattle.fx_data.specs.Types.{Shape, blanks}
-use Rattle.fx_trees.specs.Rows.{is_within}
-use Rattle.fx_trees.specs.Signatures.{signature_in}
-use Rattle.fx_trees.specs.declared.signatures.SigShape.{SigShape}
-use Rattle.fx_trees.specs.declared.signatures.Signature.{Signature}
+use Rattle.fx_types.specs.Types.{Shape, blanks}
+use Rattle.fx_core.specs.Rows.{is_within}
+use Rattle.fx_core.specs.Signatures.{signature_in}
+use Rattle.fx_core.specs.declared.signatures.SigShape.{SigShape}
+use Rattle.fx_core.specs.declared.signatures.Signature.{Signature}
 use Rattle.fx_typing.specs.Builds.{bounded}
 use Rattle.fx_typing.specs.Calls.{called_by, called_with}
 use Rattle.fx_typing.specs.Parts.{Grant, Part, Setting, as_part, may_act, parts_in, unless}
 use Rattle.fx_typing.specs.Plans.{Plan, called_as, depth_of, is_inside, opens_rows, plan_at, plan_call, setting_at, setting_by}
 use Rattle.fx_typing.specs.Rounds.{Cell, all_given, call_gives, cell_of, cell_type, collection_join, given_in, given_in_parts, gives, items_types, next_types, or_unknown, rounded, seen_parts, type_or_blank, variable_join}
 use Rattle.fx_typing.specs.Typing.{admit, at_node, is_too_deep, judge, judge_parts, judge_whole, onward, outermost, position, whole_of}
-use Rattle.fx_trees.specs.declared.names.Collection.{Collection}
-use Rattle.fx_trees.specs.declared.names.ControlName.{ControlName}
-use Rattle.fx_trees.specs.declared.names.FormulaName.{FormulaName}
-use Rattle.fx_trees.specs.declared.names.Names.{Names}
-use Rattle.fx_trees.specs.declared.names.Property.{Property}
-use Rattle.fx_trees.specs.declared.names.Variable.{Variable}
+use Rattle.fx_core.specs.declared.names.Collection.{Collection}
+use Rattle.fx_core.specs.declared.names.ControlName.{ControlName}
+use Rattle.fx_core.specs.declared.names.FormulaName.{FormulaName}
+use Rattle.fx_core.specs.declared.names.Names.{Names}
+use Rattle.fx_core.specs.declared.names.Property.{Property}
+use Rattle.fx_core.specs.declared.names.Variable.{Variable}
 use Rattle.fx_sig.specs.Entries.{Entry, entry}
-use Rattle.fx_trees.specs.Tree.{Tree, node, Forest, none, more, Head}
-use Rattle.fx_trees.specs.Tree as tree
+use Rattle.fx_core.specs.Tree.{Tree, node, Forest, none, more, Head}
+use Rattle.fx_core.specs.Tree as tree
 use Rattle.fx_typing.specs.Meaning.{Place, place_of}
 
 module _ (m : Names) (s t : Bor (List Signature)) (same : map entry s.now ≡ map entry t.now) where

@@ -2,7 +2,7 @@
 use Rattle.std.proofs.Common.{◌≡◌, ℕ, suc, ◌+◌, List, [], ◌∷◌, ◌++◌, length, map, Result, Ok, Err, refl, ap, sym, subst, ◌∙◌}
 use Rattle.std.proofs.lemmas.List.{map-append}
 use Rattle.fx_infer.specs.Depths.{EntriesAreNoDeeper, TreesAreNoDeeper}
-use Rattle.fx_trees.specs.declared.broken.Broken.{Broken}
+use Rattle.fx_core.specs.declared.broken.Broken.{Broken}
 use Rattle.app_file.specs.Files.{IsRead}
 use Rattle.app_file.specs.declared.file.AppFile.{AppFile}
 use Rattle.app_file.specs.declared.file.ControlShape.{ControlShape}

@@ -4,13 +4,13 @@ use Rattle.std.specs.Prelude.{codes}
 use Rattle.std.proofs.lemmas.Bool.{both_ways, eqb-true}
 use Rattle.std.specs.Str.{IsUtf8, chars}
 use Rattle.fx_sig.specs.Entries.{entries, entry}
-use Rattle.fx_trees.specs.Lawful.{IsLawful}
-use Rattle.fx_trees.specs.declared.app_end.AppEnd.{AppEnd}
-use Rattle.fx_trees.specs.declared.app_end.AppEnd.TheVariants as end
-use Rattle.fx_trees.specs.declared.broken.Broken.{Broken}
-use Rattle.fx_trees.specs.declared.names.Names.{Names}
-use Rattle.fx_trees.specs.declared.rule.Rule.TheVariants as rule
-use Rattle.fx_trees.specs.declared.signatures.Signature.{Signature}
+use Rattle.fx_core.specs.Lawful.{IsLawful}
+use Rattle.fx_core.specs.declared.app_end.AppEnd.{AppEnd}
+use Rattle.fx_core.specs.declared.app_end.AppEnd.TheVariants as end
+use Rattle.fx_core.specs.declared.broken.Broken.{Broken}
+use Rattle.fx_core.specs.declared.names.Names.{Names}
+use Rattle.fx_core.specs.declared.rule.Rule.TheVariants as rule
+use Rattle.fx_core.specs.declared.signatures.Signature.{Signature}
 use Rattle.session_state.specs.Changes.{HoldsTables}
 use Rattle.app_file.specs.Files.{IsRead, broken_of}
 use Rattle.app_file.specs.declared.breaks.FileBreak.{FileBreak}

@@ -1,9 +1,9 @@
 -- All columns of a type are looked at.
 use Rattle.std.proofs.Common.{ℕ, zero, suc, ◌≤◌, List, [], ◌∷◌, length, drop, arith}
-use Rattle.fx_data.specs.Types.{Shape, column_list}
-use Rattle.fx_data.specs.TypeView.{columns_view}
-use Rattle.fx_data.specs.Rising.{AreRising}
-use Rattle.fx_data.specs.declared.types.Ty.{Ty}
+use Rattle.fx_types.specs.Types.{Shape, column_list}
+use Rattle.fx_types.specs.TypeView.{columns_view}
+use Rattle.fx_types.specs.Rising.{AreRising}
+use Rattle.fx_types.specs.declared.types.Ty.{Ty}
 use Rattle.fx_semantics.proofs.Lawful.{AreInner, lawful_by}
 use Rattle.fx_semantics.specs.Sound.{AreLawfulColumns}
 use Rattle.fx_value.proofs.Unions.{rises_list}

@@ -3,9 +3,9 @@ use Rattle.std.proofs.Common.{inl, inr, ◌≡◌, ◌⊎◌, ◌↔◌, List, [
 use Rattle.std.specs.Ordering.{match_ordering}
 use Rattle.std.specs.declared.cmp.Ordering.{Ordering}
 use Rattle.std.specs.declared.cmp.Ordering.TheVariants.{Less, Equal, Greater}
-use Rattle.fx_trees.specs.Reads.{AreRising, IsAmong, IsBelowAll, source_order}
-use Rattle.fx_trees.specs.declared.sources.Source.{Source}
-use Rattle.fx_trees.proofs.Ordered.{below_more, order_flips, order_tells}
+use Rattle.fx_core.specs.Reads.{AreRising, IsAmong, IsBelowAll, source_order}
+use Rattle.fx_core.specs.declared.sources.Source.{Source}
+use Rattle.fx_core.proofs.Ordered.{below_more, order_flips, order_tells}
 use Rattle.app_cells.specs.Reach.{is_cell}
 
 -- one list with x at its head, in one with another; `on` is the rest of it with a list

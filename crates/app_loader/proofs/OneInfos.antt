@@ -1,12 +1,12 @@
 -- Formulas have one typed tree under names, one list of what they read, and one of what they stand on.
 use Rattle.std.proofs.Common.{inl, inr, ◌≡◌, ℕ, List, [], ◌∷◌, false, map, Result, Ok, Err, option_map, refl, ap, sym, subst, ◌∙◌}
-use Rattle.fx_data.specs.TypeView.{shape}
-use Rattle.fx_data.specs.Types.{Shape}
+use Rattle.fx_types.specs.TypeView.{shape}
+use Rattle.fx_types.specs.Types.{Shape}
 use Rattle.fx_infer.proofs.Only.{ty_one}
-use Rattle.fx_trees.specs.Reads.{IsAmong, sources_in}
-use Rattle.fx_trees.specs.Term.{Term}
-use Rattle.fx_trees.specs.declared.broken.Broken.{Broken}
-use Rattle.fx_trees.specs.declared.names.Names.{Names}
+use Rattle.fx_core.specs.Reads.{IsAmong, sources_in}
+use Rattle.fx_core.specs.Term.{Term}
+use Rattle.fx_core.specs.declared.broken.Broken.{Broken}
+use Rattle.fx_core.specs.declared.names.Names.{Names}
 use Rattle.app_cells.specs.declared.app.CellInfo.{CellInfo}
 use Rattle.app_cells.specs.declared.cell.Cell.{Cell}
 use Rattle.app_loader.specs.Admitted.{AreRefused}
@@ -14,12 +14,12 @@ use Rattle.app_loader.specs.Cells.{judged}
 use Rattle.app_loader.specs.Infos.{AreElaborated, IsElaborated}
 use Rattle.app_loader.specs.Supports.{without_support}
 use Rattle.fx_plan.specs.Sites.{sites_of}
-use Rattle.fx_trees.specs.declared.schema.TableShape.{TableShape}
+use Rattle.fx_core.specs.declared.schema.TableShape.{TableShape}
 use Rattle.fx_plan.specs.Limited.{limited}
 use Rattle.app_loader.proofs.JudgedAlike.{judged_alike}
 use Rattle.app_loader.proofs.Rounds.{AreAlike, functions_at}
 use Rattle.app_loader.proofs.SourceOrder.{sources_one}
-use Rattle.fx_trees.specs.Rules as rules
+use Rattle.fx_core.specs.Rules as rules
 
 -- ---- where the table of functions stands doesn't matter
 module _ (m k : Names) (e : k ≡ functions_at m k.signatures) (alike : AreAlike k.signatures m.signatures) where

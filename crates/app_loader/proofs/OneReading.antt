@@ -2,8 +2,8 @@
 use Rattle.std.proofs.Common.{inl, inr, ◌≡◌, ℕ, ◌++◌, List, [], ◌∷◌, Option, Some, None, option_map, Result, Ok, refl, ap, sym, subst, ◌∙◌}
 use Rattle.std.specs.Prelude.{encode_utf8_all}
 use Rattle.std.specs.Str.{chars}
-use Rattle.fx_data.specs.TypeView.{shape}
-use Rattle.fx_data.specs.declared.types.Ty.{Ty}
+use Rattle.fx_types.specs.TypeView.{shape}
+use Rattle.fx_types.specs.declared.types.Ty.{Ty}
 use Rattle.fx_grammar.proofs.Meanings.{one_tree_of}
 use Rattle.fx_infer.proofs.Only.{ty_one}
 use Rattle.fx_lexer.proofs.Readings.{lexed_one}
@@ -11,8 +11,8 @@ use Rattle.fx_parser.specs.Texts.{AreNamedEnd, IsNamedText}
 use Rattle.fx_parser.specs.declared.end.ParseEnd.{ParseEnd}
 use Rattle.fx_parser.specs.declared.end.ParseEnd.TheVariants.{Lex, Syntax, TooDeep, Memory}
 use Rattle.fx_parser.specs.declared.entries.Named.{Named}
-use Rattle.fx_trees.specs.Tree.{Tree}
-use Rattle.fx_trees.specs.declared.broken.Broken.{Broken}
+use Rattle.fx_core.specs.Tree.{Tree}
+use Rattle.fx_core.specs.declared.broken.Broken.{Broken}
 use Rattle.app_file.specs.declared.file.AppFile.{AppFile}
 use Rattle.app_cells.specs.declared.cell.Cell.{Cell}
 use Rattle.app_cells.specs.declared.cell.Spot.{Spot}

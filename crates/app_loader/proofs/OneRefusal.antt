@@ -4,8 +4,8 @@ use Rattle.std.proofs.lemmas.Bool.{cases_lt}
 use Rattle.std.proofs.lemmas.List.{length-take-le, take-take}
 use Rattle.std.specs.Prelude.{encode_utf8_all}
 use Rattle.std.specs.Str.{chars}
-use Rattle.fx_data.specs.TypeView.{shape}
-use Rattle.fx_data.specs.Types.{Shape}
+use Rattle.fx_types.specs.TypeView.{shape}
+use Rattle.fx_types.specs.Types.{Shape}
 use Rattle.fx_grammar.proofs.Meanings.{one_items}
 use Rattle.fx_grammar.specs.declared.item.Item.{Item}
 use Rattle.fx_lexer.proofs.Readings.{bad_one}
@@ -15,12 +15,12 @@ use Rattle.fx_parser.specs.Texts.{IsEnd, IsSyntaxAt, place_or}
 use Rattle.fx_parser.specs.Trees.{Stops}
 use Rattle.fx_parser.specs.declared.end.ParseEnd.{ParseEnd}
 use Rattle.fx_parser.specs.declared.end.ParseEnd.TheVariants.{Lex, Syntax, TooDeep, Memory}
-use Rattle.fx_trees.specs.Rules.{number_of}
-use Rattle.fx_trees.specs.Term.{Term}
-use Rattle.fx_trees.specs.declared.broken.Broken.{Broken}
-use Rattle.fx_trees.specs.declared.names.Names.{Names}
-use Rattle.fx_trees.specs.declared.rule.Rule.{Rule}
-use Rattle.fx_trees.specs.declared.rule.Rule.TheVariants as rule
+use Rattle.fx_core.specs.Rules.{number_of}
+use Rattle.fx_core.specs.Term.{Term}
+use Rattle.fx_core.specs.declared.broken.Broken.{Broken}
+use Rattle.fx_core.specs.declared.names.Names.{Names}
+use Rattle.fx_core.specs.declared.rule.Rule.{Rule}
+use Rattle.fx_core.specs.declared.rule.Rule.TheVariants as rule
 use Rattle.fx_typing.specs.Details.{IsToldBrokenWhole}
 use Rattle.fx_typing.specs.Rounds.{IsFinal, StillChanges}
 use Rattle.app_file.specs.Files.{IsBadPart, IsOneBreak, IsOneReading, broken_of}

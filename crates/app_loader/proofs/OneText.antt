@@ -6,7 +6,7 @@ use Rattle.fx_lexer.specs.declared.token.Symbol.TheVariants as symbol
 use Rattle.fx_lexer.specs.Lexed.{Lexed, token_of}
 use Rattle.fx_lexer.specs.declared.token.LexErr.{LexErr}
 use Rattle.fx_lexer.specs.declared.token.Token.{Token}
-use Rattle.fx_trees.specs.Tree.{Tree}
+use Rattle.fx_core.specs.Tree.{Tree}
 use Rattle.fx_grammar.specs.declared.item.Item.{Item}
 use Rattle.fx_grammar.specs.declared.item.Meaning.{Meaning}
 use Rattle.fx_grammar.specs.declared.item.Meaning.TheVariants as m

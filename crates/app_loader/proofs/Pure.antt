@@ -2,7 +2,7 @@
 use Rattle.std.proofs.Common.{◌≡◌, false}
 use Rattle.std.proofs.lemmas.Bool.{or_parts}
 use Rattle.fx_semantics.specs.Sound.{AreLawfulTrees, IsLawfulTree, NamesLawful}
-use Rattle.fx_trees.specs.Term.{Term, Terms, of, nil, cons, Top, list, coerce, chain, act}
+use Rattle.fx_core.specs.Term.{Term, Terms, of, nil, cons, Top, list, coerce, chain, act}
 use Rattle.fx_typing.specs.Acts.{acts, any_acts, is_acting}
 use Rattle.fx_semantics.specs.NamedTypes.{HasLawfulTypes, HaveLawfulTypes, NamesLawfulType}
 

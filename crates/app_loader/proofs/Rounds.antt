@@ -8,9 +8,9 @@ use Rattle.app_names.specs.AppNames.{AreNames, collections_among, variables_amon
 use Rattle.app_loader.proofs.Functions.{things_alike}
 use Rattle.app_loader.proofs.JudgedAlike.{round_alike}
 use Rattle.app_loader.proofs.Below.{final_same}
-use Rattle.fx_trees.specs.declared.signatures.Signature.{Signature}
+use Rattle.fx_core.specs.declared.signatures.Signature.{Signature}
 use Rattle.fx_typing.specs.Rounds.{AfterRounds, Cell, IsFinal, SameNames, StillChanges, next_types, types_in}
-use Rattle.fx_trees.specs.declared.names.Names.{Names}
+use Rattle.fx_core.specs.declared.names.Names.{Names}
 use Rattle.fx_sig.specs.Entries.{entry}
 use Rattle.fx_infer.proofs.Only.{after_one, final_settles}
 

@@ -8,7 +8,7 @@ use Rattle.fx_infer.specs.Below.{tree_depth}
 use Rattle.fx_infer.specs.Depths.{EntriesAreNoDeeper, TreesAreNoDeeper}
 use Rattle.fx_parser.specs.Texts.{IsNamedText, named_of}
 use Rattle.fx_parser.specs.declared.entries.Named.{Named}
-use Rattle.fx_trees.specs.declared.broken.Broken.{Broken}
+use Rattle.fx_core.specs.declared.broken.Broken.{Broken}
 use Rattle.app_file.specs.declared.file.AppFile.{AppFile}
 use Rattle.app_cells.specs.declared.cell.Cell.{Cell}
 use Rattle.app_cells.specs.declared.frame.Frame.{Frame}

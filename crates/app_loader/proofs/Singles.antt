@@ -8,10 +8,10 @@ use Rattle.std.proofs.lemmas.List.Elements.{All-head, All-nil, All-tail}
 use Rattle.std.proofs.lemmas.Str.{chars-IsAscii}
 use Rattle.serde_json.specs.Data.{Data}
 use Rattle.serde_json.specs.Find.{get}
-use Rattle.fx_data.specs.Words.{scalars_of}
-use Rattle.fx_data.specs.declared.controls.Control.{Control}
-use Rattle.fx_data.specs.declared.controls.Control.TheVariants as control
-use Rattle.fx_trees.specs.declared.broken.Broken.{Broken}
+use Rattle.fx_types.specs.Words.{scalars_of}
+use Rattle.fx_types.specs.declared.controls.Control.{Control}
+use Rattle.fx_types.specs.declared.controls.Control.TheVariants as control
+use Rattle.fx_core.specs.declared.broken.Broken.{Broken}
 use Rattle.app_file.specs.declared.breaks.FileBreak.{FileBreak}
 use Rattle.app_file.specs.declared.file.AppFile.{AppFile}
 use Rattle.app_file.specs.declared.file.ControlShape.{ControlShape}

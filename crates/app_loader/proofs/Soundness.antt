@@ -1,15 +1,15 @@
 -- An accepted app is sound.
 use Rattle.std.proofs.Common.{◌≡◌, ℕ, zero, suc, ◌+◌, if◌then◌else◌, List, [], ◌∷◌, Bool, true, false, map, Option, Some, None, option_map, Result, Ok, Err, encode_utf8_all, refl, ap, sym, subst, ◌∙◌, slice_get, arith}
-use Rattle.fx_data.specs.TypeView.{shape}
-use Rattle.fx_data.specs.Types.{Shape, tables, no_columns}
-use Rattle.fx_trees.specs.Lawful.{IsLawful}
-use Rattle.fx_trees.specs.Controls.{is_behaviour, is_items, property_type}
-use Rattle.fx_trees.specs.SourceTypes.{item_columns, property_of}
-use Rattle.fx_trees.specs.declared.broken.Broken.{Broken}
-use Rattle.fx_trees.specs.declared.names.ControlName.{ControlName}
-use Rattle.fx_trees.specs.declared.names.FormulaName.{FormulaName}
-use Rattle.fx_trees.specs.declared.names.Names.{Names}
-use Rattle.fx_trees.specs.declared.names.Property.{Property}
+use Rattle.fx_types.specs.TypeView.{shape}
+use Rattle.fx_types.specs.Types.{Shape, tables, no_columns}
+use Rattle.fx_core.specs.Lawful.{IsLawful}
+use Rattle.fx_core.specs.Controls.{is_behaviour, is_items, property_type}
+use Rattle.fx_core.specs.SourceTypes.{item_columns, property_of}
+use Rattle.fx_core.specs.declared.broken.Broken.{Broken}
+use Rattle.fx_core.specs.declared.names.ControlName.{ControlName}
+use Rattle.fx_core.specs.declared.names.FormulaName.{FormulaName}
+use Rattle.fx_core.specs.declared.names.Names.{Names}
+use Rattle.fx_core.specs.declared.names.Property.{Property}
 use Rattle.fx_semantics.specs.Laws.{AdmittedIsPlaced}
 use Rattle.fx_semantics.specs.NamedTypes.{HasLawfulTypes}
 use Rattle.fx_typing.specs.Laws.{AdmittedIsTyped, AdmittedIsWanted, IsWanted, PureIsQuiet}
@@ -17,8 +17,8 @@ use Rattle.fx_typing.specs.Rounds as rounds
 use Rattle.fx_typing.specs.Rounds.{AllSame, SameControl, SameNames, type_or_blank}
 use Rattle.fx_typing.specs.Typing.{judge_whole}
 use Rattle.fx_typing.specs.WellTyped.{IsTyped}
-use Rattle.fx_trees.specs.Tree.{Tree}
-use Rattle.fx_trees.specs.Term.{Term}
+use Rattle.fx_core.specs.Tree.{Tree}
+use Rattle.fx_core.specs.Term.{Term}
 use Rattle.fx_plan.specs.Limited.{limited}
 use Rattle.app_cells.specs.declared.app.App.{App}
 use Rattle.app_cells.specs.declared.app.CellInfo.{CellInfo}

@@ -3,9 +3,9 @@ use Rattle.std.proofs.Common.{inl, inr, ◌≡◌, List, [], ◌∷◌, refl, ap
 use Rattle.std.specs.Ordering.{ordering_reverse}
 use Rattle.std.specs.declared.cmp.Ordering.TheVariants.{Less, Greater}
 use Rattle.std.proofs.lemmas.Cmp.{nat_list_cmp_total}
-use Rattle.fx_trees.specs.Reads.{AreRising, IsAmong, IsBelowAll, source_order}
-use Rattle.fx_trees.specs.declared.sources.Source.{Source}
-use Rattle.fx_trees.proofs.Ordered.{by_keys, key_of}
+use Rattle.fx_core.specs.Reads.{AreRising, IsAmong, IsBelowAll, source_order}
+use Rattle.fx_core.specs.declared.sources.Source.{Source}
+use Rattle.fx_core.proofs.Ordered.{by_keys, key_of}
 
 -- no two are each below the other
 not_both_below : (s t : Source) → source_order s t ≡ Less → source_order t s ≡ Less → ⊥

@@ -1,10 +1,10 @@
 -- A formula that stands where it says beside a frame does so in the app that the formulas of the frame make.
 use Rattle.std.proofs.Common.{◌≡◌, ℕ, zero, suc, ◌<◌, ◌++◌, List, [], ◌∷◌, true, length, unwrap_or, codes, encode_utf8_all, Option, Some, None, option_map, refl, ap, subst, ◌∙◌, slice_get}
-use Rattle.fx_data.specs.Types.{Shape}
-use Rattle.fx_trees.specs.BrokenText.{address_of}
-use Rattle.fx_trees.specs.Controls.{has_property, is_behaviour}
-use Rattle.fx_trees.specs.Lawful.{Has}
-use Rattle.fx_trees.specs.declared.names.ControlName.{ControlName}
+use Rattle.fx_types.specs.Types.{Shape}
+use Rattle.fx_core.specs.BrokenText.{address_of}
+use Rattle.fx_core.specs.Controls.{has_property, is_behaviour}
+use Rattle.fx_core.specs.Lawful.{Has}
+use Rattle.fx_core.specs.declared.names.ControlName.{ControlName}
 use Rattle.fx_typing.specs.Rounds.{AllSame, SameControl}
 use Rattle.app_cells.specs.declared.cell.Cell.{Cell}
 use Rattle.app_cells.specs.declared.cell.Spot.{Spot}

@@ -9,9 +9,9 @@ use Rattle.app_cells.specs.Leaning.{LeansOn, cell_behind, edges_of}
 use Rattle.app_cells.specs.Reach.{IsSupport, is_cell}
 use Rattle.app_semantics.proofs.Ordered.{earlier, leaning_edge}
 use Rattle.depend_graph.specs.Order.{IsOrder}
-use Rattle.fx_trees.specs.Reads.{AreRising, IsAmong}
-use Rattle.fx_trees.specs.declared.names.Names.{Names}
-use Rattle.fx_trees.specs.declared.sources.Source.{Source}
+use Rattle.fx_core.specs.Reads.{AreRising, IsAmong}
+use Rattle.fx_core.specs.declared.names.Names.{Names}
+use Rattle.fx_core.specs.declared.sources.Source.{Source}
 use Rattle.app_loader.specs.Supports.{AllRise, AreSupported, AreSupports, IsBehind, IsJoined, unordered, without_support}
 use Rattle.app_loader.proofs.BreakLists.{all_taken, one_more}
 use Rattle.app_loader.proofs.Merging.{others, others_both, rising_others}

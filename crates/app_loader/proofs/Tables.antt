@@ -2,13 +2,13 @@
 use Rattle.std.proofs.Common.{◌≡◌, ℕ, zero, suc, List, [], ◌∷◌, Bool, true, false, map, All, Some, option_map, bytes_eq, refl, ap, sym, subst, ◌∙◌, slice_get, if◌then◌else◌}
 use Rattle.std.specs.Borrow.{Bor}
 use Rattle.std.proofs.lemmas.List.Elements.{All-nil, All-cons, All-append}
-use Rattle.fx_data.specs.TypeView.{shape}
-use Rattle.fx_data.specs.Types.{Shape, blanks}
-use Rattle.fx_data.specs.Values.{tab, no_rows}
-use Rattle.fx_data.specs.declared.types.Ty.TheVariants as ty
-use Rattle.fx_trees.specs.declared.names.Collection.{Collection}
-use Rattle.fx_trees.specs.declared.names.Names.{Names}
-use Rattle.fx_trees.specs.declared.signatures.Signature.{Signature}
+use Rattle.fx_types.specs.TypeView.{shape}
+use Rattle.fx_types.specs.Types.{Shape, blanks}
+use Rattle.fx_types.specs.Values.{tab, no_rows}
+use Rattle.fx_types.specs.declared.types.Ty.TheVariants as ty
+use Rattle.fx_core.specs.declared.names.Collection.{Collection}
+use Rattle.fx_core.specs.declared.names.Names.{Names}
+use Rattle.fx_core.specs.declared.signatures.Signature.{Signature}
 use Rattle.fx_typing.proofs.Same.{bytes_same}
 use Rattle.fx_typing.proofs.Steps.{option_map_some}
 use Rattle.fx_typing.specs.Meaning as meaning

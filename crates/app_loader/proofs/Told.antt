@@ -2,17 +2,17 @@
 use Rattle.std.proofs.Common.{inl, inr, ◌≡◌, ◌++◌, ℕ, List, [], ◌∷◌, Bool, true, map, length, ◌==◌, suc, codes, Option, Result, Ok, Err, refl, ap, sym, subst, ◌∙◌, if◌then◌else◌}
 use Rattle.std.specs.Borrow.{Bor}
 use Rattle.app_loader.proofs.JudgedAlike.{admit_alike, as_called, deep_alike, node_alike, part_alike, parts_alike, setting_alike}
-use Rattle.fx_data.specs.Types.{Shape}
-use Rattle.fx_trees.specs.declared.signatures.Signature.{Signature}
+use Rattle.fx_types.specs.Types.{Shape}
+use Rattle.fx_core.specs.declared.signatures.Signature.{Signature}
 use Rattle.fx_infer.proofs.Breaks.{told_broken, told_parts}
 use Rattle.fx_typing.specs.Details.{HasToldBroken, IsToldBroken, IsToldBrokenWhole, call_limit, call_names, column_in, commas, counted, detail_of, head_name, no_variable, taken_in, takes_table, unjoined, wanted_detail}
 use Rattle.fx_typing.specs.Parts.{Part, Setting, parts_in}
 use Rattle.fx_typing.specs.Plans.{depth_of, setting_at}
 use Rattle.fx_typing.specs.Typing.{judge, judge_parts, outermost}
-use Rattle.fx_trees.specs.declared.names.Names.{Names}
+use Rattle.fx_core.specs.declared.names.Names.{Names}
 use Rattle.fx_sig.specs.Entries.{entry}
-use Rattle.fx_trees.specs.Tree.{Tree, node, Forest, none, more, Head}
-use Rattle.fx_trees.specs.Tree as tree
+use Rattle.fx_core.specs.Tree.{Tree, node, Forest, none, more, Head}
+use Rattle.fx_core.specs.Tree as tree
 use Rattle.fx_typing.specs.Meaning.{Place}
 
 -- ---- one thing is said

@@ -1,7 +1,7 @@
 -- What holds of an app that is accepted.
 use Rattle.std.specs.Prelude.{◌≡◌, ℕ, List, All, Ok, Some, codes, slice_get}
-use Rattle.fx_trees.specs.Lawful.{IsLawful}
-use Rattle.fx_trees.specs.declared.names.Names.{Names}
+use Rattle.fx_core.specs.Lawful.{IsLawful}
+use Rattle.fx_core.specs.declared.names.Names.{Names}
 use Rattle.app_cells.specs.declared.app.App.{App}
 use Rattle.app_cells.specs.declared.cell.Cell.{Cell}
 use Rattle.app_cells.specs.declared.cell.Spot.TheVariants as spot

@@ -1,13 +1,13 @@
 -- Which formulas of an app are admitted under names, and what is broken of the others.
 use Rattle.std.specs.Prelude.{◌≡◌, ◌⊎◌, ◌-◌, ℕ, List, [], ◌∷◌, Ok, Err, option_map}
 use Rattle.std.specs.List.{AllZip}
-use Rattle.fx_data.specs.TypeView.{shape}
-use Rattle.fx_data.specs.Types.{Shape}
-use Rattle.fx_trees.specs.declared.broken.Broken.{Broken}
-use Rattle.fx_trees.specs.declared.names.Names.{Names}
-use Rattle.fx_trees.specs.declared.rule.Rule.{Rule}
-use Rattle.fx_trees.specs.Rules.{number_of}
-use Rattle.fx_trees.specs.Term.{Term}
+use Rattle.fx_types.specs.TypeView.{shape}
+use Rattle.fx_types.specs.Types.{Shape}
+use Rattle.fx_core.specs.declared.broken.Broken.{Broken}
+use Rattle.fx_core.specs.declared.names.Names.{Names}
+use Rattle.fx_core.specs.declared.rule.Rule.{Rule}
+use Rattle.fx_core.specs.Rules.{number_of}
+use Rattle.fx_core.specs.Term.{Term}
 use Rattle.fx_typing.specs.declared.typed.Typed.{Typed}
 use Rattle.fx_typing.specs.Details.{IsToldBrokenWhole}
 use Rattle.fx_typing.specs.TypedView.{typed}

@@ -1,6 +1,6 @@
 -- Edits of an app, judged: they make this app, or these are the breaks of the first stage that has any.
 use Rattle.std.specs.Prelude.{◌≤◌, ℕ, List, [], ◌∷◌, All, length, Result, Ok, Err}
-use Rattle.fx_trees.specs.declared.broken.Broken.{Broken}
+use Rattle.fx_core.specs.declared.broken.Broken.{Broken}
 use Rattle.app_cells.specs.declared.app.App.{App}
 use Rattle.app_cells.specs.declared.cell.Cell.{Cell}
 use Rattle.app_cells.specs.Spots.{IsFrame, IsPlaced}

@@ -1,11 +1,11 @@
 -- Formulas with their typed trees.
 use Rattle.std.specs.Prelude.{◌≡◌, ◌↔◌, ℕ, List, false, Ok}
 use Rattle.std.specs.List.{AllZip}
-use Rattle.fx_data.specs.TypeView.{shape}
+use Rattle.fx_types.specs.TypeView.{shape}
 use Rattle.fx_plan.specs.Sites.{sites_of}
-use Rattle.fx_trees.specs.declared.names.Names.{Names}
-use Rattle.fx_trees.specs.declared.sources.Source.{Source}
-use Rattle.fx_trees.specs.Reads.{AreRising, IsAmong, sources_in}
+use Rattle.fx_core.specs.declared.names.Names.{Names}
+use Rattle.fx_core.specs.declared.sources.Source.{Source}
+use Rattle.fx_core.specs.Reads.{AreRising, IsAmong, sources_in}
 use Rattle.app_cells.specs.declared.app.CellInfo.{CellInfo}
 use Rattle.app_cells.specs.declared.cell.Cell.{Cell}
 use Rattle.fx_plan.specs.Limited.{limited}

@@ -2,10 +2,10 @@
 use Rattle.std.specs.Prelude.{◌≡◌, ◌<◌, ◌≤◌, ℕ, List, [], ◌∷◌, map, Result, Ok, Err, length, codes}
 use Rattle.std.specs.Str.{IsUtf8}
 use Rattle.fx_sig.specs.Entries.{entries, entry}
-use Rattle.fx_trees.specs.declared.broken.Broken.{Broken}
-use Rattle.fx_trees.specs.declared.names.Names.{Names}
-use Rattle.fx_trees.specs.declared.rule.Rule.TheVariants as rule
-use Rattle.fx_trees.specs.declared.signatures.Signature.{Signature}
+use Rattle.fx_core.specs.declared.broken.Broken.{Broken}
+use Rattle.fx_core.specs.declared.names.Names.{Names}
+use Rattle.fx_core.specs.declared.rule.Rule.TheVariants as rule
+use Rattle.fx_core.specs.declared.signatures.Signature.{Signature}
 use Rattle.app_file.specs.Files.{IsRead, broken_of}
 use Rattle.app_file.specs.declared.breaks.FileBreak.{FileBreak}
 use Rattle.app_file.specs.declared.file.AppFile.{AppFile}

@@ -1,12 +1,12 @@
 -- The formulas of an app under its names, judged: they are this app, or these are the breaks of the first stage that has any.
 use Rattle.std.specs.Prelude.{◌≡◌, ℕ, List, [], ◌∷◌, length, map, Result, Ok, Err, codes}
 use Rattle.depend_graph.specs.Order.{IsOrder}
-use Rattle.fx_trees.specs.declared.app_end.AppEnd.{AppEnd}
-use Rattle.fx_trees.specs.declared.app_end.AppEnd.TheVariants as end
-use Rattle.fx_trees.specs.declared.broken.Broken.{Broken}
-use Rattle.fx_trees.specs.declared.names.Names.{Names}
-use Rattle.fx_trees.specs.declared.rule.Rule.TheVariants as rule
-use Rattle.fx_trees.specs.Lawful.{IsLawful}
+use Rattle.fx_core.specs.declared.app_end.AppEnd.{AppEnd}
+use Rattle.fx_core.specs.declared.app_end.AppEnd.TheVariants as end
+use Rattle.fx_core.specs.declared.broken.Broken.{Broken}
+use Rattle.fx_core.specs.declared.names.Names.{Names}
+use Rattle.fx_core.specs.declared.rule.Rule.TheVariants as rule
+use Rattle.fx_core.specs.Lawful.{IsLawful}
 use Rattle.fx_typing.specs.Rounds.{IsFinal, StillChanges}
 use Rattle.app_cells.specs.declared.app.App.{App}
 use Rattle.app_cells.specs.declared.app.CellInfo.{CellInfo}

@@ -1,8 +1,8 @@
 -- What formulas stand on.
 use Rattle.std.specs.Prelude.{◌≡◌, ◌↔◌, ◌⊎◌, ℕ, List, [], length, map, false, Some, slice_get}
-use Rattle.fx_trees.specs.Reads.{AreRising, IsAmong}
-use Rattle.fx_trees.specs.declared.names.Names.{Names}
-use Rattle.fx_trees.specs.declared.sources.Source.{Source}
+use Rattle.fx_core.specs.Reads.{AreRising, IsAmong}
+use Rattle.fx_core.specs.declared.names.Names.{Names}
+use Rattle.fx_core.specs.declared.sources.Source.{Source}
 use Rattle.app_cells.specs.declared.app.App.{App}
 use Rattle.app_cells.specs.declared.app.CellInfo.{CellInfo}
 use Rattle.app_cells.specs.Leaning.{cell_behind}

@@ -2,8 +2,8 @@
 use Rattle.std.specs.Prelude.{◌≡◌, ℕ, List, Ok, Err, map}
 use Rattle.fx_sig.specs.Entries.{entry}
 use Rattle.std.specs.List.{AllZip}
-use Rattle.fx_trees.specs.declared.broken.Broken.{Broken}
-use Rattle.fx_trees.specs.declared.rule.Rule.TheVariants as rule
+use Rattle.fx_core.specs.declared.broken.Broken.{Broken}
+use Rattle.fx_core.specs.declared.rule.Rule.TheVariants as rule
 use Rattle.app_cells.specs.declared.app.App.{App}
 use Rattle.app_loader.specs.Judged.{Judged, JudgedApp}
 

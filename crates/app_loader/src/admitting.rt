@@ -4,14 +4,14 @@ ghost use Rattle.app_loader.specs.Admitted.{AreRefused, AreTyped, Breaks};
 ghost use Rattle.app_loader.specs.Cells.{AreShallow, judged};
 ghost use Rattle.app_loader.specs.JudgedFormulas.{AreSome, Tells};
 ghost use Rattle.fx_infer.specs.Below.{tree_depth};
-ghost use Rattle.fx_trees.specs.Lawful.{IsLawful};
+ghost use Rattle.fx_core.specs.Lawful.{IsLawful};
 ghost use Rattle.fx_typing.specs.TypedView.{typed};
 
 use crate::writing::written_cell;
 use app_cells::Cell;
 use fx_base::Memory;
+use fx_core::{AppEnd, Broken, Names};
 use fx_infer::{InferEnd, Typed, elaborate};
-use fx_trees::{AppEnd, Broken, Names};
 use std::alloc::Global;
 
 // A formula under names: its tree and its type, or what is broken of it.

@@ -4,9 +4,9 @@ ghost use Rattle.app_loader.specs.Cycles as spec;
 
 use app_cells::CellInfo;
 use fx_base::Memory;
-use fx_data::words::Words;
+use fx_core::{Broken, Rule};
 use fx_infer::texts::nothing;
-use fx_trees::{Broken, Rule};
+use fx_types::words::Words;
 use std::alloc::Global;
 
 // The address of a formula by its number.

@@ -5,8 +5,8 @@ ghost use Rattle.app_cells.specs.Leaning.{edges_by};
 
 use app_cells::CellInfo;
 use fx_base::Memory;
-use fx_data::controls::Control;
-use fx_trees::{Names, Property, Source};
+use fx_core::{Names, Property, Source};
+use fx_types::controls::Control;
 use std::alloc::Global;
 
 // Whether this is the property of this name of a control.

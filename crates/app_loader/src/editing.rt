@@ -4,7 +4,7 @@ ghost use Rattle.app_texts.specs.Frames.{frame_of};
 ghost use Rattle.app_loader.specs.Edits.{IsLoaded, IsOneEdit, IsOneEdited, IsOneEditRefusal, JudgedEdit, LoadedApp};
 ghost use Rattle.app_semantics.specs.Sound.{IsSound};
 ghost use Rattle.app_loader.specs.JudgedFormulas.{Tells};
-ghost use Rattle.fx_data.specs.Words.{scalars_of};
+ghost use Rattle.fx_types.specs.Words.{scalars_of};
 ghost use Rattle.session_state.specs.Changes.{HoldsTables};
 
 use crate::judging::only;
@@ -12,9 +12,9 @@ use crate::loading::load_formulas;
 use app_cells::App;
 use app_texts::{edit_cells, read_is_sound};
 use fx_base::OrMemory;
-use fx_data::Words;
+use fx_core::AppEnd;
 use fx_infer::no_deeper;
-use fx_trees::AppEnd;
+use fx_types::Words;
 use std::alloc::Global;
 
 /// The app in which one formula is replaced by a text: the one at this address, as `Total`, `App.OnStart`, `Home.OnVisible` or

@@ -6,17 +6,17 @@ ghost use Rattle.app_loader.specs.Cells.{judged};
 ghost use Rattle.app_loader.specs.Types.{HaveLawfulTrees};
 ghost use Rattle.fx_plan.specs.Limited.{limited};
 ghost use Rattle.fx_plan.specs.Sites.{sites_of};
-ghost use Rattle.fx_trees.specs.Lawful.{IsLawfulSchema};
-ghost use Rattle.fx_trees.specs.Reads.{AreRising, IsAmong, sources_in};
-ghost use Rattle.fx_trees.specs.declared.sources.Source.{Source};
+ghost use Rattle.fx_core.specs.Lawful.{IsLawfulSchema};
+ghost use Rattle.fx_core.specs.Reads.{AreRising, IsAmong, sources_in};
+ghost use Rattle.fx_core.specs.declared.sources.Source.{Source};
 ghost use Rattle.fx_typing.specs.TypedView.{typed};
 
 use crate::trees::look_at_tree;
 use app_cells::{Cell, CellInfo};
 use fx_base::{InOrder, Memory};
+use fx_core::{Core, Names, Schema, Source};
 use fx_infer::Typed;
 use fx_plan::{Site, limit_queries, sites};
-use fx_trees::{Core, Names, Schema, Source};
 use std::alloc::Global;
 
 /// These things in order.

@@ -2,9 +2,9 @@
 ghost use Rattle.std.specs.Prelude.{◌≡◌, ◌∷◌, [], Err, IfErr, IfOk, Ok, length, map};
 ghost use Rattle.app_loader.specs.Admitted.{AreTyped};
 ghost use Rattle.app_loader.specs.Cells.{cell_of};
-ghost use Rattle.fx_trees.specs.declared.names.Names.{Names as Named};
+ghost use Rattle.fx_core.specs.declared.names.Names.{Names as Named};
 ghost use Rattle.app_loader.specs.Types.{AreLawfullyTyped, HaveLawfulTrees};
-ghost use Rattle.fx_trees.specs.Lawful.{IsLawful};
+ghost use Rattle.fx_core.specs.Lawful.{IsLawful};
 ghost use Rattle.app_loader.specs.Supports.{HaveRisingReads};
 ghost use Rattle.app_loader.specs.JudgedFormulas.{AreFit, IsCyclic, IsOrdered, JudgedCells, Tells, unsettled};
 ghost use Rattle.app_cells.specs.Leaning.{edges_of};
@@ -21,8 +21,8 @@ use crate::writing::written_cells;
 use app_cells::{App, Cell, CellInfo};
 use depend_graph::{OrderEnd, order};
 use fx_base::InOrder;
+use fx_core::{AppEnd, Broken, Names};
 use fx_infer::{InferEnd, Typed, type_rounds};
-use fx_trees::{AppEnd, Broken, Names};
 use fx_typing::admitted_is_typed;
 use std::alloc::Global;
 

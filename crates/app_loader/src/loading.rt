@@ -8,7 +8,7 @@ ghost use Rattle.app_loader.specs.Accepted.{AreSingle};
 ghost use Rattle.app_texts.specs.Files as files;
 ghost use Rattle.app_loader.specs.Cells.{AreShallow};
 ghost use Rattle.app_loader.specs.JudgedFormulas.{Tells};
-ghost use Rattle.fx_data.specs.Words.{scalars_of};
+ghost use Rattle.fx_types.specs.Words.{scalars_of};
 ghost use Rattle.session_state.specs.Changes.{HoldsTables};
 
 use crate::judging::{app_of, only};
@@ -18,9 +18,9 @@ use app_file::AppFile;
 use app_names::{broken, name_breaks, names_of};
 use app_texts::{read_is_sound, read_named, read_texts};
 use fx_base::{Memory, OrMemory};
-use fx_data::Words;
+use fx_core::{AppEnd, Broken, Rule};
 use fx_infer::no_deeper;
-use fx_trees::{AppEnd, Broken, Rule};
+use fx_types::Words;
 use std::alloc::Global;
 
 /// The most bytes of a text of named formulas.

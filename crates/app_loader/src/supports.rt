@@ -5,14 +5,14 @@ ghost use Rattle.app_cells.specs.Reach as reach;
 ghost use Rattle.app_cells.specs.declared.app.CellInfo.{CellInfo as Formula};
 ghost use Rattle.app_loader.specs.Supports.{AllRise, AreSupported, AreSupports, HaveRisingReads, IsBehind, IsJoined, without_support};
 ghost use Rattle.depend_graph.specs.Order.{IsOrder};
-ghost use Rattle.fx_trees.specs.Reads.{AreRising, IsAmong, source_order};
-ghost use Rattle.fx_trees.specs.declared.sources.Source.{Source as Named};
+ghost use Rattle.fx_core.specs.Reads.{AreRising, IsAmong, source_order};
+ghost use Rattle.fx_core.specs.declared.sources.Source.{Source as Named};
 
 use crate::edges::cell_behind;
 use crate::infos::in_order;
 use app_cells::CellInfo;
 use fx_base::{InOrder, Memory};
-use fx_trees::{Names, Source, Sources};
+use fx_core::{Names, Source, Sources};
 use std::alloc::Global;
 use std::cmp::Ordering;
 

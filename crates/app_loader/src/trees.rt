@@ -1,9 +1,9 @@
 //! What is seen of typed trees by looking at them: the columns of the types that they name rise, at every depth.
 ghost use Rattle.fx_semantics.specs.NamedTypes.{HasLawfulTypes, HaveLawfulTypes};
-ghost use Rattle.fx_trees.specs.Term.{all, parts_of};
+ghost use Rattle.fx_core.specs.Term.{all, parts_of};
 
 use crate::types::look_at_type;
-use fx_trees::{Core, CoreArgs, CoreFields, CoreNode};
+use fx_core::{Core, CoreArgs, CoreFields, CoreNode};
 
 /// Looks at the types that a tree names.
 #[cycle(look)]

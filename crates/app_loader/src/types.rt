@@ -1,16 +1,16 @@
 //! What is seen of types by looking at them: their columns rise, at every depth.
 ghost use Rattle.std.specs.Prelude.{All};
 ghost use Rattle.app_loader.specs.Types.{AreLawfullyTyped};
-ghost use Rattle.fx_data.specs.TypeView.{shape};
-ghost use Rattle.fx_data.specs.Types.{column_list};
+ghost use Rattle.fx_types.specs.TypeView.{shape};
+ghost use Rattle.fx_types.specs.Types.{column_list};
 ghost use Rattle.fx_semantics.specs.Sound.{AreLawfulColumns, IsLawfulType};
-ghost use Rattle.fx_trees.specs.declared.names.Collection.{Collection};
-ghost use Rattle.fx_trees.specs.declared.names.ControlName.{ControlName};
-ghost use Rattle.fx_trees.specs.declared.names.FormulaName.{FormulaName};
-ghost use Rattle.fx_trees.specs.declared.names.Variable.{Variable};
+ghost use Rattle.fx_core.specs.declared.names.Collection.{Collection};
+ghost use Rattle.fx_core.specs.declared.names.ControlName.{ControlName};
+ghost use Rattle.fx_core.specs.declared.names.FormulaName.{FormulaName};
+ghost use Rattle.fx_core.specs.declared.names.Variable.{Variable};
 
-use fx_data::types::{Columns, Ty};
-use fx_trees::{Collection, ControlName, FormulaName, Names, Variable};
+use fx_core::{Collection, ControlName, FormulaName, Names, Variable};
+use fx_types::types::{Columns, Ty};
 
 /// Looks at a type.
 #[cycle(look)]

@@ -7,8 +7,8 @@ ghost use Rattle.fx_infer.specs.CellView.{cell};
 
 use app_cells::Cell;
 use fx_base::Memory;
-use fx_data::types::Ty;
 use fx_infer::{Place, Written};
+use fx_types::types::Ty;
 use std::alloc::Global;
 
 // The type that is wanted of a formula.

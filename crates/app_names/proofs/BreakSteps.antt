@@ -2,9 +2,9 @@
 use Rattle.std.proofs.Common.{arith, suc, ◌≡◌, ℕ, ◌+◌, ◌<◌, Bool, true, false, List, [], ◌∷◌, ◌++◌, Option, Some, None, get_or, take, drop, length, refl, ap, sym, ◌∙◌, add-one, if◌then◌else◌}
 use Rattle.std.proofs.Math.Seq.{drop-cons}
 use Rattle.std.proofs.lemmas.List.{take_more, append_assoc}
-use Rattle.fx_trees.specs.declared.signatures.Signature.{Signature}
+use Rattle.fx_core.specs.declared.signatures.Signature.{Signature}
 use Rattle.app_cells.specs.declared.cell.Cell.{Cell}
-use Rattle.fx_trees.specs.declared.broken.Broken.{Broken}
+use Rattle.fx_core.specs.declared.broken.Broken.{Broken}
 use Rattle.app_names.specs.Declarations.{declared_of, is_among, new_behind, own_names}
 use Rattle.app_names.specs.NameRules.{breaks_behind, first_taken, is_taken_thing, name_break, put_break}
 use Rattle.app_names.specs.declared.declarations.Declared.{Declared}

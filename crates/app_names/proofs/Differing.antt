@@ -2,7 +2,7 @@
 use Rattle.std.proofs.Common.{◌≡◌, ◌≢◌, List, [], ◌∷◌, ◌++◌, Bool, not, ◌&&◌, refl, sym}
 use Rattle.std.specs.Bool.{Decides}
 use Rattle.std.proofs.lemmas.Bool.Decides.{Decides-and, Decides-not, Decides-like}
-use Rattle.fx_trees.specs.Lawful.{AreDistinct, DiffersFromAll}
+use Rattle.fx_core.specs.Lawful.{AreDistinct, DiffersFromAll}
 use Rattle.app_names.specs.Decided.{is_new, are_distinct, are_apart}
 
 module _ {A : Type 0} (eq : A → A → Bool) (same : (a b : A) → Decides (eq a b) (a ≡ b)) where

@@ -4,18 +4,18 @@ use Rattle.std.specs.Bool.{Decides}
 use Rattle.std.specs.List.{All, list_all}
 use Rattle.std.proofs.lemmas.Bool.Decides.{Decides-and, Decides-ltb, Decides-by_and, Decides-eqb}
 use Rattle.std.proofs.lemmas.Slice.Eq.{bytes_eq-Decides}
-use Rattle.fx_data.specs.declared.types.Ty.{Ty}
-use Rattle.fx_data.specs.declared.types.Ty.TheVariants as ty
-use Rattle.fx_trees.specs.Lawful.{AreDistinct, id_name, IsColumnType, IsLawfulTable, IsLawfulSchema, IsGallery, IsLawfulGallery, IsLawfulControl, Has, IsLawfulProperty, IsLawfulScreen, IsLawful}
-use Rattle.fx_data.specs.declared.controls.Control.{Control}
-use Rattle.fx_data.specs.declared.controls.Control.TheVariants as control
-use Rattle.fx_trees.specs.declared.names.ControlName.{ControlName}
-use Rattle.fx_trees.specs.declared.names.Names.{Names}
-use Rattle.fx_trees.specs.declared.names.Property.{Property}
-use Rattle.fx_trees.specs.declared.names.Variable.{Variable}
-use Rattle.fx_trees.specs.declared.schema.Column.{Column}
-use Rattle.fx_trees.specs.declared.schema.Schema.{Schema}
-use Rattle.fx_trees.specs.declared.schema.TableShape.{TableShape}
+use Rattle.fx_types.specs.declared.types.Ty.{Ty}
+use Rattle.fx_types.specs.declared.types.Ty.TheVariants as ty
+use Rattle.fx_core.specs.Lawful.{AreDistinct, id_name, IsColumnType, IsLawfulTable, IsLawfulSchema, IsGallery, IsLawfulGallery, IsLawfulControl, Has, IsLawfulProperty, IsLawfulScreen, IsLawful}
+use Rattle.fx_types.specs.declared.controls.Control.{Control}
+use Rattle.fx_types.specs.declared.controls.Control.TheVariants as control
+use Rattle.fx_core.specs.declared.names.ControlName.{ControlName}
+use Rattle.fx_core.specs.declared.names.Names.{Names}
+use Rattle.fx_core.specs.declared.names.Property.{Property}
+use Rattle.fx_core.specs.declared.names.Variable.{Variable}
+use Rattle.fx_core.specs.declared.schema.Column.{Column}
+use Rattle.fx_core.specs.declared.schema.Schema.{Schema}
+use Rattle.fx_core.specs.declared.schema.TableShape.{TableShape}
 use Rattle.app_names.specs.Decided as decided
 use Rattle.app_names.proofs.Differing.{decides_new, decides_distinct, decides_joined}
 

@@ -1,6 +1,6 @@
 -- What trees declare, part by part.
 use Rattle.std.proofs.Common.{◌≡◌, ℕ, zero, suc, ◌<◌, List, [], ◌∷◌, length, get_or, ap, arith}
-use Rattle.fx_trees.specs.Tree.{Tree, NamedTree, forest, parts_of, tree_size, forest_size}
+use Rattle.fx_core.specs.Tree.{Tree, NamedTree, forest, parts_of, tree_size, forest_size}
 
 -- a part is smaller than all of them
 pub part_is_smaller : (ts : List Tree) (i : ℕ) (t : Tree) → i < length ts → t ≡ get_or ts i t → tree_size t < forest_size (forest ts)

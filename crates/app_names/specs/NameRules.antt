@@ -2,15 +2,15 @@
 use Rattle.std.specs.Prelude.{ℕ, suc, ◌-◌, ◌++◌, List, [], ◌∷◌, Bool, ◌&&◌, ◌||◌, nat_eq, nat_lt, length, codes, map, flat_map, Option, Some, None, option_map, is_some, bytes_eq, encode_utf8_all, if◌then◌else◌}
 use Rattle.std.specs.List.{filter, find, list_any}
 use Rattle.std.specs.Fmt.{decimal}
-use Rattle.fx_trees.specs.Lawful.{id_name}
-use Rattle.fx_trees.specs.Literals.{enumeration_of}
-use Rattle.fx_trees.specs.declared.broken.Broken.{Broken}
-use Rattle.fx_trees.specs.declared.names.ControlName.{ControlName}
-use Rattle.fx_trees.specs.declared.rule.Rule.{Rule}
-use Rattle.fx_trees.specs.declared.rule.Rule.TheVariants as rule
-use Rattle.fx_trees.specs.declared.schema.Column.{Column}
-use Rattle.fx_trees.specs.declared.schema.TableShape.{TableShape}
-use Rattle.fx_trees.specs.declared.signatures.Signature.{Signature}
+use Rattle.fx_core.specs.Lawful.{id_name}
+use Rattle.fx_core.specs.Literals.{enumeration_of}
+use Rattle.fx_core.specs.declared.broken.Broken.{Broken}
+use Rattle.fx_core.specs.declared.names.ControlName.{ControlName}
+use Rattle.fx_core.specs.declared.rule.Rule.{Rule}
+use Rattle.fx_core.specs.declared.rule.Rule.TheVariants as rule
+use Rattle.fx_core.specs.declared.schema.Column.{Column}
+use Rattle.fx_core.specs.declared.schema.TableShape.{TableShape}
+use Rattle.fx_core.specs.declared.signatures.Signature.{Signature}
 use Rattle.fx_typing.specs.Meaning.{or_else}
 use Rattle.app_cells.specs.declared.cell.Cell.{Cell}
 use Rattle.app_cells.specs.declared.cell.Spot.{Spot}

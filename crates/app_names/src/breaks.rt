@@ -14,9 +14,9 @@ use crate::things::{declared_things, new_behind, put_behind, things_of};
 use crate::twice::frame_twice;
 use app_cells::{Cell, Frame};
 use fx_base::Memory;
-use fx_data::words::Words;
-use fx_trees::signatures::Signature;
-use fx_trees::{Broken, Rule};
+use fx_core::signatures::Signature;
+use fx_core::{Broken, Rule};
+use fx_types::words::Words;
 use std::alloc::Global;
 use std::collections::BTreeSet;
 

@@ -5,8 +5,8 @@ ghost use Rattle.app_names.specs.NameRules as rules;
 
 use app_cells::Cell;
 use fx_base::Memory;
-use fx_data::words::Words;
-use fx_trees::{Broken, Rule};
+use fx_core::{Broken, Rule};
+use fx_types::words::Words;
 use std::alloc::Global;
 
 /// A rule that the whole app breaks.

@@ -1,15 +1,15 @@
 //! The variables and collections that formulas declare.
 ghost use Rattle.std.specs.Prelude.{◌≡◌, ◌++◌, OnOk, option_map};
-ghost use Rattle.fx_trees.specs.Tree.{forest, names_of, parts_of, places_of};
+ghost use Rattle.fx_core.specs.Tree.{forest, names_of, parts_of, places_of};
 ghost use Rattle.app_names.specs.Declarations as table;
 ghost use Rattle.app_names.specs.Declarations.{declared_among, declared_in};
 ghost use Rattle.app_names.specs.Tops.{below, declared_here};
 
 use fx_base::Memory;
-use fx_data::words::Words;
-use fx_trees::expr::{Expr, FieldName, Node};
-use fx_trees::functions::Acting;
-use fx_trees::signatures::{SigShape, Signature, signature_in};
+use fx_core::expr::{Expr, FieldName, Node};
+use fx_core::functions::Acting;
+use fx_core::signatures::{SigShape, Signature, signature_in};
+use fx_types::words::Words;
 use std::alloc::Global;
 
 /// What a value is given to.

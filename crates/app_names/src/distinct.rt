@@ -3,11 +3,11 @@
 ghost use Rattle.std.specs.Prelude.{◌≡◌, bytes_eq, nat_eq};
 ghost use Rattle.std.specs.Str.{IsAscii};
 ghost use Rattle.app_names.specs.Decided.{are_apart, are_cells_distinct, are_distinct, column_names, formula_cells, is_new, property_cells, table_names};
-ghost use Rattle.fx_trees.specs.Lawful.{id_name};
+ghost use Rattle.fx_core.specs.Lawful.{id_name};
 
-use fx_data::words::Words;
-use fx_trees::names::{FormulaName, Property};
-use fx_trees::schema::{Column, TableShape};
+use fx_core::names::{FormulaName, Property};
+use fx_core::schema::{Column, TableShape};
+use fx_types::words::Words;
 
 // Whether no column has this name.
 fn is_no_column(name: &Words, columns: &[Column]) -> bool

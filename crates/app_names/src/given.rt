@@ -5,7 +5,7 @@ ghost use Rattle.app_names.specs.NameRules as rules;
 
 use app_cells::{Cell, Frame, Spot};
 use fx_base::Memory;
-use fx_data::words::Words;
+use fx_types::words::Words;
 use std::alloc::Global;
 
 fn put_table_names(alloc: Global, frame: &Frame, names: &mut Vec<Words>) -> Result<(), Memory>

@@ -2,14 +2,14 @@
 ghost use Rattle.std.specs.Prelude.{◌≡◌, IsTrue, ◌↔◌};
 ghost use Rattle.std.specs.List.{list_all};
 ghost use Rattle.app_names.specs.Decided as decided;
-ghost use Rattle.fx_trees.specs.Lawful.{IsLawful};
-ghost use Rattle.fx_trees.specs.declared.names.Variable.{Variable};
+ghost use Rattle.fx_core.specs.Lawful.{IsLawful};
+ghost use Rattle.fx_core.specs.declared.names.Variable.{Variable};
 
 use crate::distinct::are_distinct_cells;
 use crate::lawful_schema::is_schema;
-use fx_data::controls::Control;
-use fx_trees::controls::has_property;
-use fx_trees::names::{ControlName, Names, Property, Variable};
+use fx_core::controls::has_property;
+use fx_core::names::{ControlName, Names, Property, Variable};
+use fx_types::controls::Control;
 
 // Whether this is the number of a gallery, where it is a number.
 fn is_lawful_gallery(controls: &[ControlName], gallery: Option<u32>) -> bool

@@ -2,12 +2,12 @@
 ghost use Rattle.std.specs.Prelude.{◌≡◌, IsTrue, ◌↔◌};
 ghost use Rattle.std.specs.List.{list_all};
 ghost use Rattle.app_names.specs.Decided as decided;
-ghost use Rattle.fx_trees.specs.Lawful.{IsLawfulSchema};
-ghost use Rattle.fx_trees.specs.declared.schema.Column.{Column};
+ghost use Rattle.fx_core.specs.Lawful.{IsLawfulSchema};
+ghost use Rattle.fx_core.specs.declared.schema.Column.{Column};
 
 use crate::distinct::{are_distinct_columns, are_distinct_tables, is_without_id};
-use fx_data::types::Ty;
-use fx_trees::schema::{Column, Schema, TableShape};
+use fx_core::schema::{Column, Schema, TableShape};
+use fx_types::types::Ty;
 
 // Whether a column may have this type.
 fn is_column_type(ty: &Ty) -> bool

@@ -8,8 +8,8 @@ use crate::broken::{in_cell, word_with_count};
 use crate::declarations::Declared;
 use app_cells::{Cell, Spot};
 use fx_base::Memory;
-use fx_data::words::Words;
-use fx_trees::{Broken, Rule};
+use fx_core::{Broken, Rule};
+use fx_types::words::Words;
 use std::alloc::Global;
 
 /// The most bytes of a formula.

@@ -5,7 +5,7 @@ ghost use Rattle.app_names.specs.Tops.{has};
 
 use app_cells::Spot;
 use fx_base::Memory;
-use fx_data::words::Words;
+use fx_types::words::Words;
 use std::alloc::Global;
 use std::collections::BTreeSet;
 

@@ -1,9 +1,9 @@
 //! The names that the formulas of an app may use.
 ghost use Rattle.std.specs.Prelude.{◌≡◌, ◌<◌, ◌≤◌, ◌++◌, [], All, IfOk, OnOk, length, map};
 ghost use Rattle.app_cells.specs.Spots.{IsFrame, IsPlaced};
-ghost use Rattle.fx_trees.specs.Lawful.{IsLawful};
-ghost use Rattle.fx_trees.specs.declared.names.FormulaName.{FormulaName as Formula};
-ghost use Rattle.fx_trees.specs.declared.names.Property.{Property as PropertyCell};
+ghost use Rattle.fx_core.specs.Lawful.{IsLawful};
+ghost use Rattle.fx_core.specs.declared.names.FormulaName.{FormulaName as Formula};
+ghost use Rattle.fx_core.specs.declared.names.Property.{Property as PropertyCell};
 ghost use Rattle.fx_sig.specs.Entries.{entries, entry};
 ghost use Rattle.app_names.specs.AppNames as names;
 ghost use Rattle.app_names.specs.AppNames.{AreNames};
@@ -15,12 +15,12 @@ use crate::name_sets::set_of;
 use crate::things::things_of;
 use app_cells::{Cell, Frame, Spot};
 use fx_base::{InOrder, Memory};
-use fx_data::types::Ty;
-use fx_trees::formulas::FormulaList;
-use fx_trees::names::{
+use fx_core::formulas::FormulaList;
+use fx_core::names::{
     Collection, CollectionList, FormulaName, Names, Property, PropertyList, Variable, VariableList,
 };
-use fx_trees::signatures::Signature;
+use fx_core::signatures::Signature;
+use fx_types::types::Ty;
 use std::alloc::Global;
 
 // Adds a cell of this number, if it is a named formula.

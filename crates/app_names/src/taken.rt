@@ -9,9 +9,9 @@ use crate::broken::in_cell;
 use crate::declarations::{Declared, Thing};
 use app_cells::{Cell, Spot};
 use fx_base::Memory;
-use fx_data::words::Words;
-use fx_trees::literals::enumeration_of;
-use fx_trees::{Broken, Rule};
+use fx_core::literals::enumeration_of;
+use fx_core::{Broken, Rule};
+use fx_types::words::Words;
 use std::alloc::Global;
 use std::collections::BTreeSet;
 

@@ -10,8 +10,8 @@ use crate::declarations::{Declared, Thing, declare};
 use crate::taken::is_global;
 use app_cells::Cell;
 use fx_base::Memory;
-use fx_data::words::Words;
-use fx_trees::signatures::Signature;
+use fx_core::signatures::Signature;
+use fx_types::words::Words;
 use std::alloc::Global;
 use std::collections::BTreeSet;
 

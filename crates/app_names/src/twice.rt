@@ -3,7 +3,7 @@ ghost use Rattle.std.specs.Prelude.{◌≡◌, ◌≤◌, ◌||◌, [], IfOk, le
 ghost use Rattle.app_names.specs.Declarations.{is_among};
 ghost use Rattle.app_names.specs.NameRules as rules;
 ghost use Rattle.app_names.specs.Tops.{has};
-ghost use Rattle.fx_trees.specs.declared.schema.Column.{Column as TableColumn};
+ghost use Rattle.fx_core.specs.declared.schema.Column.{Column as TableColumn};
 
 use crate::broken::word;
 use crate::given::{put_formula_names, screen_names, table_names};
@@ -11,8 +11,8 @@ use crate::name_sets::{put_name, set_of};
 use crate::taken::is_reserved;
 use app_cells::{Cell, Frame};
 use fx_base::Memory;
-use fx_data::words::Words;
-use fx_trees::schema::{Column, TableShape};
+use fx_core::schema::{Column, TableShape};
+use fx_types::words::Words;
 use std::alloc::Global;
 use std::collections::BTreeSet;
 

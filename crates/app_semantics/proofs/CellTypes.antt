@@ -8,17 +8,17 @@ use Rattle.app_cells.specs.Leaning.{cell_of_property, default_cell, default_name
 use Rattle.app_cells.specs.declared.app.App.{App}
 use Rattle.app_cells.specs.declared.app.CellInfo.{CellInfo}
 use Rattle.app_semantics.specs.Sound.{IsCellOf, IsSound}
-use Rattle.fx_data.specs.TypeView.{shape}
-use Rattle.fx_data.specs.Types.{Shape, tables}
-use Rattle.fx_data.specs.declared.controls.Control.TheVariants as control
-use Rattle.fx_data.specs.declared.controls.Control.{Control}
-use Rattle.fx_trees.specs.Controls.{input_type, is_items, property_type}
-use Rattle.fx_trees.specs.SourceTypes.{formula_cell, item_columns, property_cell, property_of, sources}
-use Rattle.fx_trees.specs.declared.names.ControlName.{ControlName}
-use Rattle.fx_trees.specs.declared.names.FormulaName.{FormulaName}
-use Rattle.fx_trees.specs.declared.names.Names.{Names}
-use Rattle.fx_trees.specs.declared.names.Property.{Property}
-use Rattle.fx_trees.specs.declared.sources.Source.TheVariants as source
+use Rattle.fx_types.specs.TypeView.{shape}
+use Rattle.fx_types.specs.Types.{Shape, tables}
+use Rattle.fx_types.specs.declared.controls.Control.TheVariants as control
+use Rattle.fx_types.specs.declared.controls.Control.{Control}
+use Rattle.fx_core.specs.Controls.{input_type, is_items, property_type}
+use Rattle.fx_core.specs.SourceTypes.{formula_cell, item_columns, property_cell, property_of, sources}
+use Rattle.fx_core.specs.declared.names.ControlName.{ControlName}
+use Rattle.fx_core.specs.declared.names.FormulaName.{FormulaName}
+use Rattle.fx_core.specs.declared.names.Names.{Names}
+use Rattle.fx_core.specs.declared.names.Property.{Property}
+use Rattle.fx_core.specs.declared.sources.Source.TheVariants as source
 
 pub equal : (a b : ℕ) → nat_eq a b ≡ true → a ≡ b
 equal a b e = grind arith

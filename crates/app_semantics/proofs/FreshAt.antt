@@ -13,8 +13,8 @@ use Rattle.app_semantics.specs.Laws.{OneFreshAt}
 use Rattle.app_semantics.specs.Needed.{IsFreshAt, Needs, further, itself, stands_alone, stands_by}
 use Rattle.app_semantics.specs.Present.{Present}
 use Rattle.app_semantics.specs.Sound.{IsSound}
-use Rattle.fx_data.specs.TypeView.{shape}
-use Rattle.fx_data.specs.Values.{Data, blank}
+use Rattle.fx_types.specs.TypeView.{shape}
+use Rattle.fx_types.specs.Values.{Data, blank}
 use Rattle.fx_semantics.specs.Unique.{OneValue}
 use Rattle.fx_value.specs.Fits.{fits_in}
 

@@ -15,13 +15,13 @@ use Rattle.app_semantics.specs.Laws.{FreshFits, OneFresh}
 use Rattle.app_semantics.specs.Present.{Gives, IsTable, Present}
 use Rattle.app_semantics.specs.Sound.{IsCalm, IsSound, IsSoundCell, context_at}
 use Rattle.app_semantics.specs.Telling.{table_told, told_on}
-use Rattle.fx_builtins.specs.Dates.{IsDayOrInvalid}
-use Rattle.fx_data.specs.Days.{IsDay}
-use Rattle.fx_data.specs.TypeView.{shape}
-use Rattle.fx_data.specs.Types.{Shape, tables}
-use Rattle.fx_data.specs.Values.{Data}
-use Rattle.fx_data.specs.declared.faults.Kind.{Kind}
-use Rattle.fx_data.specs.declared.faults.Kind.TheVariants.{InvalidArgument}
+use Rattle.fx_primitives.specs.Dates.{IsDayOrInvalid}
+use Rattle.fx_types.specs.Days.{IsDay}
+use Rattle.fx_types.specs.TypeView.{shape}
+use Rattle.fx_types.specs.Types.{Shape, tables}
+use Rattle.fx_types.specs.Values.{Data}
+use Rattle.fx_types.specs.declared.faults.Kind.{Kind}
+use Rattle.fx_types.specs.declared.faults.Kind.TheVariants.{InvalidArgument}
 use Rattle.fx_semantics.proofs.Wider.{stays}
 use Rattle.fx_scalar.proofs.Single.{AtMostOne, day_one}
 use Rattle.fx_scalar.specs.Answers.{date_answer}
@@ -31,17 +31,17 @@ use Rattle.fx_semantics.proofs.Whole.{all_sound}
 use Rattle.fx_semantics.specs.Sound.{IsItemFit, IsLawfulTyping}
 use Rattle.fx_semantics.specs.Sources.{FitsIn, Gives as GivesTold}
 use Rattle.fx_semantics.specs.Unique.{OneValue}
-use Rattle.fx_trees.specs.Reads.{IsAmong}
-use Rattle.fx_trees.specs.SourceTypes.{columns_of, sources}
-use Rattle.fx_trees.specs.declared.names.Names.{Names}
-use Rattle.fx_trees.specs.declared.sources.Source.TheVariants as source
-use Rattle.fx_trees.specs.declared.sources.Source.{Source}
+use Rattle.fx_core.specs.Reads.{IsAmong}
+use Rattle.fx_core.specs.SourceTypes.{columns_of, sources}
+use Rattle.fx_core.specs.declared.names.Names.{Names}
+use Rattle.fx_core.specs.declared.sources.Source.TheVariants as source
+use Rattle.fx_core.specs.declared.sources.Source.{Source}
 use Rattle.fx_typing.specs.Typing.{item_of}
 use Rattle.fx_typing.specs.WellTyped.{Context}
 use Rattle.fx_value.specs.Fits.{fits_in}
 use Rattle.app_semantics.specs.Holding.{HoldRows, HoldsFitting}
-use Rattle.fx_trees.specs.declared.schema.TableShape.{TableShape}
-use Rattle.fx_trees.specs.Term.{Term}
+use Rattle.fx_core.specs.declared.schema.TableShape.{TableShape}
+use Rattle.fx_core.specs.Term.{Term}
 use Rattle.fx_plan.proofs.Retyped.{types_limited}
 use Rattle.fx_plan.specs.Constants.{ReadsTables}
 use Rattle.fx_plan.specs.Limited.{limited}

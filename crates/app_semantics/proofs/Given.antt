@@ -11,27 +11,27 @@ use Rattle.app_semantics.specs.Chosen.{chosen_of, chosen_row, has_id, row_at, ro
 use Rattle.app_semantics.specs.Present.{Gives, IsTable, Present, given_or, input_of, items_of, selected_of, unset, unset_at, value_or}
 use Rattle.app_semantics.specs.Sound.{IsSound}
 use Rattle.app_semantics.specs.Telling.{told_on}
-use Rattle.fx_data.specs.TypeView.{shape}
-use Rattle.fx_data.specs.Types.{ColumnList, Shape, booleans, dates, numbers, records, tables}
-use Rattle.fx_data.specs.Types as types
-use Rattle.fx_data.specs.Values.{Data, blank, number, text, boolean, date, rec, tab, fault, no_rows}
-use Rattle.fx_data.specs.declared.controls.Control.TheVariants as control
-use Rattle.fx_data.specs.declared.controls.Control.{Control}
+use Rattle.fx_types.specs.TypeView.{shape}
+use Rattle.fx_types.specs.Types.{ColumnList, Shape, booleans, dates, numbers, records, tables}
+use Rattle.fx_types.specs.Types as types
+use Rattle.fx_types.specs.Values.{Data, blank, number, text, boolean, date, rec, tab, fault, no_rows}
+use Rattle.fx_types.specs.declared.controls.Control.TheVariants as control
+use Rattle.fx_types.specs.declared.controls.Control.{Control}
 use Rattle.fx_scalar.specs.ScalarFunctions.{IsToday}
 use Rattle.fx_semantics.proofs.Tables.{RowsFit, rows_in_fit}
 use Rattle.fx_semantics.specs.Rows.{rows_in}
 use Rattle.fx_tables.proofs.FitRows.{RowFits}
 use Rattle.fx_value.specs.Columns.{Row}
-use Rattle.fx_trees.specs.Controls.{input_type}
-use Rattle.fx_trees.specs.SourceTypes.{chosen_of as chosen_type, columns_of, item_columns, item_type, sources}
-use Rattle.fx_trees.specs.declared.names.ControlName.{ControlName}
-use Rattle.fx_trees.specs.declared.names.Names.{Names}
-use Rattle.fx_trees.specs.declared.sources.Source.TheVariants as source
-use Rattle.fx_trees.specs.declared.sources.Source.{Source}
+use Rattle.fx_core.specs.Controls.{input_type}
+use Rattle.fx_core.specs.SourceTypes.{chosen_of as chosen_type, columns_of, item_columns, item_type, sources}
+use Rattle.fx_core.specs.declared.names.ControlName.{ControlName}
+use Rattle.fx_core.specs.declared.names.Names.{Names}
+use Rattle.fx_core.specs.declared.sources.Source.TheVariants as source
+use Rattle.fx_core.specs.declared.sources.Source.{Source}
 use Rattle.fx_value.specs.Fits.{fits_in}
 use Rattle.app_semantics.specs.Holding.{HoldRows, HoldsFitting}
-use Rattle.fx_trees.specs.declared.schema.TableShape.{TableShape}
-use Rattle.fx_trees.specs.Lawful.{IsLawful, IsLawfulTable}
+use Rattle.fx_core.specs.declared.schema.TableShape.{TableShape}
+use Rattle.fx_core.specs.Lawful.{IsLawful, IsLawfulTable}
 use Rattle.fx_plan.proofs.Placing.{lawful_at}
 use Rattle.row_queries.proofs.Fitting.{all_fit}
 use Rattle.row_queries.specs.declared.rows.Row.{Row as RowOfTable}

@@ -6,9 +6,9 @@ use Rattle.std.specs.List.{Contains, slice_get}
 use Rattle.app_cells.specs.Leaning.{LeansOn, cell_behind, edge_to, edges_by, edges_from, edges_of}
 use Rattle.app_cells.specs.declared.app.CellInfo.{CellInfo}
 use Rattle.depend_graph.specs.Order.{IsOrder}
-use Rattle.fx_trees.specs.Reads.{IsAmong}
-use Rattle.fx_trees.specs.declared.names.Names.{Names}
-use Rattle.fx_trees.specs.declared.sources.Source.{Source}
+use Rattle.fx_core.specs.Reads.{IsAmong}
+use Rattle.fx_core.specs.declared.names.Names.{Names}
+use Rattle.fx_core.specs.declared.sources.Source.{Source}
 
 found_at : (xs : List ℕ) (x k : ℕ) → k < length xs → get_or xs k x ≡ x → get_or xs k 0 ≡ x
 found_at xs x k lt e = get_or_default xs k 0 x lt ∙ e

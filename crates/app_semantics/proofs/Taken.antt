@@ -4,10 +4,10 @@ use Rattle.std.specs.Prelude.{◌&&◌, if◌then◌else◌}
 use Rattle.app_semantics.proofs.Typings.{among_either}
 use Rattle.fx_plan.specs.Sites.{count_of, deeper, is_first, is_query, opens}
 use Rattle.fx_semantics.specs.Sound.{AreLawfulTrees, IsLawfulTree}
-use Rattle.fx_trees.specs.Reads.{IsAmong, read_by, sources_among, sources_in}
-use Rattle.fx_trees.specs.Term.{Term, Terms, of, nil, cons, Top}
-use Rattle.fx_trees.specs.declared.schema.TableShape.{TableShape}
-use Rattle.fx_trees.specs.declared.sources.Source.{Source}
+use Rattle.fx_core.specs.Reads.{IsAmong, read_by, sources_among, sources_in}
+use Rattle.fx_core.specs.Term.{Term, Terms, of, nil, cons, Top}
+use Rattle.fx_core.specs.declared.schema.TableShape.{TableShape}
+use Rattle.fx_core.specs.declared.sources.Source.{Source}
 use Rattle.fx_semantics.proofs.Wider.{among_left, among_right}
 use Rattle.fx_plan.specs.Limited.{first_rows, limited, parts_limited, takes_first_whole}
 

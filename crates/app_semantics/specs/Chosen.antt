@@ -2,12 +2,12 @@
 use Rattle.std.specs.Prelude.{ℕ, zero, suc, pos, ◌*◌, ◌/◌, ◌%◌, ◌==◌, ◌&&◌, List, Bool, false, Option, Some, None, if◌then◌else◌, nat_le, slice_get}
 use Rattle.std.specs.List.{find}
 use Rattle.std.specs.Ordering.{int_eq}
-use Rattle.fx_data.specs.Lookup.{item_of}
-use Rattle.fx_data.specs.Values.{Data, blank, number, fault}
+use Rattle.fx_types.specs.Lookup.{item_of}
+use Rattle.fx_types.specs.Values.{Data, blank, number, fault}
 use Rattle.fx_semantics.specs.Around.{record_of}
 use Rattle.fx_semantics.specs.Rows.{rows_in}
 use Rattle.fx_value.specs.Columns.{Row}
-use Rattle.fx_trees.specs.Lawful.{id_name}
+use Rattle.fx_core.specs.Lawful.{id_name}
 
 -- a row has this number as its ID
 abbrev pub is_number : ℕ → Option Data → Bool

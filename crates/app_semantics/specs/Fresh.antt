@@ -5,12 +5,12 @@ use Rattle.app_cells.specs.declared.app.App.{App}
 use Rattle.app_cells.specs.declared.app.CellInfo.{CellInfo}
 use Rattle.app_semantics.specs.Holding.{HoldRows}
 use Rattle.app_semantics.specs.Present.{Gives, Present}
-use Rattle.fx_data.specs.Values.{Data, blank}
+use Rattle.fx_types.specs.Values.{Data, blank}
 use Rattle.fx_semantics.specs.Around.{Around}
-use Rattle.fx_trees.specs.Reads.{IsAmong}
-use Rattle.fx_trees.specs.declared.sources.Source.{Source}
-use Rattle.fx_trees.specs.declared.sources.Source.TheVariants as source
-use Rattle.fx_data.specs.TypeView.{shape}
+use Rattle.fx_core.specs.Reads.{IsAmong}
+use Rattle.fx_core.specs.declared.sources.Source.{Source}
+use Rattle.fx_core.specs.declared.sources.Source.TheVariants as source
+use Rattle.fx_types.specs.TypeView.{shape}
 use Rattle.fx_value.specs.Fits.{fits_in}
 use Rattle.fx_plan.specs.Limited.{IsTakenValue}
 use Rattle.row_queries.specs.declared.rows.Row.{Row}

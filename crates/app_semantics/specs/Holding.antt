@@ -1,12 +1,12 @@
 -- What a session holds, and what tables do, fits the types that the names of their app give.
 use Rattle.std.specs.Prelude.{◌≡◌, ℕ, true, List, Option, Some, None, slice_get}
 use Rattle.std.specs.List.{All}
-use Rattle.fx_data.specs.Types.{Shape}
-use Rattle.fx_trees.specs.SourceTypes.{sources}
-use Rattle.fx_trees.specs.declared.names.Names.{Names}
-use Rattle.fx_trees.specs.declared.schema.Schema.{Schema}
-use Rattle.fx_trees.specs.declared.schema.TableShape.{TableShape}
-use Rattle.fx_trees.specs.declared.sources.Source.{Source}
+use Rattle.fx_types.specs.Types.{Shape}
+use Rattle.fx_core.specs.SourceTypes.{sources}
+use Rattle.fx_core.specs.declared.names.Names.{Names}
+use Rattle.fx_core.specs.declared.schema.Schema.{Schema}
+use Rattle.fx_core.specs.declared.schema.TableShape.{TableShape}
+use Rattle.fx_core.specs.declared.sources.Source.{Source}
 use Rattle.fx_value.specs.Fits.{fits_in}
 use Rattle.row_queries.specs.TableRows.{IsRowOf, rows_at}
 use Rattle.row_queries.specs.declared.rows.Row.{Row}

@@ -5,8 +5,8 @@ use Rattle.app_semantics.specs.Fresh.{AreKnown, IsFresh}
 use Rattle.app_semantics.specs.Needed.{IsFreshAt}
 use Rattle.app_semantics.specs.Present.{Present}
 use Rattle.app_semantics.specs.Sound.{IsSound}
-use Rattle.fx_data.specs.TypeView.{shape}
-use Rattle.fx_data.specs.Values.{Data}
+use Rattle.fx_types.specs.TypeView.{shape}
+use Rattle.fx_types.specs.Values.{Data}
 use Rattle.fx_value.specs.Fits.{fits_in}
 use Rattle.app_semantics.specs.Holding.{HoldRows, HoldsFitting}
 

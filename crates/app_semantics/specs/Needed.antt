@@ -5,7 +5,7 @@ use Rattle.app_cells.specs.declared.app.App.{App}
 use Rattle.app_cells.specs.declared.app.CellInfo.{CellInfo}
 use Rattle.app_semantics.specs.Fresh.{IsCellValue}
 use Rattle.app_semantics.specs.Present.{Present}
-use Rattle.fx_data.specs.Values.{Data}
+use Rattle.fx_types.specs.Values.{Data}
 
 -- a formula has a value by itself: it neither acts nor sees an item
 abbrev pub stands_by : Bool → Option ℕ → Bool

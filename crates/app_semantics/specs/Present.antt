@@ -3,15 +3,15 @@ use Rattle.std.specs.Prelude.{◌≡◌, ℕ, pos, List, false, Option, Some, No
 use Rattle.app_cells.specs.Leaning.{default_cell, items_cell}
 use Rattle.app_cells.specs.declared.app.App.{App}
 use Rattle.app_semantics.specs.Chosen.{chosen_of}
-use Rattle.fx_data.specs.Values.{Data, blank, number, boolean, tab, no_rows}
-use Rattle.fx_data.specs.declared.controls.Control.TheVariants as control
-use Rattle.fx_data.specs.declared.controls.Control.{Control}
+use Rattle.fx_types.specs.Values.{Data, blank, number, boolean, tab, no_rows}
+use Rattle.fx_types.specs.declared.controls.Control.TheVariants as control
+use Rattle.fx_types.specs.declared.controls.Control.{Control}
 use Rattle.fx_scalar.specs.ScalarFunctions.{IsToday}
-use Rattle.fx_trees.specs.declared.names.ControlName.{ControlName}
-use Rattle.fx_trees.specs.declared.names.Names.{Names}
-use Rattle.fx_trees.specs.declared.schema.TableShape.{TableShape}
-use Rattle.fx_trees.specs.declared.sources.Source.{Source}
-use Rattle.fx_trees.specs.declared.sources.Source.TheVariants as source
+use Rattle.fx_core.specs.declared.names.ControlName.{ControlName}
+use Rattle.fx_core.specs.declared.names.Names.{Names}
+use Rattle.fx_core.specs.declared.schema.TableShape.{TableShape}
+use Rattle.fx_core.specs.declared.sources.Source.{Source}
+use Rattle.fx_core.specs.declared.sources.Source.TheVariants as source
 use Rattle.row_queries.specs.TableRows.{rows_at, table_of}
 use Rattle.row_queries.specs.declared.rows.Row.{Row}
 use Rattle.session_state.specs.Sessions.{SessionState, held}

@@ -4,8 +4,8 @@ use Rattle.app_cells.specs.Leaning.{cell_of_property}
 use Rattle.app_cells.specs.declared.app.CellInfo.{CellInfo}
 use Rattle.app_semantics.specs.Fresh.{IsValueOf}
 use Rattle.app_semantics.specs.Present.{Present, value_or}
-use Rattle.fx_data.specs.Values.{Data, boolean}
-use Rattle.fx_trees.specs.declared.names.Names.{Names}
+use Rattle.fx_types.specs.Values.{Data, boolean}
+use Rattle.fx_core.specs.declared.names.Names.{Names}
 
 -- the value of a control's property, by the bytes of its name, and another value where it isn't written
 abbrev pub property_value : Names → (ℕ → Data) → ℕ → List ℕ → Data → Data

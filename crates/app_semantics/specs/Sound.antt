@@ -7,18 +7,18 @@ use Rattle.app_cells.specs.declared.app.App.{App}
 use Rattle.app_cells.specs.declared.app.CellInfo.{CellInfo}
 use Rattle.app_cells.specs.declared.frame.Frame.{Frame}
 use Rattle.depend_graph.specs.Order.{IsOrder}
-use Rattle.fx_data.specs.TypeView.{shape}
-use Rattle.fx_data.specs.Types.{Shape}
+use Rattle.fx_types.specs.TypeView.{shape}
+use Rattle.fx_types.specs.Types.{Shape}
 use Rattle.fx_semantics.specs.Sound.{IsLawfulContext, IsLawfulTree}
-use Rattle.fx_trees.specs.Lawful.{IsLawful}
-use Rattle.fx_trees.specs.Reads.{IsAmong, sources_in}
-use Rattle.fx_trees.specs.SourceTypes.{property_of, sources}
-use Rattle.fx_trees.specs.declared.names.ControlName.{ControlName}
-use Rattle.fx_trees.specs.declared.names.FormulaName.{FormulaName}
-use Rattle.fx_trees.specs.declared.names.Names.{Names}
-use Rattle.fx_trees.specs.declared.names.Property.{Property}
-use Rattle.fx_trees.specs.declared.schema.TableShape.{TableShape}
-use Rattle.fx_trees.specs.declared.sources.Source.{Source}
+use Rattle.fx_core.specs.Lawful.{IsLawful}
+use Rattle.fx_core.specs.Reads.{IsAmong, sources_in}
+use Rattle.fx_core.specs.SourceTypes.{property_of, sources}
+use Rattle.fx_core.specs.declared.names.ControlName.{ControlName}
+use Rattle.fx_core.specs.declared.names.FormulaName.{FormulaName}
+use Rattle.fx_core.specs.declared.names.Names.{Names}
+use Rattle.fx_core.specs.declared.names.Property.{Property}
+use Rattle.fx_core.specs.declared.schema.TableShape.{TableShape}
+use Rattle.fx_core.specs.declared.sources.Source.{Source}
 use Rattle.fx_semantics.specs.NamedTypes.{HasLawfulTypes}
 use Rattle.fx_semantics.specs.Places.{IsPlaced}
 use Rattle.fx_typing.specs.Acts.{acts}

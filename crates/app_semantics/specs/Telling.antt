@@ -1,11 +1,11 @@
 -- The values of sources at a day.
 use Rattle.std.specs.Prelude.{ℕ, List, Option, Some, slice_get}
 use Rattle.app_semantics.specs.Present.{input_of, selected_of}
-use Rattle.fx_data.specs.Values.{Data, blank}
-use Rattle.fx_trees.specs.declared.names.Names.{Names}
-use Rattle.fx_trees.specs.declared.schema.TableShape.{TableShape}
-use Rattle.fx_trees.specs.declared.sources.Source.{Source}
-use Rattle.fx_trees.specs.declared.sources.Source.TheVariants as source
+use Rattle.fx_types.specs.Values.{Data, blank}
+use Rattle.fx_core.specs.declared.names.Names.{Names}
+use Rattle.fx_core.specs.declared.schema.TableShape.{TableShape}
+use Rattle.fx_core.specs.declared.sources.Source.{Source}
+use Rattle.fx_core.specs.declared.sources.Source.TheVariants as source
 use Rattle.row_queries.specs.TableRows.{rows_at, table_of}
 use Rattle.row_queries.specs.declared.rows.Row.{Row}
 use Rattle.session_state.specs.Sessions.{SessionState, held}

@@ -2,11 +2,11 @@
 use Rattle.std.proofs.Common.{◌≡◌, ℕ, suc, ◌+◌, ◌≤◌, Bool, true, false, List, [], ◌∷◌, ◌++◌, Option, Some, None, IfSome, codes, cond, length, map, refl, ap, sym, ◌∙◌, subst, arith, All, append_assoc, length-append}
 use Rattle.std.specs.Prelude.{encode_utf8_all, find, flat_map, nat_eq, slice_get}
 use Rattle.std.proofs.lemmas.List.Elements.{All-nil, All-cons, All-head, All-tail, All-append}
-use Rattle.fx_data.proofs.Texts.{encodes_chars}
-use Rattle.fx_data.specs.Words.{scalars_of}
-use Rattle.fx_trees.specs.Controls.{has_property}
-use Rattle.fx_trees.specs.Lawful.{Has}
-use Rattle.fx_trees.specs.declared.names.ControlName.{ControlName}
+use Rattle.fx_types.proofs.Texts.{encodes_chars}
+use Rattle.fx_types.specs.Words.{scalars_of}
+use Rattle.fx_core.specs.Controls.{has_property}
+use Rattle.fx_core.specs.Lawful.{Has}
+use Rattle.fx_core.specs.declared.names.ControlName.{ControlName}
 use Rattle.app_file.specs.FormOfApp.{property_names}
 use Rattle.app_cells.specs.declared.app.App.{App}
 use Rattle.app_cells.specs.declared.app.CellInfo.{CellInfo}

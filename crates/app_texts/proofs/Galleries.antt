@@ -3,9 +3,9 @@ use Rattle.std.proofs.Common.{◌≡◌, ℕ, zero, suc, ◌+◌, ◌<◌, ◌�
 use Rattle.std.specs.Prelude.{option_map, slice_get}
 use Rattle.std.proofs.lemmas.List.{append-nil, length-map}
 use Rattle.std.proofs.lemmas.List.Elements.{All-nil, All-cons, All-head, All-tail, All-append}
-use Rattle.fx_data.specs.declared.controls.Control.TheVariants as control
-use Rattle.fx_trees.specs.Lawful.{IsGallery, IsLawfulGallery}
-use Rattle.fx_trees.specs.declared.names.ControlName.{ControlName}
+use Rattle.fx_types.specs.declared.controls.Control.TheVariants as control
+use Rattle.fx_core.specs.Lawful.{IsGallery, IsLawfulGallery}
+use Rattle.fx_core.specs.declared.names.ControlName.{ControlName}
 use Rattle.app_file.specs.declared.file.ControlShape.{ControlShape}
 use Rattle.app_file.specs.declared.file.ScreenShape.{ScreenShape}
 use Rattle.app_texts.specs.Files.{HasGalleries, IsGalleryAt, IsGalleryShape, control_of, controls_from}

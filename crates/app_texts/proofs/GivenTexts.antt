@@ -3,7 +3,7 @@ use Rattle.std.proofs.Common.{inl, inr, ◌⊎◌, ◌≡◌, ℕ, ◌<◌, List
 use Rattle.std.specs.Prelude.{filter_map, find}
 use Rattle.fx_base.specs.declared.or_memory.OrMemory.{OrMemory}
 use Rattle.fx_base.specs.declared.or_memory.OrMemory.TheVariants as end
-use Rattle.fx_trees.specs.declared.broken.Broken.{Broken}
+use Rattle.fx_core.specs.declared.broken.Broken.{Broken}
 use Rattle.app_file.specs.Files.{broken_of}
 use Rattle.app_file.specs.declared.breaks.FileBreak.TheVariants as why
 use Rattle.app_file.specs.declared.limits.Limit.TheVariants as limit

@@ -7,7 +7,7 @@ use Rattle.serde_json.specs.Data.{Data}
 use Rattle.serde_json.specs.Find.{as_object, get}
 use Rattle.app_file.specs.declared.steps.Step.{Step}
 use Rattle.app_file.specs.declared.steps.Step.TheVariants.{Element, Member}
-use Rattle.fx_data.specs.Words.{scalars_of}
+use Rattle.fx_types.specs.Words.{scalars_of}
 use Rattle.app_file.specs.Contents.{all, all_behind, at}
 use Rattle.app_file.specs.FormOfApp.{leaf}
 use Rattle.app_file.specs.Forms.{Form, such, in_turn, members, by_itself, Fields, IsField, IsBad, IsFine, elements, bad_by_itself, bad_element, bad_member, no_member, no_object, not_such}

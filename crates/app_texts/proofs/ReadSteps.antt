@@ -4,7 +4,7 @@ use Rattle.std.proofs.lemmas.List.{append-nil}
 use Rattle.std.proofs.lemmas.List.Elements.{All-nil, All-cons, All-append}
 use Rattle.fx_base.specs.declared.or_memory.OrMemory.{OrMemory}
 use Rattle.fx_base.specs.declared.or_memory.OrMemory.TheVariants as end
-use Rattle.fx_trees.specs.declared.broken.Broken.{Broken}
+use Rattle.fx_core.specs.declared.broken.Broken.{Broken}
 use Rattle.fx_parser.specs.declared.entries.Named.{Named}
 use Rattle.app_cells.specs.declared.cell.Cell.{Cell}
 use Rattle.app_cells.specs.declared.frame.Frame.{Frame}
@@ -18,7 +18,7 @@ use Rattle.fx_lexer.specs.declared.token.LexWhat.{LexWhat}
 use Rattle.fx_lexer.specs.declared.token.LexWhat.TheVariants as what
 use Rattle.fx_lexer.specs.declared.token.Token.{Token}
 use Rattle.fx_lexer.specs.Lexed.{Lexed}
-use Rattle.fx_trees.specs.declared.rule.Rule.TheVariants as rule
+use Rattle.fx_core.specs.declared.rule.Rule.TheVariants as rule
 use Rattle.fx_parser.specs.Details.{bad_token_words, unexpected_words}
 use Rattle.fx_parser.specs.Texts.{AreNamedEnd}
 use Rattle.fx_parser.specs.declared.end.ParseEnd.{ParseEnd}

@@ -2,9 +2,9 @@
 use Rattle.std.proofs.Common.{◌≡◌, ℕ, List, [], ◌∷◌, ◌++◌, Result, Ok, Err, inl, inr, ap, sym, subst, ◌∙◌, All}
 use Rattle.std.specs.Prelude.{encode_utf8_all}
 use Rattle.std.proofs.lemmas.List.Elements.{All-nil, All-append}
-use Rattle.fx_trees.specs.declared.app_end.AppEnd.{AppEnd}
-use Rattle.fx_trees.specs.declared.app_end.AppEnd.TheVariants.{Refused, Memory}
-use Rattle.fx_trees.specs.declared.broken.Broken.{Broken}
+use Rattle.fx_core.specs.declared.app_end.AppEnd.{AppEnd}
+use Rattle.fx_core.specs.declared.app_end.AppEnd.TheVariants.{Refused, Memory}
+use Rattle.fx_core.specs.declared.broken.Broken.{Broken}
 use Rattle.app_file.specs.declared.file.AppFile.{AppFile}
 use Rattle.app_cells.specs.declared.cell.Cell.{Cell}
 use Rattle.app_cells.specs.declared.frame.Frame.{Frame}

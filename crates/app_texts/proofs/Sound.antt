@@ -6,7 +6,7 @@ use Rattle.std.proofs.lemmas.List.{length-map}
 use Rattle.std.proofs.lemmas.List.Elements.{All-nil, All-cons, All-head, All-tail, All-filter, All-weaker}
 use Rattle.std.proofs.lemmas.List.{map-append}
 use Rattle.serde_json.specs.Data.{Data}
-use Rattle.fx_trees.specs.declared.schema.TableShape.{TableShape}
+use Rattle.fx_core.specs.declared.schema.TableShape.{TableShape}
 use Rattle.app_file.specs.declared.breaks.FileBreak.{FileBreak}
 use Rattle.app_file.specs.declared.file.AppFile.{AppFile}
 use Rattle.app_file.specs.declared.file.ControlShape.{ControlShape}

@@ -1,7 +1,7 @@
 -- The formulas of an app in which one is replaced.
 use Rattle.std.specs.Prelude.{◌≡◌, ◌≢◌, ◌≤◌, ◌<◌, ℕ, List, [], ◌∷◌, Bool, true, false, Option, Some, None, Result, Ok, Err, find, filter_map, length, encode_utf8_all, if◌then◌else◌}
-use Rattle.fx_trees.specs.declared.broken.Broken.{Broken}
-use Rattle.fx_trees.specs.declared.rule.Rule.TheVariants as rule
+use Rattle.fx_core.specs.declared.broken.Broken.{Broken}
+use Rattle.fx_core.specs.declared.rule.Rule.TheVariants as rule
 use Rattle.app_file.specs.declared.breaks.FileBreak.TheVariants as why
 use Rattle.app_file.specs.declared.limits.Limit.TheVariants as limit
 use Rattle.app_file.specs.Files.{broken_of}

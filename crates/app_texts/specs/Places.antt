@@ -1,8 +1,8 @@
 -- The places of an app where formulas may stand, and the one that an address names.
 use Rattle.std.specs.Prelude.{ℕ, suc, ◌++◌, List, [], ◌∷◌, Bool, true, false, ◌&&◌, Option, find, flat_map, map, nat_eq, bytes_eq, if◌then◌else◌}
-use Rattle.fx_data.specs.Words.{scalars_of}
-use Rattle.fx_data.specs.declared.controls.Control.{Control}
-use Rattle.fx_trees.specs.declared.names.ControlName.{ControlName}
+use Rattle.fx_types.specs.Words.{scalars_of}
+use Rattle.fx_types.specs.declared.controls.Control.{Control}
+use Rattle.fx_core.specs.declared.names.ControlName.{ControlName}
 use Rattle.app_file.specs.FormOfApp.{property_names}
 use Rattle.app_cells.specs.declared.app.App.{App}
 use Rattle.app_cells.specs.declared.app.CellInfo.{CellInfo}

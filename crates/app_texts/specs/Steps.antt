@@ -3,8 +3,8 @@ use Rattle.std.specs.Prelude.{◌≡◌, ℕ, ◌<◌, ◌^◌, ◌++◌, List, 
 use Rattle.std.specs.Str.{chars}
 use Rattle.fx_lexer.specs.declared.token.Token.{Token}
 use Rattle.fx_lexer.specs.Lexed.{Lexed}
-use Rattle.fx_trees.specs.Tree.{Tree}
-use Rattle.fx_trees.specs.declared.broken.Broken.{Broken}
+use Rattle.fx_core.specs.Tree.{Tree}
+use Rattle.fx_core.specs.declared.broken.Broken.{Broken}
 use Rattle.fx_grammar.specs.Formulas.{HasTree}
 use Rattle.app_cells.specs.declared.cell.Cell.{Cell}
 use Rattle.app_cells.specs.declared.frame.Frame.{Frame}

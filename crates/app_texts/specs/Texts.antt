@@ -4,18 +4,18 @@ use Rattle.std.specs.Str.{chars}
 use Rattle.fx_lexer.specs.declared.token.LexErr.{LexErr}
 use Rattle.fx_lexer.specs.declared.token.Token.{Token}
 use Rattle.fx_lexer.specs.Lexed.{Lexed}
-use Rattle.fx_trees.specs.Tree.{Tree}
-use Rattle.fx_trees.specs.declared.broken.Broken.{Broken}
-use Rattle.fx_trees.specs.declared.rule.Rule.{Rule}
-use Rattle.fx_trees.specs.declared.rule.Rule.TheVariants as rule
+use Rattle.fx_core.specs.Tree.{Tree}
+use Rattle.fx_core.specs.declared.broken.Broken.{Broken}
+use Rattle.fx_core.specs.declared.rule.Rule.{Rule}
+use Rattle.fx_core.specs.declared.rule.Rule.TheVariants as rule
 use Rattle.fx_grammar.specs.Formulas.{HasTree}
 use Rattle.fx_parser.specs.Details.{bad_token_words, unexpected_words}
 use Rattle.fx_parser.specs.Texts.{AreNamedEnd, IsFormulaEnd, IsNamedText}
 use Rattle.fx_parser.specs.declared.end.ParseEnd.{ParseEnd}
 use Rattle.fx_parser.specs.declared.end.ParseEnd.TheVariants.{Lex, Syntax, TooDeep, Memory}
 use Rattle.fx_parser.specs.declared.entries.Named.{Named}
-use Rattle.fx_trees.specs.declared.app_end.AppEnd.{AppEnd}
-use Rattle.fx_trees.specs.declared.app_end.AppEnd.TheVariants as all
+use Rattle.fx_core.specs.declared.app_end.AppEnd.{AppEnd}
+use Rattle.fx_core.specs.declared.app_end.AppEnd.TheVariants as all
 use Rattle.fx_base.specs.declared.or_memory.OrMemory.{OrMemory}
 use Rattle.fx_base.specs.declared.or_memory.OrMemory.TheVariants as end
 use Rattle.app_file.specs.declared.file.AppFile.{AppFile}

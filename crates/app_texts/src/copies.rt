@@ -4,9 +4,9 @@ ghost use Rattle.app_texts.specs.Frames as frames;
 
 use app_cells::{App, Cell, Frame, Spot};
 use fx_base::{InOrder, Memory};
-use fx_data::types::Ty;
-use fx_trees::names::{ControlList, ControlName, ScreenList};
-use fx_trees::schema::{Column, ColumnList, Schema, TableList, TableShape};
+use fx_core::names::{ControlList, ControlName, ScreenList};
+use fx_core::schema::{Column, ColumnList, Schema, TableList, TableShape};
+use fx_types::types::Ty;
 use std::alloc::Global;
 
 fn copy_column(alloc: Global, column: &Column) -> Result<Column, Memory>

@@ -16,8 +16,8 @@ use crate::read_text;
 use app_cells::{App, Cell, CellInfo, Frame, Spot};
 use app_file::{FileBreak, Limit};
 use fx_base::{Memory, OrMemory};
-use fx_data::words::Words;
-use fx_trees::{Broken, Rule};
+use fx_core::{Broken, Rule};
+use fx_types::words::Words;
 use std::alloc::Global;
 use std::collections::BTreeMap;
 

@@ -7,7 +7,7 @@ ghost use Rattle.app_texts.specs.Files.{IsSound, texts_of};
 use app_cells::Spot;
 use app_file::{AppFile, ControlShape, ScreenShape};
 use fx_base::Memory;
-use fx_data::words::Words;
+use fx_types::words::Words;
 use std::alloc::Global;
 
 /// The text of a formula, where it stands.

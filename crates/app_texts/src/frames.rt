@@ -6,9 +6,9 @@ ghost use Rattle.app_texts.specs.Files as files;
 use app_cells::Frame;
 use app_file::{ControlShape, ScreenShape};
 use fx_base::{InOrder, Memory};
-use fx_data::types::Ty;
-use fx_trees::names::{ControlList, ControlName, ScreenList};
-use fx_trees::schema::Schema;
+use fx_core::names::{ControlList, ControlName, ScreenList};
+use fx_core::schema::Schema;
+use fx_types::types::Ty;
 use std::alloc::Global;
 
 // A control of this screen, of whose controls the first has this number.

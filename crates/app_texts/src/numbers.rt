@@ -7,7 +7,7 @@ ghost use Rattle.app_texts.specs.Numbers.{AreNumbers, IsNoted};
 
 use app_cells::{Cell, CellInfo, Spot};
 use fx_base::Memory;
-use fx_data::words::Words;
+use fx_types::words::Words;
 use std::alloc::Global;
 use std::collections::BTreeMap;
 

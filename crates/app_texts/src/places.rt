@@ -8,9 +8,9 @@ use crate::copies::copy_spot;
 use app_cells::{CellInfo, Frame, Spot, address_at};
 use app_file::keys::{Object, keys_of};
 use fx_base::Memory;
-use fx_data::controls::Control;
-use fx_data::words::Words;
-use fx_trees::names::ControlName;
+use fx_core::names::ControlName;
+use fx_types::controls::Control;
+use fx_types::words::Words;
 use std::alloc::Global;
 
 // Adds the places of named formulas.

@@ -1,6 +1,6 @@
 //! From texts to formulas.
 ghost use Rattle.std.specs.Prelude.{◌≡◌, ◌<◌, ◌^◌, ◌∷◌, [], All, Err, IfErr, IfOk, Ok, OnOk, codes, encode_utf8_all, length};
-ghost use Rattle.fx_trees.specs.declared.broken.Broken.{Broken as Break};
+ghost use Rattle.fx_core.specs.declared.broken.Broken.{Broken as Break};
 ghost use Rattle.app_cells.specs.Spots.{IsFrame, IsPlaced, IsSpot};
 ghost use Rattle.app_texts.specs.Files.{IsSound};
 ghost use Rattle.app_texts.specs.Texts.{AreNamedAt, AreNamedCells, AreReadAt, IsNamedCell, IsNamedReading, IsReadAt, IsReading, IsStart, IsTold, IsUnreadAt, TellsBreak, TellsBreaks, bare};
@@ -12,10 +12,10 @@ use crate::unread::break_of_text;
 use app_cells::{Cell, Frame, Spot, address_at, cell_at};
 use app_file::AppFile;
 use fx_base::{InOrder, Memory, OrMemory};
-use fx_data::words::Words;
+use fx_core::{AppEnd, Broken, Schema};
 use fx_lexer::{LexEnd, tokens};
 use fx_parser::{Named, ParseEnd, parse_formula, parse_named};
-use fx_trees::{AppEnd, Broken, Schema};
+use fx_types::words::Words;
 use std::alloc::Global;
 
 /// The row limit of an app of which nothing else is said.

@@ -1,12 +1,12 @@
 //! Why a text is no formula.
 ghost use Rattle.std.specs.Prelude.{◌≡◌, ◌<◌, ◌^◌, length};
-ghost use Rattle.fx_data.specs.Words.{scalars_of};
+ghost use Rattle.fx_types.specs.Words.{scalars_of};
 ghost use Rattle.app_texts.specs.Texts.{IsTold, TellsBreak, in_text};
 
 use fx_base::{Memory, OrMemory};
-use fx_data::words::Words;
+use fx_core::{Broken, Rule};
 use fx_parser::{ParseEnd, bad_token, syntax_detail};
-use fx_trees::{Broken, Rule};
+use fx_types::words::Words;
 use std::alloc::Global;
 
 // A rule that a text breaks, of which this cell is told.

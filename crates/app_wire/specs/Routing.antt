@@ -5,7 +5,7 @@ use Rattle.std.specs.Char.{is_ascii_alphanumeric, is_ascii_digit, is_digit}
 use Rattle.std.specs.Str.{IsUtf8}
 use Rattle.std.specs.Str.Parse.{digits_value}
 use Rattle.percent_encoding.specs.Percent.{percent_decode}
-use Rattle.fx_data.specs.Words.{scalars_of}
+use Rattle.fx_types.specs.Words.{scalars_of}
 use Rattle.app_wire.specs.declared.head.Method.{Method}
 use Rattle.app_wire.specs.declared.head.Method.TheVariants.{Get, Put, Post, Delete}
 use Rattle.app_wire.specs.declared.route.Route.{Route}

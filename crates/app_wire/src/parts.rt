@@ -9,7 +9,7 @@ ghost use Rattle.app_wire.specs.RouteTable as kind;
 
 use crate::body::number_of;
 use crate::route::RouteEnd;
-use fx_data::words::Words;
+use fx_types::words::Words;
 use percent_encoding::{DecodeError, percent_decode_str};
 use std::alloc::Global;
 

@@ -4,7 +4,7 @@ ghost use Rattle.app_wire.specs.Routing.{IsOneRoute, method_of};
 
 use crate::head::Method;
 use fx_base::Memory;
-use fx_data::words::Words;
+use fx_types::words::Words;
 
 /// The paths that have routes.
 #[derive(Clone, Copy)]

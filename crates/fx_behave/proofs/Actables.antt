@@ -3,8 +3,8 @@ use Rattle.std.proofs.Common.{◌≡◌, ℕ, suc, ◌+◌, ◌≤◌, ◌%◌, 
 use Rattle.std.specs.Prelude.{nat_eq, if◌then◌else◌}
 use Rattle.std.proofs.lemmas.Bool.{eq-eqb}
 use Rattle.std.proofs.lemmas.List.{length-append}
-use Rattle.fx_data.specs.Types.{Shape, ColumnList, blanks, numbers, texts, booleans, dates, records, tables}
-use Rattle.fx_data.specs.Values.{Data}
+use Rattle.fx_types.specs.Types.{Shape, ColumnList, blanks, numbers, texts, booleans, dates, records, tables}
+use Rattle.fx_types.specs.Values.{Data}
 use Rattle.fx_eval.proofs.Places.{at_most}
 use Rattle.fx_eval.specs.Parts.{caught_in, inner}
 use Rattle.fx_env.specs.Scopes.{Held, IsReady, Suits}
@@ -15,15 +15,15 @@ use Rattle.fx_semantics.proofs.Tables.{RowsFit}
 use Rattle.fx_semantics.specs.Around.{record_of}
 use Rattle.fx_semantics.specs.Sound.{AreLawfulTypings, IsLawfulTyping}
 use Rattle.fx_tables.specs.RowCalls.{CanBeRowType}
-use Rattle.fx_trees.specs.declared.functions.Form.TheVariants as form
-use Rattle.fx_trees.specs.declared.functions.Fun.TheVariants as fun
-use Rattle.fx_trees.specs.declared.rows.Row.{Row as Signature}
-use Rattle.fx_trees.specs.declared.rows.Takes.{Takes}
-use Rattle.fx_trees.specs.declared.rows.Takes.TheVariants as takes
-use Rattle.fx_trees.specs.Rows.{form_row, inner_at, row_of, takes_at, takes_count}
-use Rattle.fx_trees.specs.Term.{Term, Terms, of, nil, cons, all, Top, chain, form as form_head, over, within}
+use Rattle.fx_core.specs.declared.functions.Form.TheVariants as form
+use Rattle.fx_core.specs.declared.functions.Fun.TheVariants as fun
+use Rattle.fx_core.specs.declared.rows.Row.{Row as Signature}
+use Rattle.fx_core.specs.declared.rows.Takes.{Takes}
+use Rattle.fx_core.specs.declared.rows.Takes.TheVariants as takes
+use Rattle.fx_core.specs.Rows.{form_row, inner_at, row_of, takes_at, takes_count}
+use Rattle.fx_core.specs.Term.{Term, Terms, of, nil, cons, all, Top, chain, form as form_head, over, within}
 use Rattle.fx_typing.specs.Acts.{acts}
-use Rattle.fx_trees.specs.ColumnLists.{row_columns}
+use Rattle.fx_core.specs.ColumnLists.{row_columns}
 use Rattle.fx_typing.specs.WellTyped.{Context, AreTyped, AllStand, IsRuled, IsTyped, Stands, Standing, catching, context_for, first_type, last_type, parts_count, plain, row_type, standing_at, standing_of}
 use Rattle.fx_typing.specs.Ways.{is_comparable}
 use Rattle.fx_value.specs.Columns.{Row}

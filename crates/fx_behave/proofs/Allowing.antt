@@ -1,8 +1,8 @@
 -- What parts may write, the whole may.
 use Rattle.std.proofs.Common.{◌≡◌, List, ◌∷◌, sym, subst, inl, inr}
 use Rattle.fx_base.specs.Silence.{Goes, IsLost}
-use Rattle.fx_trees.specs.declared.sources.Source.{Source}
-use Rattle.fx_trees.specs.Term.{Term, Terms, of, nil, cons, all, Top}
+use Rattle.fx_core.specs.declared.sources.Source.{Source}
+use Rattle.fx_core.specs.Term.{Term, Terms, of, nil, cons, all, Top}
 use Rattle.fx_deeds.proofs.Allowing.{only_over, only_wider}
 use Rattle.fx_deeds.specs.Stages.{Passed, Stage}
 use Rattle.fx_deeds.specs.Writable.{WritesOnly}

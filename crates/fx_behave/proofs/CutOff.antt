@@ -1,8 +1,8 @@
 -- A performing goes on from where it was cut off. By the tree.
 use Rattle.std.proofs.Common.{◌≡◌, ℕ, List, [], ◌∷◌, Bool, true, false, refl, ap, sym, subst, ◌∙◌, inl, inr}
 use Rattle.std.specs.Prelude.{◌⊎◌}
-use Rattle.fx_data.specs.declared.faults.Kind.{Kind}
-use Rattle.fx_data.specs.Values.{Data, blank, number, text, boolean, date, rec, tab, fault}
+use Rattle.fx_types.specs.declared.faults.Kind.{Kind}
+use Rattle.fx_types.specs.Values.{Data, blank, number, text, boolean, date, rec, tab, fault}
 use Rattle.fx_eval.specs.Parts.{caught_in, inner}
 use Rattle.fx_env.specs.Scopes.{Held}
 use Rattle.fx_scalar.specs.declared.lazy_forms.Decision.{Decision}
@@ -13,12 +13,12 @@ use Rattle.fx_semantics.specs.Around.{record_of}
 use Rattle.fx_semantics.specs.Fresh.{field_of}
 use Rattle.fx_semantics.specs.Rows.{rows_in}
 use Rattle.fx_tables.specs.RowCalls.{for_all_of}
-use Rattle.fx_trees.specs.declared.deeds.Deed.{Deed}
-use Rattle.fx_trees.specs.declared.deeds.Deed.TheVariants as deed
-use Rattle.fx_trees.specs.declared.deeds.Target.{Target}
-use Rattle.fx_trees.specs.declared.functions.Form.TheVariants as form
-use Rattle.fx_trees.specs.Term.{Term, Terms, of, nil, cons, Top}
-use Rattle.fx_trees.specs.Term as top
+use Rattle.fx_core.specs.declared.deeds.Deed.{Deed}
+use Rattle.fx_core.specs.declared.deeds.Deed.TheVariants as deed
+use Rattle.fx_core.specs.declared.deeds.Target.{Target}
+use Rattle.fx_core.specs.declared.functions.Form.TheVariants as form
+use Rattle.fx_core.specs.Term.{Term, Terms, of, nil, cons, Top}
+use Rattle.fx_core.specs.Term as top
 use Rattle.fx_typing.specs.Acts.{acts}
 use Rattle.fx_value.specs.Coercion.{IsCoerced}
 use Rattle.fx_value.specs.Columns.{Row}

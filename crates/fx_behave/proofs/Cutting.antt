@@ -5,9 +5,9 @@ use Rattle.std.proofs.lemmas.Result.{on_err_weaker}
 use Rattle.fx_base.proofs.Silences.{goes_two, goes_weaker, later_then}
 use Rattle.fx_base.specs.Silence.{Goes, IsLater, IsLost, Marks}
 use Rattle.fx_base.specs.Telling.{Stays}
-use Rattle.fx_data.specs.declared.faults.Kind.{Kind}
-use Rattle.fx_data.specs.declared.values.Value.{Value}
-use Rattle.fx_data.specs.Values.{Data, fault}
+use Rattle.fx_types.specs.declared.faults.Kind.{Kind}
+use Rattle.fx_types.specs.declared.values.Value.{Value}
+use Rattle.fx_types.specs.Values.{Data, fault}
 use Rattle.fx_eval.specs.Parts.{caught_in, inner}
 use Rattle.fx_env.specs.Scopes.{Fixed, Held}
 use Rattle.fx_env.specs.declared.environment.Stop.{Stop}
@@ -17,10 +17,10 @@ use Rattle.fx_scalar.specs.LazyForms.{CaughtOr, IsNoError}
 use Rattle.fx_semantics.specs.Around.{record_of}
 use Rattle.fx_semantics.specs.Rows.{rows_in}
 use Rattle.fx_value.specs.Columns.{Row}
-use Rattle.fx_trees.specs.declared.deeds.Deed.{Deed}
-use Rattle.fx_trees.specs.declared.deeds.Deed.TheVariants as deed
-use Rattle.fx_trees.specs.declared.deeds.Target.{Target}
-use Rattle.fx_trees.specs.Term.{Term, Terms, of, nil, cons, all, Top}
+use Rattle.fx_core.specs.declared.deeds.Deed.{Deed}
+use Rattle.fx_core.specs.declared.deeds.Deed.TheVariants as deed
+use Rattle.fx_core.specs.declared.deeds.Target.{Target}
+use Rattle.fx_core.specs.Term.{Term, Terms, of, nil, cons, all, Top}
 use Rattle.fx_typing.specs.Acts.{acts}
 use Rattle.fx_deeds.proofs.Passing.{same_state}
 use Rattle.fx_deeds.specs.CutOff.{CutDeed, CutUpdate}

@@ -1,21 +1,21 @@
 -- The values of a deed's parts are such that it can be done.
 use Rattle.std.proofs.Common.{◌≡◌, ℕ, List, [], ◌∷◌, ◌++◌, true, false, map, Option, Some, None, Result, Ok, refl, ap, sym, subst, ◌∙◌}
 use Rattle.std.specs.Prelude.{IsSome, option_map}
-use Rattle.fx_data.specs.Types.{Shape, ColumnList, blanks, numbers, texts, booleans, dates, records, tables}
-use Rattle.fx_data.specs.Values.{Data}
+use Rattle.fx_types.specs.Types.{Shape, ColumnList, blanks, numbers, texts, booleans, dates, records, tables}
+use Rattle.fx_types.specs.Values.{Data}
 use Rattle.fx_semantics.proofs.Tables.{RowsFit, rows_in_fit}
 use Rattle.fx_semantics.specs.Rows.{rows_in}
 use Rattle.fx_semantics.specs.Sound.{AreFit, AreLawfulTypes}
-use Rattle.fx_trees.specs.declared.deeds.Deed.{Deed}
-use Rattle.fx_trees.specs.declared.deeds.Deed.TheVariants as deed
-use Rattle.fx_trees.specs.declared.deeds.Target.{Target}
-use Rattle.fx_trees.specs.declared.deeds.Target.TheVariants as target
-use Rattle.fx_trees.specs.declared.functions.Fun.{Fun}
-use Rattle.fx_trees.specs.declared.functions.Fun.TheVariants as fun
-use Rattle.fx_trees.specs.declared.sources.Source.{Source}
-use Rattle.fx_trees.specs.declared.sources.Source.TheVariants as source
-use Rattle.fx_trees.specs.Rows.{row_of}
-use Rattle.fx_trees.specs.Term.{Term, Terms, of, nil, cons, all, act, over, read}
+use Rattle.fx_core.specs.declared.deeds.Deed.{Deed}
+use Rattle.fx_core.specs.declared.deeds.Deed.TheVariants as deed
+use Rattle.fx_core.specs.declared.deeds.Target.{Target}
+use Rattle.fx_core.specs.declared.deeds.Target.TheVariants as target
+use Rattle.fx_core.specs.declared.functions.Fun.{Fun}
+use Rattle.fx_core.specs.declared.functions.Fun.TheVariants as fun
+use Rattle.fx_core.specs.declared.sources.Source.{Source}
+use Rattle.fx_core.specs.declared.sources.Source.TheVariants as source
+use Rattle.fx_core.specs.Rows.{row_of}
+use Rattle.fx_core.specs.Term.{Term, Terms, of, nil, cons, all, act, over, read}
 use Rattle.fx_typing.specs.LawfulTypes.{AreLawfulColumns, IsLawfulType}
 use Rattle.fx_typing.specs.WellTyped.{Context, AreAll, AreChanges, AreTyped, IsByRow, IsChange, IsDone, IsFilterOf, IsNamedRow, IsTyped, target_source}
 use Rattle.fx_value.specs.Columns.{Row}

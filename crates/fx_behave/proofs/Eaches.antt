@@ -1,14 +1,14 @@
 -- `ForAll`: its table, and its formula in the scope of each row.
 use Rattle.std.proofs.Common.{◌≡◌, List, [], ◌∷◌, true, ap, sym, subst, ◌∙◌}
-use Rattle.fx_data.specs.Types.{Shape, tables}
-use Rattle.fx_data.specs.Values.{Data}
+use Rattle.fx_types.specs.Types.{Shape, tables}
+use Rattle.fx_types.specs.Values.{Data}
 use Rattle.fx_env.specs.Scopes.{Held}
 use Rattle.fx_semantics.proofs.Tables.{AllFit, for_all_fits, rows_in_fit}
 use Rattle.fx_semantics.specs.Rows.{rows_in}
 use Rattle.fx_tables.specs.RowCalls.{for_all_of}
-use Rattle.fx_trees.specs.declared.functions.Fun.TheVariants as fun
-use Rattle.fx_trees.specs.Term.{Term, of, nil, cons, all, over}
-use Rattle.fx_trees.specs.ColumnLists.{row_columns}
+use Rattle.fx_core.specs.declared.functions.Fun.TheVariants as fun
+use Rattle.fx_core.specs.Term.{Term, of, nil, cons, all, over}
+use Rattle.fx_core.specs.ColumnLists.{row_columns}
 use Rattle.fx_value.specs.Columns.{Row}
 use Rattle.fx_value.specs.Fits.{fits_in}
 use Rattle.fx_deeds.specs.Fitting.{AreOf, SourceTypes}

@@ -1,15 +1,15 @@
 -- Which of the parts that are left can be performed.
 use Rattle.std.proofs.Common.{◌≡◌, List, [], ◌∷◌, ◌++◌, append_assoc, true, refl, ap, sym, subst, ◌∙◌}
 use Rattle.std.proofs.lemmas.List.{append-nil}
-use Rattle.fx_data.specs.Types.{Shape}
-use Rattle.fx_data.specs.Values.{Data, blank, number, text, boolean, date, rec, tab, fault}
+use Rattle.fx_types.specs.Types.{Shape}
+use Rattle.fx_types.specs.Values.{Data, blank, number, text, boolean, date, rec, tab, fault}
 use Rattle.fx_eval.proofs.Matching.{can_match}
 use Rattle.fx_eval.specs.Parts.{IsMatched, inner}
 use Rattle.fx_env.specs.Scopes.{Held}
 use Rattle.fx_scalar.specs.LazyForms.{CanMatch, IsNoError}
 use Rattle.fx_semantics.specs.Around.{record_of}
 use Rattle.fx_semantics.specs.Sound.{AreFit}
-use Rattle.fx_trees.specs.Term.{Term}
+use Rattle.fx_core.specs.Term.{Term}
 use Rattle.fx_value.specs.Columns.{Row}
 use Rattle.fx_value.specs.Fits.{fits_in}
 use Rattle.fx_deeds.specs.Fitting.{AreOf, SourceTypes}

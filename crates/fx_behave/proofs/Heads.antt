@@ -1,15 +1,15 @@
 -- A tree that can be performed, by its head and as it is found.
 use Rattle.std.proofs.Common.{◌≡◌, ℕ, List, [], ◌∷◌, true, Some, refl, ap, sym, subst, ◌∙◌}
-use Rattle.fx_data.specs.Types.{Shape, blanks, numbers, texts, booleans, dates, records, tables}
-use Rattle.fx_data.specs.Values.{Data}
+use Rattle.fx_types.specs.Types.{Shape, blanks, numbers, texts, booleans, dates, records, tables}
+use Rattle.fx_types.specs.Values.{Data}
 use Rattle.fx_eval.proofs.Ways.{changed_coerces}
 use Rattle.fx_env.specs.Scopes.{Held}
 use Rattle.fx_semantics.specs.Sound.{IsLawfulType}
 use Rattle.fx_tables.specs.RowCalls.{CanBeRowType}
-use Rattle.fx_trees.specs.Term.{Term, Terms, of, nil, cons, all, Top}
-use Rattle.fx_trees.specs.Term as top
+use Rattle.fx_core.specs.Term.{Term, Terms, of, nil, cons, all, Top}
+use Rattle.fx_core.specs.Term as top
 use Rattle.fx_typing.specs.Columns.{field_of}
-use Rattle.fx_trees.specs.ColumnLists.{row_columns}
+use Rattle.fx_core.specs.ColumnLists.{row_columns}
 use Rattle.fx_typing.specs.WellTyped.{AreAll, Context, IsRuled, plain, standing_at}
 use Rattle.fx_value.specs.Coercion.{CanCoerce, HasCoercion}
 use Rattle.fx_value.specs.Fits.{fits_in}

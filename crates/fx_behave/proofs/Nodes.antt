@@ -2,8 +2,8 @@
 use Rattle.std.proofs.Common.{◌≡◌, ℕ, ◌+◌, ◌≤◌, List, [], ◌∷◌, true, false, Option, refl, ap, sym, subst, ◌∙◌}
 use Rattle.fx_base.specs.Silence.{Goes}
 use Rattle.fx_base.proofs.Silences.{goes_weaker}
-use Rattle.fx_data.specs.Types.{Shape, tables}
-use Rattle.fx_data.specs.Values.{Data}
+use Rattle.fx_types.specs.Types.{Shape, tables}
+use Rattle.fx_types.specs.Values.{Data}
 use Rattle.fx_eval.proofs.Sizes.{table_falls}
 use Rattle.fx_env.specs.Scopes.{Held}
 use Rattle.fx_semantics.proofs.Coerced.{all_of_one, list_fits}
@@ -12,12 +12,12 @@ use Rattle.fx_semantics.proofs.Whole.{lawful_here}
 use Rattle.fx_semantics.specs.Fresh.{field_of}
 use Rattle.fx_semantics.specs.Sound.{AreFit}
 use Rattle.fx_tables.specs.Unions.{union_of}
-use Rattle.fx_trees.specs.declared.functions.Fun.{Fun}
-use Rattle.fx_trees.specs.declared.functions.Fun.TheVariants as fun
-use Rattle.fx_trees.specs.Term.{Term, Terms, of, nil, cons, all, Top, term_size, terms_size}
-use Rattle.fx_trees.specs.Term as top
+use Rattle.fx_core.specs.declared.functions.Fun.{Fun}
+use Rattle.fx_core.specs.declared.functions.Fun.TheVariants as fun
+use Rattle.fx_core.specs.Term.{Term, Terms, of, nil, cons, all, Top, term_size, terms_size}
+use Rattle.fx_core.specs.Term as top
 use Rattle.fx_typing.specs.Acts.{acts}
-use Rattle.fx_trees.specs.ColumnLists.{row_columns}
+use Rattle.fx_core.specs.ColumnLists.{row_columns}
 use Rattle.fx_typing.specs.LawfulTypes.{IsLawfulType}
 use Rattle.fx_value.specs.Coercion.{IsCoerced}
 use Rattle.fx_value.specs.Fits.{fits_in}

@@ -4,22 +4,22 @@ use Rattle.std.specs.Prelude.{option_map, slice_get}
 use Rattle.fx_base.proofs.Silences.{goes_two, goes_weaker}
 use Rattle.fx_base.specs.Silence.{Goes, IsLater, IsLost, Marks}
 use Rattle.fx_base.specs.Telling.{Stays}
-use Rattle.fx_data.specs.Types.{Shape, tables}
-use Rattle.fx_data.specs.Values.{Data}
+use Rattle.fx_types.specs.Types.{Shape, tables}
+use Rattle.fx_types.specs.Values.{Data}
 use Rattle.fx_semantics.proofs.Wider.{stays_read}
 use Rattle.fx_semantics.specs.Sources.{FitsIn, Gives}
 use Rattle.fx_env.specs.Scopes.{CanEvaluate, Fixed, Held, IsReady, around}
 use Rattle.fx_env.specs.Telling.{Told, values_told}
 use Rattle.fx_semantics.specs.Fresh.{IsValue}
 use Rattle.fx_semantics.specs.Sound.{AreFit}
-use Rattle.fx_trees.specs.declared.names.Names.{Names}
-use Rattle.fx_trees.specs.declared.schema.Schema.{Schema}
-use Rattle.fx_trees.specs.declared.schema.TableShape.{TableShape}
-use Rattle.fx_trees.specs.declared.sources.Source.{Source}
-use Rattle.fx_trees.specs.declared.sources.Source.TheVariants as source
-use Rattle.fx_trees.specs.Reads.{IsAmong, sources_in}
-use Rattle.fx_trees.specs.SourceTypes.{columns_of, sources}
-use Rattle.fx_trees.specs.Term.{Term, of}
+use Rattle.fx_core.specs.declared.names.Names.{Names}
+use Rattle.fx_core.specs.declared.schema.Schema.{Schema}
+use Rattle.fx_core.specs.declared.schema.TableShape.{TableShape}
+use Rattle.fx_core.specs.declared.sources.Source.{Source}
+use Rattle.fx_core.specs.declared.sources.Source.TheVariants as source
+use Rattle.fx_core.specs.Reads.{IsAmong, sources_in}
+use Rattle.fx_core.specs.SourceTypes.{columns_of, sources}
+use Rattle.fx_core.specs.Term.{Term, of}
 use Rattle.fx_typing.specs.Acts.{acts}
 use Rattle.fx_plan.specs.Limited.{LimitedTypes, limited}
 use Rattle.fx_deeds.proofs.Told.{state_holds}

@@ -6,11 +6,11 @@ use Rattle.std.proofs.lemmas.List.{append-nil, nil_from_length}
 use Rattle.std.proofs.lemmas.Result.{IfOk-weaker}
 use Rattle.fx_base.proofs.Silences.{goes_two, goes_weaker}
 use Rattle.fx_base.specs.Silence.{Goes, IsLater, IsLost, Marks}
-use Rattle.fx_data.specs.declared.faults.Fault.{Fault}
-use Rattle.fx_data.specs.declared.faults.Kind.{Kind}
-use Rattle.fx_data.specs.declared.values.Value.{Value}
-use Rattle.fx_data.specs.Values.{Data, blank, number, text, boolean, date, rec, tab, fault}
-use Rattle.fx_data.specs.ValueView.{view}
+use Rattle.fx_types.specs.declared.faults.Fault.{Fault}
+use Rattle.fx_types.specs.declared.faults.Kind.{Kind}
+use Rattle.fx_types.specs.declared.values.Value.{Value}
+use Rattle.fx_types.specs.Values.{Data, blank, number, text, boolean, date, rec, tab, fault}
+use Rattle.fx_types.specs.ValueView.{view}
 use Rattle.fx_env.specs.declared.environment.Stop.{Stop}
 use Rattle.fx_eval.specs.Parts.{caught_in, inner}
 use Rattle.fx_env.specs.Scopes.{Fixed, Held}
@@ -22,7 +22,7 @@ use Rattle.fx_semantics.specs.Rows.{rows_in}
 use Rattle.fx_value.specs.Columns.{Row}
 use Rattle.fx_tables.specs.RowCalls.{for_all_of}
 use Rattle.fx_tables.specs.Unions.{is_fault}
-use Rattle.fx_trees.specs.Term.{Term, Terms, of, nil, cons, all, Top, term_size, terms_size}
+use Rattle.fx_core.specs.Term.{Term, Terms, of, nil, cons, all, Top, term_size, terms_size}
 use Rattle.fx_typing.specs.Acts.{acts}
 use Rattle.fx_behave.proofs.Going.{Rest, end_here, end_on, step_on}
 use Rattle.fx_deeds.specs.Deeds.{OrError}

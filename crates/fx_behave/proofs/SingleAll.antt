@@ -1,8 +1,8 @@
 -- A tree has one performing at most.
 use Rattle.std.proofs.Common.{◌≡◌, ℕ, List, [], ◌∷◌, Bool, true, false, length, ap, sym, subst, ◌∙◌}
-use Rattle.fx_data.specs.declared.faults.Kind.{Kind}
-use Rattle.fx_data.specs.Types.{Shape, tables}
-use Rattle.fx_data.specs.Values.{Data, blank, number, text, boolean, date, rec, tab, fault}
+use Rattle.fx_types.specs.declared.faults.Kind.{Kind}
+use Rattle.fx_types.specs.Types.{Shape, tables}
+use Rattle.fx_types.specs.Values.{Data, blank, number, text, boolean, date, rec, tab, fault}
 use Rattle.fx_eval.specs.Parts.{caught_in, inner}
 use Rattle.fx_env.specs.Scopes.{Held}
 use Rattle.fx_scalar.proofs.Single.{AtMostOne}
@@ -18,14 +18,14 @@ use Rattle.fx_value.specs.Coercion.{IsCoerced}
 use Rattle.fx_value.specs.Columns.{Row}
 use Rattle.fx_tables.specs.RowCalls.{for_all_of}
 use Rattle.fx_tables.specs.Unions.{union_of}
-use Rattle.fx_trees.specs.declared.deeds.Deed.{Deed}
-use Rattle.fx_trees.specs.declared.deeds.Deed.TheVariants as deed
-use Rattle.fx_trees.specs.declared.deeds.Target.{Target}
-use Rattle.fx_trees.specs.declared.functions.Form.TheVariants as form
-use Rattle.fx_trees.specs.Term.{Term, Terms, of, nil, cons, Top}
-use Rattle.fx_trees.specs.Term as top
+use Rattle.fx_core.specs.declared.deeds.Deed.{Deed}
+use Rattle.fx_core.specs.declared.deeds.Deed.TheVariants as deed
+use Rattle.fx_core.specs.declared.deeds.Target.{Target}
+use Rattle.fx_core.specs.declared.functions.Form.TheVariants as form
+use Rattle.fx_core.specs.Term.{Term, Terms, of, nil, cons, Top}
+use Rattle.fx_core.specs.Term as top
 use Rattle.fx_typing.specs.Acts.{acts}
-use Rattle.fx_trees.specs.ColumnLists.{row_columns}
+use Rattle.fx_core.specs.ColumnLists.{row_columns}
 use Rattle.fx_plan.specs.Limited.{limited}
 use Rattle.fx_semantics.specs.Places.{is_for_all}
 use Rattle.fx_deeds.proofs.Single.{Outcome, Same, answers_one, deed_once, or_error_one, two_one, update_one}

@@ -1,15 +1,15 @@
 -- The parts of `UpdateIf`: the filter, and the change in the scope of each row.
 use Rattle.std.proofs.Common.{◌≡◌, ◌+◌, ◌≤◌, List, [], ◌∷◌, ◌++◌, true, Some, ap, sym, subst, ◌∙◌, arith}
-use Rattle.fx_data.specs.Types.{Shape, ColumnList, booleans, tables}
-use Rattle.fx_data.specs.Values.{Data}
+use Rattle.fx_types.specs.Types.{Shape, ColumnList, booleans, tables}
+use Rattle.fx_types.specs.Values.{Data}
 use Rattle.fx_env.specs.Scopes.{Held}
 use Rattle.fx_semantics.proofs.Tables.{RowsFit, rows_in_fit, table_fits}
 use Rattle.fx_semantics.proofs.Whole.{lawful_here}
 use Rattle.fx_semantics.specs.Rows.{rows_in, table_of}
 use Rattle.fx_value.specs.Columns.{Row}
-use Rattle.fx_trees.specs.declared.deeds.Deed.TheVariants as deed
-use Rattle.fx_trees.specs.declared.deeds.Target.{Target}
-use Rattle.fx_trees.specs.Term.{Term, of, nil, cons, all, act, term_size, terms_size}
+use Rattle.fx_core.specs.declared.deeds.Deed.TheVariants as deed
+use Rattle.fx_core.specs.declared.deeds.Target.{Target}
+use Rattle.fx_core.specs.Term.{Term, of, nil, cons, all, act, term_size, terms_size}
 use Rattle.fx_typing.specs.LawfulTypes.{IsLawfulType}
 use Rattle.fx_typing.specs.WellTyped.{Context, IsChange, IsDone, row_type, target_source}
 use Rattle.fx_value.specs.Fits.{fits_in}

@@ -1,14 +1,14 @@
 -- Which typed trees can be performed.
 use Rattle.std.specs.Prelude.{◌≡◌, ℕ, List, [], ◌∷◌, true}
-use Rattle.fx_data.specs.declared.faults.Kind.{Kind}
-use Rattle.fx_data.specs.Types.{Shape}
-use Rattle.fx_data.specs.Values.{Data}
+use Rattle.fx_types.specs.declared.faults.Kind.{Kind}
+use Rattle.fx_types.specs.Types.{Shape}
+use Rattle.fx_types.specs.Values.{Data}
 use Rattle.fx_eval.specs.Parts.{IsMatched, caught_in, inner}
 use Rattle.fx_env.specs.Scopes.{Held, Suits}
 use Rattle.fx_semantics.specs.Around.{record_of}
 use Rattle.fx_semantics.specs.Sound.{IsLawfulTyping}
 use Rattle.fx_value.specs.Columns.{Row}
-use Rattle.fx_trees.specs.Term.{Term}
+use Rattle.fx_core.specs.Term.{Term}
 use Rattle.fx_typing.specs.WellTyped.{Context, IsTyped}
 use Rattle.fx_typing.specs.Ways.{is_comparable}
 use Rattle.fx_deeds.specs.Fitting.{SourceTypes}

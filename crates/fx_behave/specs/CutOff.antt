@@ -1,7 +1,7 @@
 -- What a behaviour formula has done that was cut off on the way, by recursion on the tree: the parts before have done
 -- what they do whole, and one was cut off.
 use Rattle.std.specs.Prelude.{◌≡◌, ◌⊎◌, List, [], ◌∷◌, Bool, true, false}
-use Rattle.fx_data.specs.Values.{Data}
+use Rattle.fx_types.specs.Values.{Data}
 use Rattle.fx_env.specs.Scopes.{Held}
 use Rattle.fx_eval.specs.Parts.{caught_in, inner}
 use Rattle.fx_scalar.specs.declared.lazy_forms.Decision.{Decision}
@@ -10,12 +10,12 @@ use Rattle.fx_scalar.specs.LazyForms.{CaughtOr, decision_of}
 use Rattle.fx_semantics.specs.Around.{record_of}
 use Rattle.fx_semantics.specs.Rows.{rows_in}
 use Rattle.fx_value.specs.Columns.{Row}
-use Rattle.fx_trees.specs.declared.deeds.Deed.{Deed}
-use Rattle.fx_trees.specs.declared.deeds.Deed.TheVariants as deed
-use Rattle.fx_trees.specs.declared.deeds.Target.{Target}
-use Rattle.fx_trees.specs.declared.functions.Form.TheVariants as form
-use Rattle.fx_trees.specs.Term.{Term, Terms, of, nil, cons, Top}
-use Rattle.fx_trees.specs.Term as top
+use Rattle.fx_core.specs.declared.deeds.Deed.{Deed}
+use Rattle.fx_core.specs.declared.deeds.Deed.TheVariants as deed
+use Rattle.fx_core.specs.declared.deeds.Target.{Target}
+use Rattle.fx_core.specs.declared.functions.Form.TheVariants as form
+use Rattle.fx_core.specs.Term.{Term, Terms, of, nil, cons, Top}
+use Rattle.fx_core.specs.Term as top
 use Rattle.fx_typing.specs.Acts.{acts}
 use Rattle.fx_semantics.specs.Places.{is_for_all}
 use Rattle.fx_deeds.specs.CutOff.{CutDeed, CutUpdate}

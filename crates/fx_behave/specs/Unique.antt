@@ -1,9 +1,9 @@
 -- What holds of all performings: a tree has one at most, and it writes all that it changes.
 use Rattle.std.specs.Prelude.{◌≡◌}
-use Rattle.fx_data.specs.Values.{Data}
+use Rattle.fx_types.specs.Values.{Data}
 use Rattle.fx_env.specs.Scopes.{Held}
-use Rattle.fx_trees.specs.declared.sources.Source.{Source}
-use Rattle.fx_trees.specs.Term.{Term}
+use Rattle.fx_core.specs.declared.sources.Source.{Source}
+use Rattle.fx_core.specs.Term.{Term}
 use Rattle.fx_behave.specs.Perform.{Performs}
 use Rattle.fx_deeds.specs.State.{Frame, Giving, State}
 use Rattle.fx_deeds.specs.Within.{Within}

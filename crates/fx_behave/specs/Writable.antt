@@ -1,8 +1,8 @@
 -- Which sources a tree may write: those that the deeds in it name.
 use Rattle.std.specs.Prelude.{◌⊎◌}
-use Rattle.fx_trees.specs.declared.sources.Source.{Source}
-use Rattle.fx_trees.specs.Term.{Term, Terms, of, nil, cons, Top}
-use Rattle.fx_trees.specs.Term as top
+use Rattle.fx_core.specs.declared.sources.Source.{Source}
+use Rattle.fx_core.specs.Term.{Term, Terms, of, nil, cons, Top}
+use Rattle.fx_core.specs.Term as top
 use Rattle.fx_deeds.specs.Writable.{DeedMayWrite}
 
 -- what a head may write by itself

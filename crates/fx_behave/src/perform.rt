@@ -2,8 +2,8 @@
 ghost use Rattle.std.specs.Prelude.{◌≡◌, IfOk, IsErrOf, false, length, true};
 ghost use Rattle.fx_base.specs.Faults.{Rose};
 ghost use Rattle.fx_base.specs.Telling.{Stays};
-ghost use Rattle.fx_data.specs.Types.{Shape};
-ghost use Rattle.fx_data.specs.ValueView.{view};
+ghost use Rattle.fx_types.specs.Types.{Shape};
+ghost use Rattle.fx_types.specs.ValueView.{view};
 ghost use Rattle.fx_env.specs.Scopes.{CanEvaluate, IsReady};
 ghost use Rattle.fx_plan.specs.Limited.{limited};
 ghost use Rattle.fx_value.specs.Fits.{fits_in};
@@ -12,13 +12,13 @@ ghost use Rattle.fx_deeds.specs.State.{ground};
 ghost use Rattle.fx_behave.specs.Perform.{Performs};
 
 use fx_base::Memory;
-use fx_data::Value;
+use fx_core::Core;
 use fx_deeds::World;
 use fx_env::{Steps, Stop};
 use fx_eval::{Scope, eval};
 use fx_plan::laws::limited_types;
 use fx_plan::limit_queries_under;
-use fx_trees::Core;
+use fx_types::Value;
 use std::alloc::Global;
 use std::sync::ledger::Ledger;
 

@@ -6,9 +6,9 @@ use Rattle.office.specs.app_loader.Judged.{Judged, JudgedApp}
 use Rattle.office.specs.app_loader.JudgedFormulas as judged
 use Rattle.office.specs.app_loader.Verdicts.{IsOneApp, IsOneVerdict}
 use Rattle.fx_base.specs.Faults.{Rose}
-use Rattle.fx_trees.specs.declared.broken.Broken.{Broken as Break}
-use Rattle.fx_trees.specs.declared.app_end.AppEnd.{AppEnd}
-use Rattle.fx_trees.specs.declared.app_end.AppEnd.TheVariants as end
+use Rattle.fx_core.specs.declared.broken.Broken.{Broken as Break}
+use Rattle.fx_core.specs.declared.app_end.AppEnd.{AppEnd}
+use Rattle.fx_core.specs.declared.app_end.AppEnd.TheVariants as end
 use Rattle.row_keeper.specs.declared.keeper.Keeper as keeper
 use Rattle.fx_cli.specs.Held.{Standing}
 use Rattle.fx_cli.specs.declared.files.Files as files

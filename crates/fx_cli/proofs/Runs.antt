@@ -3,7 +3,7 @@ use Rattle.std.proofs.Common.{◌≡◌, ℕ, List, Option, Some, None, Ok, Stri
 use Rattle.std.specs.declared.alloc.Global.{Global}
 use Rattle.app_cells.specs.declared.app.App.{App}
 use Rattle.fx_base.specs.Faults.{Rose}
-use Rattle.fx_trees.specs.declared.schema.Schema.{Schema}
+use Rattle.fx_core.specs.declared.schema.Schema.{Schema}
 use Rattle.office.specs.State.{schema_of}
 use Rattle.office.specs.app_loader.Verdicts.{IsOneApp, IsOneVerdict}
 use Rattle.fx_cli.specs.Opening.{IsAsked}

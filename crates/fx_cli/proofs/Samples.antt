@@ -7,9 +7,9 @@ use Rattle.app_cells.specs.declared.app.App.{App}
 use Rattle.fx_base.specs.Faults.{Rose}
 use Rattle.fx_base.specs.Silence.{Goes, IsLater, IsLost, Marks}
 use Rattle.fx_base.proofs.Silences.{rose_before}
-use Rattle.fx_trees.specs.declared.app_end.AppEnd.{AppEnd}
-use Rattle.fx_trees.specs.declared.app_end.AppEnd.TheVariants as end
-use Rattle.fx_trees.specs.declared.broken.Broken.{Broken as Break}
+use Rattle.fx_core.specs.declared.app_end.AppEnd.{AppEnd}
+use Rattle.fx_core.specs.declared.app_end.AppEnd.TheVariants as end
+use Rattle.fx_core.specs.declared.broken.Broken.{Broken as Break}
 use Rattle.office.specs.Answers.{Exchange}
 use Rattle.office.specs.session_requests.Opening.{CanOpen}
 use Rattle.office.specs.State.{State, schema_of, started}
@@ -23,9 +23,9 @@ use Rattle.row_keeper.specs.Causes.{HasCause}
 use Rattle.row_keeper.specs.declared.keeper.Keeper.{Ghosts}
 use Rattle.row_keeper.specs.declared.keeper.KeeperEnd.{KeeperEnd}
 use Rattle.row_keeper.specs.declared.keeper.KeeperEnd.TheVariants.{Failed, Memory}
-use Rattle.sample_load.specs.Counts.{HasRows}
-use Rattle.sample_load.specs.Sample.{app_text, requests}
-use Rattle.sample_load.specs.Summary.{summary}
+use Rattle.sample_app.specs.Counts.{HasRows}
+use Rattle.sample_app.specs.Sample.{app_text, requests}
+use Rattle.sample_app.specs.Summary.{summary}
 use Rattle.fx_cli.specs.Held.{Standing}
 use Rattle.fx_cli.specs.Opening.{IsAsked}
 use Rattle.fx_cli.specs.Report.{EndsWith, IsRefusal, IsSaid}

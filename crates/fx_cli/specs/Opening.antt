@@ -3,7 +3,7 @@ use Rattle.std.specs.Prelude.{◌≡◌, ◌≢◌, ◌⊎◌, ℕ, List, Option
 use Rattle.fx_base.specs.Faults.{Rose}
 use Rattle.fx_base.specs.Silence.{Goes, IsLater, IsLost, Marks}
 use Rattle.fx_base.specs.Telling.{Stays}
-use Rattle.fx_trees.specs.declared.schema.Schema.{Schema}
+use Rattle.fx_core.specs.declared.schema.Schema.{Schema}
 use Rattle.row_keeper.specs.Changes.{Shapes}
 use Rattle.row_keeper.specs.Over.{Becomes}
 use Rattle.row_keeper.specs.declared.keeper.Keeper.{Ghosts}

@@ -3,7 +3,7 @@ use Rattle.std.specs.Prelude.{◌≡◌, ℕ, List, ◌∷◌, [], ◌++◌, Opt
 use Rattle.app_cells.specs.declared.app.App.{App}
 use Rattle.office.specs.app_semantics.Present.{present}
 use Rattle.app_wire.specs.Moments.{Ticks}
-use Rattle.fx_data.specs.Values.{Data}
+use Rattle.fx_types.specs.Values.{Data}
 use Rattle.session_state.specs.Sessions.{opened}
 use Rattle.view_text.specs.PlainText.{plain_text}
 use Rattle.office.specs.NamedReply.{IsNamedList}

@@ -4,14 +4,14 @@ use Rattle.std.specs.declared.alloc.Global.{Global}
 use Rattle.fx_base.specs.Faults.{Rose}
 use Rattle.fx_base.specs.Telling.{Tells}
 use Rattle.app_cells.specs.declared.app.App.{App}
-use Rattle.app_graph.specs.Plans.{checked_text}
+use Rattle.app_reports.specs.Plans.{checked_text}
 use Rattle.office.specs.app_loader.Judged.{Judged, JudgedApp, longest}
 use Rattle.app_wire.specs.Moments.{Tick}
-use Rattle.fx_trees.specs.BrokenText.{ended_line}
-use Rattle.fx_trees.specs.declared.broken.Broken.{Broken as Break}
-use Rattle.fx_trees.specs.declared.app_end.AppEnd.{AppEnd}
-use Rattle.fx_trees.specs.declared.app_end.AppEnd.TheVariants as end
-use Rattle.fx_trees.specs.declared.schema.Schema.{Schema}
+use Rattle.fx_core.specs.BrokenText.{ended_line}
+use Rattle.fx_core.specs.declared.broken.Broken.{Broken as Break}
+use Rattle.fx_core.specs.declared.app_end.AppEnd.{AppEnd}
+use Rattle.fx_core.specs.declared.app_end.AppEnd.TheVariants as end
+use Rattle.fx_core.specs.declared.schema.Schema.{Schema}
 use Rattle.row_keeper.specs.declared.keeper.Keeper as keeper
 use Rattle.app_file.specs.Files.{most_bytes}
 use Rattle.office.specs.State.{schema_of}

@@ -5,9 +5,9 @@ use Rattle.fx_base.specs.Faults.{Rose}
 use Rattle.fx_base.specs.Silence.{IsLater}
 use Rattle.fx_base.specs.Telling.{Tells}
 use Rattle.app_cells.specs.declared.app.App.{App}
-use Rattle.fx_trees.specs.declared.broken.Broken.{Broken as Break}
+use Rattle.fx_core.specs.declared.broken.Broken.{Broken as Break}
 use Rattle.office.specs.app_loader.Judged.{JudgedApp}
-use Rattle.sample_load.specs.Sample.{app_text}
+use Rattle.sample_app.specs.Sample.{app_text}
 use Rattle.fx_cli.specs.Held.{Serves, Standing}
 use Rattle.fx_cli.specs.Opening.{IsServed, IsStopped, Unsaid}
 use Rattle.fx_cli.specs.Outside.{Outside, Sight, Work, WorkSight}

@@ -6,9 +6,9 @@ use Rattle.fx_base.specs.Silence.{Goes, IsLater, IsLost, Marks}
 use Rattle.fx_base.specs.Telling.{Tells}
 use Rattle.app_cells.specs.declared.app.App.{App}
 use Rattle.app_wire.specs.Framing.{Asked}
-use Rattle.fx_trees.specs.BrokenText.{ended_line}
-use Rattle.fx_trees.specs.declared.broken.Broken.{Broken as Break}
-use Rattle.fx_trees.specs.declared.schema.Schema.{Schema}
+use Rattle.fx_core.specs.BrokenText.{ended_line}
+use Rattle.fx_core.specs.declared.broken.Broken.{Broken as Break}
+use Rattle.fx_core.specs.declared.schema.Schema.{Schema}
 use Rattle.office.specs.Answers.{Exchange}
 use Rattle.office.specs.State.{State, schema_of}
 use Rattle.office.specs.Step.{Step}
@@ -16,9 +16,9 @@ use Rattle.office.specs.app_loader.Judged.{JudgedApp}
 use Rattle.row_keeper.specs.declared.keeper.Keeper.{Ghosts}
 use Rattle.row_keeper.specs.declared.keeper.KeeperEnd.{KeeperEnd}
 use Rattle.row_keeper.specs.declared.keeper.KeeperEnd.TheVariants.{Failed, Memory}
-use Rattle.sample_load.specs.Counts.{HasRows}
-use Rattle.sample_load.specs.Sample.{app_text, requests}
-use Rattle.sample_load.specs.Summary.{summary}
+use Rattle.sample_app.specs.Counts.{HasRows}
+use Rattle.sample_app.specs.Sample.{app_text, requests}
+use Rattle.sample_app.specs.Summary.{summary}
 use Rattle.fx_cli.specs.Held.{Standing}
 use Rattle.fx_cli.specs.Opening.{IsAsked, IsServed}
 use Rattle.fx_cli.specs.Telling.{Grows}

@@ -2,7 +2,7 @@
 use Rattle.std.specs.Prelude.{◌≡◌, ℕ, List, Some, None, String}
 use Rattle.std.specs.declared.alloc.Global.{Global}
 use Rattle.fx_base.specs.Faults.{Rose}
-use Rattle.fx_trees.specs.declared.schema.Schema.{Schema}
+use Rattle.fx_core.specs.declared.schema.Schema.{Schema}
 use Rattle.office.specs.State.{schema_of}
 use Rattle.fx_cli.specs.Opening.{IsAsked}
 use Rattle.fx_cli.specs.Outside.{Outside, Sight}

@@ -1,12 +1,12 @@
 //! Keepers, as a run opens them.
 ghost use Rattle.std.specs.Prelude.{◌≡◌, IfNone, IfOk, IsErrOf, OnErr, Some, false};
 ghost use Rattle.fx_base.specs.Silence.{IsLater};
-ghost use Rattle.fx_trees.specs.Lawful.{IsLawfulSchema};
+ghost use Rattle.fx_core.specs.Lawful.{IsLawfulSchema};
 ghost use Rattle.row_keeper.specs.declared.keeper.KeeperEnd.TheVariants.{Failed};
 ghost use Rattle.row_requests.specs.Sound.{AreSound};
 ghost use Rattle.fx_cli.specs.Opening.{Counted, IsAsked, IsStopped, Unsaid};
 
-use fx_trees::Schema;
+use fx_core::Schema;
 use row_keeper::{Keeper, KeeperEnd};
 
 /// Attaches the store of a name, and gives the keeper the shape of a schema. Where it keeps another schema it

@@ -1,8 +1,8 @@
 -- Rows for a collection.
 use Rattle.std.proofs.Common.{◌≡◌, ℕ, List, [], ◌∷◌, ◌++◌, true, Some, refl, ap, sym, subst, ◌∙◌}
 use Rattle.std.specs.List.{find}
-use Rattle.fx_data.specs.Types.{Shape, ColumnList, records, tables}
-use Rattle.fx_data.specs.Values.{Data, blank, number, text, boolean, date, rec, tab, fault}
+use Rattle.fx_types.specs.Types.{Shape, ColumnList, records, tables}
+use Rattle.fx_types.specs.Values.{Data, blank, number, text, boolean, date, rec, tab, fault}
 use Rattle.fx_env.specs.Scopes.{Fixed}
 use Rattle.fx_semantics.proofs.Tables.{RowsFit, fit_table, rows_in_fit, table_fits}
 use Rattle.fx_semantics.specs.Around.{record_of}
@@ -10,10 +10,10 @@ use Rattle.fx_semantics.specs.Rows.{table_of}
 use Rattle.fx_tables.proofs.FirstErrors.{found_passes}
 use Rattle.fx_value.specs.Columns.{Row}
 use Rattle.fx_tables.specs.Unions.{is_fault}
-use Rattle.fx_trees.specs.declared.names.Names.{Names}
-use Rattle.fx_trees.specs.declared.sources.Source.{Source}
-use Rattle.fx_trees.specs.declared.sources.Source.TheVariants as source
-use Rattle.fx_trees.specs.SourceTypes.{sources}
+use Rattle.fx_core.specs.declared.names.Names.{Names}
+use Rattle.fx_core.specs.declared.sources.Source.{Source}
+use Rattle.fx_core.specs.declared.sources.Source.TheVariants as source
+use Rattle.fx_core.specs.SourceTypes.{sources}
 use Rattle.fx_value.specs.Fits.{fits_in}
 use Rattle.session_state.specs.Changes.{FitsSource}
 use Rattle.fx_deeds.specs.Collections.{IsFirst}

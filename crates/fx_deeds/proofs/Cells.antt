@@ -12,19 +12,19 @@ use Rattle.std.proofs.lemmas.List.Folds.{find-append}
 use Rattle.std.proofs.lemmas.Map.Lookups.{exact_bytes}
 use Rattle.std.proofs.lemmas.Slice.Eq.{bytes_eq-Decides}
 use Rattle.std.specs.List.{AllByRecursion}
-use Rattle.fx_data.specs.Lookup.{item_of}
-use Rattle.fx_data.specs.declared.types.Ty.{Ty}
-use Rattle.fx_data.specs.declared.types.Ty.TheVariants as ty
-use Rattle.fx_data.specs.Types.{Shape, numbers, texts, booleans, dates, records, tables, ColumnList, no_columns, column}
-use Rattle.fx_data.specs.TypeView.{shape}
-use Rattle.fx_data.specs.Values.{Data, blank, number, text, boolean, date, rec, tab, fault}
+use Rattle.fx_types.specs.Lookup.{item_of}
+use Rattle.fx_types.specs.declared.types.Ty.{Ty}
+use Rattle.fx_types.specs.declared.types.Ty.TheVariants as ty
+use Rattle.fx_types.specs.Types.{Shape, numbers, texts, booleans, dates, records, tables, ColumnList, no_columns, column}
+use Rattle.fx_types.specs.TypeView.{shape}
+use Rattle.fx_types.specs.Values.{Data, blank, number, text, boolean, date, rec, tab, fault}
 use Rattle.fx_value.specs.Columns.{with_field}
 use Rattle.fx_value.specs.Columns.{Row as Fields}
 use Rattle.fx_tables.specs.Unions.{is_fault}
-use Rattle.fx_trees.specs.declared.schema.Column.{Column}
-use Rattle.fx_trees.specs.declared.schema.TableShape.{TableShape}
-use Rattle.fx_trees.specs.Lawful.{AreDistinct, DiffersFromAll, IsColumnType, IsLawfulTable, id_name}
-use Rattle.fx_trees.specs.SourceTypes.{columns_of, put_column, put_columns}
+use Rattle.fx_core.specs.declared.schema.Column.{Column}
+use Rattle.fx_core.specs.declared.schema.TableShape.{TableShape}
+use Rattle.fx_core.specs.Lawful.{AreDistinct, DiffersFromAll, IsColumnType, IsLawfulTable, id_name}
+use Rattle.fx_core.specs.SourceTypes.{columns_of, put_column, put_columns}
 use Rattle.fx_typing.specs.LawfulTypes.{AreLawfulColumns}
 use Rattle.fx_value.proofs.Widenings.{flat_fits, own_name, rec_to_records, tab_to_tables, type_in}
 use Rattle.fx_value.specs.Coercion.{CanWiden}

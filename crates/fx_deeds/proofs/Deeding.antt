@@ -4,22 +4,22 @@ use Rattle.std.specs.Prelude.{MatchOption, option_map, slice_get}
 use Rattle.std.specs.List.{find}
 use Rattle.std.proofs.lemmas.Option.{slice_get_past}
 use Rattle.fx_base.specs.Silence.{Goes}
-use Rattle.fx_data.specs.declared.faults.Fault.{Fault}
-use Rattle.fx_data.specs.declared.values.Value.{Value}
-use Rattle.fx_data.specs.declared.values.Value.TheVariants as value
-use Rattle.fx_data.specs.Types.{ColumnList, tables}
-use Rattle.fx_data.specs.Values.{Data}
-use Rattle.fx_data.specs.ValueView.{view}
+use Rattle.fx_types.specs.declared.faults.Fault.{Fault}
+use Rattle.fx_types.specs.declared.values.Value.{Value}
+use Rattle.fx_types.specs.declared.values.Value.TheVariants as value
+use Rattle.fx_types.specs.Types.{ColumnList, tables}
+use Rattle.fx_types.specs.Values.{Data}
+use Rattle.fx_types.specs.ValueView.{view}
 use Rattle.fx_env.specs.Scopes.{Fixed}
 use Rattle.fx_tables.specs.Unions.{is_fault}
-use Rattle.fx_trees.specs.declared.names.Collection.{Collection}
-use Rattle.fx_trees.specs.declared.names.Names.{Names}
-use Rattle.fx_trees.specs.declared.schema.Schema.{Schema}
-use Rattle.fx_trees.specs.declared.schema.TableShape.{TableShape}
-use Rattle.fx_trees.specs.declared.sources.Source.{Source}
-use Rattle.fx_trees.specs.declared.sources.Source.TheVariants as source
-use Rattle.fx_trees.specs.SourceTypes.{columns_of, sources, table_type}
-use Rattle.fx_data.specs.TypeView.{shape}
+use Rattle.fx_core.specs.declared.names.Collection.{Collection}
+use Rattle.fx_core.specs.declared.names.Names.{Names}
+use Rattle.fx_core.specs.declared.schema.Schema.{Schema}
+use Rattle.fx_core.specs.declared.schema.TableShape.{TableShape}
+use Rattle.fx_core.specs.declared.sources.Source.{Source}
+use Rattle.fx_core.specs.declared.sources.Source.TheVariants as source
+use Rattle.fx_core.specs.SourceTypes.{columns_of, sources, table_type}
+use Rattle.fx_types.specs.TypeView.{shape}
 use Rattle.fx_deeds.specs.Deeds.{Answers, OrErrorAmong, text_of}
 use Rattle.fx_deeds.specs.Fitting.{IsOfColumns, SourceTypes}
 use Rattle.fx_deeds.specs.State.{State}

@@ -2,13 +2,13 @@
 use Rattle.std.proofs.Common.{◌≡◌, ℕ, List, [], ◌∷◌, Option, Result, length, map, true, refl, subst, sym}
 use Rattle.std.specs.Prelude.{IfOk}
 use Rattle.fx_base.specs.Silence.{Goes}
-use Rattle.fx_data.specs.declared.values.Value.{Value}
-use Rattle.fx_data.specs.Types.{Shape, booleans}
-use Rattle.fx_data.specs.ValueView.{view}
+use Rattle.fx_types.specs.declared.values.Value.{Value}
+use Rattle.fx_types.specs.Types.{Shape, booleans}
+use Rattle.fx_types.specs.ValueView.{view}
 use Rattle.fx_value.specs.Fits.{fits_in}
-use Rattle.fx_trees.specs.declared.deeds.Deed.{Deed}
-use Rattle.fx_trees.specs.declared.deeds.Deed.TheVariants as deed
-use Rattle.fx_trees.specs.declared.deeds.Target.{Target}
+use Rattle.fx_core.specs.declared.deeds.Deed.{Deed}
+use Rattle.fx_core.specs.declared.deeds.Deed.TheVariants as deed
+use Rattle.fx_core.specs.declared.deeds.Target.{Target}
 use Rattle.fx_deeds.specs.Doable.{AnswersAs, CanDo}
 use Rattle.fx_deeds.specs.Done.{IsDeed}
 use Rattle.fx_deeds.specs.Fitting.{SourceTypes}

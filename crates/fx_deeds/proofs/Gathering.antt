@@ -3,11 +3,11 @@ use Rattle.std.proofs.Common.{◌≡◌, ℕ, List, [], ◌∷◌, ◌++◌, Boo
 use Rattle.std.specs.Prelude.{◌↔◌, IsTrue}
 use Rattle.fx_base.proofs.Silences.{goes_two}
 use Rattle.fx_base.specs.Silence.{Goes, IsLater, IsLost, Marks}
-use Rattle.fx_data.specs.declared.values.Value.{Value}
-use Rattle.fx_data.specs.declared.values.Value.TheVariants.{Tab}
-use Rattle.fx_data.specs.Types.{ColumnList}
-use Rattle.fx_data.specs.Values.{Data}
-use Rattle.fx_data.specs.ValueView.{view}
+use Rattle.fx_types.specs.declared.values.Value.{Value}
+use Rattle.fx_types.specs.declared.values.Value.TheVariants.{Tab}
+use Rattle.fx_types.specs.Types.{ColumnList}
+use Rattle.fx_types.specs.Values.{Data}
+use Rattle.fx_types.specs.ValueView.{view}
 use Rattle.fx_semantics.specs.Around.{record_of}
 use Rattle.fx_semantics.specs.Rows.{table_of}
 use Rattle.fx_value.specs.Columns.{Row}

@@ -6,11 +6,11 @@ use Rattle.std.specs.Cmp.Lexicographic.{slice_cmp}
 use Rattle.std.specs.declared.cmp.Ordering.{Ordering}
 use Rattle.std.specs.declared.cmp.Ordering.TheVariants.{Less, Equal, Greater}
 use Rattle.std.proofs.lemmas.Map.Text.{is_eq-slice_cmp}
-use Rattle.fx_data.proofs.Utf8Order.{and_second, and_first}
-use Rattle.fx_data.specs.Lookup.{item_of}
-use Rattle.fx_data.specs.Rising.{IsBelow}
-use Rattle.fx_data.specs.Types.{Shape, blanks, numbers, texts, booleans, dates, records, tables, ColumnList, no_columns, column}
-use Rattle.fx_data.specs.Values.{Data, blank, field_list}
+use Rattle.fx_types.proofs.Utf8Order.{and_second, and_first}
+use Rattle.fx_types.specs.Lookup.{item_of}
+use Rattle.fx_types.specs.Rising.{IsBelow}
+use Rattle.fx_types.specs.Types.{Shape, blanks, numbers, texts, booleans, dates, records, tables, ColumnList, no_columns, column}
+use Rattle.fx_types.specs.Values.{Data, blank, field_list}
 use Rattle.fx_value.specs.Columns.{Row}
 use Rattle.fx_typing.specs.LawfulTypes.{AreLawfulColumns, IsLawfulType, IsUnder}
 use Rattle.fx_value.proofs.Unions.{Rises, Under, alike, below, under_further, union_both, union_first, union_of_none, union_second}

@@ -1,11 +1,11 @@
 -- Rows that stay where others are taken out.
 use Rattle.std.proofs.Common.{◌≡◌, List, [], ◌∷◌, ◌++◌, true, map, refl, ap, sym, subst, ◌∙◌, append_assoc, inl, inr}
 use Rattle.std.proofs.lemmas.List.{append-nil, map-append}
-use Rattle.fx_data.specs.declared.values.Value.{Value}
-use Rattle.fx_data.specs.declared.values.Value.TheVariants.{Rec}
-use Rattle.fx_data.specs.Types.{ColumnList, no_columns, tables}
-use Rattle.fx_data.specs.Values.{field_list}
-use Rattle.fx_data.specs.ValueView.{view}
+use Rattle.fx_types.specs.declared.values.Value.{Value}
+use Rattle.fx_types.specs.declared.values.Value.TheVariants.{Rec}
+use Rattle.fx_types.specs.Types.{ColumnList, no_columns, tables}
+use Rattle.fx_types.specs.Values.{field_list}
+use Rattle.fx_types.specs.ValueView.{view}
 use Rattle.fx_semantics.proofs.Tables.{RowsFit, fit_table, table_fits}
 use Rattle.fx_semantics.specs.Around.{record_of}
 use Rattle.fx_semantics.specs.Rows.{fields_of, table_of}

@@ -1,10 +1,10 @@
 -- What is answered for rows, in its parts.
 use Rattle.std.proofs.Common.{◌≡◌, ℕ, zero, suc, ◌≤◌, arith, length, List, [], ◌∷◌, Some, refl, ap, sym, ◌∙◌}
 use Rattle.std.specs.Prelude.{slice_get}
-use Rattle.fx_data.specs.Values.{Data}
+use Rattle.fx_types.specs.Values.{Data}
 use Rattle.fx_semantics.proofs.RowsBack.{rows_back}
 use Rattle.fx_semantics.specs.Rows.{rows_in, table_of}
-use Rattle.fx_trees.specs.declared.schema.Column.{Column}
+use Rattle.fx_core.specs.declared.schema.Column.{Column}
 use Rattle.fx_value.specs.Columns.{Row}
 use Rattle.fx_deeds.specs.Finding.{first_cells}
 use Rattle.fx_deeds.specs.RowValues.{cells_in, column_name}

@@ -5,7 +5,7 @@ use Rattle.std.proofs.lemmas.List.{append-nil}
 use Rattle.fx_base.proofs.Silences.{goes_two, goes_weaker, later_then}
 use Rattle.fx_base.specs.Silence.{Goes, IsLater, IsLost}
 use Rattle.fx_base.specs.Telling.{Stays}
-use Rattle.fx_trees.specs.declared.sources.Source.{Source}
+use Rattle.fx_core.specs.declared.sources.Source.{Source}
 use Rattle.fx_deeds.specs.Stages.{Passed, Stage}
 use Rattle.fx_deeds.specs.State.{State}
 use Rattle.fx_deeds.specs.Within.{IsAmong, SameBut, Within}

@@ -6,15 +6,15 @@ use Rattle.std.specs.List.{find}
 use Rattle.std.proofs.lemmas.List.Folds.{find-append}
 use Rattle.std.proofs.lemmas.List.{append-nil, map-append}
 use Rattle.std.proofs.lemmas.Bool.{and_from}
-use Rattle.fx_data.proofs.Utf8Order.{and_second, and_first}
-use Rattle.fx_data.specs.declared.types.Ty.{Ty}
-use Rattle.fx_data.specs.declared.values.Value.{Value}
-use Rattle.fx_data.specs.Lookup.{item_of}
-use Rattle.fx_data.specs.Rising.{AreRising, IsBelowAll}
-use Rattle.fx_data.specs.Types.{Shape, column_list}
-use Rattle.fx_data.specs.TypeView.{columns_view, shape}
-use Rattle.fx_data.specs.Values.{Data, blank, field_list}
-use Rattle.fx_data.specs.ValueView.{fields_view, view}
+use Rattle.fx_types.proofs.Utf8Order.{and_second, and_first}
+use Rattle.fx_types.specs.declared.types.Ty.{Ty}
+use Rattle.fx_types.specs.declared.values.Value.{Value}
+use Rattle.fx_types.specs.Lookup.{item_of}
+use Rattle.fx_types.specs.Rising.{AreRising, IsBelowAll}
+use Rattle.fx_types.specs.Types.{Shape, column_list}
+use Rattle.fx_types.specs.TypeView.{columns_view, shape}
+use Rattle.fx_types.specs.Values.{Data, blank, field_list}
+use Rattle.fx_types.specs.ValueView.{fields_view, view}
 use Rattle.fx_value.specs.Columns.{Row}
 use Rattle.fx_tables.specs.Unions.{is_fault}
 use Rattle.fx_value.proofs.Widenings.{own_name, rises_by_fit}

@@ -5,20 +5,20 @@ use Rattle.std.specs.List.{AllByRecursion, find}
 use Rattle.std.proofs.lemmas.List.Elements.{recursion_from_All}
 use Rattle.fx_base.proofs.Silences.{goes_two, goes_weaker}
 use Rattle.fx_base.specs.Silence.{Goes, IsLater, IsLost, Marks}
-use Rattle.fx_data.specs.declared.faults.Fault.{Fault}
-use Rattle.fx_data.specs.declared.values.Value.{Value}
-use Rattle.fx_data.specs.declared.values.Value.TheVariants as value
-use Rattle.fx_data.specs.Values.{Data, blank}
-use Rattle.fx_data.specs.ValueView.{view}
+use Rattle.fx_types.specs.declared.faults.Fault.{Fault}
+use Rattle.fx_types.specs.declared.values.Value.{Value}
+use Rattle.fx_types.specs.declared.values.Value.TheVariants as value
+use Rattle.fx_types.specs.Values.{Data, blank}
+use Rattle.fx_types.specs.ValueView.{view}
 use Rattle.fx_semantics.proofs.RowsBack.{rows_back}
 use Rattle.fx_env.specs.Telling.{Told, tables_told}
 use Rattle.fx_semantics.specs.Around.{record_of}
 use Rattle.fx_semantics.specs.Rows.{rows_in}
 use Rattle.fx_tables.specs.Unions.{is_fault}
-use Rattle.fx_trees.specs.declared.schema.Column.{Column}
-use Rattle.fx_trees.specs.declared.schema.Schema.{Schema}
-use Rattle.fx_trees.specs.declared.schema.TableShape.{TableShape}
-use Rattle.fx_trees.specs.Lawful.{IsLawfulSchema, IsLawfulTable}
+use Rattle.fx_core.specs.declared.schema.Column.{Column}
+use Rattle.fx_core.specs.declared.schema.Schema.{Schema}
+use Rattle.fx_core.specs.declared.schema.TableShape.{TableShape}
+use Rattle.fx_core.specs.Lawful.{IsLawfulSchema, IsLawfulTable}
 use Rattle.fx_value.specs.Columns.{Row}
 use Rattle.row_keeper.specs.Changes.{IsInserted, IsReplaced}
 use Rattle.row_keeper.specs.Tables.{columns_at, columns_in, has_id, rows_of}

@@ -2,15 +2,15 @@
 use Rattle.std.proofs.Common.{◌≡◌, ℕ, ◌++◌, List, [], Option, Some, None, true, refl, ap, sym, subst, ◌∙◌}
 use Rattle.fx_base.specs.Silence.{Goes}
 use Rattle.fx_base.specs.Telling.{Stays}
-use Rattle.fx_data.specs.Types.{Shape, ColumnList, tables}
-use Rattle.fx_data.specs.Values.{Data}
+use Rattle.fx_types.specs.Types.{Shape, ColumnList, tables}
+use Rattle.fx_types.specs.Values.{Data}
 use Rattle.fx_env.specs.Telling.{Told, values_told}
 use Rattle.fx_semantics.specs.Rows.{rows_in, table_of}
 use Rattle.fx_semantics.specs.Sources.{FitsIn, Gives}
 use Rattle.fx_semantics.proofs.Tables.{rows_in_fit, table_fits}
 use Rattle.fx_value.specs.Columns.{Row}
-use Rattle.fx_trees.specs.declared.sources.Source.{Source}
-use Rattle.fx_trees.specs.declared.sources.Source.TheVariants as source
+use Rattle.fx_core.specs.declared.sources.Source.{Source}
+use Rattle.fx_core.specs.declared.sources.Source.TheVariants as source
 use Rattle.fx_value.specs.Fits.{fits_in}
 use Rattle.fx_deeds.specs.Fitting.{SourceTypes}
 use Rattle.fx_deeds.specs.State.{State}

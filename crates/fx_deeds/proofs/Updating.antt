@@ -6,10 +6,10 @@ use Rattle.std.specs.Option.{option_or}
 use Rattle.std.proofs.lemmas.List.{append-nil}
 use Rattle.std.proofs.lemmas.List.Folds.{find-append}
 use Rattle.std.specs.Prelude.{option_map}
-use Rattle.fx_data.specs.declared.values.Value.{Value}
-use Rattle.fx_data.specs.Types.{ColumnList, no_columns, records, tables}
-use Rattle.fx_data.specs.Values.{Data}
-use Rattle.fx_data.specs.ValueView.{view}
+use Rattle.fx_types.specs.declared.values.Value.{Value}
+use Rattle.fx_types.specs.Types.{ColumnList, no_columns, records, tables}
+use Rattle.fx_types.specs.Values.{Data}
+use Rattle.fx_types.specs.ValueView.{view}
 use Rattle.fx_semantics.proofs.Tables.{RowsFit, fit_table, table_fits}
 use Rattle.fx_semantics.specs.Around.{record_of}
 use Rattle.fx_semantics.specs.Rows.{rows_in, table_of}

@@ -2,16 +2,16 @@
 use Rattle.std.proofs.Common.{ℕ, List, [], ◌∷◌, Bool, true, false, map, Option, Some, None, Result, Ok, Err, sym, subst, inl, inr}
 use Rattle.std.specs.Prelude.{IsSomeAnd, MatchOption, MatchResult, slice_get}
 use Rattle.std.specs.List.{find}
-use Rattle.fx_data.specs.declared.values.Value.{Value}
-use Rattle.fx_data.specs.Types.{ColumnList}
-use Rattle.fx_data.specs.Values.{Data, blank, number, text, boolean, date, rec, tab, fault}
-use Rattle.fx_trees.specs.declared.deeds.Deed.{Deed}
-use Rattle.fx_trees.specs.declared.deeds.Deed.TheVariants as deed
-use Rattle.fx_trees.specs.declared.deeds.Target.{Target}
-use Rattle.fx_trees.specs.declared.deeds.Target.TheVariants as target
-use Rattle.fx_trees.specs.declared.schema.TableShape.{TableShape}
-use Rattle.fx_trees.specs.declared.sources.Source.{Source}
-use Rattle.fx_trees.specs.declared.sources.Source.TheVariants as source
+use Rattle.fx_types.specs.declared.values.Value.{Value}
+use Rattle.fx_types.specs.Types.{ColumnList}
+use Rattle.fx_types.specs.Values.{Data, blank, number, text, boolean, date, rec, tab, fault}
+use Rattle.fx_core.specs.declared.deeds.Deed.{Deed}
+use Rattle.fx_core.specs.declared.deeds.Deed.TheVariants as deed
+use Rattle.fx_core.specs.declared.deeds.Target.{Target}
+use Rattle.fx_core.specs.declared.deeds.Target.TheVariants as target
+use Rattle.fx_core.specs.declared.schema.TableShape.{TableShape}
+use Rattle.fx_core.specs.declared.sources.Source.{Source}
+use Rattle.fx_core.specs.declared.sources.Source.TheVariants as source
 use Rattle.fx_semantics.specs.Around.{record_of}
 use Rattle.fx_semantics.specs.Rows.{rows_in}
 use Rattle.fx_value.specs.Columns.{Row}
@@ -27,7 +27,7 @@ use Rattle.fx_deeds.specs.Deeds.{Answers, AreRemoved, AreSet, AreUpdated, ByDone
 use Rattle.fx_deeds.specs.Done.{IsDeed, IsUpdate, errors_in}
 use Rattle.fx_deeds.specs.RowValues.{changed_row, row_named, rows_among, values_among}
 use Rattle.fx_deeds.specs.State.{Frame, State}
-use Rattle.fx_trees.specs.Lawful.{id_name}
+use Rattle.fx_core.specs.Lawful.{id_name}
 use Rattle.fx_value.specs.Coercion.{value_in}
 use Rattle.fx_deeds.specs.Within.{Within}
 
@@ -126,7 +126,7 @@ patches_base p k changes (date z) s x t h = answered _ s x t h
 patches_base p k changes (tab rs) s x t h = answered _ s x t h
 patches_base p k changes (fault e cs) s x t h = answered _ s x t h
 
-pub patched : {A : Type 0} (schema : Rattle.fx_trees.specs.declared.schema.Schema.Schema) (k : ℕ) (b : Data) (ys : List Data) (s : State A) (x : Data) (t : State A) → IsPatched schema k b ys s x t → Within s t
+pub patched : {A : Type 0} (schema : Rattle.fx_core.specs.declared.schema.Schema.Schema) (k : ℕ) (b : Data) (ys : List Data) (s : State A) (x : Data) (t : State A) → IsPatched schema k b ys s x t → Within s t
 patched schema k b ys s x t h =
     or_among (id_of b ∷ values_among (rows_among ys)) (OfTable schema k (λ p. PatchesBase p k (rows_among ys) b s x t)) s x t
     (of_table (slice_get schema.tables k) (λ p. PatchesBase p k (rows_among ys) b s x t) s t (λ p. patches_base p k (rows_among ys) b s x t)) h

@@ -1,8 +1,8 @@
 -- What deeds do to collections.
 use Rattle.std.specs.Prelude.{◌≡◌, ◌≢◌, ◌⊎◌, ℕ, ◌++◌, List, [], ◌∷◌, Bool, true}
-use Rattle.fx_data.specs.Types.{ColumnList}
-use Rattle.fx_data.specs.Values.{Data, blank, boolean}
-use Rattle.fx_trees.specs.declared.sources.Source.TheVariants as source
+use Rattle.fx_types.specs.Types.{ColumnList}
+use Rattle.fx_types.specs.Values.{Data, blank, boolean}
+use Rattle.fx_core.specs.declared.sources.Source.TheVariants as source
 use Rattle.fx_value.specs.Columns.{Row}
 use Rattle.fx_semantics.specs.Around.{record_of}
 use Rattle.fx_semantics.specs.Rows.{rows_in, table_of}

@@ -1,14 +1,14 @@
 -- What a deed does with the values of its parts, over what stays.
 use Rattle.std.specs.Prelude.{◌++◌, List, [], ◌∷◌, true, map, None}
-use Rattle.fx_data.specs.Values.{Data, boolean, fault}
+use Rattle.fx_types.specs.Values.{Data, boolean, fault}
 use Rattle.fx_semantics.specs.Around.{record_of}
 use Rattle.fx_semantics.specs.Rows.{rows_in}
 use Rattle.fx_value.specs.Columns.{Row}
-use Rattle.fx_trees.specs.declared.deeds.Deed.{Deed}
-use Rattle.fx_trees.specs.declared.deeds.Deed.TheVariants as deed
-use Rattle.fx_trees.specs.declared.deeds.Target.{Target}
-use Rattle.fx_trees.specs.declared.deeds.Target.TheVariants as target
-use Rattle.fx_trees.specs.declared.sources.Source.TheVariants as source
+use Rattle.fx_core.specs.declared.deeds.Deed.{Deed}
+use Rattle.fx_core.specs.declared.deeds.Deed.TheVariants as deed
+use Rattle.fx_core.specs.declared.deeds.Target.{Target}
+use Rattle.fx_core.specs.declared.deeds.Target.TheVariants as target
+use Rattle.fx_core.specs.declared.sources.Source.TheVariants as source
 use Rattle.session_state.specs.declared.change.Change.TheVariants as change
 use Rattle.fx_deeds.specs.Collections.{AreTaken, AreTakenIf, AreUpdatedIn, Holds, IsPatchedIn, rows_held}
 use Rattle.fx_deeds.specs.Deeds.{AreRemoved, AreSet, AreUpdated, Gives, IsPatched, Makes, OfTable, OrError, OrErrorAmong, text_of}

@@ -1,18 +1,18 @@
 -- How the row of a number is found and changed.
 use Rattle.std.specs.Prelude.{◌≡◌, ℕ, List, [], ◌∷◌, Option, Some, None, Ok, MatchOption, MatchResult, option_map, slice_get}
 use Rattle.std.specs.List.{find}
-use Rattle.fx_data.specs.declared.values.Value.{Value}
-use Rattle.fx_data.specs.Values.{Data}
-use Rattle.fx_data.specs.ValueView.{view}
+use Rattle.fx_types.specs.declared.values.Value.{Value}
+use Rattle.fx_types.specs.Values.{Data}
+use Rattle.fx_types.specs.ValueView.{view}
 use Rattle.fx_semantics.specs.Around.{record_of}
 use Rattle.fx_semantics.specs.Rows.{rows_in}
 use Rattle.fx_value.specs.Columns.{Row as Fields}
 use Rattle.fx_tables.specs.Unions.{is_fault}
-use Rattle.fx_trees.specs.declared.schema.Column.{Column}
-use Rattle.fx_trees.specs.declared.schema.Schema.{Schema}
-use Rattle.fx_trees.specs.declared.schema.TableShape.{TableShape}
-use Rattle.fx_trees.specs.Lawful.{IsLawfulTable}
-use Rattle.fx_trees.specs.SourceTypes.{columns_of}
+use Rattle.fx_core.specs.declared.schema.Column.{Column}
+use Rattle.fx_core.specs.declared.schema.Schema.{Schema}
+use Rattle.fx_core.specs.declared.schema.TableShape.{TableShape}
+use Rattle.fx_core.specs.Lawful.{IsLawfulTable}
+use Rattle.fx_core.specs.SourceTypes.{columns_of}
 use Rattle.fx_typing.specs.LawfulTypes.{AreLawfulColumns}
 use Rattle.row_keeper.specs.declared.rows.Put.{Put}
 use Rattle.row_keeper.specs.declared.rows.Put.TheVariants.{Id, NoRow, Refused}

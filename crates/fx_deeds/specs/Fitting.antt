@@ -1,13 +1,13 @@
 -- Which values deeds can take.
 use Rattle.std.specs.Prelude.{◌≡◌, ℕ, true, List, [], ◌∷◌, Option, Some, slice_get, unwrap_or}
-use Rattle.fx_data.specs.Lookup.{item_of}
-use Rattle.fx_data.specs.Types.{Shape, ColumnList, no_columns, column, tables}
-use Rattle.fx_data.specs.Values.{Data, blank, field_list}
+use Rattle.fx_types.specs.Lookup.{item_of}
+use Rattle.fx_types.specs.Types.{Shape, ColumnList, no_columns, column, tables}
+use Rattle.fx_types.specs.Values.{Data, blank, field_list}
 use Rattle.fx_env.specs.Scopes.{Fixed}
-use Rattle.fx_trees.specs.declared.schema.TableShape.{TableShape}
-use Rattle.fx_trees.specs.declared.sources.Source.{Source}
-use Rattle.fx_trees.specs.declared.sources.Source.TheVariants as source
-use Rattle.fx_trees.specs.SourceTypes.{columns_of}
+use Rattle.fx_core.specs.declared.schema.TableShape.{TableShape}
+use Rattle.fx_core.specs.declared.sources.Source.{Source}
+use Rattle.fx_core.specs.declared.sources.Source.TheVariants as source
+use Rattle.fx_core.specs.SourceTypes.{columns_of}
 use Rattle.fx_semantics.specs.Rows.{rows_in}
 use Rattle.fx_value.specs.Columns.{Row}
 use Rattle.fx_typing.specs.LawfulTypes.{AreLawfulColumns}

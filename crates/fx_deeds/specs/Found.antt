@@ -1,8 +1,8 @@
 -- What comes of a row that is to be taken out.
 use Rattle.std.specs.Prelude.{◌≡◌, ◌⊎◌, ℕ, ◌++◌, List, true, false, Option, Some, None, Result, Ok, Err, MatchOption, MatchResult}
-use Rattle.fx_data.specs.declared.values.Value.{Value}
-use Rattle.fx_data.specs.Values.{Data}
-use Rattle.fx_data.specs.ValueView.{view}
+use Rattle.fx_types.specs.declared.values.Value.{Value}
+use Rattle.fx_types.specs.Values.{Data}
+use Rattle.fx_types.specs.ValueView.{view}
 use Rattle.fx_semantics.specs.Rows.{table_of}
 use Rattle.fx_value.specs.Columns.{Row}
 use Rattle.session_state.specs.declared.change.Change.TheVariants as change

@@ -1,13 +1,13 @@
 -- Rows as values: their numbers, their cells, and changes of them.
 use Rattle.std.specs.Prelude.{ℕ, suc, zero, ◌/◌, ◌%◌, ◌==◌, ◌&&◌, ℤ, pos, negsuc, nat_le, Bool, true, false, List, [], ◌∷◌, ◌++◌, map, Option, Some, None, unwrap_or, if◌then◌else◌}
-use Rattle.fx_data.specs.Lookup.{item_of}
-use Rattle.fx_data.specs.declared.faults.Kind.{Kind}
-use Rattle.fx_data.specs.declared.faults.Kind.TheVariants as kind
-use Rattle.fx_data.specs.Types.{Shape, ColumnList, no_columns, column, tables}
-use Rattle.fx_data.specs.Values.{Data, blank, rec, fault, field_list}
-use Rattle.fx_trees.specs.Lawful.{id_name}
-use Rattle.fx_trees.specs.declared.schema.Column.{Column}
-use Rattle.fx_trees.specs.declared.schema.TableShape.{TableShape}
+use Rattle.fx_types.specs.Lookup.{item_of}
+use Rattle.fx_types.specs.declared.faults.Kind.{Kind}
+use Rattle.fx_types.specs.declared.faults.Kind.TheVariants as kind
+use Rattle.fx_types.specs.Types.{Shape, ColumnList, no_columns, column, tables}
+use Rattle.fx_types.specs.Values.{Data, blank, rec, fault, field_list}
+use Rattle.fx_core.specs.Lawful.{id_name}
+use Rattle.fx_core.specs.declared.schema.Column.{Column}
+use Rattle.fx_core.specs.declared.schema.TableShape.{TableShape}
 use Rattle.fx_value.specs.Columns.{Row}
 use Rattle.fx_semantics.specs.Rows.{fields_of, rows_in}
 use Rattle.fx_value.specs.Coercion.{widened}

@@ -1,10 +1,10 @@
 -- What behaviour formulas read and change, and what they stand on.
 use Rattle.std.specs.Prelude.{◌≡◌, ℕ, List, Option, Some}
-use Rattle.fx_data.specs.Types.{Shape}
-use Rattle.fx_data.specs.Values.{Data}
-use Rattle.fx_trees.specs.Reads.{IsAmong}
-use Rattle.fx_trees.specs.declared.schema.Schema.{Schema}
-use Rattle.fx_trees.specs.declared.sources.Source.{Source}
+use Rattle.fx_types.specs.Types.{Shape}
+use Rattle.fx_types.specs.Values.{Data}
+use Rattle.fx_core.specs.Reads.{IsAmong}
+use Rattle.fx_core.specs.declared.schema.Schema.{Schema}
+use Rattle.fx_core.specs.declared.sources.Source.{Source}
 use Rattle.fx_env.specs.Scopes.{Fixed, Held}
 use Rattle.fx_semantics.specs.Around.{Around}
 use Rattle.row_keeper.specs.Tables.{Tables}

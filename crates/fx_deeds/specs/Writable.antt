@@ -1,9 +1,9 @@
 -- What a performing may have written, whole or cut off.
 use Rattle.std.specs.Prelude.{List, [], ◌∷◌}
-use Rattle.fx_trees.specs.declared.deeds.Deed.{Deed}
-use Rattle.fx_trees.specs.declared.deeds.Deed.TheVariants as deed
-use Rattle.fx_trees.specs.declared.sources.Source.{Source}
-use Rattle.fx_trees.specs.declared.sources.Source.TheVariants as source
+use Rattle.fx_core.specs.declared.deeds.Deed.{Deed}
+use Rattle.fx_core.specs.declared.deeds.Deed.TheVariants as deed
+use Rattle.fx_core.specs.declared.sources.Source.{Source}
+use Rattle.fx_core.specs.declared.sources.Source.TheVariants as source
 use Rattle.fx_typing.specs.WellTyped.{target_source}
 use Rattle.fx_deeds.specs.State.{State}
 use Rattle.fx_deeds.specs.Within.{IsAmong, Written}

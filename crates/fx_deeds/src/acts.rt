@@ -1,8 +1,8 @@
 //! Deeds, by the values of their parts.
 ghost use Rattle.std.specs.Prelude.{◌≡◌, ◌∷◌, [], true, IfOk, IsErrOf, OnErr, length, map};
 ghost use Rattle.fx_base.specs.Faults.{Rose};
-ghost use Rattle.fx_data.specs.Types.{Shape};
-ghost use Rattle.fx_data.specs.ValueView.{view};
+ghost use Rattle.fx_types.specs.Types.{Shape};
+ghost use Rattle.fx_types.specs.ValueView.{view};
 ghost use Rattle.fx_value.specs.Fits.{fits_in};
 ghost use Rattle.fx_deeds.specs.CutOff.{CutDeed};
 ghost use Rattle.fx_deeds.specs.Doable.{AnswersAs, CanDo};
@@ -14,9 +14,9 @@ ghost use Rattle.fx_deeds.specs.Writable.{DeedMayWrite, WritesOnly};
 use crate::deeds::{patch, remove, remove_if};
 use crate::session::{clear, clear_collect, collect, navigate, notify, reset, set, set_all};
 use crate::world::World;
-use fx_data::Value;
+use fx_core::Deed;
 use fx_env::{Steps, Stop};
-use fx_trees::Deed;
+use fx_types::Value;
 use std::alloc::Global;
 use std::sync::ledger::Ledger;
 

@@ -1,13 +1,13 @@
 //! What deeds answer.
 ghost use Rattle.std.specs.Prelude.{◌≡◌, [], IfOk, map, option_map};
 ghost use Rattle.std.specs.List.{find};
-ghost use Rattle.fx_data.specs.ValueView.{view};
-ghost use Rattle.fx_data.specs.Values.{fault as fault_data};
+ghost use Rattle.fx_types.specs.ValueView.{view};
+ghost use Rattle.fx_types.specs.Values.{fault as fault_data};
 ghost use Rattle.fx_tables.specs.Unions.{is_fault};
 ghost use Rattle.fx_deeds.specs.RowValues.{taken_or as value_or};
 
 use fx_base::Memory;
-use fx_data::{Fault, Kind, Value, Words};
+use fx_types::{Fault, Kind, Value, Words};
 use std::alloc::Global;
 
 /// An error without a message.

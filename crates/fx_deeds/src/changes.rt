@@ -2,10 +2,10 @@
 ghost use Rattle.std.specs.Prelude.{◌≡◌, ◌∷◌, [], IfOk, IsErrOf, IsSome, IsSomeAnd, OnErr, slice_get, true};
 ghost use Rattle.fx_base.specs.Faults.{Rose};
 ghost use Rattle.fx_base.specs.Telling.{Stays};
-ghost use Rattle.fx_data.specs.Types.{Shape};
-ghost use Rattle.fx_data.specs.ValueView.{view};
+ghost use Rattle.fx_types.specs.Types.{Shape};
+ghost use Rattle.fx_types.specs.ValueView.{view};
 ghost use Rattle.fx_value.specs.Fits.{fits_in};
-ghost use Rattle.fx_trees.specs.declared.sources.Source.TheVariants as source;
+ghost use Rattle.fx_core.specs.declared.sources.Source.TheVariants as source;
 ghost use Rattle.row_keeper.specs.Changes.{IsInserted, IsReplaced};
 ghost use Rattle.row_keeper.specs.Tables.{columns_at};
 ghost use Rattle.row_queries.specs.TableRows.{AreCellsOf};
@@ -18,8 +18,8 @@ ghost use Rattle.fx_deeds.specs.Writable.{IsOneOf, WritesOnly};
 
 use crate::answers::taken_or;
 use crate::world::World;
-use fx_data::Value;
 use fx_env::Stop;
+use fx_types::Value;
 use row_keeper::Put;
 use row_queries::Cells;
 use session_state::Change;

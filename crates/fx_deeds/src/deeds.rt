@@ -1,10 +1,10 @@
 //! Deeds on rows, by the values of their parts.
 ghost use Rattle.std.specs.Prelude.{◌≡◌, [], ◌∷◌, true, IfOk, IsErrOf, OnErr, map};
 ghost use Rattle.fx_base.specs.Faults.{Rose};
-ghost use Rattle.fx_data.specs.Types.{Shape, booleans};
-ghost use Rattle.fx_data.specs.ValueView.{view};
-ghost use Rattle.fx_trees.specs.declared.deeds.Deed.TheVariants as deed;
-ghost use Rattle.fx_trees.specs.declared.deeds.Target.TheVariants as target;
+ghost use Rattle.fx_types.specs.Types.{Shape, booleans};
+ghost use Rattle.fx_types.specs.ValueView.{view};
+ghost use Rattle.fx_core.specs.declared.deeds.Deed.TheVariants as deed;
+ghost use Rattle.fx_core.specs.declared.deeds.Target.TheVariants as target;
 ghost use Rattle.fx_value.specs.Fits.{fits_in};
 ghost use Rattle.fx_deeds.specs.CutOff.{CutDeed, CutUpdate};
 ghost use Rattle.fx_deeds.specs.Doable.{AnswersAs, CanDo, CanUpdate};
@@ -20,9 +20,9 @@ use crate::removing::remove_rows;
 use crate::table_rows::{patch_table, update_table};
 use crate::updates::{first_of_changes, update_equal};
 use crate::world::World;
-use fx_data::{Fields, Value};
+use fx_core::Target;
 use fx_env::{Steps, Stop};
-use fx_trees::Target;
+use fx_types::{Fields, Value};
 use std::alloc::Global;
 use std::sync::ledger::Ledger;
 

@@ -1,12 +1,12 @@
 //! Rows that a filter kept, and that are taken out.
 ghost use Rattle.std.specs.Prelude.{◌≡◌, ◌∷◌, [], true, false, IfOk, IsErrOf, IsSome, map, slice_get, OnErr, take};
 ghost use Rattle.fx_base.specs.Faults.{Rose};
-ghost use Rattle.fx_data.specs.Types.{ColumnList, booleans};
-ghost use Rattle.fx_data.specs.ValueView.{view};
+ghost use Rattle.fx_types.specs.Types.{ColumnList, booleans};
+ghost use Rattle.fx_types.specs.ValueView.{view};
 ghost use Rattle.fx_semantics.specs.Around.{record_of};
 ghost use Rattle.fx_semantics.specs.Rows.{rows_in};
 ghost use Rattle.fx_value.specs.Fits.{fits_in};
-ghost use Rattle.fx_trees.specs.declared.sources.Source.TheVariants as source;
+ghost use Rattle.fx_core.specs.declared.sources.Source.TheVariants as source;
 ghost use Rattle.fx_deeds.specs.Collections.{AreLeft, AreTakenIf};
 ghost use Rattle.fx_deeds.specs.CutOff.{UpTo};
 ghost use Rattle.fx_deeds.specs.Deeds.{AreRemoved, OrError};
@@ -20,8 +20,8 @@ use crate::removing::remove_rows;
 use crate::session::rows_held;
 use crate::world::World;
 use fx_base::Memory;
-use fx_data::{Fields, Rows, Value};
 use fx_env::{Steps, Stop, rows_of};
+use fx_types::{Fields, Rows, Value};
 use fx_value::same;
 use session_state::Change;
 use std::alloc::Global;

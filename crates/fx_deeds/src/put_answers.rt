@@ -1,11 +1,11 @@
 //! What is answered for rows that are made or changed.
 ghost use Rattle.std.specs.Prelude.{◌≡◌, ◌∷◌, [], suc, true, IfOk, Some};
-ghost use Rattle.fx_data.specs.Types.{records};
-ghost use Rattle.fx_data.specs.ValueView.{view};
+ghost use Rattle.fx_types.specs.Types.{records};
+ghost use Rattle.fx_types.specs.ValueView.{view};
 ghost use Rattle.fx_semantics.specs.Around.{record_of as data_of};
 ghost use Rattle.fx_semantics.specs.Rows.{table_of as data_table_of};
-ghost use Rattle.fx_trees.specs.Lawful.{IsLawfulTable};
-ghost use Rattle.fx_trees.specs.SourceTypes.{columns_of};
+ghost use Rattle.fx_core.specs.Lawful.{IsLawfulTable};
+ghost use Rattle.fx_core.specs.SourceTypes.{columns_of};
 ghost use Rattle.fx_value.specs.Columns.{Row as FieldRow};
 ghost use Rattle.fx_value.specs.Fits.{fits_in};
 ghost use Rattle.row_queries.specs.TableRows.{IsRowOf};
@@ -15,8 +15,8 @@ ghost use Rattle.fx_deeds.specs.RowValues.{column_name as column_name_of, put_an
 use crate::answers::error;
 use crate::removing::id_name;
 use fx_base::Memory;
-use fx_data::{Fault, Kind, Value, Words};
-use fx_trees::{Column, TableShape};
+use fx_core::{Column, TableShape};
+use fx_types::{Fault, Kind, Value, Words};
 use row_keeper::row_tables::table;
 use row_keeper::{Put, RowRefusal, RowRule};
 use row_queries::{Cells, Row, rows_fit};

@@ -2,11 +2,11 @@
 ghost use Rattle.std.specs.Prelude.{◌≡◌, ◌∷◌, [], IfOk, IfSome, IsErrOf, IsSome, OnErr, map, pos, slice_get, take, true};
 ghost use Rattle.fx_base.specs.Faults.{Rose};
 ghost use Rattle.fx_base.specs.Telling.{Stays};
-ghost use Rattle.fx_data.specs.Types.{booleans};
-ghost use Rattle.fx_data.specs.ValueView.{view};
-ghost use Rattle.fx_trees.specs.Lawful.{id_name as name_of_id};
+ghost use Rattle.fx_types.specs.Types.{booleans};
+ghost use Rattle.fx_types.specs.ValueView.{view};
+ghost use Rattle.fx_core.specs.Lawful.{id_name as name_of_id};
 ghost use Rattle.fx_value.specs.Fits.{fits_in};
-ghost use Rattle.fx_trees.specs.declared.sources.Source.TheVariants as source;
+ghost use Rattle.fx_core.specs.declared.sources.Source.TheVariants as source;
 ghost use Rattle.fx_deeds.specs.CutOff.{UpTo};
 ghost use Rattle.fx_deeds.specs.Deeds.{AreRemoved, id_of};
 ghost use Rattle.fx_deeds.specs.Found.{IsNamed, IsTakenOut};
@@ -18,9 +18,9 @@ use crate::answers::error;
 use crate::changes::remove;
 use crate::world::World;
 use fx_base::Memory;
-use fx_data::{Kind, Value, Words};
 use fx_env::Stop;
 use fx_number::Num;
+use fx_types::{Kind, Value, Words};
 use std::alloc::Global;
 
 /// The ten-thousandths of 1.

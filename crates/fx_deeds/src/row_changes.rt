@@ -1,18 +1,18 @@
 //! Rows as changes leave them. A change is a record of some columns.
 ghost use Rattle.std.specs.Prelude.{◌≡◌, IfOk, map, option_map, true, unwrap_or};
 ghost use Rattle.std.specs.List.{find};
-ghost use Rattle.fx_data.specs.Lookup.{item_of};
-ghost use Rattle.fx_data.specs.Types.{column_list};
-ghost use Rattle.fx_data.specs.Values.{field_list};
-ghost use Rattle.fx_data.specs.ValueView.{view};
+ghost use Rattle.fx_types.specs.Lookup.{item_of};
+ghost use Rattle.fx_types.specs.Types.{column_list};
+ghost use Rattle.fx_types.specs.Values.{field_list};
+ghost use Rattle.fx_types.specs.ValueView.{view};
 ghost use Rattle.fx_tables.specs.Unions.{is_fault};
 ghost use Rattle.fx_value.specs.Fits.{fields_fit};
 ghost use Rattle.fx_deeds.specs.Fitting.{CanChange};
 ghost use Rattle.fx_deeds.specs.RowValues.{blank_cells as blanks_of, cells_in, changed_cells as cells_by, changed_row as row_by, changed_value as value_by, values_among, values_of};
 
 use fx_base::Memory;
-use fx_data::{Columns, Fields, Value, Words};
-use fx_trees::Column;
+use fx_core::Column;
+use fx_types::{Columns, Fields, Value, Words};
 use fx_value::widening::widen;
 use row_queries::Cells;
 use std::alloc::Global;

@@ -1,11 +1,11 @@
 //! Rows of values.
 ghost use Rattle.std.specs.Prelude.{◌≡◌, ◌++◌, IfOk, map};
-ghost use Rattle.fx_data.specs.ValueView.{view};
+ghost use Rattle.fx_types.specs.ValueView.{view};
 ghost use Rattle.fx_semantics.specs.Rows.{rows_in};
 ghost use Rattle.fx_deeds.specs.RowValues.{rows_among};
 
 use fx_base::Memory;
-use fx_data::{Fields, Rows, Value};
+use fx_types::{Fields, Rows, Value};
 use std::alloc::Global;
 
 /// Rows and these behind them.

@@ -1,14 +1,14 @@
 -- Tables whose query expressions are answered by queries.
 use Rattle.std.specs.Prelude.{◌≡◌, ◌+◌, ◌≤◌, ℕ, IfSome, List, Option, Some, length, slice_get}
-use Rattle.fx_data.specs.Types.{Shape, tables}
-use Rattle.fx_data.specs.Values.{Data}
+use Rattle.fx_types.specs.Types.{Shape, tables}
+use Rattle.fx_types.specs.Values.{Data}
 use Rattle.fx_env.specs.Scopes.{Fixed}
 use Rattle.fx_env.specs.Telling.{Told}
-use Rattle.fx_trees.specs.declared.schema.TableShape.{TableShape}
-use Rattle.fx_trees.specs.declared.sources.Source.{Source}
-use Rattle.fx_trees.specs.declared.sources.Source.TheVariants as source
-use Rattle.fx_trees.specs.Lawful.{IsLawfulSchema}
-use Rattle.fx_trees.specs.SourceTypes.{columns_of}
+use Rattle.fx_core.specs.declared.schema.TableShape.{TableShape}
+use Rattle.fx_core.specs.declared.sources.Source.{Source}
+use Rattle.fx_core.specs.declared.sources.Source.TheVariants as source
+use Rattle.fx_core.specs.Lawful.{IsLawfulSchema}
+use Rattle.fx_core.specs.SourceTypes.{columns_of}
 use Rattle.row_queries.specs.declared.rows.Row.{Row}
 use Rattle.row_queries.specs.TableRows.{rows_at, table_of}
 

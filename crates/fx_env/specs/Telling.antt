@@ -1,8 +1,8 @@
 -- What an environment tells, and what is heard of it.
 use Rattle.std.specs.Prelude.{◌≡◌, List, Option, Some, None, option_map}
 use Rattle.fx_base.specs.Silence.{Marks}
-use Rattle.fx_data.specs.Values.{Data}
-use Rattle.fx_trees.specs.declared.sources.Source.{Source}
+use Rattle.fx_types.specs.Values.{Data}
+use Rattle.fx_core.specs.declared.sources.Source.{Source}
 use Rattle.row_queries.specs.declared.rows.Row.{Row}
 
 -- no fault is counted, and no doubt comes up

@@ -3,7 +3,7 @@ ghost use Rattle.std.specs.Prelude.{◌≡◌, ℕ, ◌+◌, ◌≤◌, Option, 
 ghost use Rattle.fx_base.specs.Faults.{Rose};
 ghost use Rattle.fx_base.specs.Silence.{Goes, IsLater, IsLost, Marks};
 ghost use Rattle.fx_base.specs.Telling.{Stays};
-ghost use Rattle.fx_data.specs.ValueView.{view};
+ghost use Rattle.fx_types.specs.ValueView.{view};
 ghost use Rattle.fx_env.specs.Queries.{KeepsTables, ReadsTold};
 ghost use Rattle.fx_env.specs.Scopes.{Fixed};
 ghost use Rattle.fx_env.specs.Telling.{Told, tables_told, values_told};
@@ -16,8 +16,8 @@ ghost use Rattle.row_queries.specs.Visits.{VisitsAtLeast, VisitsTold};
 
 use crate::Steps;
 use fx_base::Memory;
-use fx_data::{Totals, Value};
-use fx_trees::{Schema, Source};
+use fx_core::{Schema, Source};
+use fx_types::{Totals, Value};
 use row_queries::Query;
 use std::alloc::{AllocError, AllocFailed};
 use std::sync::ledger::Ledger;

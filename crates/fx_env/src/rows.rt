@@ -1,12 +1,12 @@
 //! The rows of tables.
 ghost use Rattle.std.specs.Prelude.{◌≡◌, false, MatchResult};
-ghost use Rattle.fx_data.specs.ValueView.{view};
-ghost use Rattle.fx_data.specs.Values.{fault};
+ghost use Rattle.fx_types.specs.ValueView.{view};
+ghost use Rattle.fx_types.specs.Values.{fault};
 ghost use Rattle.fx_semantics.specs.Rows.{rows_in};
 ghost use Rattle.fx_tables.specs.Unions.{is_fault};
 
-use fx_data::faults::Fault;
-use fx_data::values::{Rows, Value};
+use fx_types::faults::Fault;
+use fx_types::values::{Rows, Value};
 use std::alloc::Global;
 
 /// The rows of a table, of which a blank one has none, or the error in its place.

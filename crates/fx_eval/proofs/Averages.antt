@@ -4,9 +4,9 @@ use Rattle.std.proofs.lemmas.Int.{ints}
 use Rattle.std.proofs.lemmas.List.Elements.{recursion_from_All}
 use Rattle.std.specs.List.{All, AllByRecursion, Contains, fold}
 use Rattle.std.specs.Prelude.{MatchOption}
-use Rattle.fx_builtins.specs.Folds.{IsSum}
-use Rattle.fx_data.specs.declared.faults.Kind.TheVariants.{Numeric}
-use Rattle.fx_data.specs.declared.aggregates.Totals.{Totals}
+use Rattle.fx_primitives.specs.Folds.{IsSum}
+use Rattle.fx_types.specs.declared.faults.Kind.TheVariants.{Numeric}
+use Rattle.fx_types.specs.declared.aggregates.Totals.{Totals}
 use Rattle.fx_number.specs.Decimal.{IsInRange}
 use Rattle.fx_value.specs.Aggregates.{IsLeast, IsWithin, SumsUp, sum_of}
 

@@ -2,13 +2,13 @@
 use Rattle.std.proofs.Common.{◌≡◌, ℕ, refl}
 use Rattle.std.specs.Prelude.{IsTrue}
 use Rattle.fx_semantics.proofs.Forms.{each_take}
-use Rattle.fx_trees.specs.declared.functions.Fun.{Fun}
-use Rattle.fx_trees.specs.declared.functions.Fun.TheVariants as fun
-use Rattle.fx_trees.specs.declared.rows.Takes.{Takes}
-use Rattle.fx_trees.specs.declared.rows.Takes.TheVariants as takes
-use Rattle.fx_trees.specs.Rows.{row_of, takes_at}
+use Rattle.fx_core.specs.declared.functions.Fun.{Fun}
+use Rattle.fx_core.specs.declared.functions.Fun.TheVariants as fun
+use Rattle.fx_core.specs.declared.rows.Takes.{Takes}
+use Rattle.fx_core.specs.declared.rows.Takes.TheVariants as takes
+use Rattle.fx_core.specs.Rows.{row_of, takes_at}
 use Rattle.fx_scalar.specs.ScalarFunctions.{is_value}
-use Rattle.fx_trees.specs.Term.{call, over}
+use Rattle.fx_core.specs.Term.{call, over}
 use Rattle.fx_typing.specs.WellTyped.{head_of, plain, standing_at, standing_of}
 
 abbrev pub IsPlain : Takes → Type 0

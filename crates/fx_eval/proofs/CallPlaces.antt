@@ -1,7 +1,7 @@
 -- The values of a call's parts fit its places.
 use Rattle.std.proofs.Common.{◌≡◌, ◌≢◌, ℕ, zero, suc, ◌+◌, ◌<◌, List, [], ◌∷◌, ◌++◌, length, true, Option, refl, ap, sym, subst, arith}
-use Rattle.fx_data.specs.Types.{Shape}
-use Rattle.fx_data.specs.Values.{Data}
+use Rattle.fx_types.specs.Types.{Shape}
+use Rattle.fx_types.specs.Values.{Data}
 use Rattle.fx_eval.proofs.CallHeads.{call_plain, of_values}
 use Rattle.fx_eval.proofs.Ready.{AreCalm, Lawfully, calm_parts, calm_rest, part_ready, ready_fits}
 use Rattle.fx_eval.proofs.Standings.{parts_fine}
@@ -10,17 +10,17 @@ use Rattle.fx_env.specs.Scopes.{Held, Suits, IsReady, CanEvaluate, around}
 use Rattle.fx_semantics.specs.Around.{Around, AreValues, Meaning}
 use Rattle.fx_semantics.specs.Fresh.{IsCalled, OfAll, meanings}
 use Rattle.fx_semantics.specs.Sound.{AreFit, AreLawfulTypings, ValuesFit}
-use Rattle.fx_trees.specs.declared.functions.Fun.{Fun}
-use Rattle.fx_trees.specs.declared.functions.Fun.TheVariants as fun
-use Rattle.fx_trees.specs.declared.rows.Row.{Row}
-use Rattle.fx_trees.specs.declared.rows.Takes.{Takes}
-use Rattle.fx_trees.specs.declared.rows.Takes.TheVariants as takes
-use Rattle.fx_trees.specs.declared.sources.Source.{Source}
-use Rattle.fx_trees.specs.Rows.{row_of, takes_at}
+use Rattle.fx_core.specs.declared.functions.Fun.{Fun}
+use Rattle.fx_core.specs.declared.functions.Fun.TheVariants as fun
+use Rattle.fx_core.specs.declared.rows.Row.{Row}
+use Rattle.fx_core.specs.declared.rows.Takes.{Takes}
+use Rattle.fx_core.specs.declared.rows.Takes.TheVariants as takes
+use Rattle.fx_core.specs.declared.sources.Source.{Source}
+use Rattle.fx_core.specs.Rows.{row_of, takes_at}
 use Rattle.fx_scalar.specs.Arguments.{at}
 use Rattle.fx_scalar.specs.Fitting.{FittingCanApply, fits_place}
 use Rattle.fx_scalar.specs.ScalarFunctions.{CanApply, IsAnswer}
-use Rattle.fx_trees.specs.Term.{Term, of, all, Top, call}
+use Rattle.fx_core.specs.Term.{Term, of, all, Top, call}
 use Rattle.fx_typing.specs.WellTyped.{Context, AreTyped, AllStand, Stands, Standing, plain, standing_at, context_for, first_type, parts_count}
 use Rattle.fx_value.specs.Fits.{fits_in}
 

@@ -2,8 +2,8 @@
 use Rattle.std.proofs.Common.{◌≡◌, ◌∙◌, ◌≢◌, ◌≤◌, ℕ, suc, pos, ◌+◌, ◌*◌, List, [], ◌∷◌, length, Bool, true, false, Option, Some, None, ap, refl, sym, subst, arith}
 use Rattle.std.specs.Prelude.{cond, slice_get}
 use Rattle.std.specs.List.{filter, list_any}
-use Rattle.fx_data.specs.Types.{Shape}
-use Rattle.fx_data.specs.Values.{Data, blank, fault, number, text, boolean, date, rec, tab}
+use Rattle.fx_types.specs.Types.{Shape}
+use Rattle.fx_types.specs.Values.{Data, blank, fault, number, text, boolean, date, rec, tab}
 use Rattle.fx_env.specs.Scopes.{Fixed, Held, around}
 use Rattle.fx_env.specs.Telling.{Heard, Told, tables_told, values_told}
 use Rattle.fx_eval.specs.declared.demands.Demand.{Demand}
@@ -30,13 +30,13 @@ use Rattle.fx_semantics.specs.Around.{Around, AreValues, record_of}
 use Rattle.fx_semantics.specs.Around.{inside as inside_of}
 use Rattle.fx_semantics.specs.Fresh.{IsValue, meaning, meanings}
 use Rattle.fx_semantics.specs.Rows.{IsOver, rows_in}
-use Rattle.fx_trees.specs.declared.functions.Fun.{Fun}
-use Rattle.fx_trees.specs.declared.functions.Fun.TheVariants as fun
-use Rattle.fx_trees.specs.declared.rows.Scalar.TheVariants.{Number}
-use Rattle.fx_trees.specs.declared.schema.TableShape.{TableShape}
-use Rattle.fx_trees.specs.declared.sources.Source.{Source}
-use Rattle.fx_trees.specs.Term.{Term, Terms, of, nil, cons, all}
-use Rattle.fx_trees.specs.Term as top
+use Rattle.fx_core.specs.declared.functions.Fun.{Fun}
+use Rattle.fx_core.specs.declared.functions.Fun.TheVariants as fun
+use Rattle.fx_core.specs.declared.rows.Scalar.TheVariants.{Number}
+use Rattle.fx_core.specs.declared.schema.TableShape.{TableShape}
+use Rattle.fx_core.specs.declared.sources.Source.{Source}
+use Rattle.fx_core.specs.Term.{Term, Terms, of, nil, cons, all}
+use Rattle.fx_core.specs.Term as top
 use Rattle.fx_typing.specs.WellTyped.{Standing, inside, plain, bound, catching, standing_at}
 use Rattle.fx_value.specs.Columns.{Row as Fields}
 use Rattle.fx_value.specs.Keys.{key_bytes}

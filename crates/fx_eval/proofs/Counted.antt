@@ -4,9 +4,9 @@ use Rattle.std.proofs.Common.{◌≡◌, ◌∙◌, ℕ, zero, suc, ◌+◌, Lis
 use Rattle.std.specs.Prelude.{cond, if◌then◌else◌, option_map, slice_get, unwrap_or}
 use Rattle.std.specs.List.{All, filter, list_any}
 use Rattle.std.proofs.lemmas.List.Elements.{All-head, All-tail}
-use Rattle.fx_data.specs.TypeView.{shape}
-use Rattle.fx_data.specs.Types.{Shape, numbers}
-use Rattle.fx_data.specs.Values.{Data, blank}
+use Rattle.fx_types.specs.TypeView.{shape}
+use Rattle.fx_types.specs.Types.{Shape, numbers}
+use Rattle.fx_types.specs.Values.{Data, blank}
 use Rattle.fx_eval.specs.Laws.{AreHeld}
 use Rattle.fx_eval.specs.Visits.{AskedTables, InRanges, lies_in}
 use Rattle.fx_plan.proofs.Testing.{value_scalar}
@@ -15,8 +15,8 @@ use Rattle.fx_plan.specs.declared.ranges.Reach.{Reach}
 use Rattle.fx_plan.specs.Outlines.{filled}
 use Rattle.fx_plan.specs.Plans.{IsReachBy, is_fault}
 use Rattle.fx_plan.specs.Ranges.{AreSought, IsReachOn, column_type, comparisons, first_reached, is_empty, is_reached, is_sought, reached_column}
-use Rattle.fx_trees.specs.declared.schema.Column.{Column}
-use Rattle.fx_trees.specs.declared.schema.TableShape.{TableShape}
+use Rattle.fx_core.specs.declared.schema.Column.{Column}
+use Rattle.fx_core.specs.declared.schema.TableShape.{TableShape}
 use Rattle.fx_value.specs.Fits.{fits_in}
 use Rattle.fx_value.specs.Keys.{IsProper, key_bytes}
 use Rattle.row_queries.specs.Conditions.{Condition}

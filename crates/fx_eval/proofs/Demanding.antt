@@ -1,7 +1,7 @@
 -- What trees take of query expressions, and what the answers of queries make of it.
 use Rattle.std.proofs.Common.{◌≡◌, ◌∙◌, ◌⊎◌, inl, inr, ℕ, ◌<◌, ◌≤◌, List, [], ◌∷◌, length, get_or, Option, Some, None, ap, refl, subst, sym, arith}
 use Rattle.std.specs.Prelude.{IfOk, MatchOption, Result, Ok, Err, slice_get}
-use Rattle.fx_data.specs.Values.{Data}
+use Rattle.fx_types.specs.Values.{Data}
 use Rattle.fx_eval.specs.declared.demands.Asked.{Asked}
 use Rattle.fx_eval.specs.declared.demands.Demand.{Demand}
 use Rattle.fx_eval.specs.declared.demands.Demand.TheVariants as demand
@@ -10,15 +10,15 @@ use Rattle.fx_eval.specs.Visits.{IsUnasked}
 use Rattle.fx_env.specs.Queries.{KeepsTables}
 use Rattle.fx_env.specs.Scopes.{Fixed, Held}
 use Rattle.fx_env.specs.Telling.{Told}
-use Rattle.fx_trees.specs.declared.schema.Schema.{Schema}
+use Rattle.fx_core.specs.declared.schema.Schema.{Schema}
 use Rattle.fx_eval.specs.Demands.{CanMeet, IsAskedFor, CanTake, IsDemand, IsFirstOf, IsMet, IsSearch, IsSearchBy}
 use Rattle.fx_plan.specs.declared.plans.Sketch.{Sketch}
 use Rattle.fx_plan.specs.Plans.{IsPlan}
 use Rattle.fx_plan.specs.QueryExpressions.{sketch_of}
-use Rattle.fx_trees.specs.declared.functions.Fun.{Fun}
-use Rattle.fx_trees.specs.declared.functions.Fun.TheVariants as fun
-use Rattle.fx_trees.specs.declared.schema.TableShape.{TableShape}
-use Rattle.fx_trees.specs.Term.{Term, all, cons, nil}
+use Rattle.fx_core.specs.declared.functions.Fun.{Fun}
+use Rattle.fx_core.specs.declared.functions.Fun.TheVariants as fun
+use Rattle.fx_core.specs.declared.schema.TableShape.{TableShape}
+use Rattle.fx_core.specs.Term.{Term, all, cons, nil}
 use Rattle.fx_plan.specs.Consumers.{over_query}
 use Rattle.row_queries.specs.declared.queries.Query.{Query}
 use Rattle.row_queries.specs.declared.rows.Row.{Row}

@@ -1,8 +1,8 @@
 -- One part of a form after another.
 use Rattle.std.proofs.Common.{◌≡◌, ℕ, suc, ◌<◌, List, [], ◌∷◌, true, Option, sym, subst, arith}
-use Rattle.fx_data.specs.declared.faults.Kind.{Kind}
-use Rattle.fx_data.specs.Types.{Shape}
-use Rattle.fx_data.specs.Values.{Data}
+use Rattle.fx_types.specs.declared.faults.Kind.{Kind}
+use Rattle.fx_types.specs.Types.{Shape}
+use Rattle.fx_types.specs.Values.{Data}
 use Rattle.fx_eval.specs.Courses.{Going, all, any, branches, switch, matches, recovers, coalesces, IsWorth, ends_in_branch, Turning, answers, chooses, catches, goes, passes, turned}
 use Rattle.fx_eval.specs.Kinds.{CanTurn}
 use Rattle.fx_eval.specs.Moments.{Moment, Went}
@@ -14,9 +14,9 @@ use Rattle.fx_eval.proofs.Taken.{IsOpen, Then, last_taken, part_taken}
 use Rattle.fx_semantics.specs.Around.{Around}
 use Rattle.fx_semantics.specs.Around.{catching as around_caught}
 use Rattle.fx_semantics.specs.Fresh.{IsValue, meaning, meanings}
-use Rattle.fx_trees.specs.declared.sources.Source.{Source}
-use Rattle.fx_trees.specs.Term.{Term, term_size, terms_size}
-use Rattle.fx_trees.specs.Term as terms
+use Rattle.fx_core.specs.declared.sources.Source.{Source}
+use Rattle.fx_core.specs.Term.{Term, term_size, terms_size}
+use Rattle.fx_core.specs.Term as terms
 use Rattle.fx_value.specs.Fits.{fits_in}
 
 abbrev Types : Type 0

@@ -1,11 +1,11 @@
 -- Fields of records.
 use Rattle.std.proofs.Common.{◌≡◌, ℕ, List, [], ◌∷◌, ◌++◌, refl, ap, sym, subst, ◌∙◌}
-use Rattle.fx_data.specs.Rising.{AreRising, IsBelow, IsBelowAll}
-use Rattle.fx_data.specs.Values.{Data, field, field_list, rec}
+use Rattle.fx_types.specs.Rising.{AreRising, IsBelow, IsBelowAll}
+use Rattle.fx_types.specs.Values.{Data, field, field_list, rec}
 use Rattle.fx_eval.specs.Parts.{AreFilled}
 use Rattle.fx_semantics.specs.Around.{Around, AreValues}
 use Rattle.fx_semantics.specs.Fresh.{IsValue, OfAll, fields_by, meanings}
-use Rattle.fx_trees.specs.Term.{Term, names_of, parts_of}
+use Rattle.fx_core.specs.Term.{Term, names_of, parts_of}
 use Rattle.fx_typing.specs.WellTyped.{IsBelowNames, NamesRise}
 
 -- ---- records that are made

@@ -1,8 +1,8 @@
 -- The parts of forms are ready, by where a form stands before them.
 use Rattle.std.proofs.Common.{◌≡◌, List, [], ◌∷◌, Bool, true, false, Option}
 use Rattle.std.specs.Prelude.{if◌then◌else◌}
-use Rattle.fx_data.specs.Types.{Shape, booleans}
-use Rattle.fx_data.specs.Values.{Data, blank, number, text, boolean, date, rec, tab, fault}
+use Rattle.fx_types.specs.Types.{Shape, booleans}
+use Rattle.fx_types.specs.Values.{Data, blank, number, text, boolean, date, rec, tab, fault}
 use Rattle.fx_eval.specs.Courses.{Going, all, any, branches, switch, matches, recovers, coalesces, Turning, answers, chooses, catches, goes, passes, by_decision, turned}
 use Rattle.fx_eval.specs.Kinds.{CanTurn}
 use Rattle.fx_eval.specs.Parts.{AreMatches, AreRecoveries, AreFine, AreSet, HasNext, IsFallback, caught_in}
@@ -13,8 +13,8 @@ use Rattle.fx_scalar.specs.declared.lazy_forms.Decision.{Decision}
 use Rattle.fx_scalar.specs.declared.lazy_forms.Decision.TheVariants.{Met, Unmet, Error}
 use Rattle.fx_scalar.specs.LazyForms.{decision_of, equality}
 use Rattle.fx_scalar.specs.ScalarFunctions.{is_blank}
-use Rattle.fx_trees.specs.declared.sources.Source.{Source}
-use Rattle.fx_trees.specs.Term.{Term}
+use Rattle.fx_core.specs.declared.sources.Source.{Source}
+use Rattle.fx_core.specs.Term.{Term}
 use Rattle.fx_value.specs.Fits.{fits_in}
 
 abbrev Types : Type 0

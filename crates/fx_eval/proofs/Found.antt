@@ -2,7 +2,7 @@
 use Rattle.std.proofs.Common.{◌≡◌, List, [], ◌∷◌, map, Bool, true, false, Option, Some, None, refl, sym, subst}
 use Rattle.std.specs.Prelude.{unwrap_or, cond, if◌then◌else◌}
 use Rattle.std.specs.List.{filter, find, zip}
-use Rattle.fx_data.specs.Values.{Data, blank, number, text, boolean, date, rec, tab, fault}
+use Rattle.fx_types.specs.Values.{Data, blank, number, text, boolean, date, rec, tab, fault}
 use Rattle.fx_semantics.specs.Around.{Around, Meaning, AreEach, inside, record_of}
 use Rattle.fx_semantics.specs.Rows.{IsOfFound}
 use Rattle.fx_tables.specs.RowCalls.{first_of, holds, kept_rows, looked_up}

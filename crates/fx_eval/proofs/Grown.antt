@@ -1,11 +1,11 @@
 -- One more part, and one more row.
 use Rattle.std.proofs.Common.{◌≡◌, ℕ, ◌+◌, suc, List, [], ◌∷◌, ◌++◌, length, subst, arith}
-use Rattle.fx_data.specs.Values.{Data}
+use Rattle.fx_types.specs.Values.{Data}
 use Rattle.fx_semantics.specs.Around.{Around, Meaning, AreEach, inside, record_of}
 use Rattle.fx_semantics.specs.Fresh.{meaning, meanings}
 use Rattle.fx_eval.specs.Given.{Given, IsGiven, AreGiven}
 use Rattle.fx_value.specs.Columns.{Row}
-use Rattle.fx_trees.specs.Term.{Term, Top, all}
+use Rattle.fx_core.specs.Term.{Term, Top, all}
 use Rattle.fx_typing.specs.WellTyped.{standing_at}
 
 pub given_more : (h : Top) (n i j : ℕ) (ts : List Term) (t : Term) (a : Around) (rows : List Row) (gs : List Given) (g : Given) → j ≡ i + length ts →

@@ -1,8 +1,8 @@
 -- How many rows a node visits, by its head and its parts as they are found.
 use Rattle.std.proofs.Common.{◌≡◌, ◌∙◌, ◌≢◌, ◌≤◌, ℕ, suc, ◌+◌, List, [], ◌∷◌, length, false, Option, Some, ap, refl, sym, subst, arith}
-use Rattle.fx_data.specs.declared.faults.Fault.{Fault}
-use Rattle.fx_data.specs.declared.faults.Kind.{Kind}
-use Rattle.fx_data.specs.Values.{Data, blank, fault, number, text, boolean, date, rec, tab}
+use Rattle.fx_types.specs.declared.faults.Fault.{Fault}
+use Rattle.fx_types.specs.declared.faults.Kind.{Kind}
+use Rattle.fx_types.specs.Values.{Data, blank, fault, number, text, boolean, date, rec, tab}
 use Rattle.fx_env.specs.Queries.{ReadsTold}
 use Rattle.fx_env.specs.Scopes.{Fixed, Held, around}
 use Rattle.fx_env.specs.Telling.{Heard, Told, tables_told, values_told}
@@ -17,12 +17,12 @@ use Rattle.fx_semantics.specs.Fresh.{IsValue, meaning, meanings}
 use Rattle.fx_semantics.specs.Rows.{IsOfFound, IsOver, rows_in}
 use Rattle.fx_scalar.specs.LazyForms.{IsNoError}
 use Rattle.fx_tables.specs.Unions.{is_fault}
-use Rattle.fx_trees.specs.declared.functions.Fun.{Fun}
-use Rattle.fx_trees.specs.declared.functions.Fun.TheVariants as fun
-use Rattle.fx_trees.specs.declared.sources.Source.{Source}
-use Rattle.fx_trees.specs.declared.sources.Source.TheVariants as source
-use Rattle.fx_trees.specs.Term.{Term, Terms, of, nil, cons, Top, all, names_of, parts_of}
-use Rattle.fx_trees.specs.Term as top
+use Rattle.fx_core.specs.declared.functions.Fun.{Fun}
+use Rattle.fx_core.specs.declared.functions.Fun.TheVariants as fun
+use Rattle.fx_core.specs.declared.sources.Source.{Source}
+use Rattle.fx_core.specs.declared.sources.Source.TheVariants as source
+use Rattle.fx_core.specs.Term.{Term, Terms, of, nil, cons, Top, all, names_of, parts_of}
+use Rattle.fx_core.specs.Term as top
 use Rattle.fx_value.specs.Columns.{Row as Fields}
 use Rattle.row_queries.specs.declared.rows.Row.{Row}
 use Rattle.row_queries.specs.TableRows.{rows_at}

@@ -1,14 +1,14 @@
 -- What a tree without parts gives is there, and a value of another type can be coerced.
 use Rattle.std.proofs.Common.{◌≡◌, ℕ, zero, suc, List, [], ◌∷◌, true, Option, Some, refl, ap, subst, ◌∙◌}
 use Rattle.std.specs.Prelude.{IsSome, slice_get}
-use Rattle.fx_data.specs.Types.{Shape, blanks, numbers, texts, booleans, dates, records, tables}
-use Rattle.fx_data.specs.Values.{Data}
+use Rattle.fx_types.specs.Types.{Shape, blanks, numbers, texts, booleans, dates, records, tables}
+use Rattle.fx_types.specs.Values.{Data}
 use Rattle.fx_eval.proofs.Ready.{one_part}
 use Rattle.fx_eval.proofs.Ways.{changed_coerces}
 use Rattle.fx_env.specs.Scopes.{Held, IsReady, CanEvaluate}
 use Rattle.fx_semantics.specs.Sound.{AreFit}
-use Rattle.fx_trees.specs.declared.sources.Source.{Source}
-use Rattle.fx_trees.specs.Term.{Term, Terms, of, nil, cons, row, coerce}
+use Rattle.fx_core.specs.declared.sources.Source.{Source}
+use Rattle.fx_core.specs.Term.{Term, Terms, of, nil, cons, row, coerce}
 use Rattle.fx_typing.specs.WellTyped.{IsRuled, Context}
 use Rattle.fx_value.specs.Coercion.{CanCoerce, HasCoercion}
 use Rattle.fx_value.specs.Fits.{fits_in}

@@ -3,13 +3,13 @@ use Rattle.std.proofs.Common.{◌≡◌, List, [], ◌∷◌, true, refl, subst}
 use Rattle.std.specs.List.{All}
 use Rattle.std.specs.Str.{chars}
 use Rattle.std.proofs.lemmas.List.Elements.{All-cons, All-head, All-nil, All-tail}
-use Rattle.fx_data.specs.Types.{Shape, numbers, texts, booleans, dates, records, tables}
-use Rattle.fx_data.specs.Values.{Data, blank, number, text, boolean, date, rec, fault}
+use Rattle.fx_types.specs.Types.{Shape, numbers, texts, booleans, dates, records, tables}
+use Rattle.fx_types.specs.Values.{Data, blank, number, text, boolean, date, rec, fault}
 use Rattle.fx_semantics.specs.Sound.{AreFit}
 use Rattle.fx_tables.specs.RowCalls.{CanBeRowType}
 use Rattle.fx_eval.specs.Lists.{CanList}
 use Rattle.fx_tables.specs.Unions.{CanBeRow, CanBeRows}
-use Rattle.fx_trees.specs.ColumnLists.{row_columns}
+use Rattle.fx_core.specs.ColumnLists.{row_columns}
 use Rattle.fx_typing.specs.WellTyped.{AreAll}
 use Rattle.fx_value.specs.Coercion.{same}
 use Rattle.fx_value.specs.Fits.{fits_in}

@@ -1,12 +1,12 @@
 -- What a function makes of what its parts give is what the call is worth.
 use Rattle.std.proofs.Common.{◌≡◌, ℕ, List, [], ◌∷◌, length, false, Option, refl, subst}
-use Rattle.fx_data.specs.Values.{Data, blank, number, text, boolean, date, rec, tab, fault}
-use Rattle.fx_data.specs.declared.faults.Kind.{Kind}
+use Rattle.fx_types.specs.Values.{Data, blank, number, text, boolean, date, rec, tab, fault}
+use Rattle.fx_types.specs.declared.faults.Kind.{Kind}
 use Rattle.fx_semantics.specs.Around.{Around, Meaning}
 use Rattle.fx_semantics.specs.Rows.{IsConcat, IsLookedUp, IsMade, IsOver, IsTaken, OfEach, AreNew, rows_in}
 use Rattle.fx_semantics.specs.Rows as made
-use Rattle.fx_trees.specs.declared.functions.Fun.{Fun}
-use Rattle.fx_trees.specs.declared.functions.Fun.TheVariants as fun
+use Rattle.fx_core.specs.declared.functions.Fun.{Fun}
+use Rattle.fx_core.specs.declared.functions.Fun.TheVariants as fun
 use Rattle.fx_tables.specs.AggregateCalls.{concatenated_by}
 use Rattle.fx_tables.specs.Ends.{first_rows, last_rows}
 use Rattle.fx_scalar.specs.LazyForms.{ErrorOr}
@@ -17,7 +17,7 @@ use Rattle.fx_eval.proofs.Parts.{AreOf, are_of}
 use Rattle.fx_eval.proofs.Verdicts.{verdicts_are}
 use Rattle.fx_value.specs.Columns.{Row}
 use Rattle.fx_tables.specs.Unions.{is_fault}
-use Rattle.fx_trees.specs.Term.{Top}
+use Rattle.fx_core.specs.Term.{Top}
 
 -- ---- one formula, and one value
 of_one : (Ps : List Meaning) (a : Around) (rows : List Row) (gs : List Given) (R : List Data → Type 0) → AreOf Ps a rows gs → IsFormula gs → R (values_in gs) → OfEach rows Ps a R

@@ -1,7 +1,7 @@
 -- Values of types that are compared.
 use Rattle.std.proofs.Common.{◌≡◌, ℕ, ℤ, List, Bool, true, refl, subst}
-use Rattle.fx_data.specs.Types.{Shape, blanks, numbers, texts, booleans, dates, records, tables}
-use Rattle.fx_data.specs.Values.{Data, blank, number, text, boolean, date, rec, tab, fault}
+use Rattle.fx_types.specs.Types.{Shape, blanks, numbers, texts, booleans, dates, records, tables}
+use Rattle.fx_types.specs.Values.{Data, blank, number, text, boolean, date, rec, tab, fault}
 use Rattle.fx_eval.specs.Parts.{IsMatched}
 use Rattle.fx_scalar.specs.LazyForms.{CanMatch}
 use Rattle.fx_typing.specs.Ways.{is_comparable, is_scalar}

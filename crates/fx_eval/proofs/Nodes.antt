@@ -1,11 +1,11 @@
 -- What is ready, and what is worth what, at a node, by its head and its parts as they are found.
 use Rattle.std.proofs.Common.{◌≡◌, ◌≢◌, ℕ, List, [], map, Option, true, refl, sym, subst}
 use Rattle.std.specs.Prelude.{IsSome, slice_get}
-use Rattle.fx_data.specs.Rising.{AreRising}
-use Rattle.fx_data.specs.Types.{Shape, blanks, numbers, texts, booleans, dates, records, tables}
-use Rattle.fx_data.specs.declared.values.Value.{Value}
-use Rattle.fx_data.specs.Values.{Data, field_list, rec}
-use Rattle.fx_data.specs.ValueView.{view}
+use Rattle.fx_types.specs.Rising.{AreRising}
+use Rattle.fx_types.specs.Types.{Shape, blanks, numbers, texts, booleans, dates, records, tables}
+use Rattle.fx_types.specs.declared.values.Value.{Value}
+use Rattle.fx_types.specs.Values.{Data, field_list, rec}
+use Rattle.fx_types.specs.ValueView.{view}
 use Rattle.fx_eval.proofs.CallPlaces.{call_can, called_by_values, parts_ready, values_fit_types}
 use Rattle.fx_eval.proofs.Fields.{filled_made, filled_rise}
 use Rattle.fx_eval.proofs.Leaves.{can_coerce, row_there}
@@ -16,16 +16,16 @@ use Rattle.fx_env.specs.Scopes.{Held, IsReady, CanEvaluate, around}
 use Rattle.fx_semantics.specs.Around.{Around, AreValues}
 use Rattle.fx_semantics.specs.Fresh.{IsValue, meanings}
 use Rattle.fx_semantics.specs.Sound.{ValuesFit}
-use Rattle.fx_trees.specs.declared.functions.Fun.{Fun}
-use Rattle.fx_trees.specs.declared.functions.Fun.TheVariants as fun
-use Rattle.fx_trees.specs.declared.sources.Source.{Source}
+use Rattle.fx_core.specs.declared.functions.Fun.{Fun}
+use Rattle.fx_core.specs.declared.functions.Fun.TheVariants as fun
+use Rattle.fx_core.specs.declared.sources.Source.{Source}
 use Rattle.fx_tables.specs.RowCalls.{CanBeRowType}
 use Rattle.fx_scalar.specs.Fitting.{FittingCanApply}
 use Rattle.fx_scalar.specs.ScalarFunctions.{CanApply, IsAnswer}
 use Rattle.fx_eval.proofs.ListRows.{can_list}
 use Rattle.fx_eval.specs.Lists.{CanList}
-use Rattle.fx_trees.specs.Term.{Term, Terms, of, nil, cons, Top, all, names_of, parts_of, call, coerce, row}
-use Rattle.fx_trees.specs.Term as top
+use Rattle.fx_core.specs.Term.{Term, Terms, of, nil, cons, Top, all, names_of, parts_of, call, coerce, row}
+use Rattle.fx_core.specs.Term as top
 use Rattle.fx_typing.specs.WellTyped.{AreAll, Context, IsRuled, NamesRise, parts_count, plain, standing_at}
 use Rattle.fx_value.specs.Coercion.{CanCoerce}
 use Rattle.fx_value.specs.Fits.{fits_in}

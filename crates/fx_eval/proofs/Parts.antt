@@ -1,10 +1,10 @@
 -- What parts give, wherever they stand.
 use Rattle.std.proofs.Common.{◌≡◌, ℕ, suc, List, [], ◌∷◌, length, refl, ap}
-use Rattle.fx_data.specs.Values.{Data}
+use Rattle.fx_types.specs.Values.{Data}
 use Rattle.fx_semantics.specs.Around.{Around, Meaning, AreEach}
 use Rattle.fx_eval.specs.Given.{Given, once, each, IsGiven, AreGiven}
 use Rattle.fx_value.specs.Columns.{Row}
-use Rattle.fx_trees.specs.Term.{Top}
+use Rattle.fx_core.specs.Term.{Top}
 use Rattle.fx_typing.specs.WellTyped.{Standing, plain, inside, bound, catching, standing_at}
 
 -- a part has this value, or these values for the rows

@@ -3,13 +3,13 @@ use Rattle.std.proofs.Common.{◌≡◌, Option, Some, None, refl, sym, subst, �
 use Rattle.fx_base.proofs.Silences.{goes_two, later_then}
 use Rattle.fx_base.specs.Silence.{Goes, IsLost}
 use Rattle.fx_base.specs.Telling.{Stays}
-use Rattle.fx_data.specs.Types.{Shape}
-use Rattle.fx_data.specs.Values.{Data}
+use Rattle.fx_types.specs.Types.{Shape}
+use Rattle.fx_types.specs.Values.{Data}
 use Rattle.fx_eval.specs.Moments.{Moment, Went}
 use Rattle.fx_env.specs.Scopes.{Fixed, Held, around}
 use Rattle.fx_env.specs.Telling.{IsHeard, Told, values_told}
 use Rattle.fx_semantics.specs.Around.{Around, Meaning}
-use Rattle.fx_trees.specs.declared.sources.Source.{Source}
+use Rattle.fx_core.specs.declared.sources.Source.{Source}
 
 -- one evaluation after another
 pub went_on : {B : Type 0} (a b c : Moment B) → Went a b → Went b c → Went a c

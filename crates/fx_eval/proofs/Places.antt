@@ -2,18 +2,18 @@
 use Rattle.std.proofs.Common.{◌≡◌, ◌≤◌, ℕ, suc, ◌%◌, List, [], ◌∷◌, length, Bool, true, false, refl, ap, sym, subst, arith}
 use Rattle.std.specs.Prelude.{nat_eq, nat_le, ◌||◌, ◌&&◌, if◌then◌else◌}
 use Rattle.std.proofs.lemmas.Bool.{leb-true, eqb-true, eq-eqb}
-use Rattle.fx_trees.specs.Rows.{row_of, inner_at, ended_at, takes_count, is_ended, is_within}
-use Rattle.fx_trees.specs.declared.functions.Fun.{Fun}
-use Rattle.fx_trees.specs.declared.rows.Ending.{Ending}
-use Rattle.fx_trees.specs.declared.rows.Ending.TheVariants as ending
-use Rattle.fx_trees.specs.declared.rows.Row.{Row}
-use Rattle.fx_trees.specs.declared.rows.Takes.{Takes}
-use Rattle.fx_trees.specs.declared.rows.Takes.TheVariants as takes
+use Rattle.fx_core.specs.Rows.{row_of, inner_at, ended_at, takes_count, is_ended, is_within}
+use Rattle.fx_core.specs.declared.functions.Fun.{Fun}
+use Rattle.fx_core.specs.declared.rows.Ending.{Ending}
+use Rattle.fx_core.specs.declared.rows.Ending.TheVariants as ending
+use Rattle.fx_core.specs.declared.rows.Row.{Row}
+use Rattle.fx_core.specs.declared.rows.Takes.{Takes}
+use Rattle.fx_core.specs.declared.rows.Takes.TheVariants as takes
 use Rattle.fx_semantics.proofs.Branches.{differs}
 use Rattle.fx_typing.specs.WellTyped.{head_by, head_of, inside, plain, standing_at, standing_of}
-use Rattle.fx_trees.specs.Term.{over}
+use Rattle.fx_core.specs.Term.{over}
 use Rattle.fx_eval.specs.Given.{is_inner}
-use Rattle.fx_data.proofs.Utf8Order.{and_second, and_first}
+use Rattle.fx_types.proofs.Utf8Order.{and_second, and_first}
 
 -- ---- places
 pub by_choice : (P : Takes → Type 0) (b : Bool) (p q : Takes) → P p → P q → P (if b then p else q)

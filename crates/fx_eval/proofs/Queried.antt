@@ -6,12 +6,12 @@ use Rattle.std.proofs.lemmas.List.Elements.{recursion_from_All, All-from_recursi
 use Rattle.std.proofs.lemmas.Option.{same_Some}
 use Rattle.fx_base.specs.Silence.{Goes, IsLater, IsLost, Marks}
 use Rattle.fx_base.specs.Telling.{Stays}
-use Rattle.fx_data.specs.declared.faults.Fault.{Fault}
-use Rattle.fx_data.specs.Types.{ColumnList, Shape, blanks, booleans, numbers, records, tables}
-use Rattle.fx_data.specs.declared.values.Value.{Value}
-use Rattle.fx_data.specs.TypeView.{shape}
-use Rattle.fx_data.specs.ValueView.{view}
-use Rattle.fx_data.specs.Values.{Data, blank, number, rec, fault}
+use Rattle.fx_types.specs.declared.faults.Fault.{Fault}
+use Rattle.fx_types.specs.Types.{ColumnList, Shape, blanks, booleans, numbers, records, tables}
+use Rattle.fx_types.specs.declared.values.Value.{Value}
+use Rattle.fx_types.specs.TypeView.{shape}
+use Rattle.fx_types.specs.ValueView.{view}
+use Rattle.fx_types.specs.Values.{Data, blank, number, rec, fault}
 use Rattle.fx_eval.specs.declared.demands.Demand.{Demand}
 use Rattle.fx_eval.specs.declared.demands.Demand.TheVariants as demand
 use Rattle.fx_eval.specs.declared.demands.Fold.{Fold}
@@ -37,18 +37,18 @@ use Rattle.fx_semantics.specs.Rows.{IsOfFound, rows_in}
 use Rattle.fx_semantics.specs.Sound.{AreFit, AreLawfulTypings, IsLawfulType, ValuesFit}
 use Rattle.fx_semantics.specs.Sources.{FitsIn, Gives, IsTold}
 use Rattle.fx_tables.specs.RowCalls.{first_of as first_row}
-use Rattle.fx_trees.specs.declared.functions.Fun.{Fun}
-use Rattle.fx_trees.specs.declared.functions.Fun.TheVariants as fun
-use Rattle.fx_trees.specs.declared.rows.Scalar.TheVariants.{Number}
-use Rattle.fx_trees.specs.declared.schema.Column.{Column}
-use Rattle.fx_trees.specs.declared.schema.TableShape.{TableShape}
-use Rattle.fx_trees.specs.declared.sources.Source.{Source}
-use Rattle.fx_trees.specs.declared.sources.Source.TheVariants as source
-use Rattle.fx_trees.specs.Lawful.{IsLawfulTable}
-use Rattle.fx_trees.specs.Rows.{row_of}
-use Rattle.fx_trees.specs.SourceTypes.{columns_of}
-use Rattle.fx_trees.specs.Term.{Term, Terms, of, nil, cons, all, term_size, terms_size}
-use Rattle.fx_trees.specs.Term as top
+use Rattle.fx_core.specs.declared.functions.Fun.{Fun}
+use Rattle.fx_core.specs.declared.functions.Fun.TheVariants as fun
+use Rattle.fx_core.specs.declared.rows.Scalar.TheVariants.{Number}
+use Rattle.fx_core.specs.declared.schema.Column.{Column}
+use Rattle.fx_core.specs.declared.schema.TableShape.{TableShape}
+use Rattle.fx_core.specs.declared.sources.Source.{Source}
+use Rattle.fx_core.specs.declared.sources.Source.TheVariants as source
+use Rattle.fx_core.specs.Lawful.{IsLawfulTable}
+use Rattle.fx_core.specs.Rows.{row_of}
+use Rattle.fx_core.specs.SourceTypes.{columns_of}
+use Rattle.fx_core.specs.Term.{Term, Terms, of, nil, cons, all, term_size, terms_size}
+use Rattle.fx_core.specs.Term as top
 use Rattle.fx_typing.specs.Acts.{acts, any_acts}
 use Rattle.fx_typing.specs.WellTyped.{AllStand, AreTyped, Context, first_type, parts_count, row_type}
 use Rattle.fx_value.specs.Fits.{fits_in}

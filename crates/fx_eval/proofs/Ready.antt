@@ -1,15 +1,15 @@
 -- Parts of a tree that is ready are ready.
 use Rattle.std.proofs.Common.{◌≡◌, [], ◌∷◌, ◌++◌, Bool, true, false, Option, refl, sym, subst}
 use Rattle.std.specs.Prelude.{◌||◌}
-use Rattle.fx_data.specs.Types.{Shape}
-use Rattle.fx_data.specs.Values.{Data}
+use Rattle.fx_types.specs.Types.{Shape}
+use Rattle.fx_types.specs.Values.{Data}
 use Rattle.fx_eval.specs.Parts.{inner}
 use Rattle.fx_env.specs.Scopes.{Held, Suits, IsReady, CanEvaluate, around}
 use Rattle.fx_semantics.specs.Fresh.{IsValue}
 use Rattle.fx_semantics.specs.Sound.{ValuesFit, IsLawfulTyping}
 use Rattle.fx_semantics.proofs.Parts.{rows_more}
-use Rattle.fx_trees.specs.declared.sources.Source.{Source}
-use Rattle.fx_trees.specs.Term.{Term, Terms, of, nil, cons, Top, within}
+use Rattle.fx_core.specs.declared.sources.Source.{Source}
+use Rattle.fx_core.specs.Term.{Term, Terms, of, nil, cons, Top, within}
 use Rattle.fx_typing.specs.Acts.{acts, any_acts, is_acting}
 use Rattle.fx_typing.specs.WellTyped.{Context, IsTyped, Standing, plain, standing_at, context_for}
 use Rattle.fx_value.specs.Fits.{fits_in}

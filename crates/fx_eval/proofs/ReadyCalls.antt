@@ -3,20 +3,20 @@ use Rattle.std.proofs.Common.{◌≡◌, ◌≤◌, ℕ, ℤ, suc, ◌%◌, List
 use Rattle.std.specs.Prelude.{if◌then◌else◌}
 use Rattle.std.specs.List.{All, find}
 use Rattle.std.proofs.lemmas.List.Elements.{All-nil, All-cons}
-use Rattle.fx_data.specs.declared.faults.Fault.{Fault}
-use Rattle.fx_data.specs.Types.{Shape, blanks, numbers, texts, booleans, dates, records, tables, ColumnList, column}
-use Rattle.fx_data.specs.Values.{Data, blank, number, text, boolean, date, rec, tab, fault, FieldList, RowList}
+use Rattle.fx_types.specs.declared.faults.Fault.{Fault}
+use Rattle.fx_types.specs.Types.{Shape, blanks, numbers, texts, booleans, dates, records, tables, ColumnList, column}
+use Rattle.fx_types.specs.Values.{Data, blank, number, text, boolean, date, rec, tab, fault, FieldList, RowList}
 use Rattle.fx_semantics.proofs.Columns.{SoMany, free_ok, label_ok, rises_without, with_column_fit, all_lack}
 use Rattle.fx_semantics.proofs.Over.{table_ok}
 use Rattle.fx_semantics.proofs.Parts.{Giving, stands, Suits, Holds, AllHold}
 use Rattle.fx_semantics.proofs.Tables.{AllFit, RowsFit, each_fits, fit_table, table_fits}
 use Rattle.fx_semantics.specs.Around.{Around, Meaning}
 use Rattle.fx_semantics.specs.Fresh.{meaning, meanings}
-use Rattle.fx_trees.specs.Rows.{row_of, takes_count}
-use Rattle.fx_trees.specs.declared.functions.Fun.{Fun}
-use Rattle.fx_trees.specs.declared.functions.Fun.TheVariants as fun
-use Rattle.fx_trees.specs.declared.rows.Takes.{Takes}
-use Rattle.fx_trees.specs.SourceTypes.{put_column}
+use Rattle.fx_core.specs.Rows.{row_of, takes_count}
+use Rattle.fx_core.specs.declared.functions.Fun.{Fun}
+use Rattle.fx_core.specs.declared.functions.Fun.TheVariants as fun
+use Rattle.fx_core.specs.declared.rows.Takes.{Takes}
+use Rattle.fx_core.specs.SourceTypes.{put_column}
 use Rattle.fx_tables.proofs.FitColumns.{all_renamed_fit, rises_put}
 use Rattle.fx_tables.specs.ColumnCalls.{CanAdd, CanRename, in_turn}
 use Rattle.fx_tables.specs.RowCalls.{AreKeysOrErrors}
@@ -27,11 +27,11 @@ use Rattle.fx_eval.proofs.Parts.{AreOf, are_of, each_many, is_of}
 use Rattle.fx_eval.proofs.Places.{ArePaired, at_least, at_most, formula_behind, inner_behind, name_at, paired_by, whole}
 use Rattle.fx_value.specs.Columns.{Row, renamed, with_column}
 use Rattle.fx_tables.specs.Unions.{is_fault}
-use Rattle.fx_trees.specs.Term.{Term, Terms, of, nil, cons, const, Top, over}
+use Rattle.fx_core.specs.Term.{Term, Terms, of, nil, cons, const, Top, over}
 use Rattle.fx_typing.specs.Columns.{added, dropped, label_of, names_there, shown}
-use Rattle.fx_trees.specs.ColumnLists.{and_then, field_in, if_there, with_new, with_renamed}
+use Rattle.fx_core.specs.ColumnLists.{and_then, field_in, if_there, with_new, with_renamed}
 use Rattle.fx_typing.specs.Columns as columns
-use Rattle.fx_trees.specs.ColumnLists as lists
+use Rattle.fx_core.specs.ColumnLists as lists
 use Rattle.fx_typing.specs.Ways.{is_scalar}
 use Rattle.fx_typing.specs.WellTyped.{AllStand, Context, Standing, answered, context_for, head_of, inside, paired, plain, standing_at, standing_of}
 use Rattle.fx_typing.proofs.Operators.{then_ok}

@@ -2,10 +2,10 @@
 use Rattle.std.proofs.Common.{◌≡◌, ℕ, zero, suc, ◌+◌, ◌<◌, List, [], ◌∷◌, ◌++◌, map, take, length, get_or, Option, Bool, true, false, refl, ap, sym, subst, ◌∙◌, arith}
 use Rattle.std.specs.Prelude.{if◌then◌else◌}
 use Rattle.std.proofs.lemmas.List.{length-append, length-take-le, map-append, take_more}
-use Rattle.fx_data.specs.Types.{Shape, records, tables, ColumnList}
-use Rattle.fx_data.specs.declared.values.Value.{Value}
-use Rattle.fx_data.specs.Values.{Data}
-use Rattle.fx_data.specs.ValueView.{view}
+use Rattle.fx_types.specs.Types.{Shape, records, tables, ColumnList}
+use Rattle.fx_types.specs.declared.values.Value.{Value}
+use Rattle.fx_types.specs.Values.{Data}
+use Rattle.fx_types.specs.ValueView.{view}
 use Rattle.fx_eval.specs.Moments.{Moment, Went}
 use Rattle.fx_eval.specs.Parts.{AreAsked, AreInside, IsAsked, inner}
 use Rattle.fx_env.specs.Scopes.{Held, Suits, IsReady, CanEvaluate, around}
@@ -18,10 +18,10 @@ use Rattle.fx_semantics.specs.Around.{inside as inside_of}
 use Rattle.fx_semantics.specs.Fresh.{IsValue, meaning, meanings}
 use Rattle.fx_semantics.specs.Rows.{IsOver, rows_in}
 use Rattle.fx_semantics.specs.Sound.{AreLawfulTypings}
-use Rattle.fx_trees.specs.declared.functions.Fun.{Fun}
-use Rattle.fx_trees.specs.declared.rows.Takes.{Takes}
-use Rattle.fx_trees.specs.declared.sources.Source.{Source}
-use Rattle.fx_trees.specs.Rows.{row_of}
+use Rattle.fx_core.specs.declared.functions.Fun.{Fun}
+use Rattle.fx_core.specs.declared.rows.Takes.{Takes}
+use Rattle.fx_core.specs.declared.sources.Source.{Source}
+use Rattle.fx_core.specs.Rows.{row_of}
 use Rattle.fx_eval.proofs.Grown.{each_more, given_more}
 use Rattle.fx_eval.proofs.Made.{over_made}
 use Rattle.fx_eval.proofs.Whole.{can_over}
@@ -30,7 +30,7 @@ use Rattle.fx_eval.specs.Given.{AreGiven, Given, IsGiven, given}
 use Rattle.fx_eval.specs.TableCalls.{CanMake, IsMadeOf}
 use Rattle.fx_tables.specs.Unions.{is_fault}
 use Rattle.fx_value.specs.Columns.{Row}
-use Rattle.fx_trees.specs.Term.{Term, Terms, of, cons, all, over}
+use Rattle.fx_core.specs.Term.{Term, Terms, of, cons, all, over}
 use Rattle.fx_value.specs.Fits.{fits_in}
 use Rattle.fx_typing.specs.WellTyped.{Context, AreTyped, AllStand, Stands, Standing, plain, inside, bound, catching, context_for, first_type, parts_count, standing_at, standing_of}
 

@@ -1,8 +1,8 @@
 -- A tree visits one number of rows at most, where the values of its sources are told.
 use Rattle.std.proofs.Common.{◌≡◌, ◌∙◌, ℕ, suc, ◌+◌, List, [], ◌∷◌, ◌++◌, length, Bool, true, false, Option, Some, None, ap, refl, sym, subst, arith}
-use Rattle.fx_data.specs.declared.faults.Fault.{Fault}
-use Rattle.fx_data.specs.Types.{Shape}
-use Rattle.fx_data.specs.Values.{Data, blank, number, text, boolean, date, rec, tab, fault}
+use Rattle.fx_types.specs.declared.faults.Fault.{Fault}
+use Rattle.fx_types.specs.Types.{Shape}
+use Rattle.fx_types.specs.Values.{Data, blank, number, text, boolean, date, rec, tab, fault}
 use Rattle.fx_env.specs.Scopes.{Held, around}
 use Rattle.fx_eval.proofs.Counted.{one_count}
 use Rattle.fx_eval.specs.Courses.{Going, Turning, answers, chooses, catches, goes, passes, coalesces, turned}
@@ -16,12 +16,12 @@ use Rattle.fx_semantics.specs.Around.{inside as inside_of}
 use Rattle.fx_semantics.specs.Fresh.{IsValue, meanings}
 use Rattle.fx_semantics.specs.Rows.{rows_in}
 use Rattle.fx_semantics.specs.Unique.{OneValue}
-use Rattle.fx_trees.specs.declared.functions.Fun.{Fun}
-use Rattle.fx_trees.specs.declared.functions.Fun.TheVariants as fun
-use Rattle.fx_trees.specs.declared.sources.Source.{Source}
-use Rattle.fx_trees.specs.declared.sources.Source.TheVariants as source
-use Rattle.fx_trees.specs.Term.{Term, Terms, of, nil, cons, Top, all}
-use Rattle.fx_trees.specs.Term as top
+use Rattle.fx_core.specs.declared.functions.Fun.{Fun}
+use Rattle.fx_core.specs.declared.functions.Fun.TheVariants as fun
+use Rattle.fx_core.specs.declared.sources.Source.{Source}
+use Rattle.fx_core.specs.declared.sources.Source.TheVariants as source
+use Rattle.fx_core.specs.Term.{Term, Terms, of, nil, cons, Top, all}
+use Rattle.fx_core.specs.Term as top
 use Rattle.fx_typing.specs.WellTyped.{Standing, inside, plain, bound, catching, standing_at}
 use Rattle.fx_value.specs.Columns.{Row as Fields}
 

@@ -1,7 +1,7 @@
 -- The parts of a tree are smaller than the tree.
 use Rattle.std.proofs.Common.{◌≡◌, ℕ, zero, suc, ◌+◌, ◌<◌, ◌≤◌, List, [], ◌∷◌, length, get_or, ap, sym, ◌∙◌, arith}
 use Rattle.fx_eval.specs.Parts.{terms_of}
-use Rattle.fx_trees.specs.Term.{Term, of, nil, cons, Top, all, parts_of, term_size, terms_size}
+use Rattle.fx_core.specs.Term.{Term, of, nil, cons, Top, all, parts_of, term_size, terms_size}
 use Rattle.fx_eval.proofs.Standings.{all_parts}
 
 pub field_is_smaller : (fs : List (List ℕ × Term)) (i : ℕ) (f : List ℕ × Term) → i < length fs → f ≡ get_or fs i f → term_size f.1 < terms_size (all (terms_of fs))

@@ -3,20 +3,20 @@ use Rattle.std.proofs.Common.{◌≡◌, ◌≢◌, ℕ, suc, ◌+◌, ◌%◌, 
 use Rattle.std.specs.Prelude.{nat_eq, if◌then◌else◌}
 use Rattle.std.proofs.lemmas.List.{length-append}
 use Rattle.std.proofs.lemmas.Bool.Decides.{Decides-eqb}
-use Rattle.fx_data.specs.Types.{Shape, booleans}
+use Rattle.fx_types.specs.Types.{Shape, booleans}
 use Rattle.fx_eval.specs.Parts.{AreConditions, AreBranches, AreMatches, AreRecoveries, AreFine, IsFallback, IsSwitched, caught_in, terms_of}
 use Rattle.fx_env.specs.Scopes.{Held, Suits, IsReady, CanEvaluate}
 use Rattle.fx_eval.proofs.Ready.{AreCalm, Lawfully, calm_parts, calm_rest, part_ready}
 use Rattle.fx_eval.proofs.CallHeads.{IsPlain}
 use Rattle.fx_semantics.specs.Sound.{AreLawfulTypings}
-use Rattle.fx_trees.specs.declared.functions.Form.TheVariants as form
-use Rattle.fx_trees.specs.declared.functions.Fun.TheVariants as fun
-use Rattle.fx_trees.specs.declared.rows.Scalar.TheVariants.{Boolean}
-use Rattle.fx_trees.specs.declared.rows.Takes.{Takes}
-use Rattle.fx_trees.specs.declared.rows.Takes.TheVariants as takes
-use Rattle.fx_trees.specs.declared.sources.Source.{Source}
-use Rattle.fx_trees.specs.Rows.{form_row, takes_at, takes_count}
-use Rattle.fx_trees.specs.Term.{Term, Terms, of, nil, cons, all, names_of, parts_of, Top, call, form, rec}
+use Rattle.fx_core.specs.declared.functions.Form.TheVariants as form
+use Rattle.fx_core.specs.declared.functions.Fun.TheVariants as fun
+use Rattle.fx_core.specs.declared.rows.Scalar.TheVariants.{Boolean}
+use Rattle.fx_core.specs.declared.rows.Takes.{Takes}
+use Rattle.fx_core.specs.declared.rows.Takes.TheVariants as takes
+use Rattle.fx_core.specs.declared.sources.Source.{Source}
+use Rattle.fx_core.specs.Rows.{form_row, takes_at, takes_count}
+use Rattle.fx_core.specs.Term.{Term, Terms, of, nil, cons, all, names_of, parts_of, Top, call, form, rec}
 use Rattle.fx_typing.specs.WellTyped.{Context, AreTyped, AllStand, Stands, Standing, plain, standing_at, standing_of, context_for, first_type, parts_count}
 use Rattle.fx_typing.specs.Ways.{is_comparable}
 

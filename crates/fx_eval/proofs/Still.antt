@@ -5,8 +5,8 @@ use Rattle.std.proofs.Common.{◌≡◌, ◌∙◌, ◌≤◌, ℕ, suc, ◌+◌
 use Rattle.std.specs.Prelude.{◌&&◌, cond, not, nat_eq, slice_get, option_map, is_some}
 use Rattle.std.specs.List.{filter}
 use Rattle.std.proofs.lemmas.Bool.{eq-eqb}
-use Rattle.fx_data.specs.declared.comparisons.Cmp.{Cmp}
-use Rattle.fx_data.specs.Values.{Data, blank, fault, number, text, boolean, date, rec, tab}
+use Rattle.fx_types.specs.declared.comparisons.Cmp.{Cmp}
+use Rattle.fx_types.specs.Values.{Data, blank, fault, number, text, boolean, date, rec, tab}
 use Rattle.fx_eval.specs.Courses.{Going, Turning, answers, chooses, catches, goes, passes, coalesces, turned}
 use Rattle.fx_eval.specs.Visits.{AllVisit, AskedTables, Both, ConditionsVisit, ConstantsVisit, EachVisits, FormVisits, HeadVisits, InCondition, InQuery, IsUnasked, OnceOr, Part, PartVisits, PartsVisit, RowsVisit, TreeVisits, TurnVisits, UnlessError, Visiting, Visits, VisitsBy, VisitsByHead, begun, lies_in, part, parts, search_of}
 use Rattle.fx_plan.specs.declared.plans.Sketch.{Sketch}
@@ -17,16 +17,16 @@ use Rattle.fx_plan.proofs.Placing.{column_typed, in_front, joined, plain_is, som
 use Rattle.fx_semantics.specs.Around.{Around, record_of}
 use Rattle.fx_semantics.specs.Around.{catching as around_caught, inside as inside_of}
 use Rattle.fx_semantics.specs.Rows.{rows_in}
-use Rattle.fx_trees.specs.declared.functions.Form.TheVariants as form
-use Rattle.fx_trees.specs.declared.functions.Fun.{Fun}
-use Rattle.fx_trees.specs.declared.functions.Fun.TheVariants as fun
-use Rattle.fx_trees.specs.declared.literals.SortOrder.{SortOrder}
-use Rattle.fx_trees.specs.declared.rows.Scalar.{Scalar}
-use Rattle.fx_trees.specs.declared.rows.Scalar.TheVariants.{Boolean, Text}
-use Rattle.fx_trees.specs.declared.schema.TableShape.{TableShape}
-use Rattle.fx_trees.specs.declared.sources.Source.TheVariants as source
-use Rattle.fx_trees.specs.Term.{Term, Terms, of, nil, cons, Top, all}
-use Rattle.fx_trees.specs.Term as top
+use Rattle.fx_core.specs.declared.functions.Form.TheVariants as form
+use Rattle.fx_core.specs.declared.functions.Fun.{Fun}
+use Rattle.fx_core.specs.declared.functions.Fun.TheVariants as fun
+use Rattle.fx_core.specs.declared.literals.SortOrder.{SortOrder}
+use Rattle.fx_core.specs.declared.rows.Scalar.{Scalar}
+use Rattle.fx_core.specs.declared.rows.Scalar.TheVariants.{Boolean, Text}
+use Rattle.fx_core.specs.declared.schema.TableShape.{TableShape}
+use Rattle.fx_core.specs.declared.sources.Source.TheVariants as source
+use Rattle.fx_core.specs.Term.{Term, Terms, of, nil, cons, Top, all}
+use Rattle.fx_core.specs.Term as top
 use Rattle.fx_typing.specs.WellTyped.{Standing, inside, plain, bound, catching, standing_at}
 use Rattle.fx_value.specs.Columns.{Row as Fields}
 use Rattle.row_queries.specs.TableRows.{rows_at}

@@ -1,7 +1,7 @@
 -- What a form is worth, by what a part makes of it.
 use Rattle.std.proofs.Common.{◌≡◌, List, [], ◌∷◌, Bool, true, false}
 use Rattle.std.specs.Prelude.{if◌then◌else◌}
-use Rattle.fx_data.specs.Values.{Data, blank, number, text, boolean, date, rec, tab, fault}
+use Rattle.fx_types.specs.Values.{Data, blank, number, text, boolean, date, rec, tab, fault}
 use Rattle.fx_eval.specs.Courses.{Going, all, any, branches, switch, matches, recovers, coalesces, IsWorth, ends_in_branch, end_of, Turning, answers, chooses, catches, goes, passes, by_decision, turned}
 use Rattle.fx_semantics.specs.Around.{Around, Meaning, catching}
 use Rattle.fx_semantics.specs.Forms.{IsAll, IsAny, IsIf, IsMatched, IsRecovered, IsCoalesced, IsCaughtBy}

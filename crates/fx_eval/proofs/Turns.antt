@@ -3,10 +3,10 @@ use Rattle.std.proofs.Common.{◌≡◌, ℕ, suc, List, [], ◌∷◌, length, 
 use Rattle.std.specs.Prelude.{unwrap_or}
 use Rattle.std.specs.List.{find}
 use Rattle.std.proofs.lemmas.List.{length-map}
-use Rattle.fx_data.specs.Values.{Data, boolean}
-use Rattle.fx_data.specs.ValueView.{view}
-use Rattle.fx_data.specs.declared.values.Value.{Value}
-use Rattle.fx_data.specs.declared.values.Value.TheVariants.{Boolean}
+use Rattle.fx_types.specs.Values.{Data, boolean}
+use Rattle.fx_types.specs.ValueView.{view}
+use Rattle.fx_types.specs.declared.values.Value.{Value}
+use Rattle.fx_types.specs.declared.values.Value.TheVariants.{Boolean}
 use Rattle.fx_tables.proofs.FirstErrors.{found_passes}
 use Rattle.fx_eval.specs.Given.{Given, each, given}
 use Rattle.fx_eval.specs.TableCalls.{AreFor, AreFormulas, verdicts_behind, with_condition}

@@ -1,17 +1,17 @@
 -- Values of formulas, one after another.
 use Rattle.std.proofs.Common.{◌≡◌, ℕ, zero, suc, ◌+◌, ◌<◌, List, [], ◌∷◌, ◌++◌, map, take, length, get_or, Option, ap, sym, subst, ◌∙◌, arith}
 use Rattle.std.proofs.lemmas.List.{take_more, map-append}
-use Rattle.fx_data.specs.declared.values.Value.{Value}
-use Rattle.fx_data.specs.Types.{Shape}
-use Rattle.fx_data.specs.Values.{Data}
-use Rattle.fx_data.specs.ValueView.{fields_view, view}
+use Rattle.fx_types.specs.declared.values.Value.{Value}
+use Rattle.fx_types.specs.Types.{Shape}
+use Rattle.fx_types.specs.Values.{Data}
+use Rattle.fx_types.specs.ValueView.{fields_view, view}
 use Rattle.fx_eval.proofs.Fields.{filled_more}
 use Rattle.fx_eval.specs.Parts.{AreFilled, AreFine, terms_of}
 use Rattle.fx_env.specs.Scopes.{CanEvaluate, Held}
-use Rattle.fx_trees.specs.declared.sources.Source.{Source}
+use Rattle.fx_core.specs.declared.sources.Source.{Source}
 use Rattle.fx_semantics.specs.Around.{Around, AreValues}
 use Rattle.fx_semantics.specs.Fresh.{IsValue, meanings}
-use Rattle.fx_trees.specs.Term.{Term, all}
+use Rattle.fx_core.specs.Term.{Term, all}
 
 pub values_more : (a : Around) (ts : List Term) (t : Term) (ds : List Data) (d : Data) → AreValues (meanings (all ts)) a ds → IsValue a t d →
     AreValues (meanings (all (ts ++ t ∷ []))) a (ds ++ d ∷ [])

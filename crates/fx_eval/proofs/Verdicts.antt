@@ -1,6 +1,6 @@
 -- Conditions that are joined one after another come to the verdict of all.
 use Rattle.std.proofs.Common.{◌≡◌, ℕ, List, [], ◌∷◌, map, true, false, refl, sym, ap, ◌∙◌}
-use Rattle.fx_data.specs.Values.{Data, boolean, fault}
+use Rattle.fx_types.specs.Values.{Data, boolean, fault}
 use Rattle.fx_semantics.specs.Around.{Around, Meaning, AreEach, AreValues, inside, record_of}
 use Rattle.fx_semantics.specs.Rows.{IsVerdict}
 use Rattle.fx_tables.specs.RowCalls.{verdict_of}

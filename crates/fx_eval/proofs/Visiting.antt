@@ -4,7 +4,7 @@ use Rattle.std.specs.Prelude.{Result, Ok, Err, IfOk, if◌then◌else◌}
 use Rattle.std.proofs.lemmas.List.{length-take-le, take_more}
 use Rattle.fx_base.specs.Silence.{Goes, IsLost}
 use Rattle.fx_base.specs.Telling.{Stays}
-use Rattle.fx_data.specs.Values.{Data, fault, rec, blank, number, text, boolean, date, tab}
+use Rattle.fx_types.specs.Values.{Data, fault, rec, blank, number, text, boolean, date, tab}
 use Rattle.fx_env.specs.Scopes.{Fixed, Held, around}
 use Rattle.fx_env.specs.Telling.{IsHeard, Told, values_told}
 use Rattle.fx_eval.specs.Courses.{Going, Turning, answers, chooses, catches, goes, passes, turned}
@@ -18,11 +18,11 @@ use Rattle.fx_semantics.specs.Around.{inside as inside_of}
 use Rattle.fx_semantics.specs.Rows.{IsMade, IsOver, IsOfFound, rows_in}
 use Rattle.fx_semantics.specs.Fresh.{IsValue, meaning}
 use Rattle.fx_scalar.specs.LazyForms.{ErrorOr}
-use Rattle.fx_trees.specs.declared.functions.Fun.{Fun}
-use Rattle.fx_trees.specs.declared.functions.Fun.TheVariants as fun
-use Rattle.fx_trees.specs.declared.sources.Source.{Source}
-use Rattle.fx_trees.specs.Term.{Term, of, all}
-use Rattle.fx_trees.specs.Term as top
+use Rattle.fx_core.specs.declared.functions.Fun.{Fun}
+use Rattle.fx_core.specs.declared.functions.Fun.TheVariants as fun
+use Rattle.fx_core.specs.declared.sources.Source.{Source}
+use Rattle.fx_core.specs.Term.{Term, of, all}
+use Rattle.fx_core.specs.Term as top
 use Rattle.fx_typing.specs.WellTyped.{Standing, inside, plain, standing_at}
 use Rattle.fx_value.specs.Columns.{Row as Fields}
 

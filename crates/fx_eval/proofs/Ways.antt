@@ -1,7 +1,7 @@
 -- The pairs of types whose values are changed have coercions.
 use Rattle.std.proofs.Common.{◌≡◌, Bool, true, false, Option, Some, None, refl, subst}
 use Rattle.std.specs.Prelude.{if◌then◌else◌}
-use Rattle.fx_data.specs.Types.{Shape, blanks, numbers, texts, booleans, dates, records, tables}
+use Rattle.fx_types.specs.Types.{Shape, blanks, numbers, texts, booleans, dates, records, tables}
 use Rattle.fx_typing.proofs.Same.{shape_same}
 use Rattle.fx_typing.specs.Ways.{same, changed, refused, way, joined_way, widening, same_shape}
 use Rattle.fx_value.specs.Coercion.{CanCoerce, HasCoercion, Widens, joined}

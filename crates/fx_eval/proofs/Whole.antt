@@ -1,8 +1,8 @@
 -- A well typed call over a table takes what its parts give.
 use Rattle.std.proofs.Common.{◌≡◌, ℕ, List, [], ◌∷◌, length, true, Option, Ok, sym, subst}
-use Rattle.fx_data.specs.declared.faults.Fault.{Fault}
-use Rattle.fx_data.specs.Types.{Shape, tables, ColumnList}
-use Rattle.fx_data.specs.Values.{Data}
+use Rattle.fx_types.specs.declared.faults.Fault.{Fault}
+use Rattle.fx_types.specs.Types.{Shape, tables, ColumnList}
+use Rattle.fx_types.specs.Values.{Data}
 use Rattle.fx_semantics.proofs.Columns.{rises_of}
 use Rattle.fx_semantics.proofs.Parts.{Giving, stands, Suits, Holds, AllHold}
 use Rattle.fx_semantics.proofs.Tables.{rows_in_fit}
@@ -11,15 +11,15 @@ use Rattle.fx_semantics.specs.Fresh.{meaning, meanings}
 use Rattle.fx_semantics.specs.Rows.{rows_in}
 use Rattle.fx_semantics.specs.Sound.{AreFit, AreLawfulTypes, IsItemFit, IsLawfulType, IsLawfulTyping}
 use Rattle.fx_semantics.specs.Sources.{Gives}
-use Rattle.fx_trees.specs.Rows.{row_of, takes_at, takes_count}
-use Rattle.fx_trees.specs.declared.functions.Fun.{Fun}
-use Rattle.fx_trees.specs.declared.functions.Fun.TheVariants as fun
-use Rattle.fx_trees.specs.declared.sources.Source.{Source}
+use Rattle.fx_core.specs.Rows.{row_of, takes_at, takes_count}
+use Rattle.fx_core.specs.declared.functions.Fun.{Fun}
+use Rattle.fx_core.specs.declared.functions.Fun.TheVariants as fun
+use Rattle.fx_core.specs.declared.sources.Source.{Source}
 use Rattle.fx_eval.specs.Given.{Given, AreGiven}
 use Rattle.fx_eval.specs.TableCalls.{CanMake}
 use Rattle.fx_eval.proofs.Places.{table_plain}
 use Rattle.fx_eval.proofs.ReadyCalls.{can_make}
-use Rattle.fx_trees.specs.Term.{Term, Terms, of, cons, over}
+use Rattle.fx_core.specs.Term.{Term, Terms, of, cons, over}
 use Rattle.fx_typing.specs.WellTyped.{AllStand, Context, IsRuled, IsTyped, Standing, Stands, answered, context_for, head_of, paired, parts_count}
 use Rattle.fx_value.proofs.Unions.{Rises}
 

@@ -1,6 +1,6 @@
 -- What is visited over sources is visited over sources that may give more.
 use Rattle.std.proofs.Common.{ℕ, suc, List, [], ◌∷◌, length, Bool, true, false, Option, Some, None}
-use Rattle.fx_data.specs.Values.{Data, blank, number, text, boolean, date, rec, tab, fault}
+use Rattle.fx_types.specs.Values.{Data, blank, number, text, boolean, date, rec, tab, fault}
 use Rattle.fx_eval.specs.Courses.{Going, Turning, answers, chooses, catches, goes, passes, coalesces, turned}
 use Rattle.fx_eval.specs.Visits.{AllVisit, AskedTables, ConditionsVisit, ConstantsVisit, EachVisits, FormVisits, FoundVisits, HeadVisits, InFound, OnceOr, OverVisits, Part, PartVisits, PartsVisit, RangesVisit, RowsVisit, SearchVisits, TreeVisits, TurnVisits, UnlessError, Visiting, Visits, VisitsBy, WithinVisits, begun, part, parts, search_of}
 use Rattle.fx_plan.specs.Consumers.{over_query}
@@ -11,12 +11,12 @@ use Rattle.fx_semantics.specs.Around.{Around, AreValues, record_of}
 use Rattle.fx_semantics.specs.Around.{catching as around_caught, inside as inside_of}
 use Rattle.fx_semantics.specs.Fresh.{meanings}
 use Rattle.fx_semantics.specs.Rows.{rows_in}
-use Rattle.fx_trees.specs.declared.functions.Fun.{Fun}
-use Rattle.fx_trees.specs.declared.functions.Fun.TheVariants as fun
-use Rattle.fx_trees.specs.declared.sources.Source.{Source}
-use Rattle.fx_trees.specs.declared.sources.Source.TheVariants as source
-use Rattle.fx_trees.specs.Term.{Term, Terms, of, nil, cons, Top, all}
-use Rattle.fx_trees.specs.Term as top
+use Rattle.fx_core.specs.declared.functions.Fun.{Fun}
+use Rattle.fx_core.specs.declared.functions.Fun.TheVariants as fun
+use Rattle.fx_core.specs.declared.sources.Source.{Source}
+use Rattle.fx_core.specs.declared.sources.Source.TheVariants as source
+use Rattle.fx_core.specs.Term.{Term, Terms, of, nil, cons, Top, all}
+use Rattle.fx_core.specs.Term as top
 use Rattle.fx_typing.specs.WellTyped.{Standing, inside, plain, bound, catching, standing_at}
 use Rattle.fx_value.specs.Columns.{Row as Fields}
 

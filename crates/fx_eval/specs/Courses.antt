@@ -1,15 +1,15 @@
 -- How forms come from part to part: where a form stands before a part, and what the part's value makes of it.
 use Rattle.std.specs.Prelude.{ℕ, Bool, true, false, List, if◌then◌else◌}
-use Rattle.fx_data.specs.declared.faults.Kind.{Kind}
-use Rattle.fx_data.specs.ValueView.{view}
-use Rattle.fx_data.specs.Values.{Data, blank, boolean, fault}
+use Rattle.fx_types.specs.declared.faults.Kind.{Kind}
+use Rattle.fx_types.specs.ValueView.{view}
+use Rattle.fx_types.specs.Values.{Data, blank, boolean, fault}
 use Rattle.fx_eval.specs.declared.courses.Course.{Course}
 use Rattle.fx_eval.specs.declared.courses.Course.TheVariants as course
 use Rattle.fx_eval.specs.declared.courses.Turn.{Turn}
 use Rattle.fx_eval.specs.declared.courses.Turn.TheVariants as turn
 use Rattle.fx_semantics.specs.Around.{Meaning}
 use Rattle.fx_semantics.specs.Forms.{IsAll, IsAny, IsIf, IsSwitch, IsMatched, IsRecovered, IsCoalesced}
-use Rattle.fx_trees.specs.declared.functions.Form.TheVariants as form
+use Rattle.fx_core.specs.declared.functions.Form.TheVariants as form
 use Rattle.fx_scalar.specs.declared.lazy_forms.Decision.{Decision}
 use Rattle.fx_scalar.specs.declared.lazy_forms.Decision.TheVariants.{Met, Unmet, Error}
 use Rattle.fx_scalar.specs.LazyForms.{decision_of, equality, none_left}

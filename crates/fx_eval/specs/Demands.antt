@@ -1,10 +1,10 @@
 -- What a formula takes of the rows of a query expression, and what a query answers it.
 use Rattle.std.specs.Prelude.{◌≡◌, ◌≤◌, ℕ, ℤ, false, List, length, map, Option, None, Some, slice_get}
 use Rattle.std.specs.List.{All, list_any}
-use Rattle.fx_builtins.specs.Folds.{IsGreatest, IsLeast, average_of}
-use Rattle.fx_data.specs.declared.aggregates.Totals.{Totals}
-use Rattle.fx_data.specs.Types.{Shape}
-use Rattle.fx_data.specs.Values.{Data, blank, rec}
+use Rattle.fx_primitives.specs.Folds.{IsGreatest, IsLeast, average_of}
+use Rattle.fx_types.specs.declared.aggregates.Totals.{Totals}
+use Rattle.fx_types.specs.Types.{Shape}
+use Rattle.fx_types.specs.Values.{Data, blank, rec}
 use Rattle.fx_eval.specs.declared.demands.Demand.{Demand}
 use Rattle.fx_eval.specs.declared.demands.Demand.TheVariants as demand
 use Rattle.fx_eval.specs.declared.demands.Fold.{Fold}
@@ -23,13 +23,13 @@ use Rattle.fx_tables.specs.AggregateCalls.{IsNumberOrBlank, IsSumValue, number_o
 use Rattle.fx_value.specs.Aggregates.{SumsUp}
 use Rattle.fx_tables.specs.RowCalls.{IsCountValue}
 use Rattle.fx_tables.specs.RowCalls.{first_of as first_row}
-use Rattle.fx_trees.specs.declared.functions.Fun.{Fun}
-use Rattle.fx_trees.specs.declared.functions.Fun.TheVariants as fun
-use Rattle.fx_trees.specs.declared.rows.Scalar.TheVariants.{Number}
-use Rattle.fx_trees.specs.declared.schema.TableShape.{TableShape}
-use Rattle.fx_trees.specs.declared.sources.Source.{Source}
-use Rattle.fx_trees.specs.Lawful.{IsLawfulTable}
-use Rattle.fx_trees.specs.Term.{Term, all, nil, cons, term_size}
+use Rattle.fx_core.specs.declared.functions.Fun.{Fun}
+use Rattle.fx_core.specs.declared.functions.Fun.TheVariants as fun
+use Rattle.fx_core.specs.declared.rows.Scalar.TheVariants.{Number}
+use Rattle.fx_core.specs.declared.schema.TableShape.{TableShape}
+use Rattle.fx_core.specs.declared.sources.Source.{Source}
+use Rattle.fx_core.specs.Lawful.{IsLawfulTable}
+use Rattle.fx_core.specs.Term.{Term, all, nil, cons, term_size}
 use Rattle.fx_plan.specs.Consumers.{over_query}
 use Rattle.fx_plan.specs.Limited.{first_rows}
 use Rattle.fx_plan.specs.Settled.{call_settled, query_settled, search_settled}

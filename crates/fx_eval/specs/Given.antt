@@ -1,14 +1,14 @@
 -- What the parts of a call over a table come to.
 use Rattle.std.specs.Prelude.{ℕ, suc, Bool, true, false, List, [], ◌∷◌, map, Option, Some, None}
-use Rattle.fx_data.specs.Values.{Data, blank, text}
-use Rattle.fx_data.specs.ValueView.{view}
+use Rattle.fx_types.specs.Values.{Data, blank, text}
+use Rattle.fx_types.specs.ValueView.{view}
 use Rattle.fx_semantics.specs.Around.{Around, Meaning, AreEach}
-use Rattle.fx_trees.specs.declared.rows.Takes.{Takes}
-use Rattle.fx_trees.specs.declared.rows.Takes.TheVariants as takes
+use Rattle.fx_core.specs.declared.rows.Takes.{Takes}
+use Rattle.fx_core.specs.declared.rows.Takes.TheVariants as takes
 use Rattle.fx_eval.specs.declared.answers.Answers.{Answers}
 use Rattle.fx_eval.specs.declared.answers.Answers.TheVariants.{Once, Each}
 use Rattle.fx_value.specs.Columns.{Row}
-use Rattle.fx_trees.specs.Term.{Top}
+use Rattle.fx_core.specs.Term.{Top}
 use Rattle.fx_typing.specs.WellTyped.{Standing, plain, inside, standing_at}
 
 -- the value of a part, or its values for the rows in order

@@ -1,5 +1,5 @@
 -- Values of the kinds that a form takes.
-use Rattle.fx_data.specs.Values.{Data}
+use Rattle.fx_types.specs.Values.{Data}
 use Rattle.fx_eval.specs.Courses.{Going, matches}
 use Rattle.fx_scalar.specs.LazyForms.{CanMatch}
 

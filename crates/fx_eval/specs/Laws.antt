@@ -1,24 +1,24 @@
 -- What a call over a table is worth, and what a well typed one takes.
 use Rattle.std.specs.Prelude.{◌≡◌, ℕ, false, List, Option, Some, slice_get}
 use Rattle.std.specs.List.{All}
-use Rattle.fx_data.specs.declared.faults.Fault.{Fault}
-use Rattle.fx_data.specs.declared.faults.Kind.{Kind}
-use Rattle.fx_data.specs.Types.{Shape}
-use Rattle.fx_data.specs.Values.{Data, fault}
+use Rattle.fx_types.specs.declared.faults.Fault.{Fault}
+use Rattle.fx_types.specs.declared.faults.Kind.{Kind}
+use Rattle.fx_types.specs.Types.{Shape}
+use Rattle.fx_types.specs.Values.{Data, fault}
 use Rattle.fx_semantics.specs.Around.{Around}
 use Rattle.fx_semantics.specs.Fresh.{IsValue, meanings}
 use Rattle.fx_semantics.specs.Rows.{rows_in}
 use Rattle.fx_semantics.specs.Sound.{AreFit, IsItemFit, IsLawfulTyping}
 use Rattle.fx_semantics.specs.Sources.{Gives}
-use Rattle.fx_trees.specs.declared.functions.Fun.{Fun}
-use Rattle.fx_trees.specs.declared.sources.Source.{Source}
+use Rattle.fx_core.specs.declared.functions.Fun.{Fun}
+use Rattle.fx_core.specs.declared.sources.Source.{Source}
 use Rattle.fx_env.specs.Scopes.{Held, around}
 use Rattle.fx_eval.specs.Given.{Given, AreGiven}
 use Rattle.fx_eval.specs.TableCalls.{CanMake, IsMadeOf}
 use Rattle.fx_eval.specs.Visits.{AskedTables, Visits}
 use Rattle.fx_tables.specs.Unions.{is_fault}
-use Rattle.fx_trees.specs.declared.schema.TableShape.{TableShape}
-use Rattle.fx_trees.specs.Term.{Term, Terms, of, cons, over}
+use Rattle.fx_core.specs.declared.schema.TableShape.{TableShape}
+use Rattle.fx_core.specs.Term.{Term, Terms, of, cons, over}
 use Rattle.fx_typing.specs.WellTyped.{Context, IsTyped}
 use Rattle.row_queries.specs.TableRows.{IsHeldRow, rows_at}
 

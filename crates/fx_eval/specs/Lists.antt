@@ -1,8 +1,8 @@
 -- Values that are the rows of a list.
 use Rattle.std.specs.Prelude.{◌≡◌, true, List}
 use Rattle.std.specs.List.{All}
-use Rattle.fx_data.specs.Types.{Shape}
-use Rattle.fx_data.specs.Values.{Data}
+use Rattle.fx_types.specs.Types.{Shape}
+use Rattle.fx_types.specs.Values.{Data}
 use Rattle.fx_tables.specs.RowCalls.{CanBeRowType}
 use Rattle.fx_value.specs.Fits.{fits_in}
 

@@ -1,16 +1,16 @@
 -- Which parts of a form are ready, by where the form stands before them.
 use Rattle.std.specs.Prelude.{◌≡◌, ℕ, suc, true, List, [], ◌∷◌, ◌++◌, Option, Some}
-use Rattle.fx_data.specs.declared.faults.Kind.{Kind}
-use Rattle.fx_data.specs.Types.{Shape, booleans}
-use Rattle.fx_data.specs.Values.{Data, fault}
+use Rattle.fx_types.specs.declared.faults.Kind.{Kind}
+use Rattle.fx_types.specs.Types.{Shape, booleans}
+use Rattle.fx_types.specs.Values.{Data, fault}
 use Rattle.fx_eval.specs.Courses.{Going, all, any, branches, switch, matches, recovers, coalesces}
 use Rattle.fx_env.specs.Scopes.{Held, IsReady, CanEvaluate}
 use Rattle.fx_semantics.specs.Around.{Around, record_of}
 use Rattle.fx_semantics.specs.Fresh.{IsValue}
-use Rattle.fx_trees.specs.declared.functions.Fun.{Fun}
-use Rattle.fx_trees.specs.declared.sources.Source.{Source}
+use Rattle.fx_core.specs.declared.functions.Fun.{Fun}
+use Rattle.fx_core.specs.declared.sources.Source.{Source}
 use Rattle.fx_value.specs.Columns.{Row}
-use Rattle.fx_trees.specs.Term.{Term, over}
+use Rattle.fx_core.specs.Term.{Term, over}
 use Rattle.fx_typing.specs.WellTyped.{Standing, plain, inside, bound, catching, standing_at}
 use Rattle.fx_typing.specs.Ways.{is_comparable}
 use Rattle.fx_value.specs.Fits.{fits_in}

@@ -1,10 +1,10 @@
 -- What a function makes of the rows of a table, and of what its other parts give.
 use Rattle.std.specs.Prelude.{◌≡◌, ℕ, true, List, [], ◌∷◌, map, length, if◌then◌else◌}
 use Rattle.std.specs.List.{zip}
-use Rattle.fx_data.specs.Values.{Data, blank, text, boolean}
+use Rattle.fx_types.specs.Values.{Data, blank, text, boolean}
 use Rattle.fx_semantics.specs.Rows.{is_falling, table_of}
-use Rattle.fx_trees.specs.declared.functions.Fun.{Fun}
-use Rattle.fx_trees.specs.declared.functions.Fun.TheVariants as fun
+use Rattle.fx_core.specs.declared.functions.Fun.{Fun}
+use Rattle.fx_core.specs.declared.functions.Fun.TheVariants as fun
 use Rattle.fx_tables.specs.AggregateCalls.{IsSumOf, IsLeastOf, IsGreatestOf, averaged, concatenated_by}
 use Rattle.fx_tables.specs.ColumnCalls.{CanAdd, CanRename, renamed_columns, with_columns, without_columns}
 use Rattle.fx_tables.specs.Ends.{emptiness_of, first_rows, last_of, last_rows}

@@ -2,7 +2,7 @@
 -- whose constants counts once. What is evaluated goes by what the parts are worth, as the value of the tree does.
 use Rattle.std.specs.Prelude.{◌≡◌, ℕ, suc, ◌+◌, ◌≤◌, Bool, true, false, List, [], ◌∷◌, length, Option, Some, None, slice_get}
 use Rattle.std.specs.List.{filter, list_any}
-use Rattle.fx_data.specs.Values.{Data, blank, rec, fault}
+use Rattle.fx_types.specs.Values.{Data, blank, rec, fault}
 use Rattle.fx_env.specs.Scopes.{Fixed}
 use Rattle.fx_env.specs.Telling.{Told}
 use Rattle.fx_eval.specs.Courses.{Going, all, any, branches, switch, recovers, coalesces, Turning, answers, chooses, catches, goes, passes, turned}
@@ -17,14 +17,14 @@ use Rattle.fx_semantics.specs.Around.{Around, Meaning, AreValues, catching, reco
 use Rattle.fx_semantics.specs.Around.{inside as inside_of}
 use Rattle.fx_semantics.specs.Fresh.{meaning, meanings}
 use Rattle.fx_semantics.specs.Rows.{IsOver, rows_in}
-use Rattle.fx_trees.specs.declared.functions.Form.{Form}
-use Rattle.fx_trees.specs.declared.functions.Form.TheVariants as form
-use Rattle.fx_trees.specs.declared.functions.Fun.{Fun}
-use Rattle.fx_trees.specs.declared.functions.Fun.TheVariants as fun
-use Rattle.fx_trees.specs.declared.schema.TableShape.{TableShape}
-use Rattle.fx_trees.specs.declared.sources.Source.TheVariants as source
-use Rattle.fx_trees.specs.Term.{Term, Terms, of, nil, cons, Top}
-use Rattle.fx_trees.specs.Term as top
+use Rattle.fx_core.specs.declared.functions.Form.{Form}
+use Rattle.fx_core.specs.declared.functions.Form.TheVariants as form
+use Rattle.fx_core.specs.declared.functions.Fun.{Fun}
+use Rattle.fx_core.specs.declared.functions.Fun.TheVariants as fun
+use Rattle.fx_core.specs.declared.schema.TableShape.{TableShape}
+use Rattle.fx_core.specs.declared.sources.Source.TheVariants as source
+use Rattle.fx_core.specs.Term.{Term, Terms, of, nil, cons, Top}
+use Rattle.fx_core.specs.Term as top
 use Rattle.fx_typing.specs.WellTyped.{Standing, inside, standing_at}
 use Rattle.fx_value.specs.Columns.{Row as Fields}
 use Rattle.fx_value.specs.Keys.{key_bytes}

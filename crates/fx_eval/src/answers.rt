@@ -1,16 +1,16 @@
 // What the parts of a call come to.
 ghost use Rattle.std.specs.Prelude.{◌≡◌, false, length, map, option_map, Some, if◌then◌else◌};
-ghost use Rattle.fx_data.specs.ValueView.{view};
-ghost use Rattle.fx_data.specs.Values.{text};
+ghost use Rattle.fx_types.specs.ValueView.{view};
+ghost use Rattle.fx_types.specs.Values.{text};
 ghost use Rattle.fx_eval.specs.Given.{is_inner as is_inner_place, IsEach, IsName, IsOnce, count_in, each, given, once, value_in, values_in};
 ghost use Rattle.fx_eval.specs.TableCalls.{IsCount, IsFormula};
-ghost use Rattle.fx_trees.specs.Term.{over};
+ghost use Rattle.fx_core.specs.Term.{over};
 ghost use Rattle.fx_typing.specs.WellTyped.{inside, plain, standing_at};
 
-use fx_data::values::Value;
-use fx_data::words::Words;
-use fx_trees::functions::Fun;
-use fx_trees::rows::{Takes, row_of};
+use fx_core::functions::Fun;
+use fx_core::rows::{Takes, row_of};
+use fx_types::values::Value;
+use fx_types::words::Words;
 
 /// What a part of a call over a table comes to.
 #[derive(Drop)]

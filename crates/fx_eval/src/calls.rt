@@ -1,6 +1,6 @@
 //! What a function makes of a table.
 ghost use Rattle.std.specs.Prelude.{◌≡◌, IfOk, length, map};
-ghost use Rattle.fx_data.specs.ValueView.{view};
+ghost use Rattle.fx_types.specs.ValueView.{view};
 ghost use Rattle.fx_semantics.specs.Rows.{is_falling as is_falling_in};
 ghost use Rattle.fx_tables.specs.AggregateCalls.{concatenated_by};
 ghost use Rattle.fx_eval.specs.Given.{given, separator_in, values_in};
@@ -10,10 +10,10 @@ use crate::answers::{Answers, count, only, value, values_of};
 use crate::columns::{names, new_columns, renamings};
 use crate::conditions::{find, verdicts};
 use fx_base::Memory;
-use fx_data::values::{Rows, Value};
+use fx_core::functions::Fun;
+use fx_core::literals::SortOrder;
 use fx_tables::row_calls as calls;
-use fx_trees::functions::Fun;
-use fx_trees::literals::SortOrder;
+use fx_types::values::{Rows, Value};
 use std::alloc::Global;
 
 /// What a function makes of the rows of a table, and of what its other parts came to.

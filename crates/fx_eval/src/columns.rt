@@ -6,8 +6,8 @@ ghost use Rattle.fx_eval.specs.TableCalls.{AreColumns, AreNames, ArePairs};
 
 use crate::answers::{Answers, name_of, values_of};
 use fx_base::Memory;
-use fx_data::words::Words;
 use fx_tables::row_calls::{NewColumn, Renaming};
+use fx_types::words::Words;
 use std::alloc::Global;
 
 pub(crate) fn names(alloc: Global, answers: Vec<Answers>) -> Result<Vec<Words>, Memory>

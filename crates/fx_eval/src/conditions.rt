@@ -1,8 +1,8 @@
 // What conditions come to for each row.
 ghost use Rattle.std.specs.Prelude.{◌≡◌, ◌∷◌, [], IfOk, length, map, true};
-ghost use Rattle.fx_data.specs.ValueView.{view};
-ghost use Rattle.fx_data.specs.Values.{boolean};
-ghost use Rattle.fx_data.specs.declared.values.Value.TheVariants.{Boolean};
+ghost use Rattle.fx_types.specs.ValueView.{view};
+ghost use Rattle.fx_types.specs.Values.{boolean};
+ghost use Rattle.fx_types.specs.declared.values.Value.TheVariants.{Boolean};
 ghost use Rattle.fx_tables.specs.RowCalls.{holds as holds_in, verdict_of};
 ghost use Rattle.fx_eval.specs.Given.{given};
 ghost use Rattle.fx_eval.specs.TableCalls.{AreFormulas, found_in, IsSearch, value_found, verdicts as verdicts_of, with_condition};
@@ -11,8 +11,8 @@ ghost use Rattle.fx_tables.specs.Unions.{fault_or, is_fault};
 
 use crate::answers::{Answers, values_of};
 use fx_base::Memory;
-use fx_data::values::{Rows, Value};
 use fx_tables::row_calls::{look_up, verdict};
+use fx_types::values::{Rows, Value};
 use std::alloc::{AllocError, Global};
 
 // The verdict of all conditions for each row.

@@ -1,12 +1,12 @@
 //! The forms, part by part: what each makes of the value of a part.
 ghost use Rattle.std.specs.Prelude.{◌≡◌};
-ghost use Rattle.fx_data.specs.ValueView.{view};
+ghost use Rattle.fx_types.specs.ValueView.{view};
 ghost use Rattle.fx_eval.specs.Courses.{by_decision, coalesces, end_of, ends_in_branch, going, turned, turning};
 ghost use Rattle.fx_eval.specs.Kinds.{CanTurn};
 
-use fx_data::{Fault, Value};
+use fx_core::Form;
 use fx_scalar::{Decision, decide, decide_match, exhausted_value, is_blank};
-use fx_trees::Form;
+use fx_types::{Fault, Value};
 
 /// Where a form stands before a part.
 pub enum Course {

@@ -1,8 +1,8 @@
 //! What formulas take of query expressions.
 ghost use Rattle.std.specs.Prelude.{◌≡◌, ◌*◌, ℤ, List, length, map, pos, slice_get, true, IfOk, IfSome, MatchOption, None, Some};
-ghost use Rattle.fx_data.specs.ValueView.{view};
-ghost use Rattle.fx_data.specs.Values.{number};
-ghost use Rattle.fx_builtins.specs.Folds.{average_of};
+ghost use Rattle.fx_types.specs.ValueView.{view};
+ghost use Rattle.fx_types.specs.Values.{number};
+ghost use Rattle.fx_primitives.specs.Folds.{average_of};
 ghost use Rattle.fx_eval.specs.Demands.{IsDemand, IsFolded, IsNumberColumn, IsSearch, IsSearchBy, fun_of, most_of, settled_in};
 ghost use Rattle.fx_number.specs.Decimal.{IsInRange};
 ghost use Rattle.fx_plan.specs.QueryExpressions.{sketch_of};
@@ -10,21 +10,21 @@ ghost use Rattle.fx_semantics.specs.Rows.{rows_in};
 ghost use Rattle.fx_tables.specs.AggregateCalls.{IsSumValue, number_or_blank as number_or_blank_of};
 ghost use Rattle.fx_value.specs.Aggregates.{SumsUp};
 ghost use Rattle.fx_tables.specs.RowCalls.{IsCountValue, first_of};
-ghost use Rattle.fx_trees.specs.declared.functions.Fun.TheVariants as fun;
-ghost use Rattle.fx_trees.specs.Lawful.{IsLawfulSchema};
-ghost use Rattle.fx_trees.specs.Term.{all, cons, const, nil, of};
+ghost use Rattle.fx_core.specs.declared.functions.Fun.TheVariants as fun;
+ghost use Rattle.fx_core.specs.Lawful.{IsLawfulSchema};
+ghost use Rattle.fx_core.specs.Term.{all, cons, const, nil, of};
 ghost use Rattle.fx_plan.specs.Consumers.{over_query};
 ghost use Rattle.fx_eval.specs.Visits.{IsUnasked};
 
 use fx_base::Memory;
-use fx_builtins::quotient;
-use fx_data::{Fault, Kind, Totals, Value, Words};
+use fx_core::{Core, CoreNode, Fun, Scalar, Schema};
 use fx_number::Num;
 use fx_plan::conditions::column_of;
 use fx_plan::sketches::filter_sketch;
 use fx_plan::{Sketch, settled_call, settled_query, settled_search, sketch_under};
+use fx_primitives::quotient;
 use fx_tables::row_calls::first;
-use fx_trees::{Core, CoreNode, Fun, Scalar, Schema};
+use fx_types::{Fault, Kind, Totals, Value, Words};
 use std::alloc::Global;
 use std::slice;
 

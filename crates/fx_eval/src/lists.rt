@@ -1,17 +1,17 @@
 // Tables of values.
 ghost use Rattle.std.specs.Prelude.{◌≡◌, IfOk, map};
-ghost use Rattle.fx_data.specs.Types.{column_list, tables};
-ghost use Rattle.fx_data.specs.TypeView.{shape};
-ghost use Rattle.fx_data.specs.ValueView.{view};
+ghost use Rattle.fx_types.specs.Types.{column_list, tables};
+ghost use Rattle.fx_types.specs.TypeView.{shape};
+ghost use Rattle.fx_types.specs.ValueView.{view};
 ghost use Rattle.fx_eval.specs.Lists.{CanList};
 ghost use Rattle.fx_tables.specs.Unions.{union_of};
-ghost use Rattle.fx_trees.specs.ColumnLists.{row_columns as row_columns_of, value_column as value_column_of};
+ghost use Rattle.fx_core.specs.ColumnLists.{row_columns as row_columns_of, value_column as value_column_of};
 
 use fx_base::Memory;
-use fx_data::types::{Columns, Ty};
-use fx_data::values::Value;
-use fx_data::words::Words;
 use fx_tables::union;
+use fx_types::types::{Columns, Ty};
+use fx_types::values::Value;
+use fx_types::words::Words;
 use std::alloc::Global;
 
 /// The table of these values as its rows, which are of this type: records, or scalars in a column

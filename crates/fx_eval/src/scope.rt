@@ -1,11 +1,11 @@
 //! What stands around a formula.
 ghost use Rattle.std.specs.Prelude.{◌≡◌, Some, IsSome, IfOk, slice_get};
-ghost use Rattle.fx_data.specs.ValueView.{view};
+ghost use Rattle.fx_types.specs.ValueView.{view};
 ghost use Rattle.fx_semantics.specs.Errors.{IsCaught};
 
 use fx_base::Memory;
-use fx_data::{Fault, Value};
 use fx_scalar::error_record;
+use fx_types::{Fault, Value};
 use std::alloc::Global;
 use std::marker::Model;
 
@@ -20,7 +20,7 @@ pub struct Scope {
 
 impl Model for Scope {
     ghost use Rattle.std.specs.Coded.{codes};
-    ghost use Rattle.fx_data.specs.ValueCode.{data_code};
+    ghost use Rattle.fx_types.specs.ValueCode.{data_code};
     ghost use Rattle.fx_env.specs.Scopes.{Held};
 
     ghost Value = { Held };

@@ -1,7 +1,7 @@
 -- The reading of a whole formula.
 use Rattle.std.proofs.Common.{◌≡◌, ℕ, suc, ◌+◌, ◌<◌, ◌≤◌, Bool, true, false, List, [], ◌∷◌, length, refl, ap, sym, ◌∙◌, subst, Option, Some, None, arith, leb}
 use Rattle.std.proofs.lemmas.Bool.Decides.{nat_tests}
-use Rattle.fx_trees.specs.Tree.{Tree}
+use Rattle.fx_core.specs.Tree.{Tree}
 use Rattle.fx_grammar.specs.declared.item.Item.{Item}
 use Rattle.fx_grammar.specs.declared.line.Line.TheVariants.{Chain}
 use Rattle.fx_grammar.specs.declared.line.Mark.TheVariants as mark

@@ -13,7 +13,7 @@ use Rattle.fx_lexer.specs.declared.token.TokenKind.TheVariants as kind
 use Rattle.fx_grammar.specs.declared.item.Item.{Item}
 use Rattle.fx_grammar.specs.declared.item.Meaning.TheVariants as m
 use Rattle.fx_grammar.specs.Means.{between_quotes, item, Means, number, text, plain_name, quoted_name, word, symbol, opening, closing, piece, AllMean, no_more, one_more}
-use Rattle.fx_trees.specs.Tree.{Tree}
+use Rattle.fx_core.specs.Tree.{Tree}
 use Rattle.fx_lexer.proofs.Readings.{lexemes_one}
 use Rattle.fx_grammar.specs.Grammar.{IsFormula}
 use Rattle.fx_grammar.specs.Formulas.{HasItems, HasTree}

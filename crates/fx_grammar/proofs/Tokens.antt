@@ -2,7 +2,7 @@
 use Rattle.std.proofs.Common.{◌≡◌, ℕ, ◌<◌, ◌≤◌, Bool, true, false, List, [], ◌∷◌, cond, refl, ap, sym, ◌∙◌, Option, Some, None, arith, true≢false}
 use Rattle.fx_lexer.specs.declared.token.Symbol.TheVariants as symbol
 use Rattle.fx_lexer.specs.declared.token.Word.TheVariants as word
-use Rattle.fx_trees.specs.declared.expr.Op.{Op}
+use Rattle.fx_core.specs.declared.expr.Op.{Op}
 use Rattle.fx_grammar.specs.declared.item.Item.{Item}
 use Rattle.fx_grammar.specs.declared.item.Meaning.{Meaning}
 use Rattle.fx_grammar.specs.declared.item.Meaning.TheVariants as m

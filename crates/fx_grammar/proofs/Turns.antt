@@ -1,9 +1,9 @@
 -- Turns of loops.
 use Rattle.std.proofs.Common.{◌≡◌, ℕ, zero, suc, ◌<◌, ◌≤◌, max, List, [], ◌∷◌, ◌++◌, length, refl, ap, ◌∙◌, Option, Some, None, arith, le-leb}
 use Rattle.std.proofs.lemmas.Bool.{lt-leb}
-use Rattle.fx_trees.specs.declared.expr.Op.{Op}
-use Rattle.fx_trees.specs.Tree.{Tree, NamedTree, node, Head, none, more, forest, names_of, parts_of}
-use Rattle.fx_trees.specs.Tree as tree
+use Rattle.fx_core.specs.declared.expr.Op.{Op}
+use Rattle.fx_core.specs.Tree.{Tree, NamedTree, node, Head, none, more, forest, names_of, parts_of}
+use Rattle.fx_core.specs.Tree as tree
 use Rattle.fx_grammar.specs.declared.item.Item.{Item}
 use Rattle.fx_grammar.specs.declared.line.Join.{Join}
 use Rattle.fx_grammar.specs.declared.line.Join.TheVariants as join

@@ -3,11 +3,11 @@ use Rattle.std.specs.Prelude.{ℕ, max, nat_le, Bool, true, false, List, [], ◌
 use Rattle.std.proofs.Common.{zero, suc}
 use Rattle.fx_lexer.specs.declared.token.Symbol.TheVariants as symbol
 use Rattle.fx_lexer.specs.declared.token.Word.TheVariants as word
-use Rattle.fx_trees.specs.declared.expr.Op.{Op}
-use Rattle.fx_trees.specs.declared.expr.Op.TheVariants as op
-use Rattle.fx_trees.specs.declared.expr.FieldName.{FieldName}
-use Rattle.fx_trees.specs.Tree.{Tree, NamedTree, node, Head, none, more, forest, names_of, places_of, parts_of}
-use Rattle.fx_trees.specs.Tree as tree
+use Rattle.fx_core.specs.declared.expr.Op.{Op}
+use Rattle.fx_core.specs.declared.expr.Op.TheVariants as op
+use Rattle.fx_core.specs.declared.expr.FieldName.{FieldName}
+use Rattle.fx_core.specs.Tree.{Tree, NamedTree, node, Head, none, more, forest, names_of, places_of, parts_of}
+use Rattle.fx_core.specs.Tree as tree
 use Rattle.fx_grammar.specs.declared.item.Item.{Item}
 use Rattle.fx_grammar.specs.declared.item.Meaning.{Meaning}
 use Rattle.fx_grammar.specs.declared.item.Meaning.TheVariants as m

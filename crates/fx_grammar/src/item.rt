@@ -1,8 +1,8 @@
 //! Tokens with what they mean.
 
-use fx_data::words::Words;
 use fx_lexer::{Symbol, Word};
 use fx_number::Num;
+use fx_types::words::Words;
 
 /// A token: the byte where it begins, the byte behind it, and what it means.
 #[derive(Drop)]

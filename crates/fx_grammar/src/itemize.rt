@@ -12,9 +12,9 @@ ghost use Rattle.fx_grammar.specs.Meant.{IsValued, in_quotes, IsQuoted, IsSomeDo
 use crate::marks::{Marks, undouble};
 use crate::{Item, Meaning};
 use fx_base::Memory;
-use fx_data::words::Words;
 use fx_lexer::{Token, TokenKind};
 use fx_number::{Num, read};
+use fx_types::words::Words;
 use std::alloc::{AllocError, Global};
 
 fn chars_of(alloc: Global, text: &str) -> Result<Vec<char>, AllocError>

@@ -1,6 +1,6 @@
 //! Laws of the grammar, each proved once for all lists of tokens.
 ghost use Rattle.std.specs.Prelude.{◌≡◌, ℕ, List};
-ghost use Rattle.fx_trees.specs.Tree.{Tree};
+ghost use Rattle.fx_core.specs.Tree.{Tree};
 ghost use Rattle.fx_grammar.specs.declared.item.Item.{Item};
 ghost use Rattle.fx_grammar.specs.Grammar.{IsFormula};
 

@@ -1,6 +1,6 @@
 //! Laws of the meanings of tokens, each proved once for all texts.
 ghost use Rattle.std.specs.Prelude.{◌≡◌, ℕ, List};
-ghost use Rattle.fx_trees.specs.Tree.{Tree};
+ghost use Rattle.fx_core.specs.Tree.{Tree};
 ghost use Rattle.fx_lexer.specs.Lexed.{Lexeme};
 ghost use Rattle.fx_grammar.specs.declared.item.Item.{Item};
 ghost use Rattle.fx_grammar.specs.Means.{AllMean};

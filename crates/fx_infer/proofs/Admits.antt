@@ -1,14 +1,14 @@
 -- The local rule, by the heads.
 use Rattle.std.proofs.Common.{◌≡◌, ℕ, List, [], ◌∷◌, Result, Ok, Err, refl, ap, sym}
-use Rattle.fx_data.specs.Types.{Shape, numbers, texts, booleans}
-use Rattle.fx_data.specs.Values.{number, text, boolean}
+use Rattle.fx_types.specs.Types.{Shape, numbers, texts, booleans}
+use Rattle.fx_types.specs.Values.{number, text, boolean}
 use Rattle.fx_typing.specs.Calls.{made_if}
 use Rattle.fx_typing.specs.Parts.{Part, piece, meant, target, assigned, Setting, put_value, values}
 use Rattle.fx_typing.specs.Typing.{admit, constant, global_by, name_by, paired_by}
-use Rattle.fx_trees.specs.declared.expr.Op.{Op}
-use Rattle.fx_trees.specs.Tree as tree
-use Rattle.fx_trees.specs.Term.{Term}
-use Rattle.fx_trees.specs.ColumnLists.{and_then}
+use Rattle.fx_core.specs.declared.expr.Op.{Op}
+use Rattle.fx_core.specs.Tree as tree
+use Rattle.fx_core.specs.Term.{Term}
+use Rattle.fx_core.specs.ColumnLists.{and_then}
 use Rattle.fx_typing.specs.Local.{Piece, value, label}
 use Rattle.fx_typing.specs.Meaning.{Place, in_globals, meaning_of}
 use Rattle.fx_infer.specs.Operands.{leaf_of, operator_of}

@@ -4,15 +4,15 @@ use Rattle.std.specs.Prelude.{◌&&◌, ◌==◌}
 use Rattle.std.proofs.lemmas.List.{length-map, map-append}
 use Rattle.std.proofs.lemmas.Slice.Eq.{bytes_eq-Decides}
 use Rattle.std.proofs.lemmas.Bool.{and_parts}
-use Rattle.fx_data.specs.TypeView.{shape}
-use Rattle.fx_data.specs.Types.{Shape, blanks, numbers, texts, booleans, dates, records, tables, ColumnList, no_columns, column}
-use Rattle.fx_data.specs.declared.types.Ty.{Ty}
+use Rattle.fx_types.specs.TypeView.{shape}
+use Rattle.fx_types.specs.Types.{Shape, blanks, numbers, texts, booleans, dates, records, tables, ColumnList, no_columns, column}
+use Rattle.fx_types.specs.declared.types.Ty.{Ty}
 use Rattle.fx_typing.specs.Rounds as rounds
 use Rattle.fx_typing.specs.Rounds.{Cell, AfterRounds, IsFinal, SameNames, first_types, next_types, types_in, items_type, items_types, formula_type, variable_join, collection_join, all_given}
-use Rattle.fx_trees.specs.declared.names.Collection.{Collection}
-use Rattle.fx_trees.specs.declared.names.ControlName.{ControlName}
-use Rattle.fx_trees.specs.declared.names.Names.{Names}
-use Rattle.fx_trees.specs.declared.names.Variable.{Variable}
+use Rattle.fx_core.specs.declared.names.Collection.{Collection}
+use Rattle.fx_core.specs.declared.names.ControlName.{ControlName}
+use Rattle.fx_core.specs.declared.names.Names.{Names}
+use Rattle.fx_core.specs.declared.names.Variable.{Variable}
 use Rattle.fx_typing.proofs.Same.{shape_same}
 use Rattle.fx_typing.specs.Ways.{same_shape, same_columns}
 use Rattle.fx_infer.specs.SameTypes.{same_shapes, same_types}

@@ -1,6 +1,6 @@
 -- A node of which it is told is the one that is broken.
 use Rattle.std.proofs.Common.{◌≡◌, ℕ, ◌++◌, List, [], ◌∷◌, Err, ap, sym, ◌∙◌, inl, inr}
-use Rattle.fx_trees.specs.Tree.{Tree, node, Forest, none, more, Head}
+use Rattle.fx_core.specs.Tree.{Tree, node, Forest, none, more, Head}
 use Rattle.fx_typing.specs.Meaning.{Place}
 use Rattle.fx_typing.specs.Parts.{Part, Setting, parts_in}
 use Rattle.fx_typing.specs.Plans.{setting_at}

@@ -1,15 +1,15 @@
 -- Nodes are judged by their parts, from the left.
 use Rattle.std.proofs.Common.{◌≡◌, ℕ, suc, List, [], ◌∷◌, ◌++◌, length, Ok, refl, ap, sym, subst, ◌∙◌, arith, length-append, inr}
-use Rattle.fx_trees.specs.Tree.{Tree, node, Forest, none, more, Head}
-use Rattle.fx_trees.specs.TreeView.{branch}
-use Rattle.fx_trees.specs.declared.expr.Node.{Node}
-use Rattle.fx_trees.specs.declared.expr.Node.TheVariants as kind
+use Rattle.fx_core.specs.Tree.{Tree, node, Forest, none, more, Head}
+use Rattle.fx_core.specs.TreeView.{branch}
+use Rattle.fx_core.specs.declared.expr.Node.{Node}
+use Rattle.fx_core.specs.declared.expr.Node.TheVariants as kind
 use Rattle.fx_typing.specs.Meaning.{Place}
 use Rattle.fx_typing.specs.Details.{HasToldBroken}
 use Rattle.fx_typing.specs.Parts.{Part, Setting}
 use Rattle.fx_typing.specs.Plans.{setting_at}
 use Rattle.fx_typing.specs.Typing.{judge, judge_parts, onward, position}
-use Rattle.fx_scopes.specs.PlanView.{head_of}
+use Rattle.fx_resolve.specs.PlanView.{head_of}
 use Rattle.fx_infer.specs.Below.{forest_from}
 
 -- parts are judged from the left: what is left, behind what is done, is the whole

@@ -8,10 +8,10 @@ use Rattle.fx_typing.specs.Details.{IsToldBroken}
 use Rattle.fx_typing.specs.Parts.{Setting, piece}
 use Rattle.fx_typing.specs.Rounds.{or_unknown}
 use Rattle.fx_typing.specs.Typing.{judge}
-use Rattle.fx_trees.specs.Rules.{number_of}
-use Rattle.fx_scopes.specs.PartView.{part}
-use Rattle.fx_scopes.specs.declared.parts.Part.{Part}
-use Rattle.fx_trees.specs.Tree.{Tree}
+use Rattle.fx_core.specs.Rules.{number_of}
+use Rattle.fx_resolve.specs.PartView.{part}
+use Rattle.fx_resolve.specs.declared.parts.Part.{Part}
+use Rattle.fx_core.specs.Tree.{Tree}
 use Rattle.fx_typing.specs.Local.{label}
 use Rattle.fx_typing.specs.Meaning.{Place}
 

@@ -1,6 +1,6 @@
 -- The parts of a tree by their places.
 use Rattle.std.proofs.Common.{◌≡◌, ◌≢◌, ℕ, zero, suc, ◌<◌, ◌≤◌, List, [], ◌∷◌, length, Some, slice_get, refl, ap, arith}
-use Rattle.fx_trees.specs.Tree.{Tree, NamedTree, node, Forest, none, more, forest, parts_of, tree_size, forest_size}
+use Rattle.fx_core.specs.Tree.{Tree, NamedTree, node, Forest, none, more, forest, parts_of, tree_size, forest_size}
 use Rattle.fx_typing.specs.Parts.{parts_in}
 use Rattle.fx_infer.specs.Below.{forest_of, forest_from, tree_depth, forest_depth}
 

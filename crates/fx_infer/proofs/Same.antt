@@ -1,17 +1,17 @@
 -- Names that are the same, whatever their types.
 use Rattle.std.proofs.Common.{◌≡◌, ℕ, zero, suc, ◌<◌, ◌^◌, ◌++◌, List, [], ◌∷◌, All, length, map, Option, Some, None, slice_get, get_or, refl, ap, sym, subst, ◌∙◌, append-nil, arith}
 use Rattle.std.proofs.lemmas.List.{nil_from_length}
-use Rattle.fx_data.specs.TypeView.{shape}
-use Rattle.fx_data.specs.declared.types.Ty.{Ty}
+use Rattle.fx_types.specs.TypeView.{shape}
+use Rattle.fx_types.specs.declared.types.Ty.{Ty}
 use Rattle.fx_typing.specs.Rounds.{AllSame, SameNames, SameVariable, SameFormula, SameCollection, SameControl}
-use Rattle.fx_trees.specs.Formulas.{retyped}
-use Rattle.fx_trees.specs.Lawful.{IsLawful, IsLawfulControl, IsLawfulProperty, IsLawfulScreen, IsLawfulGallery, IsGallery, Has, AreDistinct, IsLawfulSchema}
-use Rattle.fx_trees.specs.declared.names.Collection.{Collection}
-use Rattle.fx_trees.specs.declared.names.ControlName.{ControlName}
-use Rattle.fx_trees.specs.declared.names.FormulaName.{FormulaName}
-use Rattle.fx_trees.specs.declared.names.Names.{Names}
-use Rattle.fx_trees.specs.declared.names.Property.{Property}
-use Rattle.fx_trees.specs.declared.names.Variable.{Variable}
+use Rattle.fx_core.specs.Formulas.{retyped}
+use Rattle.fx_core.specs.Lawful.{IsLawful, IsLawfulControl, IsLawfulProperty, IsLawfulScreen, IsLawfulGallery, IsGallery, Has, AreDistinct, IsLawfulSchema}
+use Rattle.fx_core.specs.declared.names.Collection.{Collection}
+use Rattle.fx_core.specs.declared.names.ControlName.{ControlName}
+use Rattle.fx_core.specs.declared.names.FormulaName.{FormulaName}
+use Rattle.fx_core.specs.declared.names.Names.{Names}
+use Rattle.fx_core.specs.declared.names.Property.{Property}
+use Rattle.fx_core.specs.declared.names.Variable.{Variable}
 
 -- lists of which each two are the same
 pub same_through : {A : Type 0} (R : A → A → Type 0) → ((a b c : A) → R a b → R b c → R a c) →

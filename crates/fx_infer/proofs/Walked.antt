@@ -1,12 +1,12 @@
 -- The parts of a node, from the left.
 use Rattle.std.proofs.Common.{◌≡◌, ℕ, suc, List, [], ◌∷◌, ◌++◌, length, refl, ap, sym, subst, ◌∙◌, append_assoc, append-nil, arith, length-append}
-use Rattle.fx_trees.specs.Tree.{Tree, node, Forest, none, more, Head}
+use Rattle.fx_core.specs.Tree.{Tree, node, Forest, none, more, Head}
 use Rattle.fx_typing.specs.Meaning.{Place}
 use Rattle.fx_typing.specs.Parts.{Part, Setting, parts_in}
 use Rattle.fx_typing.specs.Plans.{setting_at}
 use Rattle.fx_typing.specs.Rounds.{Given, gives, given_in, given_in_parts, or_unknown, seen_parts}
 use Rattle.fx_typing.specs.Typing.{judge}
-use Rattle.fx_scopes.specs.PlanView.{head_of}
+use Rattle.fx_resolve.specs.PlanView.{head_of}
 use Rattle.fx_infer.specs.Below.{forest_of, forest_from}
 
 -- what is left, behind what is done, is the whole: of the parts, and of what they give

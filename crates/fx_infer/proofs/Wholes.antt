@@ -1,16 +1,16 @@
 -- Whole formulas: what is told of them is what the judgement says.
 use Rattle.std.proofs.Common.{◌≡◌, ℕ, suc, List, [], ◌∷◌, length, nat_eq, arith, Bool, false, Option, Result, Ok, Err, IfOk, refl, ap, sym, subst, ◌∙◌, inl, inr}
 use Rattle.std.proofs.lemmas.Bool.Decides.{nat_tests}
-use Rattle.fx_data.specs.Types.{Shape, tables, column_list}
-use Rattle.fx_data.specs.TypeView.{shape}
+use Rattle.fx_types.specs.Types.{Shape, tables, column_list}
+use Rattle.fx_types.specs.TypeView.{shape}
 use Rattle.fx_typing.specs.Details.{IsToldBrokenWhole}
 use Rattle.fx_typing.specs.Typing.{judge_whole, onward, at_node, outermost, whole_of, position, context_of}
 use Rattle.fx_typing.specs.declared.typed.Typed.{Typed}
 use Rattle.fx_typing.specs.TypedView.{typed}
-use Rattle.fx_trees.specs.declared.broken.Broken.{Broken}
-use Rattle.fx_trees.specs.Rules.{number_of}
-use Rattle.fx_trees.specs.Tree.{Tree}
-use Rattle.fx_trees.specs.Term.{Term}
+use Rattle.fx_core.specs.declared.broken.Broken.{Broken}
+use Rattle.fx_core.specs.Rules.{number_of}
+use Rattle.fx_core.specs.Tree.{Tree}
+use Rattle.fx_core.specs.Term.{Term}
 use Rattle.fx_typing.specs.Meaning.{Place}
 use Rattle.fx_typing.specs.WellTyped.{IsTyped}
 use Rattle.fx_infer.specs.declared.ends.InferEnd.{InferEnd}

@@ -1,6 +1,6 @@
 -- The parts of a tree, and how deep it is.
 use Rattle.std.specs.Prelude.{ℕ, zero, suc, max}
-use Rattle.fx_trees.specs.Tree.{Tree, node, Forest, none, more}
+use Rattle.fx_core.specs.Tree.{Tree, node, Forest, none, more}
 
 -- the parts under a node
 abbrev pub forest_of : Tree → Forest

@@ -1,6 +1,6 @@
 -- What a formula where it is written is seen as.
 use Rattle.std.specs.Prelude.{option_map}
-use Rattle.fx_data.specs.TypeView.{shape}
+use Rattle.fx_types.specs.TypeView.{shape}
 use Rattle.fx_typing.specs.Rounds.{Cell}
 use Rattle.fx_infer.specs.declared.elaboration.Written.{Written}
 use Rattle.fx_infer.specs.Written.{may_act}

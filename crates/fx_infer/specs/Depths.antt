@@ -1,6 +1,6 @@
 -- What holds of the depth of each tree that a text has.
 use Rattle.std.specs.Prelude.{ℕ, ◌≤◌, List, All}
-use Rattle.fx_trees.specs.Tree.{Tree}
+use Rattle.fx_core.specs.Tree.{Tree}
 use Rattle.fx_grammar.specs.declared.item.Item.{Item}
 use Rattle.fx_grammar.specs.Formulas.{Entry, AreEntriesOf, HasTree}
 use Rattle.fx_infer.specs.Below.{tree_depth}

@@ -1,12 +1,12 @@
 -- What is answered of a formula.
 use Rattle.std.specs.Prelude.{◌≡◌, ℕ, List, Bool, Option, Result, Ok, Err}
-use Rattle.fx_data.specs.Types.{Shape}
+use Rattle.fx_types.specs.Types.{Shape}
 use Rattle.fx_typing.specs.Details.{IsToldBrokenWhole}
 use Rattle.fx_typing.specs.Typing.{judge_whole}
 use Rattle.fx_typing.specs.declared.typed.Typed.{Typed}
 use Rattle.fx_typing.specs.TypedView.{typed}
-use Rattle.fx_trees.specs.Rules.{number_of}
-use Rattle.fx_trees.specs.Tree.{Tree}
+use Rattle.fx_core.specs.Rules.{number_of}
+use Rattle.fx_core.specs.Tree.{Tree}
 use Rattle.fx_typing.specs.Meaning.{Place}
 use Rattle.fx_infer.specs.declared.ends.InferEnd.{InferEnd}
 use Rattle.fx_infer.specs.declared.ends.InferEnd.TheVariants.{Broken, Memory}

@@ -1,12 +1,12 @@
 -- What a type that is given to a name is seen as.
 use Rattle.std.specs.Prelude.{Option, option_map}
-use Rattle.fx_data.specs.TypeView.{shape}
-use Rattle.fx_data.specs.Types.{Shape, tables}
+use Rattle.fx_types.specs.TypeView.{shape}
+use Rattle.fx_types.specs.Types.{Shape, tables}
 use Rattle.fx_typing.specs.Parts.{Part}
 use Rattle.fx_typing.specs.Rounds as rounds
 use Rattle.fx_typing.specs.Rounds.{part_type}
-use Rattle.fx_trees.specs.Term.{Term}
-use Rattle.fx_trees.specs.ColumnLists.{row_columns}
+use Rattle.fx_core.specs.Term.{Term}
+use Rattle.fx_core.specs.ColumnLists.{row_columns}
 use Rattle.fx_infer.specs.declared.giving.Given.{Given}
 use Rattle.fx_infer.specs.declared.giving.Given.TheVariants.{Global, Screen, Collection}
 

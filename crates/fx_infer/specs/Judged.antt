@@ -1,6 +1,6 @@
 -- What a body answers, where the definition answers a thing or the node that is broken.
 use Rattle.std.specs.Prelude.{◌≡◌, ℕ, List, Result, Ok, Err}
-use Rattle.fx_trees.specs.Rules.{number_of}
+use Rattle.fx_core.specs.Rules.{number_of}
 use Rattle.fx_base.specs.declared.or_memory.OrMemory.{OrMemory}
 use Rattle.fx_infer.specs.declared.flaw.Flaw.{Flaw}
 use Rattle.fx_base.specs.declared.or_memory.OrMemory.TheVariants.{Refused as Flawed, Memory}

@@ -1,10 +1,10 @@
 -- Two operands, and heads without parts.
 use Rattle.std.specs.Prelude.{ℕ, List, [], ◌∷◌, Option, Some, None, Result, Err}
-use Rattle.fx_data.specs.Types.{Shape}
-use Rattle.fx_trees.specs.declared.functions.Fun.{Fun}
+use Rattle.fx_types.specs.Types.{Shape}
+use Rattle.fx_core.specs.declared.functions.Fun.{Fun}
 use Rattle.fx_typing.specs.Parts.{Part, piece}
-use Rattle.fx_trees.specs.declared.expr.Op.{Op}
-use Rattle.fx_trees.specs.Rules as rules
+use Rattle.fx_core.specs.declared.expr.Op.{Op}
+use Rattle.fx_core.specs.Rules as rules
 use Rattle.fx_typing.specs.Local.{value}
 use Rattle.fx_typing.specs.Operators.{function_of}
 

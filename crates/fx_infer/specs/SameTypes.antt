@@ -1,6 +1,6 @@
 -- Whether the types of two rounds are one.
 use Rattle.std.specs.Prelude.{List, [], ◌∷◌, Bool, true, false, ◌&&◌}
-use Rattle.fx_data.specs.Types.{Shape}
+use Rattle.fx_types.specs.Types.{Shape}
 use Rattle.fx_typing.specs.Rounds as rounds
 use Rattle.fx_typing.specs.Ways.{same_shape}
 

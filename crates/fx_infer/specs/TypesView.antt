@@ -1,8 +1,8 @@
 -- What the types of a round are seen as.
 use Rattle.std.specs.Prelude.{◌≡◌, length, map}
-use Rattle.fx_data.specs.TypeView.{shape}
+use Rattle.fx_types.specs.TypeView.{shape}
 use Rattle.fx_typing.specs.Rounds as rounds
-use Rattle.fx_trees.specs.declared.names.Names.{Names}
+use Rattle.fx_core.specs.declared.names.Names.{Names}
 use Rattle.fx_infer.specs.declared.round_types.Types.{Types}
 
 abbrev pub types_view : Types → rounds.Types

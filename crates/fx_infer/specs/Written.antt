@@ -1,7 +1,7 @@
 -- Where a formula is written.
 use Rattle.std.specs.Prelude.{Bool, true, false}
-use Rattle.fx_data.specs.Types.{Shape, tables, no_columns}
-use Rattle.fx_trees.specs.declared.names.Names.{Names}
+use Rattle.fx_types.specs.Types.{Shape, tables, no_columns}
+use Rattle.fx_core.specs.declared.names.Names.{Names}
 use Rattle.fx_typing.specs.Meaning as meaning
 use Rattle.fx_infer.specs.declared.elaboration.Place.{Place}
 use Rattle.fx_infer.specs.declared.elaboration.Place.TheVariants.{Pure, Acting}

@@ -1,11 +1,11 @@
 //! The parts of a node. They go by number, whatever the node is, so that one loop judges those of all nodes.
 ghost use Rattle.std.specs.Prelude.{◌≡◌, MatchOption, suc};
-ghost use Rattle.fx_trees.specs.Tree as tree;
+ghost use Rattle.fx_core.specs.Tree as tree;
 ghost use Rattle.fx_typing.specs.Parts.{parts_in};
 ghost use Rattle.fx_typing.specs.Typing.{position};
 ghost use Rattle.fx_infer.specs.Below.{forest_from, forest_of};
 
-use fx_trees::expr::{Args, Expr, Node, Parts};
+use fx_core::expr::{Args, Expr, Node, Parts};
 
 /// The byte at which a node begins.
 pub fn begins(whole: &Expr) -> u32

@@ -1,7 +1,7 @@
 //! Why a formula has no typed tree.
 
 use fx_base::Memory;
-use fx_trees::Broken;
+use fx_core::Broken;
 use std::alloc::{AllocError, AllocFailed};
 
 /// Why a formula has no typed tree.

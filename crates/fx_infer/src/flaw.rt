@@ -1,8 +1,8 @@
 //! Why a node isn't admitted.
 
 use fx_base::OrMemory;
-use fx_data::words::Words;
-use fx_trees::Rule;
+use fx_core::Rule;
+use fx_types::words::Words;
 
 /// A node that is broken while all its parts are admitted.
 #[derive(Drop)]

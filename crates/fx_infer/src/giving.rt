@@ -1,24 +1,24 @@
 //! What a node gives to the names that it assigns.
 ghost use Rattle.std.specs.Prelude.{◌≡◌, ◌++◌, IfOk, List, OnOk, Some, map, option_map};
-ghost use Rattle.fx_data.specs.TypeView.{shape};
+ghost use Rattle.fx_types.specs.TypeView.{shape};
 ghost use Rattle.fx_typing.specs.Plans as plans;
 ghost use Rattle.fx_typing.specs.Rounds as rounds;
-ghost use Rattle.fx_scopes.specs.MeaningView.{place};
-ghost use Rattle.fx_scopes.specs.PartView.{part};
-ghost use Rattle.fx_scopes.specs.PlanView.{head_of};
-ghost use Rattle.fx_scopes.specs.SettingView.{setting};
+ghost use Rattle.fx_resolve.specs.MeaningView.{place};
+ghost use Rattle.fx_resolve.specs.PartView.{part};
+ghost use Rattle.fx_resolve.specs.PlanView.{head_of};
+ghost use Rattle.fx_resolve.specs.SettingView.{setting};
 ghost use Rattle.fx_typing.specs.Meaning.{Scope};
-ghost use Rattle.fx_trees.specs.Tree.{names_of};
+ghost use Rattle.fx_core.specs.Tree.{names_of};
 ghost use Rattle.fx_infer.specs.GivenView.{given_view, value_type, rows_type};
 
 use fx_base::Memory;
-use fx_data::types::Ty;
-use fx_data::words::Words;
-use fx_scopes::{Grant, Part, Place, Stand};
-use fx_trees::expr::{Expr, FieldName, Node};
-use fx_trees::functions::Acting;
-use fx_trees::names::Names;
-use fx_trees::signatures::{SigShape, signature_in};
+use fx_core::expr::{Expr, FieldName, Node};
+use fx_core::functions::Acting;
+use fx_core::names::Names;
+use fx_core::signatures::{SigShape, signature_in};
+use fx_resolve::{Grant, Part, Place, Stand};
+use fx_types::types::Ty;
+use fx_types::words::Words;
 use fx_typing::Piece;
 use fx_typing::columns::row_columns;
 use std::alloc::Global;

@@ -1,14 +1,14 @@
 //! The joins of what is given to variables and to collections.
 ghost use Rattle.std.specs.Prelude.{◌≡◌, ◌∷◌, IfOk, List, None, bytes_eq, map};
-ghost use Rattle.fx_data.specs.TypeView.{shape};
-ghost use Rattle.fx_data.specs.Types.{blanks};
+ghost use Rattle.fx_types.specs.TypeView.{shape};
+ghost use Rattle.fx_types.specs.Types.{blanks};
 ghost use Rattle.fx_typing.specs.Rounds as rounds;
 ghost use Rattle.fx_infer.specs.GivenView.{given_view};
 
 use crate::giving::Given;
 use fx_base::Memory;
-use fx_data::types::Ty;
-use fx_trees::names::{Collection, Variable};
+use fx_core::names::{Collection, Variable};
+use fx_types::types::Ty;
 use fx_value::joining::join;
 use std::alloc::Global;
 

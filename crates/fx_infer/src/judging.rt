@@ -1,22 +1,22 @@
 //! Which nodes are admitted, as which parts.
 ghost use Rattle.std.specs.Prelude.{◌≡◌, ◌≤◌, ◌+◌, [], length, map};
-ghost use Rattle.fx_trees.specs.Lawful.{IsLawful};
+ghost use Rattle.fx_core.specs.Lawful.{IsLawful};
 ghost use Rattle.fx_typing.specs.Details.{HasToldBroken, IsToldBroken};
 ghost use Rattle.fx_typing.specs.Parts.{parts_in};
 ghost use Rattle.fx_typing.specs.Plans.{setting_at};
 ghost use Rattle.fx_typing.specs.Typing as typing;
-ghost use Rattle.fx_scopes.specs.MeaningView.{place};
-ghost use Rattle.fx_scopes.specs.PartView.{part};
-ghost use Rattle.fx_scopes.specs.PlanView.{head_of};
-ghost use Rattle.fx_scopes.specs.SettingView.{setting};
+ghost use Rattle.fx_resolve.specs.MeaningView.{place};
+ghost use Rattle.fx_resolve.specs.PartView.{part};
+ghost use Rattle.fx_resolve.specs.PlanView.{head_of};
+ghost use Rattle.fx_resolve.specs.SettingView.{setting};
 ghost use Rattle.fx_infer.specs.Below.{forest_of, tree_depth};
 ghost use Rattle.fx_infer.specs.Judged.{Judged};
 
 use crate::admitting::admit;
 use crate::below::{begins, part_at, part_count};
 use crate::{Flaw, Halt, detail_of};
-use fx_scopes::{Part, Place, Scopes, Stand, enter};
-use fx_trees::expr::Expr;
+use fx_core::expr::Expr;
+use fx_resolve::{Part, Place, Scopes, Stand, enter};
 use fx_typing::Wrong;
 use std::alloc::Global;
 

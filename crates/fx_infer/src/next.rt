@@ -1,13 +1,13 @@
 //! The types that a round gives.
 ghost use Rattle.std.specs.Prelude.{◌≡◌, ◌<◌, ◌≤◌, ◌^◌, All, IfOk, Some, codes, length, map, slice_get};
-ghost use Rattle.fx_data.specs.TypeView.{shape};
-ghost use Rattle.fx_data.specs.Types.{blanks};
+ghost use Rattle.fx_types.specs.TypeView.{shape};
+ghost use Rattle.fx_types.specs.Types.{blanks};
 ghost use Rattle.fx_infer.specs.Below.{tree_depth};
 ghost use Rattle.fx_infer.specs.declared.elaboration.Written.{Written};
 ghost use Rattle.fx_typing.specs.Rounds as rounds;
-ghost use Rattle.fx_trees.specs.Lawful.{IsLawful};
-ghost use Rattle.fx_trees.specs.declared.names.Collection.{Collection};
-ghost use Rattle.fx_trees.specs.declared.names.Variable.{Variable};
+ghost use Rattle.fx_core.specs.Lawful.{IsLawful};
+ghost use Rattle.fx_core.specs.declared.names.Collection.{Collection};
+ghost use Rattle.fx_core.specs.declared.names.Variable.{Variable};
 ghost use Rattle.fx_infer.specs.CellView.{cell};
 ghost use Rattle.fx_infer.specs.GivenView.{given_view};
 ghost use Rattle.fx_infer.specs.TypesView.{types_view};
@@ -18,10 +18,10 @@ use crate::round_types::Types;
 use crate::walking::collect_assignments;
 use crate::{InferEnd, Written, elaborate_alone};
 use fx_base::Memory;
-use fx_data::types::Ty;
-use fx_data::words::Words;
-use fx_scopes::named::property_in;
-use fx_trees::names::{Collection, FormulaName, Names, Variable};
+use fx_core::names::{Collection, FormulaName, Names, Variable};
+use fx_resolve::named::property_in;
+use fx_types::types::Ty;
+use fx_types::words::Words;
 use std::alloc::Global;
 
 // The type of a formula itself, and Blank where it has none.

@@ -1,15 +1,15 @@
 //! The types that a round gives and changes.
 ghost use Rattle.std.specs.Prelude.{◌≡◌, IfOk, map, replicate};
-ghost use Rattle.fx_data.specs.TypeView.{shape};
-ghost use Rattle.fx_data.specs.Types.{blanks};
+ghost use Rattle.fx_types.specs.TypeView.{shape};
+ghost use Rattle.fx_types.specs.Types.{blanks};
 ghost use Rattle.fx_typing.specs.Rounds as rounds;
 ghost use Rattle.fx_infer.specs.SameTypes.{same_shapes, same_types};
 ghost use Rattle.fx_infer.specs.TypesView.{types_view};
 
 use crate::typed_names::TypedName;
 use fx_base::Memory;
-use fx_data::types::Ty;
-use fx_trees::names::Names;
+use fx_core::names::Names;
+use fx_types::types::Ty;
 use fx_typing::ways::same_shape;
 use std::alloc::Global;
 

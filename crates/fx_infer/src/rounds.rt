@@ -4,8 +4,8 @@ ghost use Rattle.fx_infer.specs.Below.{tree_depth};
 ghost use Rattle.fx_infer.specs.declared.elaboration.Written.{Written};
 ghost use Rattle.fx_infer.specs.declared.ends.InferEnd.TheVariants as end;
 ghost use Rattle.fx_typing.specs.Rounds.{IsFinal, StillChanges};
-ghost use Rattle.fx_trees.specs.Lawful.{IsLawful};
-ghost use Rattle.fx_trees.specs.declared.broken.Broken.{Broken};
+ghost use Rattle.fx_core.specs.Lawful.{IsLawful};
+ghost use Rattle.fx_core.specs.declared.broken.Broken.{Broken};
 ghost use Rattle.fx_infer.specs.CellView.{cell};
 ghost use Rattle.fx_infer.specs.Limit.{IsRoundsLimit, Settles};
 
@@ -14,9 +14,9 @@ use crate::round_types::{are_types_of, first_types};
 use crate::typed_names::with_types;
 use crate::{InferEnd, Written};
 use fx_base::Memory;
-use fx_data::words::Words;
-use fx_trees::names::Names;
-use fx_trees::{Broken, Rule};
+use fx_core::names::Names;
+use fx_core::{Broken, Rule};
+use fx_types::words::Words;
 use std::alloc::Global;
 
 // The cell of a limit that no one formula passes by itself.

@@ -1,13 +1,13 @@
 //! Scopes of calls over tables that stand in one another.
 ghost use Rattle.std.specs.Prelude.{◌≡◌, map};
 ghost use Rattle.fx_typing.specs.Typing as typing;
-ghost use Rattle.fx_scopes.specs.MeaningView.{place};
-ghost use Rattle.fx_scopes.specs.PartView.{part};
-ghost use Rattle.fx_scopes.specs.PlanView.{head_of};
-ghost use Rattle.fx_scopes.specs.SettingView.{setting};
+ghost use Rattle.fx_resolve.specs.MeaningView.{place};
+ghost use Rattle.fx_resolve.specs.PartView.{part};
+ghost use Rattle.fx_resolve.specs.PlanView.{head_of};
+ghost use Rattle.fx_resolve.specs.SettingView.{setting};
 
-use fx_scopes::{Part, Place, Scopes, Stand, opens_rows};
-use fx_trees::expr::Expr;
+use fx_core::expr::Expr;
+use fx_resolve::{Part, Place, Scopes, Stand, opens_rows};
 
 /// Whether a node opens a fourth scope of a call over a table.
 pub fn is_too_deep(at: &Place, scopes: &Scopes, stand: Stand, whole: &Expr, all: &[Part]) -> bool

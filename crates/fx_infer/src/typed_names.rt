@@ -1,15 +1,15 @@
 //! Names with other types.
 ghost use Rattle.std.specs.Prelude.{◌≡◌, IfOk, length, map};
-ghost use Rattle.fx_data.specs.TypeView.{shape};
-ghost use Rattle.fx_data.specs.Types.{Shape};
+ghost use Rattle.fx_types.specs.TypeView.{shape};
+ghost use Rattle.fx_types.specs.Types.{Shape};
 ghost use Rattle.fx_typing.specs.Rounds as rounds;
 ghost use Rattle.fx_typing.specs.Rounds.{AllSame, SameNames, SameVariable, SameCollection, SameFormula, SameControl};
 ghost use Rattle.fx_infer.specs.TypesView.{AreAsMany, types_view};
 
 use crate::round_types::Types;
 use fx_base::{InOrder, Memory};
-use fx_data::types::Ty;
-use fx_trees::names::{Collection, ControlName, FormulaName, Names, Variable};
+use fx_core::names::{Collection, ControlName, FormulaName, Names, Variable};
+use fx_types::types::Ty;
 use std::alloc::Global;
 
 /// A thing whose type is found by rounds.
@@ -29,9 +29,9 @@ pub trait TypedName: Sized {
 }
 
 impl TypedName for Variable {
-    ghost use Rattle.fx_data.specs.TypeView.{shape};
+    ghost use Rattle.fx_types.specs.TypeView.{shape};
     ghost use Rattle.fx_typing.specs.Rounds.{SameVariable};
-    ghost use Rattle.fx_trees.specs.declared.names.Variable.{Variable};
+    ghost use Rattle.fx_core.specs.declared.names.Variable.{Variable};
 
     ghost type_of = { λ (v : Variable). shape v.ty };
 
@@ -51,9 +51,9 @@ impl TypedName for Variable {
 }
 
 impl TypedName for Collection {
-    ghost use Rattle.fx_data.specs.TypeView.{shape};
+    ghost use Rattle.fx_types.specs.TypeView.{shape};
     ghost use Rattle.fx_typing.specs.Rounds.{SameCollection};
-    ghost use Rattle.fx_trees.specs.declared.names.Collection.{Collection};
+    ghost use Rattle.fx_core.specs.declared.names.Collection.{Collection};
 
     ghost type_of = { λ (c : Collection). shape c.ty };
 
@@ -72,9 +72,9 @@ impl TypedName for Collection {
 }
 
 impl TypedName for FormulaName {
-    ghost use Rattle.fx_data.specs.TypeView.{shape};
+    ghost use Rattle.fx_types.specs.TypeView.{shape};
     ghost use Rattle.fx_typing.specs.Rounds.{SameFormula};
-    ghost use Rattle.fx_trees.specs.declared.names.FormulaName.{FormulaName};
+    ghost use Rattle.fx_core.specs.declared.names.FormulaName.{FormulaName};
 
     ghost type_of = { λ (f : FormulaName). shape f.ty };
 
@@ -94,9 +94,9 @@ impl TypedName for FormulaName {
 }
 
 impl TypedName for ControlName {
-    ghost use Rattle.fx_data.specs.TypeView.{shape};
+    ghost use Rattle.fx_types.specs.TypeView.{shape};
     ghost use Rattle.fx_typing.specs.Rounds.{SameControl};
-    ghost use Rattle.fx_trees.specs.declared.names.ControlName.{ControlName};
+    ghost use Rattle.fx_core.specs.declared.names.ControlName.{ControlName};
 
     ghost type_of = { λ (c : ControlName). shape c.items };
 

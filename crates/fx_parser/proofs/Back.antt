@@ -2,7 +2,7 @@
 use Rattle.std.proofs.Common.{◌≡◌, ℕ, List, map, refl, ap, ◌∙◌, subst}
 use Rattle.std.specs.Str.{chars}
 use Rattle.fx_lexer.specs.Lexed.{token_of}
-use Rattle.fx_trees.specs.Tree.{Tree}
+use Rattle.fx_core.specs.Tree.{Tree}
 use Rattle.fx_grammar.specs.Formulas.{HasItems, HasTree}
 use Rattle.fx_grammar.proofs.Meanings.{one_items, one_tree_of}
 use Rattle.fx_parser.specs.declared.end.ParseEnd.{ParseEnd}

@@ -12,7 +12,7 @@ use Rattle.fx_grammar.specs.Formulas.{end}
 use Rattle.fx_grammar.specs.Means.{Means, number, text, plain_name, quoted_name, word, symbol, opening, closing, piece, AllMean, no_more, one_more}
 use Rattle.fx_grammar.proofs.MeantSound.{texts}
 use Rattle.fx_parser.specs.Entries.{AreCutsFrom, AreCuts, head_of, next_of}
-use Rattle.fx_trees.specs.Tree.{Tree}
+use Rattle.fx_core.specs.Tree.{Tree}
 use Rattle.fx_grammar.specs.declared.line.Join.TheVariants as join
 use Rattle.fx_grammar.specs.declared.line.Line.TheVariants.{Several}
 use Rattle.fx_grammar.specs.Reading.{Seen, line_at}

@@ -1,6 +1,6 @@
 -- Why a text has no tree.
 use Rattle.std.proofs.Common.{◌≡◌, subst, ℕ, ◌<◌, List, length, arith}
-use Rattle.fx_trees.specs.Tree.{Tree}
+use Rattle.fx_core.specs.Tree.{Tree}
 use Rattle.fx_grammar.specs.declared.item.Item.{Item}
 use Rattle.fx_grammar.specs.Grammar.{IsFormula, bare, marked}
 use Rattle.fx_grammar.proofs.Shapes.{shorter}

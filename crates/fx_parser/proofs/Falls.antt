@@ -1,6 +1,6 @@
 -- Parts are smaller than what they are parts of.
 use Rattle.std.proofs.Common.{◌≡◌, ℕ, zero, suc, ◌+◌, ◌*◌, ◌<◌, ◌≤◌, List, [], ◌∷◌, length, get_or, ap, arith}
-use Rattle.fx_trees.specs.Tree.{Tree, NamedTree, node, Head, forest, parts_of, tree_size, forest_size}
+use Rattle.fx_core.specs.Tree.{Tree, NamedTree, node, Head, forest, parts_of, tree_size, forest_size}
 
 pub part_falls : (ps : List Tree) (i : ℕ) (d : Tree) → i < length ps → tree_size (get_or ps i d) + 1 ≤ forest_size (forest ps)
 part_falls [] i d h = absurd (omega arith)

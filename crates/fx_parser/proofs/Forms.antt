@@ -9,9 +9,9 @@ use Rattle.fx_lexer.specs.declared.element.Enclosing.TheVariants as around
 use Rattle.fx_lexer.specs.declared.element.Mode.TheVariants.{Formula}
 use Rattle.fx_lexer.specs.Spelling.{symbol_spelling}
 use Rattle.fx_lexer.specs.Lexed.{width, mode_in, after}
-use Rattle.fx_trees.specs.declared.expr.FieldName.{FieldName}
-use Rattle.fx_trees.specs.Tree.{Tree, NamedTree, node, Head, Forest, none, more, forest, names_of, places_of, parts_of}
-use Rattle.fx_trees.specs.Tree as tree
+use Rattle.fx_core.specs.declared.expr.FieldName.{FieldName}
+use Rattle.fx_core.specs.Tree.{Tree, NamedTree, node, Head, Forest, none, more, forest, names_of, places_of, parts_of}
+use Rattle.fx_core.specs.Tree as tree
 use Rattle.fx_grammar.specs.declared.item.Item.{Item}
 use Rattle.fx_grammar.specs.declared.item.Meaning.{Meaning}
 use Rattle.fx_grammar.specs.declared.item.Meaning.TheVariants as m

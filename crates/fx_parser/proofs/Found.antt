@@ -1,7 +1,7 @@
 -- What stands at the front, in terms of the readings.
 use Rattle.std.proofs.Common.{◌≡◌, ℕ, suc, ◌+◌, ◌<◌, ◌≤◌, length, add-one, subst, List, [], ◌∷◌, Option, Some, None, refl, ap, sym, ◌∙◌}
-use Rattle.fx_trees.specs.Tree.{Tree, Head, node, more, none}
-use Rattle.fx_trees.specs.Tree as tree
+use Rattle.fx_core.specs.Tree.{Tree, Head, node, more, none}
+use Rattle.fx_core.specs.Tree as tree
 use Rattle.fx_grammar.specs.declared.item.Item.{Item}
 use Rattle.fx_grammar.specs.declared.line.Mark.TheVariants as mark
 use Rattle.fx_grammar.specs.Reading.{◌>>=◌, Seen, tail_turn, after, name_after, field_at, percent_at, alias_at}

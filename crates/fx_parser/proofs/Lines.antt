@@ -2,11 +2,11 @@
 use Rattle.std.proofs.Common.{◌≡◌, ℕ, zero, suc, ◌+◌, ◌-◌, ◌<◌, ◌≤◌, max, length, List, [], ◌∷◌, ◌++◌, Option, Some, None, Result, Ok, Err, refl, ap, sym, ◌∙◌, subst, arith, sub-one, add-one}
 use Rattle.std.specs.Prelude.{IfSome}
 use Rattle.std.specs.Borrow.{Bor}
-use Rattle.fx_trees.specs.Tree.{Tree, NamedTree, Head, node, more, none, forest}
-use Rattle.fx_trees.specs.Tree as tree
-use Rattle.fx_trees.specs.declared.expr.FieldName.{FieldName}
-use Rattle.fx_trees.specs.declared.expr.Op.{Op}
-use Rattle.fx_trees.specs.declared.expr.Op.TheVariants as op
+use Rattle.fx_core.specs.Tree.{Tree, NamedTree, Head, node, more, none, forest}
+use Rattle.fx_core.specs.Tree as tree
+use Rattle.fx_core.specs.declared.expr.FieldName.{FieldName}
+use Rattle.fx_core.specs.declared.expr.Op.{Op}
+use Rattle.fx_core.specs.declared.expr.Op.TheVariants as op
 use Rattle.fx_grammar.specs.declared.item.Item.{Item}
 use Rattle.fx_grammar.specs.declared.item.Meaning.{Meaning}
 use Rattle.fx_grammar.specs.declared.item.Meaning.TheVariants as m

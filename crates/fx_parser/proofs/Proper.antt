@@ -10,10 +10,10 @@ use Rattle.fx_lexer.specs.declared.element.Enclosing.{Enclosing}
 use Rattle.fx_lexer.specs.declared.element.Mode.{Mode}
 use Rattle.fx_lexer.specs.Spelling.{class_at, is_quote, doubled}
 use Rattle.fx_lexer.specs.Lexed.{Lexeme, mode_in, Reads, stop, skip, token}
-use Rattle.fx_trees.specs.declared.expr.Op.{Op}
-use Rattle.fx_trees.specs.declared.expr.Op.TheVariants as op
-use Rattle.fx_trees.specs.Tree.{Tree, NamedTree, node, Head, Forest, none, more, forest, names_of, places_of, parts_of}
-use Rattle.fx_trees.specs.Tree as tree
+use Rattle.fx_core.specs.declared.expr.Op.{Op}
+use Rattle.fx_core.specs.declared.expr.Op.TheVariants as op
+use Rattle.fx_core.specs.Tree.{Tree, NamedTree, node, Head, Forest, none, more, forest, names_of, places_of, parts_of}
+use Rattle.fx_core.specs.Tree as tree
 use Rattle.fx_grammar.specs.declared.item.Item.{Item}
 use Rattle.fx_grammar.specs.declared.item.Meaning.{Meaning}
 use Rattle.fx_grammar.specs.declared.item.Meaning.TheVariants as m

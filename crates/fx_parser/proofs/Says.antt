@@ -10,8 +10,8 @@ use Rattle.fx_lexer.specs.declared.element.Enclosing.TheVariants as around
 use Rattle.fx_lexer.specs.declared.element.Mode.TheVariants.{Formula}
 use Rattle.fx_lexer.specs.Spelling.{word_spelling}
 use Rattle.fx_lexer.specs.Lexed.{Lexeme, width, mode_in}
-use Rattle.fx_trees.specs.Tree.{Tree, node, Head, Forest, none, more, forest, names_of, parts_of}
-use Rattle.fx_trees.specs.Tree as tree
+use Rattle.fx_core.specs.Tree.{Tree, node, Head, Forest, none, more, forest, names_of, parts_of}
+use Rattle.fx_core.specs.Tree as tree
 use Rattle.fx_grammar.specs.declared.item.Item.{Item}
 use Rattle.fx_grammar.specs.declared.item.Meaning.TheVariants as m
 use Rattle.fx_grammar.specs.declared.line.Join.TheVariants as join

@@ -1,8 +1,8 @@
 -- What is accepted has a tree.
 use Rattle.std.proofs.Common.{◌≡◌, ◌⊎◌, inl, inr, ℕ, suc, max, true, false, List, [], ◌∷◌, ◌++◌, refl, ap, sym, subst, Option, Some, None}
 use Rattle.fx_lexer.specs.declared.token.Symbol.TheVariants as symbol
-use Rattle.fx_trees.specs.Tree.{Tree, NamedTree, node, Head, none, more, forest, names_of, parts_of}
-use Rattle.fx_trees.specs.Tree as tree
+use Rattle.fx_core.specs.Tree.{Tree, NamedTree, node, Head, none, more, forest, names_of, parts_of}
+use Rattle.fx_core.specs.Tree as tree
 use Rattle.fx_grammar.specs.declared.item.Item.{Item}
 use Rattle.fx_grammar.specs.declared.item.Meaning.{Meaning}
 use Rattle.fx_grammar.specs.declared.item.Meaning.TheVariants as m

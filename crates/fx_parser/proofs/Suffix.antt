@@ -1,6 +1,6 @@
 -- What is left behind a tree stands at the end of the tokens.
 use Rattle.std.proofs.Common.{◌≡◌, ℕ, List, [], ◌∷◌, ◌++◌, refl, ap, sym, ◌∙◌}
-use Rattle.fx_trees.specs.Tree.{Tree, NamedTree}
+use Rattle.fx_core.specs.Tree.{Tree, NamedTree}
 use Rattle.fx_grammar.specs.declared.item.Item.{Item}
 use Rattle.fx_grammar.specs.declared.line.Separator.{Separator}
 use Rattle.fx_grammar.specs.declared.line.Line.{Line}

@@ -1,8 +1,8 @@
 -- Positions count nothing.
 use Rattle.std.proofs.Common.{◌≡◌, ℕ, ◌+◌, Bool, true, false, cond, refl, ap, arith, leb}
-use Rattle.fx_trees.specs.declared.expr.Op.{Op}
-use Rattle.fx_trees.specs.Tree.{Tree, node, Head, Forest, none, more}
-use Rattle.fx_trees.specs.Tree as tree
+use Rattle.fx_core.specs.declared.expr.Op.{Op}
+use Rattle.fx_core.specs.Tree.{Tree, node, Head, Forest, none, more}
+use Rattle.fx_core.specs.Tree as tree
 use Rattle.fx_grammar.specs.declared.line.Join.TheVariants as join
 use Rattle.fx_grammar.specs.declared.line.Left.TheVariants as left
 use Rattle.fx_grammar.specs.declared.line.Line.{Line}

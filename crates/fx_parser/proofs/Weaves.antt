@@ -11,8 +11,8 @@ use Rattle.fx_lexer.specs.declared.element.Mode.TheVariants.{Formula}
 use Rattle.fx_lexer.specs.Spelling.{class_at, is_mark, doubled, begins, IsElement}
 use Rattle.fx_lexer.specs.Lexed.{Lexeme, width, mode_in, after, Reads, stop, skip, token}
 use Rattle.fx_lexer.specs.Scan.{weave_run, element_at}
-use Rattle.fx_trees.specs.Tree.{Tree, node, Head, Forest, none, more, forest, names_of, parts_of}
-use Rattle.fx_trees.specs.Tree as tree
+use Rattle.fx_core.specs.Tree.{Tree, node, Head, Forest, none, more, forest, names_of, parts_of}
+use Rattle.fx_core.specs.Tree as tree
 use Rattle.fx_grammar.specs.declared.item.Item.{Item}
 use Rattle.fx_grammar.specs.declared.item.Meaning.TheVariants as m
 use Rattle.fx_grammar.specs.declared.line.Line.TheVariants.{Chain, Atom}

@@ -1,7 +1,7 @@
 -- Whole formulas.
 use Rattle.std.proofs.Common.{◌≡◌, ℕ, true, false, List, length, ap, sym, eqb, ◌∙◌, Some, Err, arith}
 use Rattle.std.proofs.lemmas.Bool.Decides.{nat_tests}
-use Rattle.fx_trees.specs.Tree.{Tree}
+use Rattle.fx_core.specs.Tree.{Tree}
 use Rattle.fx_grammar.specs.declared.item.Item.{Item}
 use Rattle.fx_grammar.specs.declared.line.Line.TheVariants.{Chain}
 use Rattle.fx_grammar.specs.Reading.{Seen, line_at}

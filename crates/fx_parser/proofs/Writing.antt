@@ -11,7 +11,7 @@ use Rattle.std.proofs.lemmas.Str.Ascii.{IsAscii-nil, IsAscii-from_all}
 use Rattle.std.proofs.lemmas.Int.{ints}
 use Rattle.fx_number.specs.Decimal.{greatest, IsInRange}
 use Rattle.fx_number.specs.Spelling.{text_of, magnitude_text, point_and}
-use Rattle.fx_trees.specs.Tree.{Tree, NamedTree, forest, names_of, parts_of}
+use Rattle.fx_core.specs.Tree.{Tree, NamedTree, forest, names_of, parts_of}
 use Rattle.fx_grammar.specs.declared.line.Line.{Line}
 use Rattle.fx_grammar.specs.declared.line.Line.TheVariants.{Several}
 use Rattle.fx_grammar.specs.declared.line.Join.TheVariants as join

@@ -1,10 +1,10 @@
 -- What the descent answers.
 use Rattle.std.specs.Prelude.{◌≡◌, ℕ, List, [], ◌∷◌, Option, Some, None, Result, Ok, Err, option_map}
 use Rattle.std.specs.Borrow.{Bor}
-use Rattle.fx_trees.specs.declared.expr.FieldName.{FieldName}
-use Rattle.fx_trees.specs.declared.expr.Op.{Op}
-use Rattle.fx_trees.specs.Tree.{Tree, NamedTree, Head}
-use Rattle.fx_trees.specs.Tree as tree
+use Rattle.fx_core.specs.declared.expr.FieldName.{FieldName}
+use Rattle.fx_core.specs.declared.expr.Op.{Op}
+use Rattle.fx_core.specs.Tree.{Tree, NamedTree, Head}
+use Rattle.fx_core.specs.Tree as tree
 use Rattle.fx_parser.specs.declared.front.Sign.{Sign}
 use Rattle.fx_parser.specs.declared.front.Sign.TheVariants.{Minus, Not}
 use Rattle.fx_grammar.specs.declared.item.Item.{Item}

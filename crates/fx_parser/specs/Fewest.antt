@@ -1,7 +1,7 @@
 -- The fewest brackets with which a tree can be written.
 use Rattle.std.specs.Prelude.{◌≡◌, ℕ, ◌+◌, ◌≤◌, List, [], ◌∷◌}
 use Rattle.fx_lexer.specs.declared.token.Symbol.TheVariants as symbol
-use Rattle.fx_trees.specs.Tree.{Tree}
+use Rattle.fx_core.specs.Tree.{Tree}
 use Rattle.fx_grammar.specs.declared.item.Item.{Item}
 use Rattle.fx_grammar.specs.declared.item.Meaning.{Meaning}
 use Rattle.fx_grammar.specs.declared.item.Meaning.TheVariants as m

@@ -1,10 +1,10 @@
 -- The text of a tree, in characters.
 use Rattle.std.specs.Prelude.{ℕ, Bool, true, false, not, List, [], ◌∷◌, ◌++◌, Option, Some, None, nat_le, ◌&&◌, if◌then◌else◌}
 use Rattle.fx_number.specs.Spelling.{text_of}
-use Rattle.fx_trees.specs.declared.expr.Op.{Op}
-use Rattle.fx_trees.specs.declared.expr.Op.TheVariants as op
-use Rattle.fx_trees.specs.Tree.{Tree, node, Head, Forest, none, more}
-use Rattle.fx_trees.specs.Tree as tree
+use Rattle.fx_core.specs.declared.expr.Op.{Op}
+use Rattle.fx_core.specs.declared.expr.Op.TheVariants as op
+use Rattle.fx_core.specs.Tree.{Tree, node, Head, Forest, none, more}
+use Rattle.fx_core.specs.Tree as tree
 use Rattle.fx_lexer.specs.declared.token.Symbol.TheVariants as symbol
 use Rattle.fx_lexer.specs.declared.token.Word.{Word}
 use Rattle.fx_lexer.specs.declared.token.Word.TheVariants as word

@@ -1,6 +1,6 @@
 -- Why the text of a formula that a parse gave may be refused.
 use Rattle.std.specs.Prelude.{◌^◌, ◌≤◌, List, length, encode_utf8_all}
-use Rattle.fx_trees.specs.Tree.{Tree}
+use Rattle.fx_core.specs.Tree.{Tree}
 use Rattle.fx_grammar.specs.declared.item.Item.{Item}
 use Rattle.fx_grammar.specs.Formulas.{HasItems, IsDeeper}
 use Rattle.fx_parser.specs.declared.end.ParseEnd.TheVariants as end

@@ -1,7 +1,7 @@
 -- Trees that differ in positions alone.
 use Rattle.std.specs.Prelude.{◌≡◌, ℕ, List, []}
-use Rattle.fx_trees.specs.Tree.{Tree, node, Head, Forest, none, more}
-use Rattle.fx_trees.specs.Tree as tree
+use Rattle.fx_core.specs.Tree.{Tree, node, Head, Forest, none, more}
+use Rattle.fx_core.specs.Tree as tree
 use Rattle.fx_grammar.specs.Formulas.{HasTree}
 
 -- a head without the positions of names

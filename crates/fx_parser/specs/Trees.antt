@@ -1,6 +1,6 @@
 -- Whether tokens have a tree, and the first token at which none can go on.
 use Rattle.std.specs.Prelude.{ℕ, suc, ◌<◌, ◌≤◌, List, ◌++◌, length, take}
-use Rattle.fx_trees.specs.Tree.{Tree}
+use Rattle.fx_core.specs.Tree.{Tree}
 use Rattle.fx_grammar.specs.declared.item.Item.{Item}
 use Rattle.fx_grammar.specs.Grammar.{IsFormula}
 use Rattle.fx_grammar.specs.Formulas.{Entry, AreNamed}

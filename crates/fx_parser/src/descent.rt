@@ -1,7 +1,7 @@
 //! The descent: one function for each line of the grammar, each no deeper than its limit. Each takes the tokens that
 //! are left and gives back those behind its tree, so that no proof follows places in a list.
 ghost use Rattle.std.specs.Prelude.{◌≡◌, ◌<◌, ◌≤◌, ◌-◌, ◌+◌, ◌^◌, IfOk, Some, IfSome, length};
-ghost use Rattle.fx_trees.specs.Tree.{Head};
+ghost use Rattle.fx_core.specs.Tree.{Head};
 ghost use Rattle.fx_grammar.specs.Grammar as grammar;
 ghost use Rattle.fx_grammar.specs.Reading as read;
 ghost use Rattle.fx_parser.specs.Answer.{Gives, seen, strand_seen, fields_from};
@@ -9,10 +9,10 @@ ghost use Rattle.fx_parser.specs.Answer.{Gives, seen, strand_seen, fields_from};
 use crate::descent_end::End;
 use crate::front::{after, between, first, label_at, operator_at, part_of, place, sign_at, under};
 use crate::tails::{alias_behind, apply, dots, gather, global, percents, shut, sign_before};
+use fx_core::expr::{Args, Expr, FieldName, Op, Parts};
+use fx_core::make_expr;
 use fx_grammar::{Item, Join, Left, Line, Mark, Meaning, Separator};
 use fx_lexer::{Symbol, Word};
-use fx_trees::expr::{Args, Expr, FieldName, Op, Parts};
-use fx_trees::make_expr;
 use std::alloc::Global;
 
 /// A tree of this line.

@@ -8,8 +8,8 @@ ghost use Rattle.fx_parser.specs.Details.{bad_token_words, unexpected_by, unexpe
 ghost use Rattle.fx_parser.specs.Details as detail;
 
 use fx_base::Memory;
-use fx_data::words::Words;
 use fx_lexer::{LexEnd, LexWhat, Token, tokens};
+use fx_types::words::Words;
 use std::alloc::Global;
 
 /// What is wrong with a bad token, in words.

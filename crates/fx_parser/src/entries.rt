@@ -7,10 +7,10 @@ ghost use Rattle.fx_parser.specs.Entries.{AreCuts, head_of, head_seen, next_of, 
 use crate::descent::line;
 use crate::descent_end::End;
 use crate::formula::DEEPEST;
-use fx_data::words::Words;
+use fx_core::expr::Expr;
 use fx_grammar::{Item, Join, Line, Meaning};
 use fx_lexer::Symbol;
-use fx_trees::expr::Expr;
+use fx_types::words::Words;
 use std::alloc::Global;
 
 /// A named formula.

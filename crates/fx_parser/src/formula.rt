@@ -7,8 +7,8 @@ ghost use Rattle.fx_parser.specs.Answer as answer;
 use crate::descent::line;
 use crate::descent_end::End;
 use crate::front::after;
+use fx_core::expr::Expr;
 use fx_grammar::{Item, Line, Mark};
-use fx_trees::expr::Expr;
 use std::alloc::Global;
 
 /// The deepest tree.

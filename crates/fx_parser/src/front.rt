@@ -4,10 +4,10 @@ ghost use Rattle.fx_grammar.specs.Grammar as grammar;
 ghost use Rattle.fx_grammar.specs.Reading as read;
 ghost use Rattle.fx_parser.specs.Answer.{label_of, rest_of, name_of, sign_of, first_of, first_seen};
 
-use fx_data::words::Words;
+use fx_core::expr::Op;
 use fx_grammar::{Item, Join, Left, Line, Mark, Meaning, Separator};
 use fx_lexer::{Symbol, Word};
-use fx_trees::expr::Op;
+use fx_types::words::Words;
 
 /// What turns the value behind it.
 #[derive(Clone, Copy)]

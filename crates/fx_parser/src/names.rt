@@ -9,7 +9,7 @@ ghost use Rattle.fx_parser.specs.Printing.{is_plain as plain};
 
 use crate::writer::{Doubling, Writer, push_doubled};
 use fx_base::Memory;
-use fx_data::words::Words;
+use fx_types::words::Words;
 use std::alloc::{AllocError, Global};
 
 fn chars_of(alloc: Global, text: &str) -> Result<Vec<char>, AllocError>

@@ -9,7 +9,7 @@ use crate::end::ParseEnd;
 use crate::entries::{Named, entries};
 use crate::formula::parse;
 use crate::refusal::{formula_end, items_of, named_end};
-use fx_trees::expr::Expr;
+use fx_core::expr::Expr;
 use std::alloc::Global;
 
 /// The tree of a formula of less than 2^32 bytes, by the grammar of the Power Fx formula

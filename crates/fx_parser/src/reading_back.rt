@@ -6,7 +6,7 @@ ghost use Rattle.fx_parser.specs.ReadBack.{MayEnd};
 use crate::write::print;
 use crate::{ParseEnd, parse_formula};
 use fx_base::Memory;
-use fx_trees::expr::Expr;
+use fx_core::expr::Expr;
 use std::alloc::Global;
 
 /// Why a formula is not read back.

@@ -1,8 +1,8 @@
 //! What stands behind a tree that is read, and what is made of it. None of it calls a line of the grammar, so it stands
 //! outside of the recursion.
 ghost use Rattle.std.specs.Prelude.{◌≡◌, ◌<◌, ◌≤◌, ◌+◌, ◌-◌, ◌^◌, IfOk, length, Some};
-ghost use Rattle.fx_trees.specs.Tree.{Head, node, forest, more, none};
-ghost use Rattle.fx_trees.specs.Tree as tree;
+ghost use Rattle.fx_core.specs.Tree.{Head, node, forest, more, none};
+ghost use Rattle.fx_core.specs.Tree as tree;
 ghost use Rattle.fx_grammar.specs.Grammar as grammar;
 ghost use Rattle.fx_grammar.specs.Reading as read;
 ghost use Rattle.fx_parser.specs.Answer.{Gives, seen, sign_head};
@@ -10,10 +10,10 @@ ghost use Rattle.fx_parser.specs.Answer.{Gives, seen, sign_head};
 use crate::descent_end::End;
 use crate::front::{Sign, after, name_after, name_at};
 use fx_base::Memory;
+use fx_core::expr::{Args, Expr};
+use fx_core::make_expr;
 use fx_grammar::{Item, Join, Mark, Meaning};
 use fx_lexer::Word;
-use fx_trees::expr::{Args, Expr};
-use fx_trees::make_expr;
 use std::alloc::Global;
 
 /// Fields behind a tree.

@@ -2,8 +2,8 @@
 ghost use Rattle.std.specs.Prelude.{◌≡◌, ◌++◌, ◌∷◌, [], ℕ, List, IfOk, OnOk, IsTrue, ◌↔◌, MatchOption, Some, None, false, string_bytes, encode_utf8_all, if◌then◌else◌};
 ghost use Rattle.std.specs.Str.{chars, IsAscii};
 ghost use Rattle.fx_number.specs.Spelling.{text_of};
-ghost use Rattle.fx_trees.specs.Tree.{node, forest, names_of, parts_of};
-ghost use Rattle.fx_trees.specs.Tree as tree;
+ghost use Rattle.fx_core.specs.Tree.{node, forest, names_of, parts_of};
+ghost use Rattle.fx_core.specs.Tree as tree;
 ghost use Rattle.fx_lexer.specs.Spelling.{begins, word_spelling};
 ghost use Rattle.fx_grammar.specs.Formulas.{HasTree};
 ghost use Rattle.fx_parser.specs.Printing.{shown, shown_parts, shown_further, shown_fields, shown_further_fields, shown_strands, island_text, label_text, strand_text, piece_of, name_text, operator_spelling, spaced, in_brackets, comma_text, within};
@@ -15,11 +15,11 @@ use crate::names::{write_name, write_piece, write_quoted};
 use crate::precedence::{is_several, left_line, line_of, looseness, operator_text, right_line};
 use crate::writer::Writer;
 use fx_base::Memory;
-use fx_data::words::Words;
+use fx_core::expr::{Expr, FieldName, Node, Op};
 use fx_grammar::{Join, Left, Line};
 use fx_lexer::Word;
 use fx_number::Num;
-use fx_trees::expr::{Expr, FieldName, Node, Op};
+use fx_types::words::Words;
 use std::alloc::Global;
 
 /// The text of a formula's tree, as the Power Fx formula reference spells it: one space on both sides of an operator

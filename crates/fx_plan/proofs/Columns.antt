@@ -6,13 +6,13 @@ use Rattle.std.proofs.lemmas.Bool.{ltb-true, ltb-false, lt-ltb, le-ltb}
 use Rattle.std.specs.Cmp.Lexicographic.{slice_cmp}
 use Rattle.std.specs.Ordering.{is_lt, nat_cmp}
 use Rattle.std.proofs.lemmas.Slice.Eq.{bytes_eq-Decides}
-use Rattle.fx_data.specs.Values.{Data, blank, field_list}
+use Rattle.fx_types.specs.Values.{Data, blank, field_list}
 use Rattle.fx_plan.specs.QueryExpressions.{column_named}
 use Rattle.fx_value.specs.Columns.{with_field}
 use Rattle.fx_value.specs.Columns.{Row as Fields}
-use Rattle.fx_trees.specs.declared.schema.Column.{Column}
-use Rattle.fx_trees.specs.declared.schema.TableShape.{TableShape}
-use Rattle.fx_trees.specs.Lawful.{AreDistinct, DiffersFromAll, IsLawfulTable, id_name}
+use Rattle.fx_core.specs.declared.schema.Column.{Column}
+use Rattle.fx_core.specs.declared.schema.TableShape.{TableShape}
+use Rattle.fx_core.specs.Lawful.{AreDistinct, DiffersFromAll, IsLawfulTable, id_name}
 use Rattle.fx_value.specs.Coercion.{value_in}
 use Rattle.row_queries.specs.declared.rows.Row.{Row}
 use Rattle.row_queries.specs.TableRows.{AreCellsOf, IsRowOf, id_value, record_of, value_at, values_of, with_cells}

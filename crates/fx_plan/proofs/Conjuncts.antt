@@ -1,7 +1,7 @@
 -- The comparisons among conjuncts, one conjunct after another.
 use Rattle.std.proofs.Common.{◌≡◌, ℕ, zero, suc, ◌+◌, ◌<◌, List, [], ◌∷◌, ◌++◌, length, get_or, take, sym, ap, ◌∙◌, subst, arith, Bool, Option}
 use Rattle.std.proofs.lemmas.List.{take_more, append_assoc, append-nil}
-use Rattle.fx_data.specs.Types.{Shape}
+use Rattle.fx_types.specs.Types.{Shape}
 use Rattle.fx_plan.specs.declared.ranges.Span.{Span}
 use Rattle.fx_plan.proofs.SpanLaws.{join_spans, take_first, take_second}
 use Rattle.fx_plan.specs.Ranges.{AllTaken, Comparison, all_comparisons, comparisons}

@@ -5,15 +5,15 @@ use Rattle.std.specs.Prelude.{nat_eq, not, slice_get}
 use Rattle.std.proofs.lemmas.Bool.{both_ways, eq-eqb}
 use Rattle.std.proofs.lemmas.List.{length-append}
 use Rattle.std.proofs.lemmas.Option.{same_Some}
-use Rattle.fx_data.specs.declared.faults.Kind.{Kind}
-use Rattle.fx_data.specs.Values.{Data}
+use Rattle.fx_types.specs.declared.faults.Kind.{Kind}
+use Rattle.fx_types.specs.Values.{Data}
 use Rattle.fx_plan.specs.QueryExpressions.{are_constant, is_barred, is_constant}
 use Rattle.fx_semantics.specs.Around.{Around, catching, inside}
 use Rattle.fx_semantics.specs.Errors.{IsCaught}
 use Rattle.fx_semantics.specs.Fresh.{meaning, meanings}
-use Rattle.fx_trees.specs.declared.sources.Source.{Source}
-use Rattle.fx_trees.specs.Term.{Term, Terms, of, nil, cons, Top}
-use Rattle.fx_trees.specs.Term as top
+use Rattle.fx_core.specs.declared.sources.Source.{Source}
+use Rattle.fx_core.specs.Term.{Term, Terms, of, nil, cons, Top}
+use Rattle.fx_core.specs.Term as top
 use Rattle.fx_plan.proofs.Carried.{AllCarry, Bears, Carries, node_carries}
 use Rattle.fx_plan.proofs.Placing.{got_last, got_more, not_barred}
 

@@ -6,9 +6,9 @@ use Rattle.std.specs.Cmp.{IsTotalOrder}
 use Rattle.std.proofs.lemmas.List.Elements.{recursion_from_All}
 use Rattle.std.proofs.lemmas.List.{take-map}
 use Rattle.std.proofs.lemmas.Option.{same_Some}
-use Rattle.fx_builtins.specs.Folds.{average_of}
-use Rattle.fx_data.specs.Values.{Data, tab, row_list}
-use Rattle.fx_data.specs.declared.faults.Fault.{Fault}
+use Rattle.fx_primitives.specs.Folds.{average_of}
+use Rattle.fx_types.specs.Values.{Data, tab, row_list}
+use Rattle.fx_types.specs.declared.faults.Fault.{Fault}
 use Rattle.fx_plan.specs.declared.plans.Sketch.{Sketch}
 use Rattle.fx_plan.specs.Outlines.{Outline, all_filled, filled, outline_list}
 use Rattle.fx_plan.specs.Plans.{is_fault}
@@ -22,12 +22,12 @@ use Rattle.fx_value.specs.Columns.{Row as Fields}
 use Rattle.fx_tables.specs.RowCalls.{IsCountValue, holds, kept_rows, looked_up}
 use Rattle.fx_tables.specs.RowCalls.{first_of as first_row}
 use Rattle.fx_tables.specs.Unions.{is_fault as is_error}
-use Rattle.fx_trees.specs.declared.functions.Fun.{Fun}
-use Rattle.fx_trees.specs.declared.functions.Fun.TheVariants as fun
-use Rattle.fx_trees.specs.declared.rows.Scalar.TheVariants.{Number}
-use Rattle.fx_trees.specs.declared.schema.TableShape.{TableShape}
-use Rattle.fx_trees.specs.Lawful.{IsLawfulTable}
-use Rattle.fx_trees.specs.Term.{Term, Terms, nil, cons}
+use Rattle.fx_core.specs.declared.functions.Fun.{Fun}
+use Rattle.fx_core.specs.declared.functions.Fun.TheVariants as fun
+use Rattle.fx_core.specs.declared.rows.Scalar.TheVariants.{Number}
+use Rattle.fx_core.specs.declared.schema.TableShape.{TableShape}
+use Rattle.fx_core.specs.Lawful.{IsLawfulTable}
+use Rattle.fx_core.specs.Term.{Term, Terms, nil, cons}
 use Rattle.fx_value.specs.Order.{order}
 use Rattle.fx_plan.proofs.Firsts.{first_of_table}
 use Rattle.fx_plan.proofs.Placing.{column_typed, in_front, some_then}

@@ -4,11 +4,11 @@ use Rattle.std.specs.Prelude.{option_map, option_and_then, if◌then◌else◌}
 use Rattle.fx_plan.specs.declared.plans.Sketch.{Sketch}
 use Rattle.fx_plan.specs.Outlines.{Outline, constant}
 use Rattle.fx_plan.specs.QueryExpressions.{called, called_with_two, compared, comparison_by, is_constant, negated, pattern_by, pattern_of, patterns_of, sorted, with_constant}
-use Rattle.fx_trees.specs.declared.functions.Fun.{Fun}
-use Rattle.fx_trees.specs.declared.functions.Fun.TheVariants as fun
-use Rattle.fx_trees.specs.declared.literals.SortOrder.{SortOrder}
-use Rattle.fx_trees.specs.declared.schema.TableShape.{TableShape}
-use Rattle.fx_trees.specs.Term.{Term, of, cons, all, parts_of, term_size, terms_size}
+use Rattle.fx_core.specs.declared.functions.Fun.{Fun}
+use Rattle.fx_core.specs.declared.functions.Fun.TheVariants as fun
+use Rattle.fx_core.specs.declared.literals.SortOrder.{SortOrder}
+use Rattle.fx_core.specs.declared.schema.TableShape.{TableShape}
+use Rattle.fx_core.specs.Term.{Term, of, cons, all, parts_of, term_size, terms_size}
 
 pub part_falls : (cs : List Term) (i : ℕ) (c : Term) → i < length cs → c ≡ get_or cs i c → term_size c < terms_size (all cs)
 part_falls [] i c l e = absurd (omega (arith, l))

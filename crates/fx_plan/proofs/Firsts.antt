@@ -1,12 +1,12 @@
 -- The first rows of a table.
 use Rattle.std.proofs.Common.{◌≡◌, ℕ, ◌*◌, ◌/◌, List, take, Some, pos, refl, sym, ap, ◌∙◌, arith}
-use Rattle.fx_data.specs.Values.{number, fault, row_list}
+use Rattle.fx_types.specs.Values.{number, fault, row_list}
 use Rattle.fx_semantics.specs.Around.{Around}
 use Rattle.fx_semantics.specs.Fresh.{IsValue}
 use Rattle.fx_semantics.specs.Rows.{rows_of, table_of}
 use Rattle.fx_value.specs.Columns.{Row as Fields}
 use Rattle.fx_tables.specs.Ends.{first_rows as taken}
-use Rattle.fx_trees.specs.Term.{Term}
+use Rattle.fx_core.specs.Term.{Term}
 use Rattle.fx_plan.proofs.Wholes.{rows_back}
 use Rattle.fx_plan.specs.Limited.{FirstRowsAre, first_rows}
 use Rattle.fx_plan.specs.Settings.{around}

@@ -4,8 +4,8 @@ use Rattle.std.specs.Prelude.{◌%◌, nat_eq, not, ◌&&◌, option_map, slice_
 use Rattle.std.proofs.lemmas.List.{length-append}
 use Rattle.std.proofs.lemmas.Bool.{eq-eqb}
 use Rattle.std.proofs.lemmas.Option.{same_Some}
-use Rattle.fx_data.specs.declared.comparisons.Cmp.{Cmp}
-use Rattle.fx_data.specs.Values.{Data, boolean}
+use Rattle.fx_types.specs.declared.comparisons.Cmp.{Cmp}
+use Rattle.fx_types.specs.Values.{Data, boolean}
 use Rattle.fx_plan.specs.declared.plans.Sketch.{Sketch}
 use Rattle.fx_plan.specs.Outlines.{Outline, value_at, always, flag, constant, compares, is_blank, starts, contains, all_of, any_of, outline_list}
 use Rattle.fx_plan.specs.QueryExpressions.{along, behind, beside, called, called_with_one, called_with_two, column_of, compared, compared_with, comparison_by, filtered, is_constant, is_falling, negated, pattern_by, pattern_of, patterns_of, plain_column, sketch_of, sorted, sorted_by, turned, with_constant}
@@ -16,20 +16,20 @@ use Rattle.fx_semantics.specs.Forms.{IsAll, IsAny, IsCoalesced}
 use Rattle.fx_semantics.specs.Fresh.{IsCalled, IsValue, OfAll, meaning, meanings}
 use Rattle.fx_semantics.specs.Rows.{IsMade, IsVerdict, rows_in}
 use Rattle.fx_value.specs.Columns.{Row}
-use Rattle.fx_trees.specs.declared.functions.Form.TheVariants as form
-use Rattle.fx_trees.specs.declared.functions.Fun.{Fun}
-use Rattle.fx_trees.specs.declared.functions.Fun.TheVariants as fun
-use Rattle.fx_trees.specs.declared.literals.SortOrder.{SortOrder}
-use Rattle.fx_trees.specs.declared.rows.Scalar.{Scalar}
-use Rattle.fx_trees.specs.declared.rows.Scalar.TheVariants.{Boolean, Text}
-use Rattle.fx_trees.specs.declared.rows.Answer.TheVariants as answer
-use Rattle.fx_trees.specs.declared.rows.Row.{Row as FunRow}
-use Rattle.fx_trees.specs.declared.rows.Takes.TheVariants as takes
-use Rattle.fx_trees.specs.Rows.{form_row, row_of, takes_at, two}
-use Rattle.fx_trees.specs.declared.schema.TableShape.{TableShape}
-use Rattle.fx_trees.specs.declared.sources.Source.TheVariants as source
-use Rattle.fx_trees.specs.Term.{Term, Terms, of, nil, cons, Top}
-use Rattle.fx_trees.specs.Term as top
+use Rattle.fx_core.specs.declared.functions.Form.TheVariants as form
+use Rattle.fx_core.specs.declared.functions.Fun.{Fun}
+use Rattle.fx_core.specs.declared.functions.Fun.TheVariants as fun
+use Rattle.fx_core.specs.declared.literals.SortOrder.{SortOrder}
+use Rattle.fx_core.specs.declared.rows.Scalar.{Scalar}
+use Rattle.fx_core.specs.declared.rows.Scalar.TheVariants.{Boolean, Text}
+use Rattle.fx_core.specs.declared.rows.Answer.TheVariants as answer
+use Rattle.fx_core.specs.declared.rows.Row.{Row as FunRow}
+use Rattle.fx_core.specs.declared.rows.Takes.TheVariants as takes
+use Rattle.fx_core.specs.Rows.{form_row, row_of, takes_at, two}
+use Rattle.fx_core.specs.declared.schema.TableShape.{TableShape}
+use Rattle.fx_core.specs.declared.sources.Source.TheVariants as source
+use Rattle.fx_core.specs.Term.{Term, Terms, of, nil, cons, Top}
+use Rattle.fx_core.specs.Term as top
 use Rattle.fx_typing.proofs.RelatedSteps.{if_true}
 use Rattle.fx_plan.proofs.Constancy.{constant_stays}
 use Rattle.fx_plan.proofs.Placing.{column_typed, got_last, got_more, joined, negated_same, plain_is, some_map, some_then}

@@ -4,14 +4,14 @@ use Rattle.std.proofs.Math.Seq.{drop-cons}
 use Rattle.std.proofs.lemmas.List.{append-nil}
 use Rattle.std.specs.Prelude.{Some, codes, unwrap_or}
 use Rattle.std.proofs.Math.Bool.{and-false, and-true}
-use Rattle.fx_trees.specs.declared.functions.Fun.{Fun}
-use Rattle.fx_trees.specs.declared.schema.TableShape.{TableShape}
-use Rattle.fx_trees.specs.Term.{Term, Terms, of, nil, cons, all, over, parts_of}
-use Rattle.fx_trees.specs.Term as top
+use Rattle.fx_core.specs.declared.functions.Fun.{Fun}
+use Rattle.fx_core.specs.declared.schema.TableShape.{TableShape}
+use Rattle.fx_core.specs.Term.{Term, Terms, of, nil, cons, all, over, parts_of}
+use Rattle.fx_core.specs.Term as top
 use Rattle.fx_plan.specs.CallNames.{function_name}
 use Rattle.fx_plan.specs.declared.site_list.Scoped.{Scoped}
 use Rattle.fx_plan.specs.declared.site_list.Scoped.TheVariants.{Formulas}
-use Rattle.fx_trees.specs.declared.sites.Site.{Site}
+use Rattle.fx_core.specs.declared.sites.Site.{Site}
 use Rattle.fx_plan.specs.SitePlaces.{opened, parts_in, stand_at, within}
 use Rattle.fx_plan.specs.Sites.{Position, Use, count_of, deeper, is_query, listed, numbered, opens, own_use, part_at, site, takes_whole, totals, uses_among, uses_in}
 

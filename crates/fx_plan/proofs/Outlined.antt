@@ -1,7 +1,7 @@
 -- The parts of a pattern, one after another.
 use Rattle.std.proofs.Common.{◌≡◌, ℕ, zero, suc, ◌+◌, ◌<◌, List, [], ◌∷◌, ◌++◌, length, get_or, take, refl, sym, ap, ◌∙◌, subst, arith}
 use Rattle.std.proofs.lemmas.List.{take_more}
-use Rattle.fx_data.specs.Values.{Data}
+use Rattle.fx_types.specs.Values.{Data}
 use Rattle.fx_plan.specs.Outlines.{AreWithin, IsWithin, Outline, all_filled, filled, list_size, outline_list, outline_size}
 use Rattle.row_queries.specs.Conditions.{Condition, also, condition_list}
 

@@ -7,10 +7,10 @@ use Rattle.std.proofs.lemmas.Bool.{eqb-true, or_from}
 use Rattle.std.proofs.lemmas.List.Elements.{recursion_from_All}
 use Rattle.std.proofs.lemmas.List.Quantifiers.{position-Some}
 use Rattle.std.proofs.lemmas.Option.{same_Some}
-use Rattle.fx_data.specs.declared.comparisons.Cmp.{Cmp}
-use Rattle.fx_data.specs.TypeView.{shape}
-use Rattle.fx_data.specs.Types.{Shape, numbers, texts, booleans, dates, tables}
-use Rattle.fx_data.specs.Values.{Data}
+use Rattle.fx_types.specs.declared.comparisons.Cmp.{Cmp}
+use Rattle.fx_types.specs.TypeView.{shape}
+use Rattle.fx_types.specs.Types.{Shape, numbers, texts, booleans, dates, tables}
+use Rattle.fx_types.specs.Values.{Data}
 use Rattle.fx_plan.specs.declared.plans.Sketch.{Sketch}
 use Rattle.fx_plan.specs.Outlines.{Outline, OutlineList, AreWithin, IsWithin, all_filled, filled, value_at, always, flag, constant, compares, is_blank, starts, contains, all_of, any_of, opposite, no_outlines, with, outline_list}
 use Rattle.fx_plan.specs.Plans.{AllSuit, Suits}
@@ -18,26 +18,26 @@ use Rattle.fx_plan.specs.QueryExpressions.{along, are_constant, behind, beside, 
 use Rattle.fx_plan.specs.Ranges.{Compares, column_type}
 use Rattle.fx_semantics.specs.Sound.{AreFit, AreLawfulTypings}
 use Rattle.fx_semantics.proofs.Branches.{differs}
-use Rattle.fx_trees.specs.declared.functions.Form.{Form}
-use Rattle.fx_trees.specs.declared.functions.Form.TheVariants as form
-use Rattle.fx_trees.specs.declared.functions.Fun.{Fun}
-use Rattle.fx_trees.specs.declared.functions.Fun.TheVariants as fun
-use Rattle.fx_trees.specs.declared.literals.SortOrder.{SortOrder}
-use Rattle.fx_trees.specs.declared.rows.Answer.{Answer}
-use Rattle.fx_trees.specs.declared.rows.Answer.TheVariants as answer
-use Rattle.fx_trees.specs.declared.rows.Row.{Row}
-use Rattle.fx_trees.specs.declared.rows.Scalar.{Scalar}
-use Rattle.fx_trees.specs.declared.rows.Scalar.TheVariants.{Number, Text, Boolean, Date}
-use Rattle.fx_trees.specs.declared.rows.Takes.{Takes}
-use Rattle.fx_trees.specs.declared.rows.Takes.TheVariants as takes
-use Rattle.fx_trees.specs.declared.schema.Column.{Column}
-use Rattle.fx_trees.specs.declared.schema.TableShape.{TableShape}
-use Rattle.fx_trees.specs.declared.sources.Source.TheVariants as source
-use Rattle.fx_trees.specs.Lawful.{IsLawfulTable, id_name}
-use Rattle.fx_trees.specs.Rows.{form_row, row_of, shape_of, takes_at, two}
-use Rattle.fx_trees.specs.SourceTypes.{columns_of}
-use Rattle.fx_trees.specs.Term.{Term, Terms, of, nil, cons, Top}
-use Rattle.fx_trees.specs.Term as top
+use Rattle.fx_core.specs.declared.functions.Form.{Form}
+use Rattle.fx_core.specs.declared.functions.Form.TheVariants as form
+use Rattle.fx_core.specs.declared.functions.Fun.{Fun}
+use Rattle.fx_core.specs.declared.functions.Fun.TheVariants as fun
+use Rattle.fx_core.specs.declared.literals.SortOrder.{SortOrder}
+use Rattle.fx_core.specs.declared.rows.Answer.{Answer}
+use Rattle.fx_core.specs.declared.rows.Answer.TheVariants as answer
+use Rattle.fx_core.specs.declared.rows.Row.{Row}
+use Rattle.fx_core.specs.declared.rows.Scalar.{Scalar}
+use Rattle.fx_core.specs.declared.rows.Scalar.TheVariants.{Number, Text, Boolean, Date}
+use Rattle.fx_core.specs.declared.rows.Takes.{Takes}
+use Rattle.fx_core.specs.declared.rows.Takes.TheVariants as takes
+use Rattle.fx_core.specs.declared.schema.Column.{Column}
+use Rattle.fx_core.specs.declared.schema.TableShape.{TableShape}
+use Rattle.fx_core.specs.declared.sources.Source.TheVariants as source
+use Rattle.fx_core.specs.Lawful.{IsLawfulTable, id_name}
+use Rattle.fx_core.specs.Rows.{form_row, row_of, shape_of, takes_at, two}
+use Rattle.fx_core.specs.SourceTypes.{columns_of}
+use Rattle.fx_core.specs.Term.{Term, Terms, of, nil, cons, Top}
+use Rattle.fx_core.specs.Term as top
 use Rattle.fx_typing.specs.Acts.{acts, any_acts, is_acting}
 use Rattle.fx_typing.specs.WellTyped.{AllStand, AreTyped, Context, Standing, Stands, answered, context_for, first_type, inside, paired, parts_count, plain, row_type, standing_at, standing_of}
 use Rattle.fx_value.specs.Fits.{fits_in}

@@ -4,28 +4,28 @@ use Rattle.std.proofs.Common.{◌≡◌, ℕ, zero, suc, List, [], ◌∷◌, �
 use Rattle.std.specs.Prelude.{◌&&◌, ◌||◌, Result, Ok, Err, is_some, if◌then◌else◌}
 use Rattle.std.proofs.lemmas.List.{length-append}
 use Rattle.std.proofs.Math.Bool.{or-false}
-use Rattle.fx_data.specs.Types.{Shape, blanks, numbers, records, tables, ColumnList}
-use Rattle.fx_data.specs.Values.{Data, text}
+use Rattle.fx_types.specs.Types.{Shape, blanks, numbers, records, tables, ColumnList}
+use Rattle.fx_types.specs.Values.{Data, text}
 use Rattle.fx_plan.specs.declared.plans.Sketch.{Sketch}
 use Rattle.fx_plan.specs.QueryExpressions.{sketch_of}
 use Rattle.fx_plan.specs.Sites.{count_of, deeper, is_first, is_formula, is_query, opens}
 use Rattle.fx_semantics.specs.Sound.{AreLawfulTypings, IsLawfulType}
 use Rattle.fx_semantics.proofs.Calls.{call_quiet}
 use Rattle.fx_semantics.proofs.Forms.{IsQuiet, form_quiet}
-use Rattle.fx_trees.specs.declared.rows.Answer.{Answer}
-use Rattle.fx_trees.specs.declared.rows.Answer.TheVariants as answer
-use Rattle.fx_trees.specs.declared.rows.Row.{Row}
-use Rattle.fx_trees.specs.declared.rows.Takes.{Takes}
-use Rattle.fx_trees.specs.declared.rows.Takes.TheVariants as takes
-use Rattle.fx_trees.specs.declared.schema.TableShape.{TableShape}
-use Rattle.fx_trees.specs.Rules as rules
-use Rattle.fx_trees.specs.Rows.{form_row, row_of, takes_at}
-use Rattle.fx_trees.specs.SourceTypes.{columns_of}
-use Rattle.fx_trees.specs.Term.{Term, Terms, of, nil, cons, Top}
-use Rattle.fx_trees.specs.Term as top
+use Rattle.fx_core.specs.declared.rows.Answer.{Answer}
+use Rattle.fx_core.specs.declared.rows.Answer.TheVariants as answer
+use Rattle.fx_core.specs.declared.rows.Row.{Row}
+use Rattle.fx_core.specs.declared.rows.Takes.{Takes}
+use Rattle.fx_core.specs.declared.rows.Takes.TheVariants as takes
+use Rattle.fx_core.specs.declared.schema.TableShape.{TableShape}
+use Rattle.fx_core.specs.Rules as rules
+use Rattle.fx_core.specs.Rows.{form_row, row_of, takes_at}
+use Rattle.fx_core.specs.SourceTypes.{columns_of}
+use Rattle.fx_core.specs.Term.{Term, Terms, of, nil, cons, Top}
+use Rattle.fx_core.specs.Term as top
 use Rattle.fx_typing.specs.Acts.{acts, any_acts, is_acting}
 use Rattle.fx_typing.specs.Columns.{added, by_label, dropped, label_of, names_there, renamed, shown}
-use Rattle.fx_trees.specs.ColumnLists.{and_then, field_in, if_there, only, row_columns, value_column, with_new, with_renamed, without_all}
+use Rattle.fx_core.specs.ColumnLists.{and_then, field_in, if_there, only, row_columns, value_column, with_new, with_renamed, without_all}
 use Rattle.fx_typing.specs.WellTyped.{AreTyped, Context, IsByRow, IsRuled, Standing, answered, as_table, bound, catching, context_for, head_of, inside, paired, parts_count, plain, row_type, standing_at, standing_of}
 use Rattle.fx_plan.proofs.Placing.{query_found}
 use Rattle.fx_plan.specs.Constants.{HasType, ReadsTables}

@@ -5,14 +5,14 @@ use Rattle.std.proofs.Math.Bool.{and-false, and-true}
 use Rattle.fx_plan.specs.declared.site_list.Scoped.{Scoped}
 use Rattle.fx_plan.specs.declared.site_list.Scoped.TheVariants.{Nothing, Others, Formulas}
 use Rattle.fx_plan.specs.Sites.{count_of, deeper, is_formula, is_update, opens}
-use Rattle.fx_data.specs.Types.{Shape}
-use Rattle.fx_trees.specs.declared.deeds.Deed.{Deed}
-use Rattle.fx_trees.specs.declared.functions.Form.{Form}
-use Rattle.fx_trees.specs.declared.functions.Fun.{Fun}
-use Rattle.fx_trees.specs.Rows.{row_of, takes_at}
-use Rattle.fx_trees.specs.declared.schema.TableShape.{TableShape}
-use Rattle.fx_trees.specs.Term.{Term, Terms, of, nil, cons, all, names_of, parts_of, Top}
-use Rattle.fx_trees.specs.Term as top
+use Rattle.fx_types.specs.Types.{Shape}
+use Rattle.fx_core.specs.declared.deeds.Deed.{Deed}
+use Rattle.fx_core.specs.declared.functions.Form.{Form}
+use Rattle.fx_core.specs.declared.functions.Fun.{Fun}
+use Rattle.fx_core.specs.Rows.{row_of, takes_at}
+use Rattle.fx_core.specs.declared.schema.TableShape.{TableShape}
+use Rattle.fx_core.specs.Term.{Term, Terms, of, nil, cons, all, names_of, parts_of, Top}
+use Rattle.fx_core.specs.Term as top
 use Rattle.fx_plan.specs.Limited.{limited, parts_limited, takes_first_whole}
 use Rattle.fx_plan.specs.Limits.{depth_at, each_limited, fields_limited, with_limited_parts}
 

@@ -2,12 +2,12 @@
 use Rattle.std.proofs.Common.{◌≡◌, ℕ, zero, suc, ◌+◌, ◌<◌, ◌≤◌, List, [], ◌∷◌, ◌++◌, length, drop, get_or, Bool, true, false, refl, sym, ap, ◌∙◌, arith}
 use Rattle.std.specs.Prelude.{if◌then◌else◌}
 use Rattle.std.proofs.lemmas.List.{drop_all}
-use Rattle.fx_data.specs.Values.{Data}
+use Rattle.fx_types.specs.Values.{Data}
 use Rattle.fx_plan.specs.Outlines.{value_at}
 use Rattle.fx_plan.specs.QueryExpressions.{is_constant}
-use Rattle.fx_trees.specs.declared.functions.Fun.{Fun}
-use Rattle.fx_trees.specs.Term.{Term, Terms, of, nil, cons, all}
-use Rattle.fx_trees.specs.Term as top
+use Rattle.fx_core.specs.declared.functions.Fun.{Fun}
+use Rattle.fx_core.specs.Term.{Term, Terms, of, nil, cons, all}
+use Rattle.fx_core.specs.Term as top
 use Rattle.fx_plan.specs.Settled.{as_value, by_head, condition_settled, conditions_settled, in_front, query_settled, search_settled, with_first}
 
 -- parts in front of others

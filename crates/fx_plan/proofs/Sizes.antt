@@ -2,12 +2,12 @@
 use Rattle.std.proofs.Common.{◌≡◌, ℕ, suc, ◌≤◌, List, Bool, true, false, refl, arith}
 use Rattle.std.specs.Prelude.{◌||◌, if◌then◌else◌}
 use Rattle.std.proofs.lemmas.Bool.{or_from}
-use Rattle.fx_data.specs.Values.{Data}
+use Rattle.fx_types.specs.Values.{Data}
 use Rattle.fx_plan.specs.Outlines.{value_at}
 use Rattle.fx_plan.specs.QueryExpressions.{is_constant}
-use Rattle.fx_trees.specs.declared.functions.Form.TheVariants as form
-use Rattle.fx_trees.specs.Term.{Term, Terms, of, nil, cons, Top, term_size, terms_size}
-use Rattle.fx_trees.specs.Term as top
+use Rattle.fx_core.specs.declared.functions.Form.TheVariants as form
+use Rattle.fx_core.specs.Term.{Term, Terms, of, nil, cons, Top, term_size, terms_size}
+use Rattle.fx_core.specs.Term as top
 use Rattle.fx_typing.specs.Acts.{acts, any_acts, is_acting}
 use Rattle.fx_plan.specs.Settled.{IsNoMore, SettledAreNoMore, as_value, by_head, call_settled, condition_settled, conditions_settled, query_settled, search_settled}
 

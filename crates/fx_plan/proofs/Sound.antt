@@ -2,12 +2,12 @@
 use Rattle.std.proofs.Common.{◌≡◌, ℕ, zero, suc, List, [], ◌∷◌, Bool, true, false, None, refl, sym, ap, subst}
 use Rattle.std.specs.Prelude.{◌||◌}
 use Rattle.std.specs.List.{AllByRecursion, list_any}
-use Rattle.fx_data.specs.Values.{Data, blank, number, text, boolean, date, rec, tab, fault}
+use Rattle.fx_types.specs.Values.{Data, blank, number, text, boolean, date, rec, tab, fault}
 use Rattle.fx_plan.specs.Outlines.{Outline, OutlineList, all_filled, filled, value_at, always, flag, constant, compares, is_blank, starts, contains, all_of, any_of, opposite, no_outlines, with}
 use Rattle.fx_plan.specs.Plans.{is_fault}
 use Rattle.fx_tables.specs.RowCalls.{holds}
 use Rattle.fx_tables.specs.Unions.{is_fault as is_error}
-use Rattle.fx_trees.specs.declared.schema.TableShape.{TableShape}
+use Rattle.fx_core.specs.declared.schema.TableShape.{TableShape}
 use Rattle.fx_value.specs.Order.{IsScalar}
 use Rattle.fx_plan.proofs.Testing.{value_scalar}
 use Rattle.row_queries.specs.declared.rows.Row.{Row}

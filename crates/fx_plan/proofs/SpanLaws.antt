@@ -10,10 +10,10 @@ use Rattle.std.specs.declared.cmp.Ordering.TheVariants.{Less, Equal, Greater}
 use Rattle.std.proofs.lemmas.List.Folds.{list_all-append}
 use Rattle.std.proofs.lemmas.List.{append-nil}
 use Rattle.std.proofs.Math.Bool.{and-false, and-true, or-false}
-use Rattle.fx_data.specs.declared.comparisons.Cmp.{Cmp}
-use Rattle.fx_data.specs.declared.comparisons.Cmp.TheVariants.{Eq, Ne, Lt, Le, Gt, Ge}
-use Rattle.fx_data.specs.Types.{Shape, blanks, numbers, texts, booleans, dates}
-use Rattle.fx_data.specs.Values.{Data, blank, number, text, boolean, date, rec, tab, fault}
+use Rattle.fx_types.specs.declared.comparisons.Cmp.{Cmp}
+use Rattle.fx_types.specs.declared.comparisons.Cmp.TheVariants.{Eq, Ne, Lt, Le, Gt, Ge}
+use Rattle.fx_types.specs.Types.{Shape, blanks, numbers, texts, booleans, dates}
+use Rattle.fx_types.specs.Values.{Data, blank, number, text, boolean, date, rec, tab, fault}
 use Rattle.fx_number.specs.Decimal.{IsInRange}
 use Rattle.fx_value.specs.Keys.{IsProper, KeysOrder, key_bytes}
 use Rattle.fx_value.specs.Operators.{holds_of, takes}

@@ -9,11 +9,11 @@ use Rattle.std.specs.declared.cmp.Ordering.TheVariants.{Less, Equal, Greater}
 use Rattle.std.proofs.lemmas.Cmp.{int_cmp_total}
 use Rattle.caseless.specs.Caseless.{default_case_fold}
 use Rattle.std.proofs.lemmas.Option.{same_Some}
-use Rattle.fx_builtins.specs.Folding.{BeginsWithoutCase, HasPartWithoutCase}
-use Rattle.fx_data.specs.declared.comparisons.Cmp.{Cmp}
-use Rattle.fx_data.specs.declared.comparisons.Cmp.TheVariants.{Eq, Ne, Lt, Le, Gt, Ge}
-use Rattle.fx_data.specs.declared.faults.Kind.{Kind}
-use Rattle.fx_data.specs.Values.{Data, blank, number, text, boolean, date, rec, tab, fault, field_list, FieldList, RowList}
+use Rattle.fx_primitives.specs.Folding.{BeginsWithoutCase, HasPartWithoutCase}
+use Rattle.fx_types.specs.declared.comparisons.Cmp.{Cmp}
+use Rattle.fx_types.specs.declared.comparisons.Cmp.TheVariants.{Eq, Ne, Lt, Le, Gt, Ge}
+use Rattle.fx_types.specs.declared.faults.Kind.{Kind}
+use Rattle.fx_types.specs.Values.{Data, blank, number, text, boolean, date, rec, tab, fault, field_list, FieldList, RowList}
 use Rattle.fx_plan.specs.Outlines.{Outline, all_filled, filled, value_at, flag, constant, compares, is_blank, starts, contains, all_of, any_of, opposite, outline_list}
 use Rattle.fx_plan.specs.QueryExpressions.{along, beside, called, called_with_one, called_with_two, column_of, compared, compared_with, comparison_by, is_constant, negated, pattern_by, pattern_of, patterns_of, plain_column, turned, with_constant}
 use Rattle.fx_scalar.specs.Arguments.{first_fault}
@@ -25,16 +25,16 @@ use Rattle.fx_scalar.specs.ScalarFunctions.{is_blank as is_blank_value}
 use Rattle.fx_semantics.specs.Around.{Around, Meaning, AreValues, inside}
 use Rattle.fx_semantics.specs.Forms.{IsAll, IsAny}
 use Rattle.fx_semantics.specs.Fresh.{IsCalled, IsValue, OfAll, meaning, meanings}
-use Rattle.fx_trees.specs.declared.functions.Form.TheVariants as form
-use Rattle.fx_trees.specs.declared.functions.Fun.{Fun}
-use Rattle.fx_trees.specs.declared.functions.Fun.TheVariants as fun
-use Rattle.fx_trees.specs.declared.rows.Scalar.{Scalar}
-use Rattle.fx_trees.specs.declared.rows.Scalar.TheVariants.{Boolean, Text}
-use Rattle.fx_trees.specs.declared.schema.Column.{Column}
-use Rattle.fx_trees.specs.declared.schema.TableShape.{TableShape}
-use Rattle.fx_trees.specs.Lawful.{IsLawfulTable}
-use Rattle.fx_trees.specs.Term.{Term, Terms, of, nil, cons, all, Top}
-use Rattle.fx_trees.specs.Term as top
+use Rattle.fx_core.specs.declared.functions.Form.TheVariants as form
+use Rattle.fx_core.specs.declared.functions.Fun.{Fun}
+use Rattle.fx_core.specs.declared.functions.Fun.TheVariants as fun
+use Rattle.fx_core.specs.declared.rows.Scalar.{Scalar}
+use Rattle.fx_core.specs.declared.rows.Scalar.TheVariants.{Boolean, Text}
+use Rattle.fx_core.specs.declared.schema.Column.{Column}
+use Rattle.fx_core.specs.declared.schema.TableShape.{TableShape}
+use Rattle.fx_core.specs.Lawful.{IsLawfulTable}
+use Rattle.fx_core.specs.Term.{Term, Terms, of, nil, cons, all, Top}
+use Rattle.fx_core.specs.Term as top
 use Rattle.fx_value.specs.Operators.{compared_by, holds_of, sides, takes}
 use Rattle.fx_value.specs.Order.{IsScalar, order}
 use Rattle.fx_plan.proofs.Columns.{column_worth}

@@ -10,9 +10,9 @@ use Rattle.std.specs.declared.cmp.Ordering.TheVariants.{Less, Equal, Greater}
 use Rattle.std.proofs.lemmas.List.Elements.{All-from_recursion, filter_agree, recursion_from_All}
 use Rattle.std.proofs.lemmas.List.Sorted.{All-permutation, IsPermutation-map}
 use Rattle.std.proofs.lemmas.Option.{same_Some}
-use Rattle.fx_data.specs.TypeView.{shape}
-use Rattle.fx_data.specs.Types.{Shape, numbers}
-use Rattle.fx_data.specs.Values.{Data, blank, boolean, tab, fault, field_list, row_list}
+use Rattle.fx_types.specs.TypeView.{shape}
+use Rattle.fx_types.specs.Types.{Shape, numbers}
+use Rattle.fx_types.specs.Values.{Data, blank, boolean, tab, fault, field_list, row_list}
 use Rattle.fx_plan.specs.declared.plans.Sketch.{Sketch}
 use Rattle.fx_plan.specs.Outlines.{Outline, all_filled, filled, always, all_of, outline_list}
 use Rattle.fx_plan.specs.Plans.{IsReachBy, is_fault, reach_in}
@@ -29,15 +29,15 @@ use Rattle.fx_value.specs.Ordered.{IsOrderedBy, directed}
 use Rattle.fx_tables.specs.RowCalls.{IsTableBy, holds, kept_rows}
 use Rattle.fx_tables.specs.RowCalls.{filtered as filtered_rows}
 use Rattle.fx_tables.specs.Unions.{is_fault as is_error}
-use Rattle.fx_trees.specs.declared.functions.Fun.TheVariants as fun
-use Rattle.fx_trees.specs.declared.literals.SortOrder.{SortOrder}
-use Rattle.fx_trees.specs.declared.literals.SortOrder.TheVariants.{Ascending, Descending}
-use Rattle.fx_trees.specs.declared.schema.Column.{Column}
-use Rattle.fx_trees.specs.declared.schema.TableShape.{TableShape}
-use Rattle.fx_trees.specs.declared.sources.Source.TheVariants as source
-use Rattle.fx_trees.specs.Lawful.{IsLawfulTable}
-use Rattle.fx_trees.specs.Term.{Term, Terms, of, nil, cons, all}
-use Rattle.fx_trees.specs.Term as top
+use Rattle.fx_core.specs.declared.functions.Fun.TheVariants as fun
+use Rattle.fx_core.specs.declared.literals.SortOrder.{SortOrder}
+use Rattle.fx_core.specs.declared.literals.SortOrder.TheVariants.{Ascending, Descending}
+use Rattle.fx_core.specs.declared.schema.Column.{Column}
+use Rattle.fx_core.specs.declared.schema.TableShape.{TableShape}
+use Rattle.fx_core.specs.declared.sources.Source.TheVariants as source
+use Rattle.fx_core.specs.Lawful.{IsLawfulTable}
+use Rattle.fx_core.specs.Term.{Term, Terms, of, nil, cons, all}
+use Rattle.fx_core.specs.Term as top
 use Rattle.fx_value.specs.Fits.{fits_in}
 use Rattle.fx_value.specs.Keys.{IsProper, key_bytes}
 use Rattle.fx_value.specs.Order.{IsScalar, order}

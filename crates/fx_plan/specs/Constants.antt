@@ -1,13 +1,13 @@
 -- The constants of query expressions: the types that they have, where a tree is well typed.
 use Rattle.std.specs.Prelude.{◌≡◌, ℕ, ◌++◌, List, [], ◌∷◌, length, Some, slice_get, false}
 use Rattle.std.specs.List.{All}
-use Rattle.fx_data.specs.Types.{Shape, records, tables}
-use Rattle.fx_data.specs.Values.{Data}
-use Rattle.fx_trees.specs.declared.schema.TableShape.{TableShape}
-use Rattle.fx_trees.specs.declared.sources.Source.TheVariants as source
-use Rattle.fx_trees.specs.Lawful.{IsLawfulTable}
-use Rattle.fx_trees.specs.SourceTypes.{columns_of}
-use Rattle.fx_trees.specs.Term.{Term}
+use Rattle.fx_types.specs.Types.{Shape, records, tables}
+use Rattle.fx_types.specs.Values.{Data}
+use Rattle.fx_core.specs.declared.schema.TableShape.{TableShape}
+use Rattle.fx_core.specs.declared.sources.Source.TheVariants as source
+use Rattle.fx_core.specs.Lawful.{IsLawfulTable}
+use Rattle.fx_core.specs.SourceTypes.{columns_of}
+use Rattle.fx_core.specs.Term.{Term}
 use Rattle.fx_typing.specs.Acts.{acts}
 use Rattle.fx_typing.specs.WellTyped.{Context, IsTyped}
 use Rattle.fx_plan.specs.declared.plans.Sketch.{Sketch}

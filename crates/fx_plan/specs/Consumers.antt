@@ -1,8 +1,8 @@
 -- What the functions are worth that a keeper answers over all rows of a query expression.
 use Rattle.std.specs.Prelude.{◌≡◌, ℕ, ℤ, List, length, map, None, Some}
-use Rattle.fx_builtins.specs.Folds.{average_of}
-use Rattle.fx_data.specs.Values.{Data}
-use Rattle.fx_data.specs.declared.aggregates.Totals.{Totals}
+use Rattle.fx_primitives.specs.Folds.{average_of}
+use Rattle.fx_types.specs.Values.{Data}
+use Rattle.fx_types.specs.declared.aggregates.Totals.{Totals}
 use Rattle.fx_plan.specs.declared.plans.Sketch.{Sketch}
 use Rattle.fx_plan.specs.QueryExpressions.{column_of}
 use Rattle.fx_semantics.specs.Around.{Around}
@@ -12,12 +12,12 @@ use Rattle.fx_tables.specs.AggregateCalls.{IsNumberOrBlank, IsSumValue, number_o
 use Rattle.fx_value.specs.Aggregates.{IsGreatest, IsLeast, SumsUp}
 use Rattle.fx_tables.specs.RowCalls.{IsCountValue}
 use Rattle.fx_tables.specs.RowCalls.{first_of as first_row}
-use Rattle.fx_trees.specs.declared.functions.Fun.{Fun}
-use Rattle.fx_trees.specs.declared.functions.Fun.TheVariants as fun
-use Rattle.fx_trees.specs.declared.rows.Scalar.TheVariants.{Number}
-use Rattle.fx_trees.specs.declared.schema.TableShape.{TableShape}
-use Rattle.fx_trees.specs.Term.{Term, Terms, of, nil, cons}
-use Rattle.fx_trees.specs.Term as top
+use Rattle.fx_core.specs.declared.functions.Fun.{Fun}
+use Rattle.fx_core.specs.declared.functions.Fun.TheVariants as fun
+use Rattle.fx_core.specs.declared.rows.Scalar.TheVariants.{Number}
+use Rattle.fx_core.specs.declared.schema.TableShape.{TableShape}
+use Rattle.fx_core.specs.Term.{Term, Terms, of, nil, cons}
+use Rattle.fx_core.specs.Term as top
 use Rattle.fx_plan.specs.Limited.{first_rows}
 use Rattle.fx_plan.specs.Settings.{Setting, around}
 use Rattle.fx_plan.specs.Wholes.{IsPlanned}

@@ -1,13 +1,13 @@
 -- How much of a query expression a formula takes: the functions that a keeper answers over all rows take the whole of it, and
 -- all else takes its first rows, up to the app's row limit.
 use Rattle.std.specs.Prelude.{◌≡◌, ℕ, suc, ◌*◌, pos, List, map, Bool, true, false, not, ◌&&◌, ◌||◌, length, take, Some, if◌then◌else◌}
-use Rattle.fx_data.specs.declared.faults.Kind.{Kind}
-use Rattle.fx_data.specs.Types.{Shape}
-use Rattle.fx_data.specs.Values.{Data, number, fault}
-use Rattle.fx_trees.specs.declared.functions.Fun.TheVariants as fun
-use Rattle.fx_trees.specs.declared.schema.TableShape.{TableShape}
-use Rattle.fx_trees.specs.Term.{Term, Terms, of, nil, cons, Top}
-use Rattle.fx_trees.specs.Term as top
+use Rattle.fx_types.specs.declared.faults.Kind.{Kind}
+use Rattle.fx_types.specs.Types.{Shape}
+use Rattle.fx_types.specs.Values.{Data, number, fault}
+use Rattle.fx_core.specs.declared.functions.Fun.TheVariants as fun
+use Rattle.fx_core.specs.declared.schema.TableShape.{TableShape}
+use Rattle.fx_core.specs.Term.{Term, Terms, of, nil, cons, Top}
+use Rattle.fx_core.specs.Term as top
 use Rattle.fx_plan.specs.declared.plans.Sketch.{Sketch}
 use Rattle.fx_plan.specs.QueryExpressions.{sketch_of}
 use Rattle.fx_plan.specs.Sites.{count_of, deeper, is_first, is_query, opens, takes_whole}

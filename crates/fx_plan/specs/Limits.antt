@@ -3,8 +3,8 @@ use Rattle.std.specs.Prelude.{ℕ, suc, false, List, [], ◌∷◌}
 use Rattle.fx_plan.specs.declared.site_list.Scoped.{Scoped}
 use Rattle.fx_plan.specs.SitePlaces.{is_scoped}
 use Rattle.fx_plan.specs.Sites.{count_of, deeper}
-use Rattle.fx_trees.specs.declared.schema.TableShape.{TableShape}
-use Rattle.fx_trees.specs.Term.{Term, of}
+use Rattle.fx_core.specs.declared.schema.TableShape.{TableShape}
+use Rattle.fx_core.specs.Term.{Term, of}
 use Rattle.fx_plan.specs.Limited.{limited, parts_limited, takes_first_whole}
 
 -- a tree that stays itself, with its parts limited

@@ -3,9 +3,9 @@ use Rattle.std.specs.Prelude.{◌≡◌, refl, List}
 use Rattle.std.proofs.Common.{ap}
 use Rattle.std.specs.Coded.{Coded, coded_list}
 use base.Stored.{Gv, gnil, gnum, gcons}
-use Rattle.fx_data.specs.contracts.comparisons.Cmp.{the_row as cmp_row}
+use Rattle.fx_types.specs.contracts.comparisons.Cmp.{the_row as cmp_row}
 use Rattle.fx_plan.specs.Outlines.{Outline, OutlineList, always, flag, constant, compares, is_blank, starts, contains, all_of, any_of, opposite, no_outlines, with}
-use Rattle.fx_trees.specs.TermCode.{front, back}
+use Rattle.fx_core.specs.TermCode.{front, back}
 use Rattle.row_queries.specs.ConditionCode.{count}
 
 abbrev mutual

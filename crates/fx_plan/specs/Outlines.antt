@@ -1,7 +1,7 @@
 -- Row tests without their constants, as plain data: each constant is a place in a list.
 use Rattle.std.specs.Prelude.{ℕ, suc, ◌+◌, ◌<◌, List, [], ◌∷◌, slice_get, unwrap_or}
-use Rattle.fx_data.specs.declared.comparisons.Cmp.{Cmp}
-use Rattle.fx_data.specs.Values.{Data, blank}
+use Rattle.fx_types.specs.declared.comparisons.Cmp.{Cmp}
+use Rattle.fx_types.specs.Values.{Data, blank}
 use Rattle.row_queries.specs.Conditions.{Condition, ConditionList, no_conditions, also}
 use Rattle.row_queries.specs.Conditions as test
 

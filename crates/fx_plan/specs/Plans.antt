@@ -1,10 +1,10 @@
 -- Plans: the query of a sketch, with constants in their places.
 use Rattle.std.specs.Prelude.{◌≡◌, ℕ, ◌≤◌, Bool, true, false, List, length, Option, Some, IfSome, slice_get}
 use Rattle.std.specs.List.{list_any}
-use Rattle.fx_data.specs.Types.{Shape, booleans, texts}
-use Rattle.fx_data.specs.Values.{Data, fault}
-use Rattle.fx_trees.specs.declared.schema.TableShape.{TableShape}
-use Rattle.fx_trees.specs.Lawful.{IsLawfulTable}
+use Rattle.fx_types.specs.Types.{Shape, booleans, texts}
+use Rattle.fx_types.specs.Values.{Data, fault}
+use Rattle.fx_core.specs.declared.schema.TableShape.{TableShape}
+use Rattle.fx_core.specs.Lawful.{IsLawfulTable}
 use Rattle.fx_plan.specs.declared.plans.Sketch.{Sketch}
 use Rattle.fx_plan.specs.declared.ranges.Reach.{Reach}
 use Rattle.fx_plan.specs.Outlines.{IsWithin, filled}

@@ -2,22 +2,22 @@
 -- delegable conditions; or, at most once, those of one in the order of a column. It stands under k scopes, so that the
 -- row that its conditions judge is the row of scope k.
 use Rattle.std.specs.Prelude.{ℕ, suc, List, [], ◌∷◌, ◌++◌, Bool, true, false, not, ◌&&◌, nat_eq, bytes_eq, length, Option, Some, None, is_some, slice_get, option_map, option_and_then, position, if◌then◌else◌}
-use Rattle.fx_data.specs.declared.comparisons.Cmp.{Cmp}
-use Rattle.fx_data.specs.declared.comparisons.Cmp.TheVariants.{Eq, Ne, Lt, Le, Gt, Ge}
-use Rattle.fx_data.specs.Types.{Shape, numbers, texts, booleans, dates}
-use Rattle.fx_trees.specs.declared.functions.Form.TheVariants as form
-use Rattle.fx_trees.specs.declared.functions.Fun.{Fun}
-use Rattle.fx_trees.specs.declared.functions.Fun.TheVariants as fun
-use Rattle.fx_trees.specs.declared.literals.SortOrder.{SortOrder}
-use Rattle.fx_trees.specs.declared.literals.SortOrder.TheVariants.{Ascending, Descending}
-use Rattle.fx_trees.specs.declared.rows.Scalar.{Scalar}
-use Rattle.fx_trees.specs.declared.rows.Scalar.TheVariants.{Number, Text, Boolean, Date}
-use Rattle.fx_trees.specs.declared.schema.Column.{Column}
-use Rattle.fx_trees.specs.declared.schema.TableShape.{TableShape}
-use Rattle.fx_trees.specs.declared.sources.Source.TheVariants as source
-use Rattle.fx_trees.specs.Lawful.{id_name}
-use Rattle.fx_trees.specs.Term.{Term, Terms, of, nil, cons, Top}
-use Rattle.fx_trees.specs.Term as top
+use Rattle.fx_types.specs.declared.comparisons.Cmp.{Cmp}
+use Rattle.fx_types.specs.declared.comparisons.Cmp.TheVariants.{Eq, Ne, Lt, Le, Gt, Ge}
+use Rattle.fx_types.specs.Types.{Shape, numbers, texts, booleans, dates}
+use Rattle.fx_core.specs.declared.functions.Form.TheVariants as form
+use Rattle.fx_core.specs.declared.functions.Fun.{Fun}
+use Rattle.fx_core.specs.declared.functions.Fun.TheVariants as fun
+use Rattle.fx_core.specs.declared.literals.SortOrder.{SortOrder}
+use Rattle.fx_core.specs.declared.literals.SortOrder.TheVariants.{Ascending, Descending}
+use Rattle.fx_core.specs.declared.rows.Scalar.{Scalar}
+use Rattle.fx_core.specs.declared.rows.Scalar.TheVariants.{Number, Text, Boolean, Date}
+use Rattle.fx_core.specs.declared.schema.Column.{Column}
+use Rattle.fx_core.specs.declared.schema.TableShape.{TableShape}
+use Rattle.fx_core.specs.declared.sources.Source.TheVariants as source
+use Rattle.fx_core.specs.Lawful.{id_name}
+use Rattle.fx_core.specs.Term.{Term, Terms, of, nil, cons, Top}
+use Rattle.fx_core.specs.Term as top
 use Rattle.fx_plan.specs.declared.plans.Sketch.{Sketch}
 use Rattle.fx_plan.specs.Outlines.{Outline, always, flag, constant, compares, is_blank, starts, contains, all_of, any_of, opposite, outline_list}
 use Rattle.fx_plan.specs.Ranges.{column_type}

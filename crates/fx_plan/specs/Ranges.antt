@@ -1,13 +1,13 @@
 -- Which keys a query looks through: ranges on the first indexed column that a conjunct of its test compares.
 use Rattle.std.specs.Prelude.{◌≡◌, ℕ, zero, suc, pos, ◌==◌, Bool, true, false, not, ◌&&◌, ◌||◌, if◌then◌else◌, List, [], ◌∷◌, ◌++◌, Option, None, Some, slice_get, option_map}
 use Rattle.std.specs.List.{list_all}
-use Rattle.fx_data.specs.declared.comparisons.Cmp.{Cmp}
-use Rattle.fx_data.specs.declared.comparisons.Cmp.TheVariants.{Eq, Ne}
-use Rattle.fx_data.specs.TypeView.{shape}
-use Rattle.fx_data.specs.Types.{Shape, numbers, dates}
-use Rattle.fx_data.specs.Values.{Data, blank, number}
-use Rattle.fx_trees.specs.declared.schema.Column.{Column}
-use Rattle.fx_trees.specs.declared.schema.TableShape.{TableShape}
+use Rattle.fx_types.specs.declared.comparisons.Cmp.{Cmp}
+use Rattle.fx_types.specs.declared.comparisons.Cmp.TheVariants.{Eq, Ne}
+use Rattle.fx_types.specs.TypeView.{shape}
+use Rattle.fx_types.specs.Types.{Shape, numbers, dates}
+use Rattle.fx_types.specs.Values.{Data, blank, number}
+use Rattle.fx_core.specs.declared.schema.Column.{Column}
+use Rattle.fx_core.specs.declared.schema.TableShape.{TableShape}
 use Rattle.fx_value.specs.Keys.{IsProper, key_bytes}
 use Rattle.fx_value.specs.Operators.{holds_of}
 use Rattle.fx_value.specs.Order.{IsScalar}

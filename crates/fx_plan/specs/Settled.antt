@@ -1,8 +1,8 @@
 -- Query expressions in which the values of their constants stand for them, in the order of their sketches. A constant may be an
 -- error.
 use Rattle.std.specs.Prelude.{◌≡◌, ℕ, suc, ◌≤◌, List, [], ◌∷◌, false, true, length, Some, slice_get, if◌then◌else◌}
-use Rattle.fx_data.specs.Types.{Shape}
-use Rattle.fx_data.specs.Values.{Data}
+use Rattle.fx_types.specs.Types.{Shape}
+use Rattle.fx_types.specs.Values.{Data}
 use Rattle.fx_plan.specs.declared.plans.Sketch.{Sketch}
 use Rattle.fx_plan.specs.Constants.{HasType, ReadsTables, in_row}
 use Rattle.fx_plan.specs.Consumers.{over_query}
@@ -11,11 +11,11 @@ use Rattle.fx_plan.specs.QueryExpressions.{is_constant, sketch_of}
 use Rattle.fx_plan.specs.Settings.{Setting, around}
 use Rattle.fx_semantics.specs.Around.{AreValues, inside}
 use Rattle.fx_semantics.specs.Fresh.{IsValue, meanings}
-use Rattle.fx_trees.specs.declared.functions.Form.TheVariants as form
-use Rattle.fx_trees.specs.declared.functions.Fun.TheVariants as fun
-use Rattle.fx_trees.specs.declared.schema.TableShape.{TableShape}
-use Rattle.fx_trees.specs.Term.{Term, Terms, of, nil, cons, all, Top, term_size}
-use Rattle.fx_trees.specs.Term as top
+use Rattle.fx_core.specs.declared.functions.Form.TheVariants as form
+use Rattle.fx_core.specs.declared.functions.Fun.TheVariants as fun
+use Rattle.fx_core.specs.declared.schema.TableShape.{TableShape}
+use Rattle.fx_core.specs.Term.{Term, Terms, of, nil, cons, all, Top, term_size}
+use Rattle.fx_core.specs.Term as top
 use Rattle.fx_typing.specs.Acts.{acts}
 use Rattle.fx_typing.specs.WellTyped.{Context}
 use Rattle.fx_value.specs.Fits.{fits_in}

@@ -1,7 +1,7 @@
 -- Where a tree stands, as the search for sites has it.
 use Rattle.std.specs.Prelude.{ℕ, suc, Bool, false, not, ◌&&◌, List, Option, unwrap_or}
-use Rattle.fx_trees.specs.Rows.{row_of, takes_at}
-use Rattle.fx_trees.specs.Term.{Term, Terms, of}
+use Rattle.fx_core.specs.Rows.{row_of, takes_at}
+use Rattle.fx_core.specs.Term.{Term, Terms, of}
 use Rattle.fx_plan.specs.declared.site_list.Place.{Place}
 use Rattle.fx_plan.specs.declared.site_list.Scoped.{Scoped}
 use Rattle.fx_plan.specs.declared.site_list.Scoped.TheVariants.{Nothing, Others, Formulas}

@@ -2,10 +2,10 @@
 use Rattle.std.specs.Prelude.{◌≡◌, pos, ℕ, Bool, true, false, ◌&&◌, ◌||◌, if◌then◌else◌, List, [], ◌∷◌, ◌++◌, Option, None, Some}
 use Rattle.std.specs.Cmp.Lexicographic.{slice_cmp}
 use Rattle.std.specs.Ordering.{is_le, nat_cmp}
-use Rattle.fx_data.specs.declared.comparisons.Cmp.{Cmp}
-use Rattle.fx_data.specs.declared.comparisons.Cmp.TheVariants.{Eq, Ne, Lt, Le, Gt, Ge}
-use Rattle.fx_data.specs.Types.{Shape}
-use Rattle.fx_data.specs.Values.{Data, blank, number}
+use Rattle.fx_types.specs.declared.comparisons.Cmp.{Cmp}
+use Rattle.fx_types.specs.declared.comparisons.Cmp.TheVariants.{Eq, Ne, Lt, Le, Gt, Ge}
+use Rattle.fx_types.specs.Types.{Shape}
+use Rattle.fx_types.specs.Values.{Data, blank, number}
 use Rattle.fx_value.specs.Keys.{IsProper, key_bytes}
 use Rattle.fx_value.specs.Order.{IsScalar}
 use Rattle.fx_plan.specs.declared.ranges.Span.{Span}

@@ -1,9 +1,9 @@
 -- What a row test says of the condition that it was made from.
 use Rattle.std.specs.Prelude.{◌≡◌, List, [], length, Some}
-use Rattle.fx_data.specs.Values.{Data}
-use Rattle.fx_trees.specs.declared.schema.TableShape.{TableShape}
-use Rattle.fx_trees.specs.Lawful.{IsLawfulTable}
-use Rattle.fx_trees.specs.Term.{Term, all}
+use Rattle.fx_types.specs.Values.{Data}
+use Rattle.fx_core.specs.declared.schema.TableShape.{TableShape}
+use Rattle.fx_core.specs.Lawful.{IsLawfulTable}
+use Rattle.fx_core.specs.Term.{Term, all}
 use Rattle.fx_plan.specs.Outlines.{Outline, filled}
 use Rattle.fx_plan.specs.QueryExpressions.{pattern_of}
 use Rattle.fx_semantics.specs.Around.{Around, AreValues, inside}

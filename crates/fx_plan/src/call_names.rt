@@ -2,7 +2,7 @@
 ghost use Rattle.std.specs.Prelude.{◌≡◌, option_map};
 ghost use Rattle.fx_plan.specs.CallNames.{deed_name as deed_name_in, form_name as form_name_in, function_name as function_name_in};
 
-use fx_trees::{Deed, Form, Fun};
+use fx_core::{Deed, Form, Fun};
 
 /// The name of a function; an operator has none.
 pub fn function_name(fun: Fun) -> Option<&'static str>

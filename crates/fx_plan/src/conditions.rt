@@ -1,17 +1,17 @@
 //! Conditions that a keeper can test on its rows.
 ghost use Rattle.std.specs.Prelude.{◌≡◌, ◌≤◌, ◌++◌, ◌∷◌, [], Some, List, bytes_eq, length, option_and_then, option_map, position, IfOk, IfSome, ◌<◌};
 ghost use Rattle.std.specs.Str.{IsAscii};
-ghost use Rattle.fx_data.specs.TypeView.{shape};
+ghost use Rattle.fx_types.specs.TypeView.{shape};
 ghost use Rattle.fx_plan.specs.Outlines.{opposite};
 ghost use Rattle.fx_plan.specs.QueryExpressions.{along, behind, are_constant as are_constant_in, beside as beside_in, called as called_in, called_with_one, called_with_two, column_named as column_named_in, column_of as column_of_in, compared as compared_in, compared_with as compared_with_in, comparison_by as comparison_of, is_constant as is_constant_in, is_of as is_of_in, is_row as is_row_in, negated as negated_in, pattern_of as pattern_in, patterns_of as patterns_in, plain_column as plain_column_in, turned as turned_of};
 ghost use Rattle.fx_plan.specs.Ranges.{column_type};
-ghost use Rattle.fx_trees.specs.declared.schema.Column.{Column};
-ghost use Rattle.fx_trees.specs.Term.{Term, all, parts_of};
+ghost use Rattle.fx_core.specs.declared.schema.Column.{Column};
+ghost use Rattle.fx_core.specs.Term.{Term, all, parts_of};
 
 use crate::patterns::{Pattern, PatternNode, Patterns};
 use fx_base::Memory;
-use fx_data::{Cmp, Ty, Words};
-use fx_trees::{Column, Core, CoreArgs, CoreNode, Fun, Scalar, TableShape};
+use fx_core::{Column, Core, CoreArgs, CoreNode, Fun, Scalar, TableShape};
+use fx_types::{Cmp, Ty, Words};
 use std::alloc::Global;
 
 /// The pattern of a condition on the rows of a table, which are the rows of this scope; none where the

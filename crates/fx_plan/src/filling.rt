@@ -1,12 +1,12 @@
 //! Patterns with their constants.
 ghost use Rattle.std.specs.Prelude.{◌≡◌, ◌<◌, length, map, IfOk};
-ghost use Rattle.fx_data.specs.ValueView.{view};
+ghost use Rattle.fx_types.specs.ValueView.{view};
 ghost use Rattle.fx_plan.specs.Outlines.{AreWithin, IsWithin, all_filled as all_filled_of, filled as filled_of, outline_list, value_at};
 ghost use Rattle.row_queries.specs.Conditions.{condition_list};
 
 use crate::patterns::{Pattern, PatternNode};
 use fx_base::Memory;
-use fx_data::Value;
+use fx_types::Value;
 use row_queries::{Test, TestNode, Tests};
 use std::alloc::Global;
 

@@ -15,7 +15,7 @@ pub mod site_list;
 pub mod sketches;
 
 pub use filling::fill;
-pub use fx_trees::Site;
+pub use fx_core::Site;
 pub use limits::{limit_queries, limit_queries_under};
 pub use patterns::{Pattern, PatternNode, Patterns};
 pub use plans::{Sketch, has_error, plan};

@@ -1,21 +1,21 @@
 // Trees in which query expressions give what is taken of them.
 ghost use Rattle.std.specs.Prelude.{◌≡◌, ◌*◌, pos, false, IfOk};
-ghost use Rattle.fx_data.specs.TypeView.{shape};
-ghost use Rattle.fx_data.specs.ValueView.{view};
-ghost use Rattle.fx_data.specs.Values.{number};
+ghost use Rattle.fx_types.specs.TypeView.{shape};
+ghost use Rattle.fx_types.specs.ValueView.{view};
+ghost use Rattle.fx_types.specs.Values.{number};
 ghost use Rattle.fx_plan.specs.Sites.{deeper};
 ghost use Rattle.fx_plan.specs.declared.site_list.Scoped.TheVariants.{Nothing};
-ghost use Rattle.fx_trees.specs.Term.{all, cons, names_of, nil, of, parts_of};
-ghost use Rattle.fx_trees.specs.Term as top;
-ghost use Rattle.fx_trees.specs.Lawful.{IsLawfulSchema};
+ghost use Rattle.fx_core.specs.Term.{all, cons, names_of, nil, of, parts_of};
+ghost use Rattle.fx_core.specs.Term as top;
+ghost use Rattle.fx_core.specs.Lawful.{IsLawfulSchema};
 ghost use Rattle.fx_plan.specs.Limits.{depth_at, each_limited, fields_limited, with_limited_parts};
 ghost use Rattle.fx_plan.specs.Limited.{first_rows as first_rows_of, limited, takes_first_whole};
 
 use crate::{Scoped, formulas_of, is_update, sketch_under, takes_whole};
 use fx_base::Memory;
-use fx_data::{Ty, Value, Words};
+use fx_core::{Core, CoreArgs, CoreFields, CoreNode, Deed, Form, Fun, Schema, make_core};
 use fx_number::Num;
-use fx_trees::{Core, CoreArgs, CoreFields, CoreNode, Deed, Form, Fun, Schema, make_core};
+use fx_types::{Ty, Value, Words};
 use std::alloc::Global;
 
 /// A cell's tree in which each largest query expression that isn't taken whole gives its first rows, as many

@@ -1,7 +1,7 @@
 //! Queries of sketches.
 ghost use Rattle.std.specs.Prelude.{◌≡◌, ◌≤◌, ◌⊎◌, false, length, map, IfOk};
 ghost use Rattle.std.specs.List.{list_any};
-ghost use Rattle.fx_data.specs.ValueView.{view};
+ghost use Rattle.fx_types.specs.ValueView.{view};
 ghost use Rattle.fx_plan.specs.Plans.{CanPlan, IsPlan, IsReachBy, is_fault as is_error};
 ghost use Rattle.fx_plan.specs.Ranges.{TakesComparisons};
 ghost use Rattle.row_queries.specs.Queries.{IsIndexed, IsQuery};
@@ -11,8 +11,8 @@ use crate::filling::fill;
 use crate::patterns::Pattern;
 use crate::ranges::{Reach, everything, ranges_of};
 use fx_base::Memory;
-use fx_data::Value;
-use fx_trees::{CoreArgs, Schema, TableShape};
+use fx_core::{CoreArgs, Schema, TableShape};
+use fx_types::Value;
 use row_queries::{Query, Test};
 use std::alloc::Global;
 

@@ -1,9 +1,9 @@
 //! Ranges of keys: on the first indexed column that a conjunct of a test compares.
 ghost use Rattle.std.specs.Prelude.{◌≡◌, ◌≢◌, ◌≤◌, ◌∷◌, [], None, true, false, length, pos, IfOk, MatchOption, ◌⊎◌};
-ghost use Rattle.fx_data.specs.declared.comparisons.Cmp.TheVariants.{Ne};
-ghost use Rattle.fx_data.specs.TypeView.{shape};
-ghost use Rattle.fx_data.specs.ValueView.{view};
-ghost use Rattle.fx_data.specs.Values.{number};
+ghost use Rattle.fx_types.specs.declared.comparisons.Cmp.TheVariants.{Ne};
+ghost use Rattle.fx_types.specs.TypeView.{shape};
+ghost use Rattle.fx_types.specs.ValueView.{view};
+ghost use Rattle.fx_types.specs.Values.{number};
 ghost use Rattle.fx_value.specs.Keys.{key_bytes};
 ghost use Rattle.fx_value.specs.Operators.{holds_of};
 ghost use Rattle.fx_value.specs.Order.{IsScalar};
@@ -14,9 +14,9 @@ ghost use Rattle.row_queries.specs.Queries.{IsIndexed};
 ghost use Rattle.row_queries.specs.Ranges.{AreRising, HoldEveryKey};
 
 use fx_base::{InOrder, Memory};
-use fx_data::{Cmp, Ty, Value};
+use fx_core::{Column, TableShape};
 use fx_number::Num;
-use fx_trees::{Column, TableShape};
+use fx_types::{Cmp, Ty, Value};
 use fx_value::{compare_is_total, holds, key_of, keys_order, value_is_proper};
 use row_queries::{Key, KeyRange, RangeList, Test, TestNode};
 use std::alloc::Global;

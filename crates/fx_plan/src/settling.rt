@@ -1,14 +1,14 @@
 //! Puts the values of constants in their places.
 ghost use Rattle.std.specs.Prelude.{◌≡◌, suc, map, IfOk};
-ghost use Rattle.fx_data.specs.ValueView.{view};
+ghost use Rattle.fx_types.specs.ValueView.{view};
 ghost use Rattle.fx_plan.specs.Outlines.{value_at};
 ghost use Rattle.fx_plan.specs.Settled.{as_value, call_settled, condition_settled, conditions_settled, query_settled as query_settled_in, search_settled, with_first};
-ghost use Rattle.fx_trees.specs.Term.{all};
+ghost use Rattle.fx_core.specs.Term.{all};
 
 use crate::conditions::is_constant;
 use fx_base::Memory;
-use fx_data::Value;
-use fx_trees::{Core, CoreArgs, CoreNode};
+use fx_core::{Core, CoreArgs, CoreNode};
+use fx_types::Value;
 use std::alloc::Global;
 
 /// A query expression under so many scopes, with these values in the places of its constants.

@@ -2,16 +2,16 @@
 ghost use Rattle.std.specs.Prelude.{◌≡◌, ◌+◌, ◌<◌, ◌^◌, length, option_map, IfOk, OnOk};
 ghost use Rattle.fx_plan.specs.SitePlaces.{is_scoped, opened as opened_in, parts_in, position, stand_at, within as within_in};
 ghost use Rattle.fx_plan.specs.Sites.{is_filter as is_filter_in, is_formula as is_formula_in, is_query as is_query_in, is_update as is_update_in, listed, own_use, part_at, sites_of, takes_whole as takes_whole_in, totals as totals_in, totals_column as totals_column_in, uses_among, uses_in};
-ghost use Rattle.fx_trees.specs.Lawful.{IsLawfulSchema};
-ghost use Rattle.fx_trees.specs.Term.{all, parts_of};
+ghost use Rattle.fx_core.specs.Lawful.{IsLawfulSchema};
+ghost use Rattle.fx_core.specs.Term.{all, parts_of};
 
 use crate::call_names::{deed_name, form_name, function_name};
 use crate::conditions::column_of;
 use crate::sketches::{filter_sketch, sketch_under};
 use fx_base::Memory;
-use fx_data::Words;
-use fx_trees::rows::{Takes, row_of};
-use fx_trees::{Core, CoreNode, Deed, Form, Fun, Scalar, Schema, Site};
+use fx_core::rows::{Takes, row_of};
+use fx_core::{Core, CoreNode, Deed, Form, Fun, Scalar, Schema, Site};
+use fx_types::Words;
 use std::alloc::Global;
 
 // Where a tree stands.

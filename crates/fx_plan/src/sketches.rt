@@ -1,14 +1,14 @@
 //! Sketches of query expressions.
 ghost use Rattle.std.specs.Prelude.{◌≡◌, IfOk};
 ghost use Rattle.fx_plan.specs.QueryExpressions.{filtered as filtered_in, is_falling as is_falling_in, sketch_of, sorted as sorted_in, sorted_by as sorted_by_in, whole_table as whole_table_in};
-ghost use Rattle.fx_trees.specs.Lawful.{IsLawfulSchema};
-ghost use Rattle.fx_trees.specs.Term.{all};
+ghost use Rattle.fx_core.specs.Lawful.{IsLawfulSchema};
+ghost use Rattle.fx_core.specs.Term.{all};
 
 use crate::conditions::{patterns_of, plain_column};
 use crate::patterns::{Pattern, PatternNode, Patterns};
 use crate::plans::Sketch;
 use fx_base::Memory;
-use fx_trees::{Core, CoreArgs, CoreNode, Fun, Schema, SortOrder, Source};
+use fx_core::{Core, CoreArgs, CoreNode, Fun, Schema, SortOrder, Source};
 use std::alloc::Global;
 
 /// The sketch of a tree that stands under so many scopes; none where it is no query expression.

@@ -1,16 +1,16 @@
 -- What functions answer to arguments that fit their places fits their type.
 use Rattle.std.proofs.Common.{◌≡◌, ℕ, Bool, true, false, List, [], ◌∷◌, arith, refl, All}
 use Rattle.std.specs.Prelude.{ℤ, suc, if◌then◌else◌, encode_utf8_all, Option, Some, None, Result, Ok, Err}
-use Rattle.fx_data.specs.declared.faults.Kind.{Kind}
-use Rattle.fx_data.specs.Types.{Shape, blanks, numbers, texts, booleans, dates}
-use Rattle.fx_data.specs.Values.{Data, blank, number, boolean, rec, fault}
+use Rattle.fx_types.specs.declared.faults.Kind.{Kind}
+use Rattle.fx_types.specs.Types.{Shape, blanks, numbers, texts, booleans, dates}
+use Rattle.fx_types.specs.Values.{Data, blank, number, boolean, rec, fault}
 use Rattle.fx_value.specs.Coercion.{IsReadAs}
 use Rattle.fx_value.specs.Fits.{fits_in}
-use Rattle.fx_trees.specs.declared.functions.Fun.{Fun}
-use Rattle.fx_trees.specs.declared.functions.Fun.TheVariants as fun
-use Rattle.fx_trees.specs.declared.rows.Answer.{Answer}
-use Rattle.fx_trees.specs.declared.rows.Answer.TheVariants as answer
-use Rattle.fx_trees.specs.Rows.{row_of}
+use Rattle.fx_core.specs.declared.functions.Fun.{Fun}
+use Rattle.fx_core.specs.declared.functions.Fun.TheVariants as fun
+use Rattle.fx_core.specs.declared.rows.Answer.{Answer}
+use Rattle.fx_core.specs.declared.rows.Answer.TheVariants as answer
+use Rattle.fx_core.specs.Rows.{row_of}
 use Rattle.fx_scalar.specs.Answers.{IsPosition, OfDate, UnlessFault, date_answer, maybe_answer, number_answer, text_answer}
 use Rattle.fx_scalar.specs.Arguments.{at, date_at, first_fault, text_at}
 use Rattle.fx_scalar.specs.Errors.{IsErrorOf, error_of}

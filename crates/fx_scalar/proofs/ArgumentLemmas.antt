@@ -5,9 +5,9 @@ use Rattle.std.proofs.lemmas.List.{take_more, map-append}
 use Rattle.std.proofs.lemmas.Option.{slice_get-map, slice_get_past, slice_get_read}
 use Rattle.std.specs.Prelude.{Option, Some, None, unwrap_or, option_map, MatchOption}
 use Rattle.std.specs.Slice.{IsItemAt}
-use Rattle.fx_data.specs.Values.{Data, blank}
-use Rattle.fx_data.specs.ValueView.{view}
-use Rattle.fx_data.specs.declared.values.Value.{Value}
+use Rattle.fx_types.specs.Values.{Data, blank}
+use Rattle.fx_types.specs.ValueView.{view}
+use Rattle.fx_types.specs.declared.values.Value.{Value}
 use Rattle.fx_scalar.specs.Arguments.{at, views}
 
 pub at_none : (args : List Value) (i : ℕ) → length args ≤ i → at (views args) i ≡ blank

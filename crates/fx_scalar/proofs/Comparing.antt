@@ -3,15 +3,15 @@ use Rattle.std.proofs.Common.{◌≡◌, ℕ, ◌<◌, ◌≤◌, Bool, true, fa
 use Rattle.std.specs.Prelude.{ℤ, zero, suc, ◌⊎◌, None, unwrap_or}
 use Rattle.std.proofs.lemmas.Bool.{cases_lt}
 use Rattle.std.proofs.lemmas.Option.{slice_get_past}
-use Rattle.fx_data.specs.Types.{Shape, numbers, texts, booleans, dates}
-use Rattle.fx_data.specs.Values.{Data, blank, number, text, boolean, date, fault}
-use Rattle.fx_data.specs.declared.comparisons.Cmp.{Cmp}
-use Rattle.fx_data.specs.declared.comparisons.Cmp.TheVariants.{Eq, Ne, Lt, Le, Gt, Ge}
+use Rattle.fx_types.specs.Types.{Shape, numbers, texts, booleans, dates}
+use Rattle.fx_types.specs.Values.{Data, blank, number, text, boolean, date, fault}
+use Rattle.fx_types.specs.declared.comparisons.Cmp.{Cmp}
+use Rattle.fx_types.specs.declared.comparisons.Cmp.TheVariants.{Eq, Ne, Lt, Le, Gt, Ge}
 use Rattle.fx_value.specs.Order.{AreOfOneType}
 use Rattle.fx_value.specs.Operators.{AreOrdered, CanCompare}
 use Rattle.fx_value.specs.Fits.{fits_in}
-use Rattle.fx_trees.specs.declared.functions.Fun.{Fun}
-use Rattle.fx_trees.specs.declared.functions.Fun.TheVariants as fun
+use Rattle.fx_core.specs.declared.functions.Fun.{Fun}
+use Rattle.fx_core.specs.declared.functions.Fun.TheVariants as fun
 use Rattle.fx_scalar.specs.Arguments.{at, first_fault}
 use Rattle.fx_scalar.specs.ScalarFunctions.{CanCompareIf, answered_fault, comparison_of, is_fault}
 use Rattle.fx_scalar.specs.Fitting.{FitPlaces, FittingCanApply}

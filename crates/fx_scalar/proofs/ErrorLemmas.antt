@@ -2,16 +2,16 @@
 use Rattle.std.proofs.Common.{◌≡◌, ℕ, List, [], ◌∷◌, Bool, true, false, Some, None, refl}
 use Rattle.std.specs.Str.{chars}
 use Rattle.std.specs.Prelude.{bytes_eq, if◌then◌else◌}
-use Rattle.fx_data.specs.declared.faults.Kind.TheVariants.{Div0, Numeric, InvalidArgument, NotFound, MissingRequired, ConstraintViolated, QuotaExceeded, Validation, Custom}
-use Rattle.fx_data.specs.Lookup.{item_of}
-use Rattle.fx_data.specs.Types.{blanks, numbers, texts, booleans, dates}
-use Rattle.fx_data.specs.Values.{Data, blank, text, field_list}
-use Rattle.fx_data.specs.ValueView.{view}
-use Rattle.fx_data.specs.declared.faults.Kind.{Kind}
-use Rattle.fx_data.specs.declared.values.Value.{Value}
-use Rattle.fx_data.specs.declared.values.Value.TheVariants.{Blank, Number, Text, Boolean, Date, Rec, Tab, Fault}
+use Rattle.fx_types.specs.declared.faults.Kind.TheVariants.{Div0, Numeric, InvalidArgument, NotFound, MissingRequired, ConstraintViolated, QuotaExceeded, Validation, Custom}
+use Rattle.fx_types.specs.Lookup.{item_of}
+use Rattle.fx_types.specs.Types.{blanks, numbers, texts, booleans, dates}
+use Rattle.fx_types.specs.Values.{Data, blank, text, field_list}
+use Rattle.fx_types.specs.ValueView.{view}
+use Rattle.fx_types.specs.declared.faults.Kind.{Kind}
+use Rattle.fx_types.specs.declared.values.Value.{Value}
+use Rattle.fx_types.specs.declared.values.Value.TheVariants.{Blank, Number, Text, Boolean, Date, Rec, Tab, Fault}
 use Rattle.fx_value.specs.Coercion.{CanCoerce, same, value_in}
-use Rattle.fx_data.specs.Faults.{kind_name}
+use Rattle.fx_types.specs.Faults.{kind_name}
 use Rattle.fx_scalar.specs.Errors.{RecordsTell}
 
 -- a value without parts can be coerced to a text

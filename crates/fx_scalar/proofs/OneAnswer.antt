@@ -3,12 +3,12 @@ use Rattle.std.proofs.Common.{◌∙◌, ap, sym, subst, Ok, Option, Some, None,
 use Rattle.std.specs.Prelude.{◌+ℤ◌, ◌-ℤ◌, neg_ℤ, encode_utf8_all}
 use Rattle.fx_number.specs.Decimal.{product_of, quotient_of, rounded_to}
 use Rattle.fx_number.specs.declared.Way.TheVariants.{Near, Up, Down, Floor}
-use Rattle.fx_data.specs.Values.{Data, boolean}
-use Rattle.fx_builtins.specs.Folds.{present}
-use Rattle.fx_trees.specs.declared.functions.Fun.{Fun}
-use Rattle.fx_trees.specs.declared.functions.Fun.TheVariants as fun
-use Rattle.fx_data.specs.Civil.{civil_of}
-use Rattle.fx_builtins.specs.Dates.{difference, number_of_parts, weekday_of}
+use Rattle.fx_types.specs.Values.{Data, boolean}
+use Rattle.fx_primitives.specs.Folds.{present}
+use Rattle.fx_core.specs.declared.functions.Fun.{Fun}
+use Rattle.fx_core.specs.declared.functions.Fun.TheVariants as fun
+use Rattle.fx_types.specs.Civil.{civil_of}
+use Rattle.fx_primitives.specs.Dates.{difference, number_of_parts, weekday_of}
 use Rattle.fx_scalar.specs.Answers.{IsPosition, UnlessFault, date_answer, maybe_answer, number_answer, text_answer}
 use Rattle.fx_scalar.specs.Arguments.{at, date_at, maybe_number, maybe_whole_at, number_at, text_at, whole_at}
 use Rattle.fx_scalar.specs.ScalarFunctions.{IsResult, answered_fault, start_of}

@@ -13,22 +13,22 @@ use Rattle.fx_number.specs.Decimal.{Checked, CheckedOnWay, IsExponent, IsPower, 
 use Rattle.fx_number.specs.Spelling.{Spells, point_and, sign_text}
 use Rattle.fx_number.specs.declared.NumErr.{NumErr}
 use Rattle.fx_number.proofs.LeftToRight.{spelled-Spells}
-use Rattle.fx_data.specs.declared.faults.Kind.{Kind}
-use Rattle.fx_data.specs.Days.{IsDay}
-use Rattle.fx_data.specs.Types.{texts}
-use Rattle.fx_data.specs.Values.{Data, blank, number, text, boolean, date, rec, tab, fault}
+use Rattle.fx_types.specs.declared.faults.Kind.{Kind}
+use Rattle.fx_types.specs.Days.{IsDay}
+use Rattle.fx_types.specs.Types.{texts}
+use Rattle.fx_types.specs.Values.{Data, blank, number, text, boolean, date, rec, tab, fault}
 use Rattle.fx_value.specs.Coercion.{IsCoerced, IsReadAs, are_spaces, value_in}
-use Rattle.fx_data.specs.Civil.{civil_of}
-use Rattle.fx_data.proofs.CivilDays.{civil_is_date}
-use Rattle.fx_data.specs.declared.formats.TimeUnit.{TimeUnit}
-use Rattle.fx_data.specs.declared.formats.TimeUnit.TheVariants.{Days, Months, Quarters, Years}
-use Rattle.fx_builtins.specs.Dates.{IsDayOrInvalid, IsInMonth, IsInMonthOrInvalid, IsLater, IsShifted}
-use Rattle.fx_builtins.specs.Months.{year_of, month_of, month_number}
-use Rattle.fx_builtins.specs.Numbers.{AsKind, with_kind}
-use Rattle.fx_builtins.specs.Folds.{IsGreatest, IsLeast, IsSum}
-use Rattle.fx_builtins.specs.Search.{IsFirst, IsFound, IsFoundFrom, position_of}
-use Rattle.fx_builtins.specs.Substitution.{IsSubstituted, substitute_of}
-use Rattle.fx_builtins.proofs.Replacing.{one_list, trichotomy}
+use Rattle.fx_types.specs.Civil.{civil_of}
+use Rattle.fx_types.proofs.CivilDays.{civil_is_date}
+use Rattle.fx_types.specs.declared.formats.TimeUnit.{TimeUnit}
+use Rattle.fx_types.specs.declared.formats.TimeUnit.TheVariants.{Days, Months, Quarters, Years}
+use Rattle.fx_primitives.specs.Dates.{IsDayOrInvalid, IsInMonth, IsInMonthOrInvalid, IsLater, IsShifted}
+use Rattle.fx_primitives.specs.Months.{year_of, month_of, month_number}
+use Rattle.fx_primitives.specs.Numbers.{AsKind, with_kind}
+use Rattle.fx_primitives.specs.Folds.{IsGreatest, IsLeast, IsSum}
+use Rattle.fx_primitives.specs.Search.{IsFirst, IsFound, IsFoundFrom, position_of}
+use Rattle.fx_primitives.specs.Substitution.{IsSubstituted, substitute_of}
+use Rattle.fx_primitives.proofs.Replacing.{one_list, trichotomy}
 use Rattle.fx_scalar.specs.Errors.{IsErrorOf, error_of}
 use Rattle.fx_scalar.specs.Answers.{IsPosition, IsWhole, OfDate, number_answer}
 use Rattle.fx_scalar.specs.ScalarFunctions.{IsDateRead}

@@ -3,7 +3,7 @@ use Rattle.std.proofs.Common.{◌≡◌, ℕ, ◌≤◌, List, [], ◌∷◌, le
 use Rattle.std.specs.Prelude.{suc, encode_utf8_all}
 use Rattle.std.proofs.lemmas.Bool.Decides.{nat_tests}
 use Rattle.std.proofs.lemmas.Str.{length-le-encodes}
-use Rattle.fx_data.specs.Values.{text}
+use Rattle.fx_types.specs.Values.{text}
 use Rattle.fx_scalar.specs.ScalarFunctions.{is_blank}
 
 -- a text is empty where its bytes are

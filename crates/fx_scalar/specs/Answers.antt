@@ -1,9 +1,9 @@
 -- Answers as values. An error that a function makes has no message.
 use Rattle.std.specs.Prelude.{◌≡◌, ℕ, ℤ, pos, ◌*ℤ◌, Bool, List, [], Option, Some, None, Result, Ok, Err}
 use Rattle.fx_number.specs.Decimal.{Checked}
-use Rattle.fx_data.specs.declared.faults.Kind.{Kind}
-use Rattle.fx_data.specs.Values.{Data, blank, number, text, boolean, date, fault}
-use Rattle.fx_builtins.specs.Numbers.{AsKind}
+use Rattle.fx_types.specs.declared.faults.Kind.{Kind}
+use Rattle.fx_types.specs.Values.{Data, blank, number, text, boolean, date, fault}
+use Rattle.fx_primitives.specs.Numbers.{AsKind}
 
 abbrev pub number_answer : Result ℤ Kind → Data
 number_answer (Ok z) = number z

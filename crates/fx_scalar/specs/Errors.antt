@@ -1,12 +1,12 @@
 -- Errors as records, and the errors that records tell.
 use Rattle.std.specs.Prelude.{◌≡◌, ℕ, List, codes, unwrap_or, encode_utf8_all}
-use Rattle.fx_data.specs.declared.faults.Kind.{Kind}
-use Rattle.fx_data.specs.declared.faults.Kind.TheVariants.{Custom}
-use Rattle.fx_data.specs.Faults.{kind_name}
-use Rattle.fx_data.specs.Types.{texts}
-use Rattle.fx_data.specs.Values.{Data, blank, text, rec, fault, no_fields, field}
+use Rattle.fx_types.specs.declared.faults.Kind.{Kind}
+use Rattle.fx_types.specs.declared.faults.Kind.TheVariants.{Custom}
+use Rattle.fx_types.specs.Faults.{kind_name}
+use Rattle.fx_types.specs.Types.{texts}
+use Rattle.fx_types.specs.Values.{Data, blank, text, rec, fault, no_fields, field}
 use Rattle.fx_value.specs.Coercion.{IsCoerced, value_in}
-use Rattle.fx_trees.specs.Literals.{error_kind}
+use Rattle.fx_core.specs.Literals.{error_kind}
 use Rattle.fx_scalar.specs.Arguments.{text_in}
 
 -- an error as a record of its kind's name and its message

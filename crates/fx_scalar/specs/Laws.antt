@@ -1,7 +1,7 @@
 -- What holds of all functions of values.
 use Rattle.std.specs.Prelude.{◌≡◌, List}
-use Rattle.fx_data.specs.Values.{Data}
-use Rattle.fx_trees.specs.declared.functions.Fun.{Fun}
+use Rattle.fx_types.specs.Values.{Data}
+use Rattle.fx_core.specs.declared.functions.Fun.{Fun}
 use Rattle.fx_scalar.specs.ScalarFunctions.{IsAnswer}
 
 -- a function has at most one answer to its arguments

@@ -3,32 +3,32 @@ use Rattle.std.specs.Prelude.{◌≡◌, ◌↔◌, ℕ, ℤ, pos, neg_ℤ, ◌/
 use Rattle.fx_number.specs.Decimal.{Checked, IsPower, UnlessZero, product_of, quotient_of, remainder_of, rounded_to}
 use Rattle.fx_number.specs.declared.NumErr.{NumErr}
 use Rattle.fx_number.specs.declared.Way.TheVariants.{Near, Up, Down, Floor}
-use Rattle.fx_data.specs.Words.{scalars_of}
-use Rattle.fx_data.specs.Days.{IsDay}
-use Rattle.fx_data.specs.Values.{Data, blank, number, text, boolean, fault}
-use Rattle.fx_data.specs.Types.{numbers}
-use Rattle.fx_data.specs.declared.faults.Kind.{Kind}
-use Rattle.fx_data.specs.declared.faults.Kind.TheVariants.{InvalidArgument}
-use Rattle.fx_data.specs.declared.comparisons.Cmp.{Cmp}
-use Rattle.fx_data.specs.declared.comparisons.Cmp.TheVariants.{Eq, Ne, Lt, Le, Gt, Ge}
+use Rattle.fx_types.specs.Words.{scalars_of}
+use Rattle.fx_types.specs.Days.{IsDay}
+use Rattle.fx_types.specs.Values.{Data, blank, number, text, boolean, fault}
+use Rattle.fx_types.specs.Types.{numbers}
+use Rattle.fx_types.specs.declared.faults.Kind.{Kind}
+use Rattle.fx_types.specs.declared.faults.Kind.TheVariants.{InvalidArgument}
+use Rattle.fx_types.specs.declared.comparisons.Cmp.{Cmp}
+use Rattle.fx_types.specs.declared.comparisons.Cmp.TheVariants.{Eq, Ne, Lt, Le, Gt, Ge}
 use Rattle.fx_value.specs.Operators.{holds_of, CanCompare}
 use Rattle.fx_value.specs.Coercion.{IsCoerced}
-use Rattle.fx_trees.specs.declared.functions.Fun.{Fun}
-use Rattle.fx_trees.specs.declared.functions.Fun.TheVariants as fun
-use Rattle.fx_trees.specs.declared.rows.Takes.{Takes}
-use Rattle.fx_trees.specs.declared.rows.Takes.TheVariants as takes
-use Rattle.fx_trees.specs.Rows.{row_of}
-use Rattle.fx_builtins.specs.Texts.{made, left_of, right_of, mid_of, replace_of, joined, lower_of, upper_of, trimmed}
-use Rattle.fx_builtins.specs.Search.{IsFound}
-use Rattle.fx_builtins.specs.Substitution.{IsSubstituted}
-use Rattle.fx_builtins.specs.Folding.{BeginsWithoutCase, EndsWithoutCase, HasPart, HasPartWithoutCase}
-use Rattle.fx_builtins.specs.Numbers.{AsKind}
-use Rattle.fx_builtins.specs.Folds.{present, IsSum, IsLeast, IsGreatest, average_of}
-use Rattle.fx_builtins.specs.Formats.{format_of}
-use Rattle.fx_data.specs.Civil.{civil_of}
-use Rattle.fx_data.specs.DateText.{date_text}
-use Rattle.fx_builtins.specs.Dates.{IsDayOrInvalid, IsLater, IsShifted, difference, number_of_parts, weekday_of}
-use Rattle.fx_builtins.specs.DateTexts.{text_in as date_text_in}
+use Rattle.fx_core.specs.declared.functions.Fun.{Fun}
+use Rattle.fx_core.specs.declared.functions.Fun.TheVariants as fun
+use Rattle.fx_core.specs.declared.rows.Takes.{Takes}
+use Rattle.fx_core.specs.declared.rows.Takes.TheVariants as takes
+use Rattle.fx_core.specs.Rows.{row_of}
+use Rattle.fx_primitives.specs.Texts.{made, left_of, right_of, mid_of, replace_of, joined, lower_of, upper_of, trimmed}
+use Rattle.fx_primitives.specs.Search.{IsFound}
+use Rattle.fx_primitives.specs.Substitution.{IsSubstituted}
+use Rattle.fx_primitives.specs.Folding.{BeginsWithoutCase, EndsWithoutCase, HasPart, HasPartWithoutCase}
+use Rattle.fx_primitives.specs.Numbers.{AsKind}
+use Rattle.fx_primitives.specs.Folds.{present, IsSum, IsLeast, IsGreatest, average_of}
+use Rattle.fx_primitives.specs.Formats.{format_of}
+use Rattle.fx_types.specs.Civil.{civil_of}
+use Rattle.fx_types.specs.DateText.{date_text}
+use Rattle.fx_primitives.specs.Dates.{IsDayOrInvalid, IsLater, IsShifted, difference, number_of_parts, weekday_of}
+use Rattle.fx_primitives.specs.DateTexts.{text_in as date_text_in}
 use Rattle.fx_scalar.specs.Arguments.{at, text_in, number_at, text_at, truth_at, date_at, whole_at, maybe_whole_at, maybe_number, first_fault}
 use Rattle.fx_scalar.specs.Errors.{IsErrorOf}
 use Rattle.fx_scalar.specs.Answers.{IsNumber, IsMaybeNumber, IsText, IsDate, IsPosition, IsTruth, IsWhole, OfDate, UnlessFault}

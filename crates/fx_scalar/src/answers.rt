@@ -1,15 +1,15 @@
 //! Answers as values. An error that a function makes has no message.
 ghost use Rattle.std.specs.Prelude.{◌≡◌, IfOk, pos, ◌*ℤ◌, []};
 ghost use Rattle.fx_number.specs.Decimal.{Checked};
-ghost use Rattle.fx_data.specs.ValueView.{view};
-ghost use Rattle.fx_data.specs.Values.{fault as fault_data};
+ghost use Rattle.fx_types.specs.ValueView.{view};
+ghost use Rattle.fx_types.specs.Values.{fault as fault_data};
 ghost use Rattle.fx_scalar.specs.Answers.{IsPosition, IsWhole, date_answer, maybe_answer, number_answer, text_answer};
 
 use crate::arguments::no_text;
 use fx_base::Memory;
-use fx_builtins::with_kind;
-use fx_data::{Day, Fault, Kind, Value, Words};
 use fx_number::{Num, NumErr};
+use fx_primitives::with_kind;
+use fx_types::{Day, Fault, Kind, Value, Words};
 use std::alloc::Global;
 
 /// The value of an error without a message.

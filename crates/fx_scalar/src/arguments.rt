@@ -1,13 +1,13 @@
 //! Arguments, read as values of one type. A blank number is 0, a blank text empty, a blank Boolean
 //! false.
 ghost use Rattle.std.specs.Prelude.{◌≡◌, [], IfOk, MatchOption, map, option_map, pos};
-ghost use Rattle.fx_data.specs.ValueView.{view};
-ghost use Rattle.fx_data.specs.Values.{blank, fault};
+ghost use Rattle.fx_types.specs.ValueView.{view};
+ghost use Rattle.fx_types.specs.Values.{blank, fault};
 ghost use Rattle.fx_scalar.specs.Arguments.{at as at_of, date_at as date_of, first_fault as first_fault_of, maybe_date, maybe_number, maybe_truth, maybe_whole_at as maybe_whole_of, number_at as number_of, text_at as text_of, text_in, truth_at as truth_of, views, whole_at as whole_of};
 
 use fx_base::Memory;
-use fx_data::{Day, Fault, Value, Words};
 use fx_number::Num;
+use fx_types::{Day, Fault, Value, Words};
 use std::alloc::Global;
 
 /// The first error among arguments, from the left.
@@ -63,7 +63,7 @@ pub(crate) fn maybe_number_at(args: &[Value], place: usize) -> Option<Num>
 pub(crate) fn whole_at(args: &[Value], place: usize) -> i64
     ensures { result ≡ whole_of (views args.now) place }
 {
-    fx_builtins::whole_part(number_at(args, place))
+    fx_primitives::whole_part(number_at(args, place))
 }
 
 /// The same where there is an argument at that place.

@@ -1,22 +1,22 @@
 //! Functions of dates. A blank date makes the answer blank.
 ghost use Rattle.std.specs.Prelude.{◌≡◌, IfOk};
-ghost use Rattle.fx_data.specs.ValueView.{view};
-ghost use Rattle.fx_trees.specs.declared.functions.Fun.TheVariants as fun;
+ghost use Rattle.fx_types.specs.ValueView.{view};
+ghost use Rattle.fx_core.specs.declared.functions.Fun.TheVariants as fun;
 ghost use Rattle.fx_scalar.specs.Arguments.{views};
 ghost use Rattle.fx_scalar.specs.ScalarFunctions.{IsResult, IsToday};
 
 use crate::answers::{date as date_value, whole};
 use crate::arguments::{date_at, no_text, number_at, text_at, whole_at};
 use fx_base::Memory;
-use fx_data::{Value, Words};
-use fx_trees::{DateFormat, TimeUnit};
+use fx_core::{DateFormat, TimeUnit};
+use fx_types::{Value, Words};
 use std::alloc::Global;
 
 pub(crate) fn add_to_date(alloc: Global, args: &[Value]) -> Result<Value, Memory>
     ensures { IfOk result (λ v. IsResult fun.AddDateNumber (views args.now) (view v)) }
 {
     match date_at(args, 0) {
-        Some(day) => date_value(alloc, fx_builtins::add_days(day, number_at(args, 1))),
+        Some(day) => date_value(alloc, fx_primitives::add_days(day, number_at(args, 1))),
         None => Ok(Value::Blank),
     }
 }
@@ -25,7 +25,7 @@ pub(crate) fn add_date_to(alloc: Global, args: &[Value]) -> Result<Value, Memory
     ensures { IfOk result (λ v. IsResult fun.AddNumberDate (views args.now) (view v)) }
 {
     match date_at(args, 1) {
-        Some(day) => date_value(alloc, fx_builtins::add_days(day, number_at(args, 0))),
+        Some(day) => date_value(alloc, fx_primitives::add_days(day, number_at(args, 0))),
         None => Ok(Value::Blank),
     }
 }
@@ -34,7 +34,7 @@ pub(crate) fn take_from_date(alloc: Global, args: &[Value]) -> Result<Value, Mem
     ensures { IfOk result (λ v. IsResult fun.SubDateNumber (views args.now) (view v)) }
 {
     match date_at(args, 0) {
-        Some(day) => date_value(alloc, fx_builtins::sub_days(day, number_at(args, 1))),
+        Some(day) => date_value(alloc, fx_primitives::sub_days(day, number_at(args, 1))),
         None => Ok(Value::Blank),
     }
 }
@@ -43,7 +43,7 @@ pub(crate) fn day(alloc: Global, args: &[Value]) -> Result<Value, Memory>
     ensures { IfOk result (λ v. IsResult fun.Day (views args.now) (view v)) }
 {
     match date_at(args, 0) {
-        Some(day) => whole(alloc, i128::from(fx_builtins::day_of_month(day))),
+        Some(day) => whole(alloc, i128::from(fx_primitives::day_of_month(day))),
         None => Ok(Value::Blank),
     }
 }
@@ -52,7 +52,7 @@ pub(crate) fn month(alloc: Global, args: &[Value]) -> Result<Value, Memory>
     ensures { IfOk result (λ v. IsResult fun.Month (views args.now) (view v)) }
 {
     match date_at(args, 0) {
-        Some(day) => whole(alloc, i128::from(fx_builtins::month(day))),
+        Some(day) => whole(alloc, i128::from(fx_primitives::month(day))),
         None => Ok(Value::Blank),
     }
 }
@@ -61,7 +61,7 @@ pub(crate) fn year(alloc: Global, args: &[Value]) -> Result<Value, Memory>
     ensures { IfOk result (λ v. IsResult fun.Year (views args.now) (view v)) }
 {
     match date_at(args, 0) {
-        Some(day) => whole(alloc, i128::from(fx_builtins::year(day))),
+        Some(day) => whole(alloc, i128::from(fx_primitives::year(day))),
         None => Ok(Value::Blank),
     }
 }
@@ -70,7 +70,7 @@ pub(crate) fn weekday(alloc: Global, args: &[Value]) -> Result<Value, Memory>
     ensures { IfOk result (λ v. IsResult fun.Weekday (views args.now) (view v)) }
 {
     match date_at(args, 0) {
-        Some(day) => whole(alloc, i128::from(fx_builtins::weekday(day))),
+        Some(day) => whole(alloc, i128::from(fx_primitives::weekday(day))),
         None => Ok(Value::Blank),
     }
 }
@@ -84,7 +84,10 @@ pub(crate) fn days_between(alloc: Global, args: &[Value]) -> Result<Value, Memor
     let Some(second) = date_at(args, 1) else {
         return Ok(Value::Blank);
     };
-    whole(alloc, i128::from(fx_builtins::days_between(first, second)))
+    whole(
+        alloc,
+        i128::from(fx_primitives::days_between(first, second)),
+    )
 }
 
 pub(crate) fn date(alloc: Global, args: &[Value]) -> Result<Value, Memory>
@@ -92,14 +95,14 @@ pub(crate) fn date(alloc: Global, args: &[Value]) -> Result<Value, Memory>
 {
     let year = whole_at(args, 0);
     let month = whole_at(args, 1);
-    date_value(alloc, fx_builtins::date(year, month, whole_at(args, 2)))
+    date_value(alloc, fx_primitives::date(year, month, whole_at(args, 2)))
 }
 
 pub(crate) fn read_date(alloc: Global, args: &[Value]) -> Result<Value, Memory>
     ensures { IfOk result (λ v. IsResult fun.DateValue (views args.now) (view v)) }
 {
     let text = text_at(alloc, args, 0)?;
-    date_value(alloc, fx_builtins::date_value(text.as_str()))
+    date_value(alloc, fx_primitives::date_value(text.as_str()))
 }
 
 pub(crate) fn date_add(alloc: Global, unit: TimeUnit, args: &[Value]) -> Result<Value, Memory>
@@ -108,7 +111,7 @@ pub(crate) fn date_add(alloc: Global, unit: TimeUnit, args: &[Value]) -> Result<
     match date_at(args, 0) {
         Some(day) => {
             let count = whole_at(args, 1);
-            date_value(alloc, fx_builtins::date_add(day, count, unit))
+            date_value(alloc, fx_primitives::date_add(day, count, unit))
         }
         None => Ok(Value::Blank),
     }
@@ -125,7 +128,7 @@ pub(crate) fn date_diff(alloc: Global, unit: TimeUnit, args: &[Value]) -> Result
     };
     whole(
         alloc,
-        i128::from(fx_builtins::date_diff(first, second, unit)),
+        i128::from(fx_primitives::date_diff(first, second, unit)),
     )
 }
 
@@ -139,7 +142,7 @@ pub(crate) fn format_date(
 {
     match date_at(args, 0) {
         Some(day) => {
-            let text = fx_builtins::format_day(alloc, day, format)?;
+            let text = fx_primitives::format_day(alloc, day, format)?;
             Ok(Value::Text(Words::of(alloc, text.as_str())?))
         }
         None => Ok(Value::Text(no_text(alloc)?)),
@@ -151,5 +154,5 @@ pub(crate) fn format_date(
 pub fn today(alloc: Global, moment: u64) -> Result<Value, Memory>
     ensures { IfOk result (λ v. IsToday moment (view v)) }
 {
-    date_value(alloc, fx_builtins::today(moment))
+    date_value(alloc, fx_primitives::today(moment))
 }

@@ -1,9 +1,9 @@
 //! Errors as records, and the errors that records tell.
 ghost use Rattle.std.specs.Prelude.{◌≡◌, IfOk};
-ghost use Rattle.fx_data.specs.Types.{texts};
-ghost use Rattle.fx_data.specs.ValueView.{view};
-ghost use Rattle.fx_data.specs.Values.{field_list, rec};
-ghost use Rattle.fx_trees.specs.declared.functions.Fun.TheVariants as fun;
+ghost use Rattle.fx_types.specs.Types.{texts};
+ghost use Rattle.fx_types.specs.ValueView.{view};
+ghost use Rattle.fx_types.specs.Values.{field_list, rec};
+ghost use Rattle.fx_core.specs.declared.functions.Fun.TheVariants as fun;
 ghost use Rattle.fx_value.specs.Coercion.{IsCoerced, value_in};
 ghost use Rattle.fx_scalar.specs.Arguments.{text_in, views};
 ghost use Rattle.fx_scalar.specs.Errors.{IsErrorOf, as_record, error_of as error_value, kind_in};
@@ -11,7 +11,7 @@ ghost use Rattle.fx_scalar.specs.ScalarFunctions.{IsResult};
 
 use crate::arguments::{at, text};
 use fx_base::Memory;
-use fx_data::{Fault, Fields, Kind, Ty, Value, Words};
+use fx_types::{Fault, Fields, Kind, Ty, Value, Words};
 use fx_value::coerce;
 use std::alloc::Global;
 
@@ -72,7 +72,7 @@ fn error_of(alloc: Global, kind: &Value, message: &Value) -> Result<Value, Memor
 fn kind_of(name: &Words) -> Kind
     ensures { result ≡ kind_in name.now }
 {
-    fx_trees::literals::error_kind(name.as_str()).unwrap_or(Kind::Custom)
+    fx_core::literals::error_kind(name.as_str()).unwrap_or(Kind::Custom)
 }
 
 /// An error as a record of its kind's name and its message, which is what `FirstError` is worth.

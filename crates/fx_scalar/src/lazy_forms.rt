@@ -1,11 +1,11 @@
 //! What the forms and functions that evaluate no more parts than they need decide by values.
 ghost use Rattle.std.specs.Prelude.{◌≡◌};
-ghost use Rattle.fx_data.specs.ValueView.{view};
+ghost use Rattle.fx_types.specs.ValueView.{view};
 ghost use Rattle.fx_scalar.specs.LazyForms.{CanMatch, IsSplit, decision_of, equality, none_left as none_left_of};
 ghost use Rattle.fx_scalar.specs.ScalarFunctions.{is_blank as is_blank_value};
 
-use fx_data::{Cmp, Fault, Value};
-use fx_trees::Form;
+use fx_core::Form;
+use fx_types::{Cmp, Fault, Value};
 
 /// What the value of a condition decides.
 #[derive(Drop)]

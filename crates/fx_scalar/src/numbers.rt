@@ -1,16 +1,16 @@
 //! Functions of numbers.
 ghost use Rattle.std.specs.Prelude.{◌≡◌, IfOk, pos};
-ghost use Rattle.fx_data.specs.ValueView.{view};
-ghost use Rattle.fx_trees.specs.declared.functions.Fun.TheVariants as fun;
+ghost use Rattle.fx_types.specs.ValueView.{view};
+ghost use Rattle.fx_core.specs.declared.functions.Fun.TheVariants as fun;
 ghost use Rattle.fx_scalar.specs.Arguments.{views};
 ghost use Rattle.fx_scalar.specs.ScalarFunctions.{IsResult};
 
 use crate::answers::{maybe, number};
 use crate::arguments::{number_at, numbers, text_at, zero};
 use fx_base::Memory;
-use fx_builtins::with_kind;
-use fx_data::{Ty, Value};
 use fx_number::{Num, Way};
+use fx_primitives::with_kind;
+use fx_types::{Ty, Value};
 use std::alloc::Global;
 
 pub(crate) fn add(alloc: Global, args: &[Value]) -> Result<Value, Memory>
@@ -50,7 +50,7 @@ pub(crate) fn raise(alloc: Global, args: &[Value]) -> Result<Value, Memory>
 {
     let a = number_at(args, 0);
     let b = number_at(args, 1);
-    number(alloc, fx_builtins::power(a, b))
+    number(alloc, fx_primitives::power(a, b))
 }
 
 pub(crate) fn modulo(alloc: Global, args: &[Value]) -> Result<Value, Memory>
@@ -58,7 +58,7 @@ pub(crate) fn modulo(alloc: Global, args: &[Value]) -> Result<Value, Memory>
 {
     let a = number_at(args, 0);
     let b = number_at(args, 1);
-    number(alloc, fx_builtins::modulo(a, b))
+    number(alloc, fx_primitives::modulo(a, b))
 }
 
 pub(crate) fn power(alloc: Global, args: &[Value]) -> Result<Value, Memory>
@@ -66,7 +66,7 @@ pub(crate) fn power(alloc: Global, args: &[Value]) -> Result<Value, Memory>
 {
     let a = number_at(args, 0);
     let b = number_at(args, 1);
-    number(alloc, fx_builtins::power(a, b))
+    number(alloc, fx_primitives::power(a, b))
 }
 
 pub(crate) fn round(alloc: Global, args: &[Value]) -> Result<Value, Memory>
@@ -74,7 +74,7 @@ pub(crate) fn round(alloc: Global, args: &[Value]) -> Result<Value, Memory>
 {
     let a = number_at(args, 0);
     let b = number_at(args, 1);
-    number(alloc, fx_builtins::round(a, b, Way::Near))
+    number(alloc, fx_primitives::round(a, b, Way::Near))
 }
 
 pub(crate) fn round_up(alloc: Global, args: &[Value]) -> Result<Value, Memory>
@@ -82,7 +82,7 @@ pub(crate) fn round_up(alloc: Global, args: &[Value]) -> Result<Value, Memory>
 {
     let a = number_at(args, 0);
     let b = number_at(args, 1);
-    number(alloc, fx_builtins::round(a, b, Way::Up))
+    number(alloc, fx_primitives::round(a, b, Way::Up))
 }
 
 pub(crate) fn round_down(alloc: Global, args: &[Value]) -> Result<Value, Memory>
@@ -90,7 +90,7 @@ pub(crate) fn round_down(alloc: Global, args: &[Value]) -> Result<Value, Memory>
 {
     let a = number_at(args, 0);
     let b = number_at(args, 1);
-    number(alloc, fx_builtins::round(a, b, Way::Down))
+    number(alloc, fx_primitives::round(a, b, Way::Down))
 }
 
 pub(crate) fn percent(alloc: Global, args: &[Value]) -> Result<Value, Memory>
@@ -111,41 +111,41 @@ pub(crate) fn negate(alloc: Global, args: &[Value]) -> Result<Value, Memory>
 pub(crate) fn int(alloc: Global, args: &[Value]) -> Result<Value, Memory>
     ensures { IfOk result (λ v. IsResult fun.Int (views args.now) (view v)) }
 {
-    number(alloc, fx_builtins::int(number_at(args, 0)))
+    number(alloc, fx_primitives::int(number_at(args, 0)))
 }
 
 pub(crate) fn trunc(alloc: Global, args: &[Value]) -> Result<Value, Memory>
     ensures { IfOk result (λ v. IsResult fun.Trunc (views args.now) (view v)) }
 {
-    number(alloc, fx_builtins::trunc(number_at(args, 0)))
+    number(alloc, fx_primitives::trunc(number_at(args, 0)))
 }
 
 pub(crate) fn sum(alloc: Global, args: &[Value]) -> Result<Value, Memory>
     ensures { IfOk result (λ v. IsResult fun.Sum (views args.now) (view v)) }
 {
     let numbers = numbers(alloc, args)?;
-    maybe(alloc, fx_builtins::sum(&numbers))
+    maybe(alloc, fx_primitives::sum(&numbers))
 }
 
 pub(crate) fn min(alloc: Global, args: &[Value]) -> Result<Value, Memory>
     ensures { IfOk result (λ v. IsResult fun.Min (views args.now) (view v)) }
 {
     let numbers = numbers(alloc, args)?;
-    maybe(alloc, Ok(fx_builtins::min(&numbers)))
+    maybe(alloc, Ok(fx_primitives::min(&numbers)))
 }
 
 pub(crate) fn max(alloc: Global, args: &[Value]) -> Result<Value, Memory>
     ensures { IfOk result (λ v. IsResult fun.Max (views args.now) (view v)) }
 {
     let numbers = numbers(alloc, args)?;
-    maybe(alloc, Ok(fx_builtins::max(&numbers)))
+    maybe(alloc, Ok(fx_primitives::max(&numbers)))
 }
 
 pub(crate) fn average(alloc: Global, args: &[Value]) -> Result<Value, Memory>
     ensures { IfOk result (λ v. IsResult fun.Average (views args.now) (view v)) }
 {
     let numbers = numbers(alloc, args)?;
-    maybe(alloc, Ok(fx_builtins::average(&numbers)))
+    maybe(alloc, Ok(fx_primitives::average(&numbers)))
 }
 
 pub(crate) fn value(alloc: Global, args: &[Value]) -> Result<Value, Memory>
@@ -158,7 +158,7 @@ pub(crate) fn value(alloc: Global, args: &[Value]) -> Result<Value, Memory>
 pub(crate) fn abs(args: &[Value]) -> Value
     ensures { IsResult fun.Abs (views args.now) (view result) }
 {
-    Value::Number(fx_builtins::abs(number_at(args, 0)))
+    Value::Number(fx_primitives::abs(number_at(args, 0)))
 }
 
 fn hundred() -> Num

@@ -1,8 +1,8 @@
 //! The table of scalar functions.
 ghost use Rattle.std.specs.Prelude.{◌≡◌, IfOk, IsTrue, option_map};
-ghost use Rattle.fx_data.specs.ValueView.{view};
-ghost use Rattle.fx_data.specs.Values.{fault};
-ghost use Rattle.fx_trees.specs.Rows.{row_of};
+ghost use Rattle.fx_types.specs.ValueView.{view};
+ghost use Rattle.fx_types.specs.Values.{fault};
+ghost use Rattle.fx_core.specs.Rows.{row_of};
 ghost use Rattle.fx_scalar.specs.Arguments.{views};
 ghost use Rattle.fx_scalar.specs.Fitting.{FitPlaces, FitsAnswer};
 ghost use Rattle.fx_scalar.specs.ScalarFunctions.{CanApply, CanCompareIf, IsAnswer, IsResult, answered_fault as answered_fault_of, comparison_of, is_strict as is_strict_function, is_value};
@@ -10,8 +10,8 @@ ghost use Rattle.fx_scalar.specs.ScalarFunctions.{CanApply, CanCompareIf, IsAnsw
 use crate::arguments::first_fault;
 use crate::{dates, errors, numbers, texts, truths};
 use fx_base::Memory;
-use fx_data::{Cmp, Fault, Value};
-use fx_trees::Fun;
+use fx_core::Fun;
+use fx_types::{Cmp, Fault, Value};
 use std::alloc::Global;
 
 /// What a function of values, or an operator, answers to its arguments. Blank arguments count as 0, as

@@ -1,44 +1,44 @@
 //! Functions of texts.
 ghost use Rattle.std.specs.Prelude.{◌≡◌, IfOk};
-ghost use Rattle.fx_data.specs.ValueView.{view};
-ghost use Rattle.fx_trees.specs.declared.functions.Fun.TheVariants as fun;
-ghost use Rattle.fx_builtins.specs.Search.{IsFound};
+ghost use Rattle.fx_types.specs.ValueView.{view};
+ghost use Rattle.fx_core.specs.declared.functions.Fun.TheVariants as fun;
+ghost use Rattle.fx_primitives.specs.Search.{IsFound};
 ghost use Rattle.fx_scalar.specs.Arguments.{text_at as text_of, views};
 ghost use Rattle.fx_scalar.specs.ScalarFunctions.{IsResult, start_of};
 
 use crate::answers::{count, position, text};
 use crate::arguments::{at, maybe_number_at, maybe_whole_at, no_text, text_at, texts, whole_at};
 use fx_base::Memory;
-use fx_data::{Kind, Value};
-use fx_trees::NumberFormat;
+use fx_core::NumberFormat;
+use fx_types::{Kind, Value};
 use std::alloc::Global;
 
 pub(crate) fn concatenate(alloc: Global, args: &[Value]) -> Result<Value, Memory>
     ensures { IfOk result (λ v. IsResult fun.Concatenate (views args.now) (view v)) }
 {
     let texts = texts(alloc, args)?;
-    text(alloc, fx_builtins::concatenate(alloc, &texts)?)
+    text(alloc, fx_primitives::concatenate(alloc, &texts)?)
 }
 
 pub(crate) fn length(alloc: Global, args: &[Value]) -> Result<Value, Memory>
     ensures { IfOk result (λ v. IsResult fun.Len (views args.now) (view v)) }
 {
     let text = text_at(alloc, args, 0)?;
-    count(alloc, fx_builtins::length(&text))
+    count(alloc, fx_primitives::length(&text))
 }
 
 pub(crate) fn left(alloc: Global, args: &[Value]) -> Result<Value, Memory>
     ensures { IfOk result (λ v. IsResult fun.Left (views args.now) (view v)) }
 {
     let all = text_at(alloc, args, 0)?;
-    text(alloc, fx_builtins::left(alloc, &all, whole_at(args, 1))?)
+    text(alloc, fx_primitives::left(alloc, &all, whole_at(args, 1))?)
 }
 
 pub(crate) fn right(alloc: Global, args: &[Value]) -> Result<Value, Memory>
     ensures { IfOk result (λ v. IsResult fun.Right (views args.now) (view v)) }
 {
     let all = text_at(alloc, args, 0)?;
-    text(alloc, fx_builtins::right(alloc, &all, whole_at(args, 1))?)
+    text(alloc, fx_primitives::right(alloc, &all, whole_at(args, 1))?)
 }
 
 pub(crate) fn mid(alloc: Global, args: &[Value]) -> Result<Value, Memory>
@@ -48,7 +48,7 @@ pub(crate) fn mid(alloc: Global, args: &[Value]) -> Result<Value, Memory>
     let count = maybe_whole_at(args, 2);
     text(
         alloc,
-        fx_builtins::mid(alloc, &all, whole_at(args, 1), count)?,
+        fx_primitives::mid(alloc, &all, whole_at(args, 1), count)?,
     )
 }
 
@@ -56,21 +56,21 @@ pub(crate) fn lower(alloc: Global, args: &[Value]) -> Result<Value, Memory>
     ensures { IfOk result (λ v. IsResult fun.Lower (views args.now) (view v)) }
 {
     let all = text_at(alloc, args, 0)?;
-    text(alloc, fx_builtins::lower(alloc, &all)?)
+    text(alloc, fx_primitives::lower(alloc, &all)?)
 }
 
 pub(crate) fn upper(alloc: Global, args: &[Value]) -> Result<Value, Memory>
     ensures { IfOk result (λ v. IsResult fun.Upper (views args.now) (view v)) }
 {
     let all = text_at(alloc, args, 0)?;
-    text(alloc, fx_builtins::upper(alloc, &all)?)
+    text(alloc, fx_primitives::upper(alloc, &all)?)
 }
 
 pub(crate) fn trim(alloc: Global, args: &[Value]) -> Result<Value, Memory>
     ensures { IfOk result (λ v. IsResult fun.Trim (views args.now) (view v)) }
 {
     let all = text_at(alloc, args, 0)?;
-    text(alloc, fx_builtins::trim(alloc, &all)?)
+    text(alloc, fx_primitives::trim(alloc, &all)?)
 }
 
 pub(crate) fn find(alloc: Global, args: &[Value]) -> Result<Value, Memory>
@@ -86,7 +86,7 @@ fn find_place(alloc: Global, args: &[Value]) -> Result<Result<Option<usize>, Kin
 {
     let part = text_at(alloc, args, 0)?;
     let all = text_at(alloc, args, 1)?;
-    fx_builtins::find(alloc, &part, &all, start(args))
+    fx_primitives::find(alloc, &part, &all, start(args))
 }
 
 // The position from which a text is sought.
@@ -108,7 +108,7 @@ pub(crate) fn substitute(alloc: Global, args: &[Value]) -> Result<Value, Memory>
     let number = maybe_whole_at(args, 3);
     text(
         alloc,
-        fx_builtins::substitute(alloc, &all, &old, &new, number)?,
+        fx_primitives::substitute(alloc, &all, &old, &new, number)?,
     )
 }
 
@@ -120,7 +120,7 @@ pub(crate) fn replace(alloc: Global, args: &[Value]) -> Result<Value, Memory>
     let count = whole_at(args, 2);
     text(
         alloc,
-        fx_builtins::replace(alloc, &all, whole_at(args, 1), count, &new)?,
+        fx_primitives::replace(alloc, &all, whole_at(args, 1), count, &new)?,
     )
 }
 
@@ -133,7 +133,7 @@ pub(crate) fn format_number(
     ensures { IfOk result (λ v. IsResult (fun.FormatNumber format) (views args.now) (view v)) }
 {
     match maybe_number_at(args, 0) {
-        Some(number) => Ok(Value::Text(fx_builtins::format(alloc, number, format)?)),
+        Some(number) => Ok(Value::Text(fx_primitives::format(alloc, number, format)?)),
         None => Ok(Value::Text(no_text(alloc)?)),
     }
 }

@@ -1,7 +1,7 @@
 //! Functions that answer Booleans.
 ghost use Rattle.std.specs.Prelude.{◌≡◌, IfOk, Some};
-ghost use Rattle.fx_data.specs.ValueView.{view};
-ghost use Rattle.fx_trees.specs.declared.functions.Fun.TheVariants as fun;
+ghost use Rattle.fx_types.specs.ValueView.{view};
+ghost use Rattle.fx_core.specs.declared.functions.Fun.TheVariants as fun;
 ghost use Rattle.fx_value.specs.Operators.{CanCompare};
 ghost use Rattle.fx_scalar.specs.Arguments.{at as at_of, views};
 ghost use Rattle.fx_scalar.specs.ScalarFunctions.{IsCompared, IsResult, coalesced, is_blank as is_blank_value, is_fault as is_fault_value};
@@ -9,7 +9,7 @@ ghost use Rattle.fx_scalar.specs.ScalarFunctions.{IsCompared, IsResult, coalesce
 use crate::arguments::{at, at_or, text_at, truth_at};
 use crate::lazy_forms::is_blank as is_blank_one;
 use fx_base::Memory;
-use fx_data::{Cmp, Value};
+use fx_types::{Cmp, Value};
 use std::alloc::Global;
 
 pub(crate) fn is_in(alloc: Global, args: &[Value]) -> Result<Value, Memory>
@@ -17,7 +17,7 @@ pub(crate) fn is_in(alloc: Global, args: &[Value]) -> Result<Value, Memory>
 {
     let first = text_at(alloc, args, 0)?;
     let second = text_at(alloc, args, 1)?;
-    Ok(Value::Boolean(fx_builtins::contains(alloc, &second, &first)?))
+    Ok(Value::Boolean(fx_primitives::contains(alloc, &second, &first)?))
 }
 
 pub(crate) fn is_exactly_in(alloc: Global, args: &[Value]) -> Result<Value, Memory>
@@ -25,7 +25,7 @@ pub(crate) fn is_exactly_in(alloc: Global, args: &[Value]) -> Result<Value, Memo
 {
     let first = text_at(alloc, args, 0)?;
     let second = text_at(alloc, args, 1)?;
-    Ok(Value::Boolean(fx_builtins::contains_exactly(alloc, &second, &first)?))
+    Ok(Value::Boolean(fx_primitives::contains_exactly(alloc, &second, &first)?))
 }
 
 pub(crate) fn starts_with(alloc: Global, args: &[Value]) -> Result<Value, Memory>
@@ -33,7 +33,7 @@ pub(crate) fn starts_with(alloc: Global, args: &[Value]) -> Result<Value, Memory
 {
     let first = text_at(alloc, args, 0)?;
     let second = text_at(alloc, args, 1)?;
-    Ok(Value::Boolean(fx_builtins::starts_with(alloc, &first, &second)?))
+    Ok(Value::Boolean(fx_primitives::starts_with(alloc, &first, &second)?))
 }
 
 pub(crate) fn ends_with(alloc: Global, args: &[Value]) -> Result<Value, Memory>
@@ -41,7 +41,7 @@ pub(crate) fn ends_with(alloc: Global, args: &[Value]) -> Result<Value, Memory>
 {
     let first = text_at(alloc, args, 0)?;
     let second = text_at(alloc, args, 1)?;
-    Ok(Value::Boolean(fx_builtins::ends_with(alloc, &first, &second)?))
+    Ok(Value::Boolean(fx_primitives::ends_with(alloc, &first, &second)?))
 }
 
 // Whether an operator holds of the two arguments, which it compares.

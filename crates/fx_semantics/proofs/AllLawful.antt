@@ -1,15 +1,15 @@
 -- The types of all trees have rising columns where those around, and those that the tree names, have.
 use Rattle.std.proofs.Common.{◌≡◌, ℕ, List, [], ◌∷◌, ◌++◌, length, false, Some, refl, sym, subst}
-use Rattle.fx_data.specs.Types.{Shape, booleans, texts, tables}
+use Rattle.fx_types.specs.Types.{Shape, booleans, texts, tables}
 use Rattle.fx_semantics.specs.Laws.{AllTypingsLawful}
 use Rattle.fx_semantics.specs.NamedTypes.{HasLawfulTypes, HaveLawfulTypes, NamesLawfulType}
 use Rattle.fx_semantics.proofs.Stilled.{stills, stills_lawful, stills_typed, same_count, still_ruled}
 use Rattle.fx_semantics.proofs.Whole.{lawful_here, parts_lawful}
 use Rattle.fx_semantics.specs.Sound.{AreLawfulTypes, AreLawfulTypings, IsLawfulContext, IsLawfulTyping, IsLawfulType, NamesLawful, TypingsLawful}
-use Rattle.fx_trees.specs.declared.deeds.Deed.{Deed}
-use Rattle.fx_trees.specs.declared.deeds.Deed.TheVariants as deed
-use Rattle.fx_trees.specs.Term.{Term, Terms, of, nil, cons, Top}
-use Rattle.fx_trees.specs.Term as top
+use Rattle.fx_core.specs.declared.deeds.Deed.{Deed}
+use Rattle.fx_core.specs.declared.deeds.Deed.TheVariants as deed
+use Rattle.fx_core.specs.Term.{Term, Terms, of, nil, cons, Top}
+use Rattle.fx_core.specs.Term as top
 use Rattle.fx_typing.specs.Acts.{is_acting}
 use Rattle.fx_typing.specs.WellTyped.{Context, IsDone, IsRuled, IsTyped, AreTyped, context_for, last_type, parts_count, standing_at, target_source}
 use Rattle.fx_semantics.proofs.Lawful.{context_lawful, types_more}

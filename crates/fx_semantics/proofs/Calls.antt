@@ -1,22 +1,22 @@
 -- Calls of functions of values give values that fit.
 use Rattle.std.proofs.Common.{◌≡◌, ℕ, zero, suc, ◌+◌, ◌<◌, List, [], ◌∷◌, length, true, Option, Ok, refl, ap, subst, arith}
-use Rattle.fx_data.specs.declared.faults.Fault.{Fault}
-use Rattle.fx_data.specs.Types.{Shape}
-use Rattle.fx_data.specs.Values.{Data}
-use Rattle.fx_trees.specs.Rows.{shape_of, row_of, takes_at}
-use Rattle.fx_trees.specs.declared.functions.Fun.{Fun}
-use Rattle.fx_trees.specs.declared.functions.Fun.TheVariants as fun
-use Rattle.fx_trees.specs.declared.rows.Answer.{Answer}
-use Rattle.fx_trees.specs.declared.rows.Answer.TheVariants as answer
-use Rattle.fx_trees.specs.declared.rows.Scalar.{Scalar}
-use Rattle.fx_trees.specs.declared.rows.Takes.{Takes}
-use Rattle.fx_trees.specs.declared.rows.Takes.TheVariants as takes
-use Rattle.fx_trees.specs.declared.rows.Row.{Row}
+use Rattle.fx_types.specs.declared.faults.Fault.{Fault}
+use Rattle.fx_types.specs.Types.{Shape}
+use Rattle.fx_types.specs.Values.{Data}
+use Rattle.fx_core.specs.Rows.{shape_of, row_of, takes_at}
+use Rattle.fx_core.specs.declared.functions.Fun.{Fun}
+use Rattle.fx_core.specs.declared.functions.Fun.TheVariants as fun
+use Rattle.fx_core.specs.declared.rows.Answer.{Answer}
+use Rattle.fx_core.specs.declared.rows.Answer.TheVariants as answer
+use Rattle.fx_core.specs.declared.rows.Scalar.{Scalar}
+use Rattle.fx_core.specs.declared.rows.Takes.{Takes}
+use Rattle.fx_core.specs.declared.rows.Takes.TheVariants as takes
+use Rattle.fx_core.specs.declared.rows.Row.{Row}
 use Rattle.fx_scalar.proofs.AnswerFits.{answers_fit}
 use Rattle.fx_scalar.specs.Arguments.{at}
 use Rattle.fx_scalar.specs.Fitting.{FitPlaces, FitsAnswer, fits_place}
 use Rattle.fx_scalar.specs.ScalarFunctions.{IsAnswer}
-use Rattle.fx_trees.specs.Term.{Terms, call}
+use Rattle.fx_core.specs.Term.{Terms, call}
 use Rattle.fx_typing.specs.WellTyped.{Context, Stands, AllStand, AreAll, head_of, standing_at, answered, first_type, paired}
 use Rattle.fx_value.specs.Fits.{fits_in}
 use Rattle.fx_semantics.specs.Around.{Meaning}

@@ -3,12 +3,12 @@ use Rattle.std.proofs.Common.{◌≡◌, ℕ, List, [], ◌∷◌, Bool, true, f
 use Rattle.std.specs.Prelude.{bytes_eq, codes, encode_utf8_all, if◌then◌else◌}
 use Rattle.std.specs.List.{find}
 use Rattle.std.proofs.lemmas.Bool.{and_from}
-use Rattle.fx_data.specs.Types.{Shape, blanks, numbers, texts, booleans, dates, records, tables, ColumnList, no_columns, column}
-use Rattle.fx_data.specs.Values.{Data, blank, number, text, boolean, date, rec, tab, fault, no_fields, field}
+use Rattle.fx_types.specs.Types.{Shape, blanks, numbers, texts, booleans, dates, records, tables, ColumnList, no_columns, column}
+use Rattle.fx_types.specs.Values.{Data, blank, number, text, boolean, date, rec, tab, fault, no_fields, field}
 use Rattle.fx_tables.specs.RowCalls.{CanBeRowType}
 use Rattle.fx_tables.specs.Distinct.{value_name}
 use Rattle.fx_tables.specs.Unions.{fields_in, is_fault, rows_of, union_of}
-use Rattle.fx_trees.specs.ColumnLists.{row_columns, value_column}
+use Rattle.fx_core.specs.ColumnLists.{row_columns, value_column}
 use Rattle.fx_typing.specs.Ways.{way, widening, joined_way, same_shape, changed, refused, same}
 use Rattle.fx_typing.specs.WellTyped.{AreAll}
 use Rattle.fx_typing.proofs.Same.{shape_same}

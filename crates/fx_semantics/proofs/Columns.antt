@@ -7,20 +7,20 @@ use Rattle.std.specs.declared.cmp.Ordering.{Ordering}
 use Rattle.std.specs.declared.cmp.Ordering.TheVariants.{Less, Equal, Greater}
 use Rattle.std.proofs.lemmas.List.Elements.{All-nil, All-cons}
 use Rattle.std.proofs.lemmas.Map.Text.{is_eq-slice_cmp}
-use Rattle.fx_data.specs.Lookup.{item_of}
-use Rattle.fx_data.specs.Types.{Shape, tables, ColumnList, no_columns, column}
-use Rattle.fx_data.specs.Values.{Data, text, field_list}
-use Rattle.fx_trees.specs.SourceTypes.{put_column}
+use Rattle.fx_types.specs.Lookup.{item_of}
+use Rattle.fx_types.specs.Types.{Shape, tables, ColumnList, no_columns, column}
+use Rattle.fx_types.specs.Values.{Data, text, field_list}
+use Rattle.fx_core.specs.SourceTypes.{put_column}
 use Rattle.fx_tables.proofs.FitColumns.{all_renamed_fit, dropped_fit, rows_only_fit, rises_put}
 use Rattle.fx_tables.specs.AggregateCalls.{characters_in}
 use Rattle.fx_tables.specs.ColumnCalls.{in_turn, renamed_columns, without_columns}
 use Rattle.fx_value.specs.Columns.{LacksColumn, Row, only, renamed, with_column, with_field}
 use Rattle.fx_tables.proofs.FitRows.{RowFits}
-use Rattle.fx_trees.specs.Term.{Term, Terms, of, nil, cons, const}
+use Rattle.fx_core.specs.Term.{Term, Terms, of, nil, cons, const}
 use Rattle.fx_typing.specs.Columns.{by_label, dropped, label_of, names_there, shown}
-use Rattle.fx_trees.specs.ColumnLists.{and_then, field_in, if_free, if_there, with_renamed}
+use Rattle.fx_core.specs.ColumnLists.{and_then, field_in, if_free, if_there, with_renamed}
 use Rattle.fx_typing.specs.Columns as columns
-use Rattle.fx_trees.specs.ColumnLists as lists
+use Rattle.fx_core.specs.ColumnLists as lists
 use Rattle.fx_typing.specs.WellTyped.{paired}
 use Rattle.fx_typing.proofs.Operators.{then_ok}
 use Rattle.fx_value.proofs.Unions.{Under, Rises}

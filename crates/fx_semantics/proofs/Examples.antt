@@ -1,12 +1,12 @@
 -- Values of small trees, worked out by hand.
 use Rattle.std.proofs.Common.{[], ◌∷◌, true, false, refl}
 use Rattle.std.specs.Prelude.{pos, codes}
-use Rattle.fx_data.specs.declared.faults.Kind.TheVariants.{Div0}
-use Rattle.fx_data.specs.Values.{blank, number, text, boolean, tab, fault, no_fields, field, no_rows, row}
-use Rattle.fx_trees.specs.declared.functions.Form.TheVariants as form
-use Rattle.fx_trees.specs.declared.functions.Fun.TheVariants as fun
-use Rattle.fx_trees.specs.Term.{Term, of, nil, cons, const, caught, dot, over}
-use Rattle.fx_trees.specs.Term as top
+use Rattle.fx_types.specs.declared.faults.Kind.TheVariants.{Div0}
+use Rattle.fx_types.specs.Values.{blank, number, text, boolean, tab, fault, no_fields, field, no_rows, row}
+use Rattle.fx_core.specs.declared.functions.Form.TheVariants as form
+use Rattle.fx_core.specs.declared.functions.Fun.TheVariants as fun
+use Rattle.fx_core.specs.Term.{Term, of, nil, cons, const, caught, dot, over}
+use Rattle.fx_core.specs.Term as top
 use Rattle.fx_semantics.specs.Around.{Around}
 use Rattle.fx_scalar.specs.Errors.{as_record}
 use Rattle.fx_semantics.specs.Fresh.{IsValue}

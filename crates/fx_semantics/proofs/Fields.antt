@@ -3,11 +3,11 @@ use Rattle.std.proofs.Common.{◌≡◌, ℕ, List, [], ◌∷◌, length, Bool,
 use Rattle.std.specs.Prelude.{◌&&◌, bytes_eq}
 use Rattle.std.specs.List.{find}
 use Rattle.std.proofs.lemmas.Bool.{and_from}
-use Rattle.fx_data.specs.Types.{Shape, records, ColumnList, no_columns, column}
-use Rattle.fx_data.specs.Values.{Data, blank, number, text, boolean, date, rec, tab, fault, FieldList, no_fields, field}
-use Rattle.fx_data.proofs.Utf8Order.{and_second, and_first}
+use Rattle.fx_types.specs.Types.{Shape, records, ColumnList, no_columns, column}
+use Rattle.fx_types.specs.Values.{Data, blank, number, text, boolean, date, rec, tab, fault, FieldList, no_fields, field}
+use Rattle.fx_types.proofs.Utf8Order.{and_second, and_first}
 use Rattle.fx_tables.specs.Unions.{fault_or, is_fault}
-use Rattle.fx_trees.specs.ColumnLists.{field_in}
+use Rattle.fx_core.specs.ColumnLists.{field_in}
 use Rattle.fx_typing.specs.Columns as columns
 use Rattle.fx_typing.specs.WellTyped.{columns_by}
 use Rattle.fx_value.proofs.Widenings.{own_name, same_name}

@@ -1,17 +1,17 @@
 -- The forms give values that fit.
 use Rattle.std.proofs.Common.{◌≡◌, ℕ, suc, List, [], ◌∷◌, ◌++◌, length, Bool, true, false, Option, refl, sym, subst}
-use Rattle.fx_data.specs.declared.faults.Fault.{Fault}
-use Rattle.fx_data.specs.Types.{Shape, booleans}
-use Rattle.fx_data.specs.Values.{Data, blank, number, text, boolean, date, rec, tab, fault}
-use Rattle.fx_trees.specs.Rows.{form_row, takes_at, inner_at, ended_at}
-use Rattle.fx_trees.specs.declared.functions.Form.{Form}
-use Rattle.fx_trees.specs.declared.functions.Form.TheVariants as form
-use Rattle.fx_trees.specs.declared.rows.Ending.{Ending}
-use Rattle.fx_trees.specs.declared.rows.Ending.TheVariants as ending
-use Rattle.fx_trees.specs.declared.rows.Row.{Row}
-use Rattle.fx_trees.specs.declared.rows.Takes.{Takes}
-use Rattle.fx_trees.specs.declared.rows.Takes.TheVariants as takes
-use Rattle.fx_trees.specs.Term.{Top, form}
+use Rattle.fx_types.specs.declared.faults.Fault.{Fault}
+use Rattle.fx_types.specs.Types.{Shape, booleans}
+use Rattle.fx_types.specs.Values.{Data, blank, number, text, boolean, date, rec, tab, fault}
+use Rattle.fx_core.specs.Rows.{form_row, takes_at, inner_at, ended_at}
+use Rattle.fx_core.specs.declared.functions.Form.{Form}
+use Rattle.fx_core.specs.declared.functions.Form.TheVariants as form
+use Rattle.fx_core.specs.declared.rows.Ending.{Ending}
+use Rattle.fx_core.specs.declared.rows.Ending.TheVariants as ending
+use Rattle.fx_core.specs.declared.rows.Row.{Row}
+use Rattle.fx_core.specs.declared.rows.Takes.{Takes}
+use Rattle.fx_core.specs.declared.rows.Takes.TheVariants as takes
+use Rattle.fx_core.specs.Term.{Top, form}
 use Rattle.fx_typing.specs.WellTyped.{Context, Standing, plain, catching, inside, bound, standing_at, standing_of, context_for, AreAll}
 use Rattle.std.specs.Prelude.{nat_eq, ◌%◌, if◌then◌else◌}
 use Rattle.fx_value.specs.Fits.{fits_in}

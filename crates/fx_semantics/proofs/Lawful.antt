@@ -5,25 +5,25 @@ use Rattle.std.specs.Ordering.{nat_cmp, match_ordering}
 use Rattle.std.specs.Cmp.Lexicographic.{slice_cmp}
 use Rattle.std.specs.declared.cmp.Ordering.{Ordering}
 use Rattle.std.specs.declared.cmp.Ordering.TheVariants.{Less, Equal, Greater}
-use Rattle.fx_data.specs.Types.{Shape, blanks, numbers, texts, booleans, dates, records, tables, ColumnList, no_columns, column}
-use Rattle.fx_trees.specs.Rows.{form_row, row_of, shape_of, takes_count}
-use Rattle.fx_trees.specs.declared.functions.Form.{Form}
-use Rattle.fx_trees.specs.declared.functions.Form.TheVariants as form
-use Rattle.fx_trees.specs.declared.functions.Fun.{Fun}
-use Rattle.fx_trees.specs.declared.functions.Fun.TheVariants as fun
-use Rattle.fx_trees.specs.declared.rows.Answer.{Answer}
-use Rattle.fx_trees.specs.declared.rows.Answer.TheVariants as answer
-use Rattle.fx_trees.specs.declared.rows.Scalar.{Scalar}
-use Rattle.fx_trees.specs.declared.rows.Scalar.TheVariants.{Blank, Number, Text, Boolean, Date}
-use Rattle.fx_trees.specs.declared.rows.Takes.{Takes}
-use Rattle.fx_trees.specs.declared.sources.Source.{Source}
-use Rattle.fx_trees.specs.SourceTypes.{put_column}
-use Rattle.fx_trees.specs.Term.{Term, Terms, of, nil, cons, Top}
-use Rattle.fx_trees.specs.Term as top
+use Rattle.fx_types.specs.Types.{Shape, blanks, numbers, texts, booleans, dates, records, tables, ColumnList, no_columns, column}
+use Rattle.fx_core.specs.Rows.{form_row, row_of, shape_of, takes_count}
+use Rattle.fx_core.specs.declared.functions.Form.{Form}
+use Rattle.fx_core.specs.declared.functions.Form.TheVariants as form
+use Rattle.fx_core.specs.declared.functions.Fun.{Fun}
+use Rattle.fx_core.specs.declared.functions.Fun.TheVariants as fun
+use Rattle.fx_core.specs.declared.rows.Answer.{Answer}
+use Rattle.fx_core.specs.declared.rows.Answer.TheVariants as answer
+use Rattle.fx_core.specs.declared.rows.Scalar.{Scalar}
+use Rattle.fx_core.specs.declared.rows.Scalar.TheVariants.{Blank, Number, Text, Boolean, Date}
+use Rattle.fx_core.specs.declared.rows.Takes.{Takes}
+use Rattle.fx_core.specs.declared.sources.Source.{Source}
+use Rattle.fx_core.specs.SourceTypes.{put_column}
+use Rattle.fx_core.specs.Term.{Term, Terms, of, nil, cons, Top}
+use Rattle.fx_core.specs.Term as top
 use Rattle.fx_typing.specs.Columns.{added, dropped, label_of, names_there, shown}
-use Rattle.fx_trees.specs.ColumnLists.{field_in, if_there, is_one_of, row_columns, value_column, with_new, with_renamed}
+use Rattle.fx_core.specs.ColumnLists.{field_in, if_there, is_one_of, row_columns, value_column, with_new, with_renamed}
 use Rattle.fx_typing.specs.Columns as columns
-use Rattle.fx_trees.specs.ColumnLists as lists
+use Rattle.fx_core.specs.ColumnLists as lists
 use Rattle.fx_typing.specs.LawfulTypes.{AreLawfulColumns, IsLawfulType, IsUnder}
 use Rattle.fx_typing.specs.WellTyped.{Context, Standing, plain, inside, bound, catching, Stands, AllStand, IsBelowNames, NamesRise, IsConstantType, IsRuled, IsTyped, AreTyped, answered, as_table, columns_by, context_for, first_type, paired, parts_count, row_type, standing_at, target_source}
 use Rattle.fx_typing.proofs.Operators.{then_ok}

@@ -3,24 +3,24 @@ use Rattle.std.proofs.Common.{◌≡◌, ℕ, suc, List, [], ◌∷◌, ◌++◌
 use Rattle.std.specs.Prelude.{nat_eq, ◌%◌}
 use Rattle.std.specs.List.{filter}
 use Rattle.std.proofs.lemmas.Bool.{eq-eqb}
-use Rattle.fx_data.specs.declared.faults.Fault.{Fault}
-use Rattle.fx_data.specs.Types.{Shape, blanks, numbers, texts, booleans, dates, records, tables, ColumnList}
-use Rattle.fx_data.specs.Values.{Data}
-use Rattle.fx_trees.specs.Rows.{row_of}
-use Rattle.fx_trees.specs.declared.functions.Fun.{Fun}
-use Rattle.fx_trees.specs.declared.functions.Fun.TheVariants as fun
-use Rattle.fx_trees.specs.declared.rows.Takes.TheVariants as takes
-use Rattle.fx_trees.specs.SourceTypes.{put_column}
+use Rattle.fx_types.specs.declared.faults.Fault.{Fault}
+use Rattle.fx_types.specs.Types.{Shape, blanks, numbers, texts, booleans, dates, records, tables, ColumnList}
+use Rattle.fx_types.specs.Values.{Data}
+use Rattle.fx_core.specs.Rows.{row_of}
+use Rattle.fx_core.specs.declared.functions.Fun.{Fun}
+use Rattle.fx_core.specs.declared.functions.Fun.TheVariants as fun
+use Rattle.fx_core.specs.declared.rows.Takes.TheVariants as takes
+use Rattle.fx_core.specs.SourceTypes.{put_column}
 use Rattle.fx_tables.specs.AggregateCalls.{IsNumberOrBlank, IsSumValue, averaged, concatenated, concatenated_by}
 use Rattle.fx_tables.specs.ColumnCalls.{renamed_columns, with_columns, without_columns}
 use Rattle.fx_tables.specs.Ends.{emptiness_of, first_rows, last_of, last_rows}
 use Rattle.fx_tables.specs.RowCalls.{CanBeRowType, holds, IsCountValue, distinct_or, filtered, first_of, for_all_of, looked_up}
-use Rattle.fx_builtins.specs.Folds.{IsGreatest, IsLeast}
+use Rattle.fx_primitives.specs.Folds.{IsGreatest, IsLeast}
 use Rattle.fx_value.specs.Aggregates.{numbers_in}
 use Rattle.fx_value.specs.Columns.{Row, only, with_column}
-use Rattle.fx_trees.specs.Term.{Term, Terms, nil, cons, Top, over}
+use Rattle.fx_core.specs.Term.{Term, Terms, nil, cons, Top, over}
 use Rattle.fx_typing.specs.Columns.{added, dropped, shown, renamed, label_of}
-use Rattle.fx_trees.specs.ColumnLists.{field_in, row_columns, value_column, with_new}
+use Rattle.fx_core.specs.ColumnLists.{field_in, row_columns, value_column, with_new}
 use Rattle.fx_typing.specs.WellTyped.{Context, Standing, inside, standing_at, context_for, Stands, AllStand, paired, answered, as_table}
 use Rattle.fx_typing.proofs.Operators.{then_ok}
 use Rattle.fx_value.proofs.Unions.{Rises}

@@ -1,10 +1,10 @@
 -- What the parts of a well typed tree give: values that fit, wherever what stands around fits.
 use Rattle.std.proofs.Common.{◌≡◌, ℕ, List, [], ◌∷◌, ◌++◌, length, true, Option, Some, subst}
-use Rattle.fx_data.specs.declared.faults.Fault.{Fault}
-use Rattle.fx_data.specs.Types.{Shape}
-use Rattle.fx_data.specs.Values.{Data}
-use Rattle.fx_trees.specs.declared.sources.Source.{Source}
-use Rattle.fx_trees.specs.Term.{Top}
+use Rattle.fx_types.specs.declared.faults.Fault.{Fault}
+use Rattle.fx_types.specs.Types.{Shape}
+use Rattle.fx_types.specs.Values.{Data}
+use Rattle.fx_core.specs.declared.sources.Source.{Source}
+use Rattle.fx_core.specs.Term.{Top}
 use Rattle.fx_typing.specs.WellTyped.{Context, Standing, plain, standing_at, context_for}
 use Rattle.fx_value.specs.Fits.{fits_in}
 use Rattle.fx_semantics.specs.Around.{Around, Meaning, AreValues}

@@ -3,39 +3,39 @@ use Rattle.std.proofs.Common.{◌≡◌, ℕ, suc, ◌++◌, List, [], ◌∷◌
 use Rattle.std.specs.Cmp.Lexicographic.{slice_cmp}
 use Rattle.std.specs.Ordering.{match_ordering}
 use Rattle.std.proofs.lemmas.List.{append-nil}
-use Rattle.fx_data.specs.Types.{Shape, blanks, records, tables, no_columns}
-use Rattle.fx_data.specs.Values.{boolean, number, text}
+use Rattle.fx_types.specs.Types.{Shape, blanks, records, tables, no_columns}
+use Rattle.fx_types.specs.Values.{boolean, number, text}
 use Rattle.fx_semantics.specs.Laws.{AdmittedIsPlaced}
 use Rattle.fx_semantics.specs.Places.{IsPlaced, is_for_all}
 use Rattle.fx_semantics.proofs.PlacedDeeds.{is_filtered, act_placed, name_made, rows_made}
 use Rattle.fx_semantics.proofs.PlacedParts.{TreePlaced, AllPlaced, PartPlaced, EachPlaced, quiet_placed, tree_still, part_still, terms_placed, node_placed, one_placed, as_part_placed, by_way_placed, put_placed, made_by_placed, made_placed, pieces_placed, values_placed}
-use Rattle.fx_trees.specs.declared.functions.Acting.{Acting}
-use Rattle.fx_trees.specs.declared.functions.Acting.TheVariants as acts
-use Rattle.fx_trees.specs.declared.functions.Form.{Form}
-use Rattle.fx_trees.specs.declared.functions.Form.TheVariants as form
-use Rattle.fx_trees.specs.declared.functions.Fun.{Fun}
-use Rattle.fx_trees.specs.declared.functions.Fun.TheVariants as fun
-use Rattle.fx_trees.specs.declared.rows.Row.{Row}
-use Rattle.fx_trees.specs.declared.rows.Takes.{Takes}
-use Rattle.fx_trees.specs.declared.rows.Takes.TheVariants as takes
-use Rattle.fx_trees.specs.declared.signatures.SigShape.{SigShape}
-use Rattle.fx_trees.specs.declared.signatures.SigShape.TheVariants as sig
-use Rattle.fx_trees.specs.declared.signatures.Signature.{Signature}
-use Rattle.fx_trees.specs.declared.sources.Source.TheVariants as source
-use Rattle.fx_trees.specs.Rows.{row_of, form_row, takes_at, inner_at, is_within}
-use Rattle.fx_trees.specs.Signatures.{signature_in}
-use Rattle.fx_trees.specs.declared.expr.Op.{Op}
-use Rattle.fx_trees.specs.Tree.{Tree, node, Forest, none, more, Head}
-use Rattle.fx_trees.specs.Tree as tree
-use Rattle.fx_trees.specs.Term.{Term, of, nil, cons, all, within}
-use Rattle.fx_trees.specs.Term as term
+use Rattle.fx_core.specs.declared.functions.Acting.{Acting}
+use Rattle.fx_core.specs.declared.functions.Acting.TheVariants as acts
+use Rattle.fx_core.specs.declared.functions.Form.{Form}
+use Rattle.fx_core.specs.declared.functions.Form.TheVariants as form
+use Rattle.fx_core.specs.declared.functions.Fun.{Fun}
+use Rattle.fx_core.specs.declared.functions.Fun.TheVariants as fun
+use Rattle.fx_core.specs.declared.rows.Row.{Row}
+use Rattle.fx_core.specs.declared.rows.Takes.{Takes}
+use Rattle.fx_core.specs.declared.rows.Takes.TheVariants as takes
+use Rattle.fx_core.specs.declared.signatures.SigShape.{SigShape}
+use Rattle.fx_core.specs.declared.signatures.SigShape.TheVariants as sig
+use Rattle.fx_core.specs.declared.signatures.Signature.{Signature}
+use Rattle.fx_core.specs.declared.sources.Source.TheVariants as source
+use Rattle.fx_core.specs.Rows.{row_of, form_row, takes_at, inner_at, is_within}
+use Rattle.fx_core.specs.Signatures.{signature_in}
+use Rattle.fx_core.specs.declared.expr.Op.{Op}
+use Rattle.fx_core.specs.Tree.{Tree, node, Forest, none, more, Head}
+use Rattle.fx_core.specs.Tree as tree
+use Rattle.fx_core.specs.Term.{Term, of, nil, cons, all, within}
+use Rattle.fx_core.specs.Term as term
 use Rattle.fx_typing.proofs.Frame.{onward_ok, at_node_ok, put_one}
 use Rattle.fx_typing.proofs.Quiet.{Calm, calm_first, judged_quiet, may_do}
 use Rattle.fx_typing.proofs.QuietParts.{AllQuiet, EachQuiet, Made, PartQuiet, TreeQuiet, dot_by_quiet, formed_quiet, global_by_quiet, if_quiet, in_globals_quiet, made_if_quiet, made_quiet, meaning_quiet, name_by_quiet, pieces_quiet, take_quiet, then_quiet, tree_quiet, unless_quiet, values_quiet}
 use Rattle.fx_typing.specs.Breaks.{taken_at, mistells}
 use Rattle.fx_typing.specs.Builds.{as_record, blank_record, bounded, bounded_by, field_names, field_parts, is_bounded, are_distinct, list_as, list_by, list_of, put_field, put_fields, record_by, record_of, rows_to, table_of, types_of, with_of}
 use Rattle.fx_typing.specs.Calls.{called, called_by, called_with, defaults_of, function_by, literal_in, made_if, made_literal, made_or_lowest}
-use Rattle.fx_trees.specs.ColumnLists.{and_then, field_in}
+use Rattle.fx_core.specs.ColumnLists.{and_then, field_in}
 use Rattle.fx_typing.specs.Local.{value, by_way, firsts, formed, join_all, made, put_first}
 use Rattle.fx_typing.specs.Meaning.{Place, valued, controlled, screened, enumerated, field_read, in_globals, known_field, meaning_of}
 use Rattle.fx_typing.specs.Operators.{function_of}

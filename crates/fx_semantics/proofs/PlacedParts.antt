@@ -1,21 +1,21 @@
 -- Names, dots and functions make trees that act in their place of parts that do.
 use Rattle.std.proofs.Common.{◌≡◌, ℕ, suc, List, [], ◌∷◌, Bool, true, false, length, codes, Option, Some, None, Result, Ok, Err, refl}
 use Rattle.std.proofs.lemmas.Bool.{or_parts}
-use Rattle.fx_data.specs.Types.{Shape, blanks, records, tables, no_columns}
-use Rattle.fx_data.specs.Values.{text}
+use Rattle.fx_types.specs.Types.{Shape, blanks, records, tables, no_columns}
+use Rattle.fx_types.specs.Values.{text}
 use Rattle.fx_semantics.specs.Places.{IsPlaced, ArePlaced, is_for_all, may_act}
-use Rattle.fx_trees.specs.declared.functions.Fun.{Fun}
-use Rattle.fx_trees.specs.declared.functions.Fun.TheVariants as fun
-use Rattle.fx_trees.specs.declared.rows.Row.{Row}
-use Rattle.fx_trees.specs.declared.rows.Takes.{Takes}
-use Rattle.fx_trees.specs.declared.rows.Takes.TheVariants as takes
-use Rattle.fx_trees.specs.Rows.{shape_of, row_of, takes_at, takes_count}
-use Rattle.fx_trees.specs.Term.{Term, Terms, of, nil, cons, all, Top}
-use Rattle.fx_trees.specs.Term as term
+use Rattle.fx_core.specs.declared.functions.Fun.{Fun}
+use Rattle.fx_core.specs.declared.functions.Fun.TheVariants as fun
+use Rattle.fx_core.specs.declared.rows.Row.{Row}
+use Rattle.fx_core.specs.declared.rows.Takes.{Takes}
+use Rattle.fx_core.specs.declared.rows.Takes.TheVariants as takes
+use Rattle.fx_core.specs.Rows.{shape_of, row_of, takes_at, takes_count}
+use Rattle.fx_core.specs.Term.{Term, Terms, of, nil, cons, all, Top}
+use Rattle.fx_core.specs.Term as term
 use Rattle.fx_typing.proofs.QuietParts.{AllQuiet, Made, PartQuiet, PiecesQuiet, TreeQuiet, if_quiet, made_quiet, then_quiet}
 use Rattle.fx_typing.specs.Acts.{acts, any_acts, is_acting}
 use Rattle.fx_typing.specs.Columns.{tells_error}
-use Rattle.fx_trees.specs.ColumnLists.{field_in}
+use Rattle.fx_core.specs.ColumnLists.{field_in}
 use Rattle.fx_typing.specs.Local.{Piece, value, label, by_way, exact_way, branch_way, when, without_kind, stand, put_first, stand_rest, stand_all, branches, common_of, firsts, answer_by, made_as, made_by, made}
 use Rattle.fx_typing.specs.Meaning.{Meaning, valued}
 use Rattle.fx_typing.specs.Parts.{Part, piece, meant, target, assigned, as_part, pieces, put_value, values}

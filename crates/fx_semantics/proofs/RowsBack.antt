@@ -1,6 +1,6 @@
 -- The rows of the table of some rows.
 use Rattle.std.proofs.Common.{◌≡◌, List, [], ◌∷◌, refl, sym, ap}
-use Rattle.fx_data.specs.Values.{row_list, field_list}
+use Rattle.fx_types.specs.Values.{row_list, field_list}
 use Rattle.fx_semantics.specs.Rows.{fields_of, rows_of}
 use Rattle.fx_value.specs.Columns.{Row}
 

@@ -1,11 +1,11 @@
 -- What has one value at most: what follows by a value, and the forms of parts that have one value at most.
 use Rattle.std.proofs.Common.{◌≡◌, ◌∙◌, ℕ, List, [], ◌∷◌, ◌++◌, true, false, Option, Some, ap, sym, subst}
 use Rattle.std.specs.Prelude.{unwrap_or}
-use Rattle.fx_data.specs.declared.faults.Fault.{Fault}
-use Rattle.fx_data.specs.declared.faults.Kind.{Kind}
-use Rattle.fx_data.specs.Values.{Data, blank, number, text, boolean, date, rec, tab, fault}
-use Rattle.fx_trees.specs.declared.functions.Form.{Form}
-use Rattle.fx_trees.specs.declared.functions.Form.TheVariants as form
+use Rattle.fx_types.specs.declared.faults.Fault.{Fault}
+use Rattle.fx_types.specs.declared.faults.Kind.{Kind}
+use Rattle.fx_types.specs.Values.{Data, blank, number, text, boolean, date, rec, tab, fault}
+use Rattle.fx_core.specs.declared.functions.Form.{Form}
+use Rattle.fx_core.specs.declared.functions.Form.TheVariants as form
 use Rattle.fx_scalar.specs.LazyForms.{AtAll, AtAny, ByCondition, CaughtOr, ErrorOr, UnlessBlank, equality}
 use Rattle.fx_scalar.proofs.Single.{AtMostOne}
 use Rattle.fx_value.specs.Columns.{Row}

@@ -1,16 +1,16 @@
 -- A node whose parts do nothing has the type that it has.
 use Rattle.std.proofs.Common.{◌≡◌, ℕ, suc, List, [], ◌∷◌, ◌++◌, length, false, Option, Some, None, Result, Ok, Err, inl, refl, subst, ap, ◌∙◌}
-use Rattle.fx_data.specs.Types.{Shape, blanks, records, tables, ColumnList}
-use Rattle.fx_data.specs.Values.{blank, text}
+use Rattle.fx_types.specs.Types.{Shape, blanks, records, tables, ColumnList}
+use Rattle.fx_types.specs.Values.{blank, text}
 use Rattle.fx_semantics.specs.Sound.{AreLawfulTrees, AreLawfulTypes, IsLawfulTree, IsLawfulType}
-use Rattle.fx_trees.specs.declared.rows.Answer.{Answer}
-use Rattle.fx_trees.specs.declared.rows.Answer.TheVariants as answer
-use Rattle.fx_trees.specs.Rows.{form_row, row_of}
-use Rattle.fx_trees.specs.Term.{Term, Terms, of, nil, cons, Top}
-use Rattle.fx_trees.specs.Term as top
+use Rattle.fx_core.specs.declared.rows.Answer.{Answer}
+use Rattle.fx_core.specs.declared.rows.Answer.TheVariants as answer
+use Rattle.fx_core.specs.Rows.{form_row, row_of}
+use Rattle.fx_core.specs.Term.{Term, Terms, of, nil, cons, Top}
+use Rattle.fx_core.specs.Term as top
 use Rattle.fx_typing.specs.Acts.{is_acting}
 use Rattle.fx_typing.specs.Columns.{added, by_label, label_of, names_there, renamed}
-use Rattle.fx_trees.specs.ColumnLists.{and_then, field_in, if_there, only, with_new, with_renamed, without_all}
+use Rattle.fx_core.specs.ColumnLists.{and_then, field_in, if_there, only, with_new, with_renamed, without_all}
 use Rattle.fx_typing.specs.WellTyped.{Context, IsRuled, IsTyped, AreTyped, answered, as_table, context_for, paired, parts_count, standing_at}
 
 -- a tree that has every type and does nothing; a name of a column stays

@@ -5,11 +5,11 @@ use Rattle.std.specs.List.{All}
 use Rattle.std.proofs.lemmas.List.{reverse-append}
 use Rattle.std.proofs.lemmas.List.Elements.{All-nil, All-cons}
 use Rattle.std.proofs.lemmas.Bool.{and_from}
-use Rattle.fx_data.specs.declared.faults.Fault.{Fault}
-use Rattle.fx_data.specs.declared.faults.Kind.{Kind}
-use Rattle.fx_data.specs.Types.{Shape, numbers, texts, records, tables, ColumnList}
-use Rattle.fx_data.specs.Values.{Data, blank, number, text, boolean, date, rec, tab, fault, FieldList, no_fields, field, RowList, no_rows, row, field_list, row_list}
-use Rattle.fx_data.proofs.Utf8Order.{and_second, and_first}
+use Rattle.fx_types.specs.declared.faults.Fault.{Fault}
+use Rattle.fx_types.specs.declared.faults.Kind.{Kind}
+use Rattle.fx_types.specs.Types.{Shape, numbers, texts, records, tables, ColumnList}
+use Rattle.fx_types.specs.Values.{Data, blank, number, text, boolean, date, rec, tab, fault, FieldList, no_fields, field, RowList, no_rows, row, field_list, row_list}
+use Rattle.fx_types.proofs.Utf8Order.{and_second, and_first}
 use Rattle.fx_tables.specs.AggregateCalls.{IsNumberOrBlank, IsSumValue, number_or_blank, averaged, made_value, concatenated, concatenated_by}
 use Rattle.fx_tables.specs.Ends.{count_asked, first_rows, last_of, last_rows, unless_error}
 use Rattle.fx_tables.specs.RowCalls.{CanBeRowType, IsFirstErrorOr, IsCountValue, IsTableBy, IsSortOf, distinct_or, filtered, first_of, for_all_of, kept_rows, looked_up}
@@ -18,7 +18,7 @@ use Rattle.fx_tables.proofs.FitDistinct.{distinct_fit}
 use Rattle.fx_tables.proofs.ValueRows.{values_fit as by_values_fit}
 use Rattle.fx_value.specs.Columns.{Row}
 use Rattle.fx_tables.specs.Distinct.{distinct_of, value_row}
-use Rattle.fx_trees.specs.ColumnLists.{row_columns, value_column}
+use Rattle.fx_core.specs.ColumnLists.{row_columns, value_column}
 use Rattle.fx_typing.specs.WellTyped.{Context}
 use Rattle.fx_value.specs.Fits.{fits_in, fields_fit, rows_fit}
 use Rattle.fx_semantics.specs.Around.{Meaning, AreEach, record_of}

@@ -1,28 +1,28 @@
 -- The law that values of well typed trees fit: node by node, and by recursion on the tree.
 use Rattle.std.proofs.Common.{◌≡◌, ℕ, zero, suc, ◌⊎◌, inl, inr, List, [], ◌∷◌, ◌++◌, length, true, Option, Some, None, refl, sym, subst, arith}
 use Rattle.std.specs.Prelude.{codes, slice_get}
-use Rattle.fx_data.specs.declared.faults.Fault.{Fault}
-use Rattle.fx_data.specs.declared.faults.Kind.{Kind}
-use Rattle.fx_data.specs.Types.{Shape, blanks, numbers, texts, booleans, dates, records, tables, ColumnList, no_columns, column}
-use Rattle.fx_data.specs.Values.{Data, blank, text, rec, no_fields, field}
-use Rattle.fx_trees.specs.Rows.{form_row, row_of, takes_at}
-use Rattle.fx_trees.specs.declared.functions.Form.{Form}
-use Rattle.fx_trees.specs.declared.functions.Form.TheVariants as form
-use Rattle.fx_trees.specs.declared.functions.Fun.{Fun}
-use Rattle.fx_trees.specs.declared.functions.Fun.TheVariants as fun
+use Rattle.fx_types.specs.declared.faults.Fault.{Fault}
+use Rattle.fx_types.specs.declared.faults.Kind.{Kind}
+use Rattle.fx_types.specs.Types.{Shape, blanks, numbers, texts, booleans, dates, records, tables, ColumnList, no_columns, column}
+use Rattle.fx_types.specs.Values.{Data, blank, text, rec, no_fields, field}
+use Rattle.fx_core.specs.Rows.{form_row, row_of, takes_at}
+use Rattle.fx_core.specs.declared.functions.Form.{Form}
+use Rattle.fx_core.specs.declared.functions.Form.TheVariants as form
+use Rattle.fx_core.specs.declared.functions.Fun.{Fun}
+use Rattle.fx_core.specs.declared.functions.Fun.TheVariants as fun
 use Rattle.fx_tables.specs.RowCalls.{CanBeRowType}
 use Rattle.fx_tables.specs.Unions.{union_of}
-use Rattle.fx_trees.specs.Term.{Term, Terms, of, nil, cons, Top}
-use Rattle.fx_trees.specs.Term as top
+use Rattle.fx_core.specs.Term.{Term, Terms, of, nil, cons, Top}
+use Rattle.fx_core.specs.Term as top
 use Rattle.fx_typing.specs.Columns.{fault_type}
-use Rattle.fx_trees.specs.ColumnLists.{row_columns}
+use Rattle.fx_core.specs.ColumnLists.{row_columns}
 use Rattle.fx_typing.specs.Ways.{way, changed}
 use Rattle.fx_typing.specs.WellTyped.{Context, Stands, AreAll, IsByRow, IsRuled, IsTyped, AreTyped, columns_by, context_for, first_type, head_of, parts_count, standing_at}
 use Rattle.fx_value.proofs.Unions.{Rises}
 use Rattle.fx_value.specs.Coercion.{IsCoerced}
 use Rattle.fx_value.specs.Fits.{fits_in}
 use Rattle.fx_semantics.specs.Around.{Meaning, inside}
-use Rattle.fx_data.specs.Faults.{kind_name}
+use Rattle.fx_types.specs.Faults.{kind_name}
 use Rattle.fx_scalar.specs.Errors.{as_record}
 use Rattle.fx_semantics.specs.Errors.{IsCaught}
 use Rattle.fx_semantics.specs.Forms.{IsFormed}

@@ -7,10 +7,10 @@ use Rattle.std.specs.declared.cmp.Ordering.{Ordering}
 use Rattle.std.specs.declared.cmp.Ordering.TheVariants.{Less, Equal, Greater}
 use Rattle.std.proofs.lemmas.Map.Text.{is_eq-slice_cmp}
 use Rattle.std.proofs.lemmas.Bool.{and_from}
-use Rattle.fx_data.specs.Types.{Shape, numbers, texts, booleans, dates, records, tables, ColumnList, no_columns, column}
-use Rattle.fx_data.specs.Values.{Data, blank, number, text, boolean, date, rec, tab, fault, FieldList, no_fields, field, RowList, no_rows, row}
-use Rattle.fx_data.proofs.Utf8Order.{and_second, and_first}
-use Rattle.fx_trees.specs.ColumnLists.{field_in}
+use Rattle.fx_types.specs.Types.{Shape, numbers, texts, booleans, dates, records, tables, ColumnList, no_columns, column}
+use Rattle.fx_types.specs.Values.{Data, blank, number, text, boolean, date, rec, tab, fault, FieldList, no_fields, field, RowList, no_rows, row}
+use Rattle.fx_types.proofs.Utf8Order.{and_second, and_first}
+use Rattle.fx_core.specs.ColumnLists.{field_in}
 use Rattle.fx_value.proofs.Widenings.{own_name, same_name, below_apart}
 use Rattle.fx_value.specs.Coercion.{value_in, widened, widened_fields, rows_by}
 use Rattle.fx_value.specs.Fits.{fits_in, fields_fit, rows_fit}

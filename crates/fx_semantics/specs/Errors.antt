@@ -1,7 +1,7 @@
 -- The error that was caught, as a record.
 use Rattle.std.specs.Prelude.{◌≡◌, Option, Some, None}
-use Rattle.fx_data.specs.declared.faults.Fault.{Fault}
-use Rattle.fx_data.specs.Values.{Data}
+use Rattle.fx_types.specs.declared.faults.Fault.{Fault}
+use Rattle.fx_types.specs.Values.{Data}
 use Rattle.fx_scalar.specs.Errors.{as_record}
 
 -- `FirstError`: the error that was caught

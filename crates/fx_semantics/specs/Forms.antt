@@ -1,8 +1,8 @@
 -- The forms, which evaluate only the parts that they need.
 use Rattle.std.specs.Prelude.{◌≡◌, List, [], ◌∷◌}
-use Rattle.fx_data.specs.Values.{Data, blank}
-use Rattle.fx_trees.specs.declared.functions.Form.{Form}
-use Rattle.fx_trees.specs.declared.functions.Form.TheVariants as form
+use Rattle.fx_types.specs.Values.{Data, blank}
+use Rattle.fx_core.specs.declared.functions.Form.{Form}
+use Rattle.fx_core.specs.declared.functions.Form.TheVariants as form
 use Rattle.fx_scalar.specs.LazyForms.{AtAll, AtAny, ByCondition, CaughtOr, ErrorOr, UnlessBlank, equality, none_left}
 use Rattle.fx_semantics.specs.Around.{Around, Meaning, catching}
 

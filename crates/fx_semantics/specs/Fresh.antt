@@ -1,14 +1,14 @@
 -- The value of a typed tree, by recursion on the tree: what a node means is made of what its parts mean.
 use Rattle.std.specs.Prelude.{◌≡◌, ℕ, List, [], ◌∷◌, Some, slice_get}
-use Rattle.fx_data.specs.Types.{tables}
-use Rattle.fx_data.specs.Values.{Data, blank, rec, fault, FieldList, no_fields, field}
-use Rattle.fx_trees.specs.declared.functions.Fun.{Fun}
-use Rattle.fx_trees.specs.declared.functions.Fun.TheVariants as fun
+use Rattle.fx_types.specs.Types.{tables}
+use Rattle.fx_types.specs.Values.{Data, blank, rec, fault, FieldList, no_fields, field}
+use Rattle.fx_core.specs.declared.functions.Fun.{Fun}
+use Rattle.fx_core.specs.declared.functions.Fun.TheVariants as fun
 use Rattle.fx_scalar.specs.ScalarFunctions.{IsAnswer}
 use Rattle.fx_tables.specs.Unions.{union_of}
-use Rattle.fx_trees.specs.Term.{Term, Terms, of, nil, cons, Top}
-use Rattle.fx_trees.specs.Term as top
-use Rattle.fx_trees.specs.ColumnLists.{row_columns}
+use Rattle.fx_core.specs.Term.{Term, Terms, of, nil, cons, Top}
+use Rattle.fx_core.specs.Term as top
+use Rattle.fx_core.specs.ColumnLists.{row_columns}
 use Rattle.fx_value.specs.Coercion.{IsCoerced, value_in}
 use Rattle.fx_scalar.specs.LazyForms.{ErrorOr}
 use Rattle.fx_semantics.specs.Around.{Around, Meaning, AreValues, inside}

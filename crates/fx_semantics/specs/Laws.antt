@@ -1,11 +1,11 @@
 -- What holds of every typed tree, whether or not it acts.
 use Rattle.std.specs.Prelude.{◌≡◌, Bool, Option, Ok}
-use Rattle.fx_data.specs.Types.{Shape}
+use Rattle.fx_types.specs.Types.{Shape}
 use Rattle.fx_semantics.specs.NamedTypes.{HasLawfulTypes}
 use Rattle.fx_semantics.specs.Places.{IsPlaced}
 use Rattle.fx_semantics.specs.Sound.{IsLawfulContext, IsLawfulTyping}
-use Rattle.fx_trees.specs.Term.{Term}
-use Rattle.fx_trees.specs.Tree.{Tree}
+use Rattle.fx_core.specs.Term.{Term}
+use Rattle.fx_core.specs.Tree.{Tree}
 use Rattle.fx_typing.specs.Meaning.{Place}
 use Rattle.fx_typing.specs.Typing.{judge_whole}
 use Rattle.fx_typing.specs.WellTyped.{Context, IsTyped}

@@ -1,6 +1,6 @@
 -- The types that a tree names.
 use Rattle.fx_semantics.specs.Sound.{IsLawfulType}
-use Rattle.fx_trees.specs.Term.{Term, Terms, of, nil, cons, Top, list, coerce}
+use Rattle.fx_core.specs.Term.{Term, Terms, of, nil, cons, Top, list, coerce}
 
 -- the type that a head names, if it names one, has rising columns at every depth
 abbrev pub NamesLawfulType : Top → Type 0

@@ -1,10 +1,10 @@
 -- The functions of tables: from the rows, and from the meanings of the other parts.
 use Rattle.std.specs.Prelude.{◌≡◌, ℕ, Bool, true, false, List, [], ◌∷◌, map, length, Option, Some, None}
-use Rattle.fx_data.specs.Values.{Data, text, rec, tab, FieldList, no_fields, field, RowList, no_rows, row, row_list}
-use Rattle.fx_trees.specs.declared.functions.Fun.{Fun}
-use Rattle.fx_trees.specs.declared.functions.Fun.TheVariants as fun
-use Rattle.fx_trees.specs.declared.literals.SortOrder.{SortOrder}
-use Rattle.fx_trees.specs.declared.literals.SortOrder.TheVariants as order
+use Rattle.fx_types.specs.Values.{Data, text, rec, tab, FieldList, no_fields, field, RowList, no_rows, row, row_list}
+use Rattle.fx_core.specs.declared.functions.Fun.{Fun}
+use Rattle.fx_core.specs.declared.functions.Fun.TheVariants as fun
+use Rattle.fx_core.specs.declared.literals.SortOrder.{SortOrder}
+use Rattle.fx_core.specs.declared.literals.SortOrder.TheVariants as order
 use Rattle.fx_tables.specs.AggregateCalls.{IsSumOf, IsLeastOf, IsGreatestOf, averaged, concatenated, concatenated_by}
 use Rattle.fx_tables.specs.ColumnCalls.{renamed_columns, with_columns, without_columns}
 use Rattle.fx_tables.specs.Ends.{emptiness_of, first_rows, last_of, last_rows}

@@ -1,10 +1,10 @@
 -- What the value of a well typed tree fits.
 use Rattle.std.specs.Prelude.{◌≡◌, ℕ, true, List, [], ◌∷◌, ◌++◌, length, Option, Some, None}
-use Rattle.fx_data.specs.declared.faults.Fault.{Fault}
-use Rattle.fx_data.specs.Types.{Shape}
-use Rattle.fx_data.specs.Values.{Data}
-use Rattle.fx_trees.specs.declared.sources.Source.{Source}
-use Rattle.fx_trees.specs.Term.{Term, Terms, of, nil, cons, Top, list, coerce, chain, act}
+use Rattle.fx_types.specs.declared.faults.Fault.{Fault}
+use Rattle.fx_types.specs.Types.{Shape}
+use Rattle.fx_types.specs.Values.{Data}
+use Rattle.fx_core.specs.declared.sources.Source.{Source}
+use Rattle.fx_core.specs.Term.{Term, Terms, of, nil, cons, Top, list, coerce, chain, act}
 pub use Rattle.fx_typing.specs.LawfulTypes.{AreLawfulColumns, IsLawfulType, IsUnder}
 use Rattle.fx_typing.specs.WellTyped.{Context, IsTyped, AreTyped, context_for, parts_count, standing_at}
 use Rattle.fx_value.specs.Fits.{fits_in}

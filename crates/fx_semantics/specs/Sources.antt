@@ -1,8 +1,8 @@
 -- What sources may give, by their types and by what is told of them.
 use Rattle.std.specs.Prelude.{◌≡◌, true, Option, Some, None}
-use Rattle.fx_data.specs.Types.{Shape}
-use Rattle.fx_data.specs.Values.{Data}
-use Rattle.fx_trees.specs.declared.sources.Source.{Source}
+use Rattle.fx_types.specs.Types.{Shape}
+use Rattle.fx_types.specs.Values.{Data}
+use Rattle.fx_core.specs.declared.sources.Source.{Source}
 use Rattle.fx_value.specs.Fits.{fits_in}
 
 -- a source of a type gives what fits it, and one without a type gives nothing

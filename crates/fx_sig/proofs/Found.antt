@@ -1,8 +1,8 @@
 -- The entry of a name.
 use Rattle.std.proofs.Common.{◌≡◌, ℕ, List, [], ◌∷◌, Bool, true, false, Some, option_map, map, refl, bytes_eq, if◌then◌else◌}
 use Rattle.std.specs.Prelude.{find}
-use Rattle.fx_trees.specs.declared.signatures.Signature.{Signature}
-use Rattle.fx_trees.specs.Signatures.{signature_in}
+use Rattle.fx_core.specs.declared.signatures.Signature.{Signature}
+use Rattle.fx_core.specs.Signatures.{signature_in}
 use Rattle.fx_sig.specs.Entries.{Entry, entry}
 
 -- the first entry of a name is the first one that is seen under it

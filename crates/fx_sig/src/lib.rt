@@ -3,5 +3,5 @@
 
 pub mod table;
 
-pub use fx_trees::signatures::{SigShape, Signature};
+pub use fx_core::signatures::{SigShape, Signature};
 pub use table::{all, signature};

@@ -2,10 +2,10 @@
 ghost use Rattle.std.specs.Prelude.{◌≡◌, map, option_map, find, bytes_eq};
 ghost use Rattle.fx_sig.specs.Entries.{entries, entry};
 
-use fx_trees::TimeUnit;
-use fx_trees::functions::{Acting, Form, Fun};
-use fx_trees::literals::SortOrder;
-use fx_trees::signatures::{SigShape, Signature, signature_in};
+use fx_core::TimeUnit;
+use fx_core::functions::{Acting, Form, Fun};
+use fx_core::literals::SortOrder;
+use fx_core::signatures::{SigShape, Signature, signature_in};
 
 static ALL: [Signature; 79] = [
     Signature {

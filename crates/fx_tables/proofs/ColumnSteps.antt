@@ -8,12 +8,12 @@ use Rattle.std.specs.declared.cmp.Ordering.TheVariants.{Less, Equal, Greater}
 use Rattle.std.proofs.lemmas.Cmp.{nat_list_cmp_total}
 use Rattle.std.proofs.lemmas.Map.Lookups.{exact_bytes}
 use Rattle.std.specs.Cmp.{tied_itself}
-use Rattle.fx_data.specs.Lookup.{item_of}
-use Rattle.fx_data.specs.Rising.{IsBelow, IsBelowAll, AreRising}
-use Rattle.fx_data.specs.Values.{Data, blank}
-use Rattle.fx_data.specs.ValueView.{view, fields_view}
-use Rattle.fx_data.specs.declared.values.Value.{Value}
-use Rattle.fx_data.proofs.Risings.{rising_filter}
+use Rattle.fx_types.specs.Lookup.{item_of}
+use Rattle.fx_types.specs.Rising.{IsBelow, IsBelowAll, AreRising}
+use Rattle.fx_types.specs.Values.{Data, blank}
+use Rattle.fx_types.specs.ValueView.{view, fields_view}
+use Rattle.fx_types.specs.declared.values.Value.{Value}
+use Rattle.fx_types.proofs.Risings.{rising_filter}
 use Rattle.fx_value.proofs.Widenings.{own_name, same_name}
 use Rattle.fx_value.proofs.Unions.{below}
 use Rattle.fx_value.specs.Columns.{Row, with_field, without, with_column}

@@ -1,6 +1,6 @@
 -- One more column in its turn.
 use Rattle.std.proofs.Common.{◌≡◌, ℕ, ◌+◌, ◌<◌, List, ◌∷◌, length, get_or, drop, map, sym, ap, subst, ◌∙◌}
-use Rattle.fx_data.specs.ValueView.{view}
+use Rattle.fx_types.specs.ValueView.{view}
 use Rattle.fx_value.proofs.JoinSteps.{left}
 use Rattle.fx_tables.specs.ColumnCalls.{CanAdd, CanRename, renamed_columns, with_columns, without_columns}
 use Rattle.fx_tables.specs.NewColumn.{column_seen, renaming_seen}

@@ -10,19 +10,19 @@ use Rattle.std.proofs.lemmas.Cmp.{nat_list_cmp_total}
 use Rattle.std.proofs.lemmas.List.Elements.{All-head, All-tail}
 use Rattle.std.proofs.lemmas.Map.Lookups.{exact_bytes}
 use Rattle.std.proofs.lemmas.Bool.{and_from}
-use Rattle.fx_data.specs.Lookup.{item_of}
-use Rattle.fx_data.specs.Rising.{IsBelow}
-use Rattle.fx_data.specs.Types.{Shape, ColumnList, no_columns, column}
-use Rattle.fx_data.specs.Values.{Data, blank, field_list, row_list}
-use Rattle.fx_data.proofs.Utf8Order.{and_second, and_first}
-use Rattle.fx_trees.specs.SourceTypes.{put_column}
+use Rattle.fx_types.specs.Lookup.{item_of}
+use Rattle.fx_types.specs.Rising.{IsBelow}
+use Rattle.fx_types.specs.Types.{Shape, ColumnList, no_columns, column}
+use Rattle.fx_types.specs.Values.{Data, blank, field_list, row_list}
+use Rattle.fx_types.proofs.Utf8Order.{and_second, and_first}
+use Rattle.fx_core.specs.SourceTypes.{put_column}
 use Rattle.fx_value.specs.Fits.{fits_in, fields_fit, rows_fit}
 use Rattle.fx_value.proofs.Unions.{Rises, Under, below}
 use Rattle.fx_value.proofs.Widenings.{own_name, same_name}
 use Rattle.fx_value.specs.Columns.{LacksColumn, Row, only, renamed, with_column, with_field, without}
 use Rattle.fx_tables.proofs.ColumnSteps.{lacking_rest, lacks_without, lacks_rest, lacks_first, not_below_itself}
-use Rattle.fx_trees.specs.ColumnLists.{and_then, field_in, if_free, if_there, is_one_of, with_new, with_renamed, without_all}
-use Rattle.fx_trees.specs.ColumnLists.{only as only_columns, without as without_column}
+use Rattle.fx_core.specs.ColumnLists.{and_then, field_in, if_free, if_there, is_one_of, with_new, with_renamed, without_all}
+use Rattle.fx_core.specs.ColumnLists.{only as only_columns, without as without_column}
 use Rattle.fx_tables.specs.ColumnCalls.{AreOfTypes, CanAdd, CanRename, in_turn, renamed_columns, with_columns, without_columns}
 
 -- ---- names

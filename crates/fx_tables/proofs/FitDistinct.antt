@@ -4,12 +4,12 @@ use Rattle.std.specs.List.{All, filter}
 use Rattle.std.specs.Ordering.{is_eq}
 use Rattle.std.proofs.lemmas.List.Elements.{All-cons, All-head, All-tail, All-filter}
 use Rattle.std.proofs.lemmas.Bool.{and_from}
-use Rattle.fx_data.specs.Types.{Shape, tables}
-use Rattle.fx_data.specs.Values.{Data, tab, field, no_fields, row_list}
+use Rattle.fx_types.specs.Types.{Shape, tables}
+use Rattle.fx_types.specs.Values.{Data, tab, field, no_fields, row_list}
 use Rattle.fx_value.specs.Order.{order}
 use Rattle.fx_value.specs.Fits.{fits_in, fields_fit, rows_fit}
 use Rattle.fx_tables.specs.Distinct.{distinct_of, value_name, value_row}
-use Rattle.fx_trees.specs.ColumnLists.{value_column}
+use Rattle.fx_core.specs.ColumnLists.{value_column}
 use Rattle.fx_tables.proofs.ValueRows.{scalar_fits}
 
 distinct_all : (P : Data → Type 0) (ds : List Data) → All P ds → All P (distinct_of ds)

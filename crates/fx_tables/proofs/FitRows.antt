@@ -5,8 +5,8 @@ use Rattle.std.specs.List.{All, filter, zip}
 use Rattle.std.proofs.lemmas.List.Elements.{All-nil, All-cons, All-head, All-tail, All-filter, All-map, All-take, All-drop}
 use Rattle.std.proofs.lemmas.List.Sorted.{All-permutation}
 use Rattle.std.proofs.lemmas.Bool.{and_from}
-use Rattle.fx_data.specs.Types.{Shape, blanks, numbers, texts, booleans, dates, records, tables, ColumnList}
-use Rattle.fx_data.specs.Values.{Data, tab, field_list, row_list}
+use Rattle.fx_types.specs.Types.{Shape, blanks, numbers, texts, booleans, dates, records, tables, ColumnList}
+use Rattle.fx_types.specs.Values.{Data, tab, field_list, row_list}
 use Rattle.fx_value.specs.Fits.{fits_in, fields_fit, rows_fit}
 use Rattle.fx_value.specs.Columns.{Row}
 use Rattle.fx_value.specs.Ordered.{IsOrderedBy}

@@ -1,9 +1,9 @@
 -- The numbers among values, and a number or blank as a value.
 use Rattle.std.proofs.Common.{◌≡◌, ℤ, List, [], ◌∷◌, map, Option, Some, None, refl, ap}
 use Rattle.std.specs.List.{cons_option}
-use Rattle.fx_data.specs.ValueView.{view}
-use Rattle.fx_data.specs.declared.values.Value.{Value}
-use Rattle.fx_builtins.specs.Folds.{present}
+use Rattle.fx_types.specs.ValueView.{view}
+use Rattle.fx_types.specs.declared.values.Value.{Value}
+use Rattle.fx_primitives.specs.Folds.{present}
 use Rattle.fx_tables.specs.AggregateCalls.{IsNumberOrBlank, number_or_blank}
 use Rattle.fx_value.specs.Aggregates.{number_of, numbers_in}
 

@@ -2,7 +2,7 @@
 use Rattle.std.proofs.Common.{◌≡◌, List, Bool, Option, Some, None, sym, ap, ◌∙◌}
 use Rattle.std.specs.Prelude.{MatchOption}
 use Rattle.std.specs.List.{find}
-use Rattle.fx_data.specs.Values.{Data, tab, row_list}
+use Rattle.fx_types.specs.Values.{Data, tab, row_list}
 use Rattle.fx_tables.specs.RowCalls.{IsFirstErrorOr, IsTableBy}
 use Rattle.fx_value.specs.Columns.{Row}
 use Rattle.fx_value.specs.Ordered.{OrderedOnce}

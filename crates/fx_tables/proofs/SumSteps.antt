@@ -5,11 +5,11 @@ use Rattle.std.specs.List.{All, Contains, cons_option, filter_map}
 use Rattle.std.proofs.lemmas.Int.{ints}
 use Rattle.std.proofs.lemmas.List.{length_push, map-append, take_more}
 use Rattle.std.proofs.lemmas.List.Elements.{filter_map-append, All-push, All-nil, All-weaker, Contains-push, Contains-append_left}
-use Rattle.fx_data.specs.Values.{Data, number}
-use Rattle.fx_data.specs.ValueView.{view}
-use Rattle.fx_data.specs.declared.aggregates.Totals.{Totals}
-use Rattle.fx_data.specs.declared.values.Value.{Value}
-use Rattle.fx_data.specs.declared.values.Value.TheVariants.{Blank, Number, Text, Boolean, Date, Rec, Tab, Fault}
+use Rattle.fx_types.specs.Values.{Data, number}
+use Rattle.fx_types.specs.ValueView.{view}
+use Rattle.fx_types.specs.declared.aggregates.Totals.{Totals}
+use Rattle.fx_types.specs.declared.values.Value.{Value}
+use Rattle.fx_types.specs.declared.values.Value.TheVariants.{Blank, Number, Text, Boolean, Date, Rec, Tab, Fault}
 use Rattle.fx_value.specs.Aggregates.{number_of, numbers_in, sum_of, IsLeast, IsGreatest, IsLesser, IsGreater, SumsUp}
 
 pub numbers_with : (ds : List Data) (d : Data) (z : ℤ) → d ≡ number z → numbers_in (ds ++ d ∷ []) ≡ numbers_in ds ++ z ∷ []

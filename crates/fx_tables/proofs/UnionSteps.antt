@@ -4,13 +4,13 @@ use Rattle.std.specs.Prelude.{◌&&◌}
 use Rattle.std.specs.List.{All, find}
 use Rattle.std.proofs.lemmas.List.Elements.{All-head, All-tail}
 use Rattle.std.proofs.lemmas.Bool.{and_from}
-use Rattle.fx_data.specs.Rising.{AreRising}
-use Rattle.fx_data.specs.Types.{Shape, records, tables, ColumnList, no_columns, column, column_list}
-use Rattle.fx_data.specs.Values.{Data, blank, number, text, boolean, date, rec, tab, fault, FieldList, no_fields, field, RowList, no_rows, row, field_list, row_list}
-use Rattle.fx_data.specs.ValueView.{view}
-use Rattle.fx_data.specs.declared.faults.Fault.{Fault as FaultData}
-use Rattle.fx_data.specs.declared.values.Value.{Value}
-use Rattle.fx_data.specs.declared.values.Value.TheVariants.{Blank, Number, Text, Boolean, Date, Rec, Tab, Fault}
+use Rattle.fx_types.specs.Rising.{AreRising}
+use Rattle.fx_types.specs.Types.{Shape, records, tables, ColumnList, no_columns, column, column_list}
+use Rattle.fx_types.specs.Values.{Data, blank, number, text, boolean, date, rec, tab, fault, FieldList, no_fields, field, RowList, no_rows, row, field_list, row_list}
+use Rattle.fx_types.specs.ValueView.{view}
+use Rattle.fx_types.specs.declared.faults.Fault.{Fault as FaultData}
+use Rattle.fx_types.specs.declared.values.Value.{Value}
+use Rattle.fx_types.specs.declared.values.Value.TheVariants.{Blank, Number, Text, Boolean, Date, Rec, Tab, Fault}
 use Rattle.fx_value.specs.Coercion.{CanWiden, Widens, same, joined, widened_fields}
 use Rattle.fx_value.specs.Fits.{fits_in, fields_fit}
 use Rattle.fx_value.proofs.Unions.{union_of_none, rises_list}

@@ -5,11 +5,11 @@ use Rattle.std.specs.Str.{chars}
 use Rattle.std.specs.List.{All, filter, find}
 use Rattle.std.proofs.lemmas.List.Elements.{All-head, All-tail}
 use Rattle.std.proofs.lemmas.Bool.{and_from}
-use Rattle.fx_data.specs.Types.{Shape, blanks, numbers, texts, booleans, dates, records, tables, no_columns, column}
-use Rattle.fx_data.specs.Values.{Data, number, text, boolean, date, rec, no_rows, row, no_fields, field, field_list, row_list}
-use Rattle.fx_data.specs.ValueView.{view}
-use Rattle.fx_data.specs.declared.values.Value.{Value}
-use Rattle.fx_data.specs.declared.values.Value.TheVariants.{Text}
+use Rattle.fx_types.specs.Types.{Shape, blanks, numbers, texts, booleans, dates, records, tables, no_columns, column}
+use Rattle.fx_types.specs.Values.{Data, number, text, boolean, date, rec, no_rows, row, no_fields, field, field_list, row_list}
+use Rattle.fx_types.specs.ValueView.{view}
+use Rattle.fx_types.specs.declared.values.Value.{Value}
+use Rattle.fx_types.specs.declared.values.Value.TheVariants.{Text}
 use Rattle.fx_value.specs.Fits.{fits_in, fields_fit, rows_fit}
 use Rattle.fx_value.proofs.Widenings.{own_name}
 use Rattle.fx_tables.specs.AggregateCalls.{characters_in}
@@ -17,7 +17,7 @@ use Rattle.fx_tables.specs.RowCalls.{CanBeRowType, is_blank, rows_by_values}
 use Rattle.fx_value.specs.Columns.{Row}
 use Rattle.fx_tables.specs.Distinct.{value_name}
 use Rattle.fx_tables.specs.Unions.{fields_in, is_fault}
-use Rattle.fx_trees.specs.ColumnLists.{row_columns, value_column}
+use Rattle.fx_core.specs.ColumnLists.{row_columns, value_column}
 
 -- one more row
 rows_push : (ws : List Row) (ds : List Value) (w : Row) (v : Value) → row_list ws ≡ rows_by_values (map view ds) → field_list w ≡ fields_in (view v) → row_list (ws ++ w ∷ []) ≡ rows_by_values (map view (ds ++ v ∷ []))

@@ -1,12 +1,12 @@
 -- What a formula's values for each row come to as one value. Blank ones are passed over, but in `Concat`.
 use Rattle.std.specs.Prelude.{◌≡◌, ℕ, ℤ, List, [], ◌∷◌, map, Option, Some, None, Result, Ok, Err}
 use Rattle.std.specs.List.{flat_map}
-use Rattle.fx_data.specs.Values.{Data, blank, number, text, fault}
-use Rattle.fx_data.specs.declared.faults.Kind.{Kind}
-use Rattle.fx_builtins.specs.Folds.{IsGreatest, IsLeast, IsSum, average_of}
+use Rattle.fx_types.specs.Values.{Data, blank, number, text, fault}
+use Rattle.fx_types.specs.declared.faults.Kind.{Kind}
+use Rattle.fx_primitives.specs.Folds.{IsGreatest, IsLeast, IsSum, average_of}
 use Rattle.fx_value.specs.Aggregates.{numbers_in}
 use Rattle.fx_tables.specs.Unions.{fault_or}
-use Rattle.fx_builtins.specs.Texts.{joined, made}
+use Rattle.fx_primitives.specs.Texts.{joined, made}
 use Rattle.fx_tables.specs.RowCalls.{IsFirstErrorOr}
 
 -- a number, or blank for none, of which P holds

@@ -1,9 +1,9 @@
 -- The calls that change the columns of a table, one column after another.
 use Rattle.std.specs.Prelude.{◌≡◌, ℕ, true, List, [], ◌∷◌, map, length, All, Result, Ok}
-use Rattle.fx_data.specs.Types.{ColumnList, Shape}
-use Rattle.fx_data.specs.Values.{Data}
+use Rattle.fx_types.specs.Types.{ColumnList, Shape}
+use Rattle.fx_types.specs.Values.{Data}
 use Rattle.fx_value.specs.Columns.{LacksColumn, Row, renamed, with_column, without}
-use Rattle.fx_trees.specs.ColumnLists.{and_then}
+use Rattle.fx_core.specs.ColumnLists.{and_then}
 use Rattle.fx_value.specs.Fits.{fits_in}
 
 -- `AddColumns`: each column of a name and its values, which stand at the places of the rows

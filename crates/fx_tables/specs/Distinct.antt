@@ -2,8 +2,8 @@
 use Rattle.std.specs.Prelude.{ℕ, List, [], ◌∷◌, map, not, codes}
 use Rattle.std.specs.List.{filter}
 use Rattle.std.specs.Ordering.{is_eq}
-use Rattle.fx_data.specs.Words.{scalars_of}
-use Rattle.fx_data.specs.Values.{Data}
+use Rattle.fx_types.specs.Words.{scalars_of}
+use Rattle.fx_types.specs.Values.{Data}
 use Rattle.fx_value.specs.Order.{order}
 use Rattle.fx_value.specs.Columns.{Row}
 

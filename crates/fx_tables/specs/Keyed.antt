@@ -1,6 +1,6 @@
 -- A row beside its key.
-use Rattle.fx_data.specs.Values.{Data}
-use Rattle.fx_data.specs.ValueView.{view}
+use Rattle.fx_types.specs.Values.{Data}
+use Rattle.fx_types.specs.ValueView.{view}
 use Rattle.fx_value.specs.Columns.{Row}
 use Rattle.fx_tables.specs.declared.ordering.Keyed.{Keyed}
 

@@ -1,6 +1,6 @@
 -- The answers that are told by what holds of them: there is one at most.
 use Rattle.std.specs.Prelude.{◌≡◌, Bool, List}
-use Rattle.fx_data.specs.Values.{Data}
+use Rattle.fx_types.specs.Values.{Data}
 use Rattle.fx_tables.specs.AggregateCalls.{IsGreatestOf, IsLeastOf, IsSumOf}
 use Rattle.fx_tables.specs.RowCalls.{IsCountIfOf, IsCountValue, IsSortOf}
 use Rattle.fx_value.specs.Columns.{Row}

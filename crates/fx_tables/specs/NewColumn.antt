@@ -1,7 +1,7 @@
 -- A new column of a table.
 use Rattle.std.specs.Prelude.{ℕ, List, map}
-use Rattle.fx_data.specs.Values.{Data}
-use Rattle.fx_data.specs.ValueView.{view}
+use Rattle.fx_types.specs.Values.{Data}
+use Rattle.fx_types.specs.ValueView.{view}
 use Rattle.fx_tables.specs.declared.column_calls.NewColumn.{NewColumn}
 use Rattle.fx_tables.specs.declared.column_calls.Renaming.{Renaming}
 

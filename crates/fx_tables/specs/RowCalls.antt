@@ -2,9 +2,9 @@
 use Rattle.std.specs.Prelude.{◌≡◌, ℕ, pos, ◌*ℤ◌, Bool, true, false, List, [], ◌∷◌, map, length, not, MatchOption, None}
 use Rattle.std.specs.List.{filter, find, list_all, zip}
 use Rattle.fx_number.specs.Decimal.{IsInRange}
-use Rattle.fx_data.specs.Types.{Shape, tables}
-use Rattle.fx_data.specs.Values.{Data, blank, number, boolean, rec, tab, fault, RowList, no_rows, row, field_list, row_list}
-use Rattle.fx_data.specs.declared.faults.Kind.TheVariants.{Numeric}
+use Rattle.fx_types.specs.Types.{Shape, tables}
+use Rattle.fx_types.specs.Values.{Data, blank, number, boolean, rec, tab, fault, RowList, no_rows, row, field_list, row_list}
+use Rattle.fx_types.specs.declared.faults.Kind.TheVariants.{Numeric}
 use Rattle.fx_value.specs.Columns.{Row}
 use Rattle.fx_tables.specs.Distinct.{distinct_of, value_row}
 use Rattle.fx_value.specs.Ordered.{AreKeys, IsOrderedBy}

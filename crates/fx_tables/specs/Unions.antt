@@ -1,8 +1,8 @@
 -- Values as the rows of one table.
 use Rattle.std.specs.Prelude.{◌≡◌, Bool, true, false, List, [], ◌∷◌, map, unwrap_or}
 use Rattle.std.specs.List.{All, find}
-use Rattle.fx_data.specs.Types.{Shape, records, tables, ColumnList, no_columns, column}
-use Rattle.fx_data.specs.Values.{Data, blank, rec, tab, fault, FieldList, no_fields, field, RowList, no_rows, row}
+use Rattle.fx_types.specs.Types.{Shape, records, tables, ColumnList, no_columns, column}
+use Rattle.fx_types.specs.Values.{Data, blank, rec, tab, fault, FieldList, no_fields, field, RowList, no_rows, row}
 use Rattle.fx_value.specs.Coercion.{CanWiden, widened_fields}
 use Rattle.fx_value.specs.Fits.{fits_in}
 use Rattle.fx_tables.specs.Distinct.{value_name}

@@ -1,16 +1,16 @@
 // What the numbers that a formula gave come to.
 ghost use Rattle.std.specs.Prelude.{◌≡◌, IfOk, map, true};
-ghost use Rattle.fx_data.specs.Types.{numbers as number_type};
-ghost use Rattle.fx_data.specs.ValueView.{view};
-ghost use Rattle.fx_builtins.specs.Folds.{present};
+ghost use Rattle.fx_types.specs.Types.{numbers as number_type};
+ghost use Rattle.fx_types.specs.ValueView.{view};
+ghost use Rattle.fx_primitives.specs.Folds.{present};
 ghost use Rattle.fx_tables.specs.AggregateCalls.{IsGreatestOf, IsLeastOf, IsSumOf, IsSumValue, averaged, number_or_blank};
 ghost use Rattle.fx_value.specs.Aggregates.{number_of, numbers_in};
 ghost use Rattle.fx_value.specs.Fits.{fits_in};
 
 use crate::errors::{made_error, without_errors};
 use fx_base::Memory;
-use fx_data::values::Value;
 use fx_number::Num;
+use fx_types::values::Value;
 use std::alloc::{AllocError, Global};
 
 /// The sum of the numbers, and blank where there is none. Where there is an error among the values,
@@ -37,7 +37,7 @@ pub fn min(alloc: Global, values: Vec<Value>) -> Result<Value, Memory>
     match without_errors(values) {
         Ok(values) => {
             let numbers = numbers(alloc, values.as_slice())?;
-            Ok(value_of(fx_builtins::min(numbers.as_slice())))
+            Ok(value_of(fx_primitives::min(numbers.as_slice())))
         }
         Err(fault) => Ok(Value::Fault(fault)),
     }
@@ -52,7 +52,7 @@ pub fn max(alloc: Global, values: Vec<Value>) -> Result<Value, Memory>
     match without_errors(values) {
         Ok(values) => {
             let numbers = numbers(alloc, values.as_slice())?;
-            Ok(value_of(fx_builtins::max(numbers.as_slice())))
+            Ok(value_of(fx_primitives::max(numbers.as_slice())))
         }
         Err(fault) => Ok(Value::Fault(fault)),
     }
@@ -68,7 +68,7 @@ pub fn average(alloc: Global, values: Vec<Value>) -> Result<Value, Memory>
     match without_errors(values) {
         Ok(values) => {
             let numbers = numbers(alloc, values.as_slice())?;
-            Ok(value_of(fx_builtins::average(numbers.as_slice())))
+            Ok(value_of(fx_primitives::average(numbers.as_slice())))
         }
         Err(fault) => Ok(Value::Fault(fault)),
     }
@@ -78,7 +78,7 @@ fn sum_of(alloc: Global, numbers: &[Option<Num>]) -> Result<Value, Memory>
     ensures value { IfOk result (λ v. IsSumValue (present numbers.now) (view v)) }
     ensures fits { IfOk result (λ v. fits_in (view v) number_type ≡ true) }
 {
-    match fx_builtins::sum(numbers) {
+    match fx_primitives::sum(numbers) {
         Ok(sum) => Ok(value_of(sum)),
         Err(kind) => made_error(alloc, kind),
     }

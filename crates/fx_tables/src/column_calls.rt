@@ -1,19 +1,19 @@
 // The calls that change the columns of a table, one column after another.
 ghost use Rattle.std.specs.Prelude.{◌≡◌, IfOk, List, Ok, map, true, ℕ};
-ghost use Rattle.fx_data.specs.Rising.{AreRising};
-ghost use Rattle.fx_data.specs.Types.{ColumnList, Shape, column_list, tables};
-ghost use Rattle.fx_data.specs.ValueView.{view};
-ghost use Rattle.fx_data.specs.Values.{row_list, tab};
+ghost use Rattle.fx_types.specs.Rising.{AreRising};
+ghost use Rattle.fx_types.specs.Types.{ColumnList, Shape, column_list, tables};
+ghost use Rattle.fx_types.specs.ValueView.{view};
+ghost use Rattle.fx_types.specs.Values.{row_list, tab};
 ghost use Rattle.fx_tables.specs.ColumnCalls.{AreOfTypes, CanAdd, CanRename, in_turn, renamed_columns, with_columns, without_columns};
 ghost use Rattle.fx_tables.specs.NewColumn.{column_seen, renaming_seen};
 ghost use Rattle.fx_value.specs.Columns.{only};
-ghost use Rattle.fx_trees.specs.ColumnLists.{only as only_columns, with_new, with_renamed, without_all};
+ghost use Rattle.fx_core.specs.ColumnLists.{only as only_columns, with_new, with_renamed, without_all};
 ghost use Rattle.fx_value.specs.Fits.{fits_in};
 
 use crate::{add_column, drop_column, rename_column};
 use fx_base::Memory;
-use fx_data::values::{Rows, Value};
-use fx_data::words::Words;
+use fx_types::values::{Rows, Value};
+use fx_types::words::Words;
 use std::alloc::Global;
 
 /// A new column, by what a formula gave for each row.

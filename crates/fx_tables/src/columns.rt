@@ -4,16 +4,16 @@ ghost use Rattle.std.specs.List.{list_any, position_or_len};
 ghost use Rattle.std.specs.Prelude.{bytes_eq};
 ghost use Rattle.std.specs.Cmp.Lexicographic.{slice_cmp};
 ghost use Rattle.std.specs.Ordering.{nat_cmp, is_lt};
-ghost use Rattle.fx_data.specs.Lookup.{item_of};
-ghost use Rattle.fx_data.specs.Rising.{AreRising};
-ghost use Rattle.fx_data.specs.Values.{blank};
-ghost use Rattle.fx_data.specs.ValueView.{view, fields_view};
-ghost use Rattle.fx_data.specs.Words.{scalars_of};
+ghost use Rattle.fx_types.specs.Lookup.{item_of};
+ghost use Rattle.fx_types.specs.Rising.{AreRising};
+ghost use Rattle.fx_types.specs.Values.{blank};
+ghost use Rattle.fx_types.specs.ValueView.{view, fields_view};
+ghost use Rattle.fx_types.specs.Words.{scalars_of};
 ghost use Rattle.fx_value.specs.Columns.{LacksColumn, only as only_of, renamed as renamed_of, with_column, with_field as with_field_of, without as without_of};
 
 use fx_base::Memory;
-use fx_data::values::{Fields, Rows, Value};
-use fx_data::words::Words;
+use fx_types::values::{Fields, Rows, Value};
+use fx_types::words::Words;
 use std::alloc::Global;
 
 /// The rows with one more column, of the values that stand at their places.

@@ -1,16 +1,16 @@
 // The calls that keep the rows where conditions hold.
 ghost use Rattle.std.specs.Prelude.{◌≡◌, ◌++◌, ◌∷◌, [], IfOk, OnOk, length, map, true, if◌then◌else◌};
 ghost use Rattle.std.specs.List.{list_all};
-ghost use Rattle.fx_data.specs.Types.{ColumnList, Shape, booleans, records, tables};
-ghost use Rattle.fx_data.specs.ValueView.{view};
-ghost use Rattle.fx_data.specs.Values.{row_list, tab};
+ghost use Rattle.fx_types.specs.Types.{ColumnList, Shape, booleans, records, tables};
+ghost use Rattle.fx_types.specs.ValueView.{view};
+ghost use Rattle.fx_types.specs.Values.{row_list, tab};
 ghost use Rattle.fx_tables.specs.RowCalls.{filtered, holds as holds_in, kept_rows, looked_up, verdict_of};
 ghost use Rattle.fx_value.specs.Fits.{fits_in};
 
 use crate::ends::first;
 use crate::errors::without_errors;
 use fx_base::Memory;
-use fx_data::values::{Fields, Rows, Value};
+use fx_types::values::{Fields, Rows, Value};
 use std::alloc::Global;
 
 /// What the conditions of one row come to: the first error from the left, else whether all hold. All

@@ -1,8 +1,8 @@
 // How many conditions hold, and counts as numbers.
 ghost use Rattle.std.specs.Prelude.{◌≡◌, ◌≤◌, ◌*ℤ◌, IfOk, MatchOption, length, map, pos, true, if◌then◌else◌};
 ghost use Rattle.std.specs.List.{filter as filter_of};
-ghost use Rattle.fx_data.specs.Types.{numbers};
-ghost use Rattle.fx_data.specs.ValueView.{view};
+ghost use Rattle.fx_types.specs.Types.{numbers};
+ghost use Rattle.fx_types.specs.ValueView.{view};
 ghost use Rattle.fx_number.specs.Decimal.{IsInRange};
 ghost use Rattle.fx_tables.specs.RowCalls.{IsCountIfOf, IsCountValue, holds as holds_in};
 ghost use Rattle.fx_value.specs.Fits.{fits_in};
@@ -10,9 +10,9 @@ ghost use Rattle.fx_value.specs.Fits.{fits_in};
 use crate::conditions::holds;
 use crate::errors::{made_error, without_errors};
 use fx_base::Memory;
-use fx_data::faults::Kind;
-use fx_data::values::Value;
 use fx_number::Num;
+use fx_types::faults::Kind;
+use fx_types::values::Value;
 use std::alloc::Global;
 
 /// How many of the conditions hold. Where a condition is an error, the first one is the answer, and

@@ -1,18 +1,18 @@
 // The first and the last rows of a table, and how many there are.
 ghost use Rattle.std.specs.Prelude.{◌≡◌, ◌-◌, IfOk, drop, length, option_map, take, true};
-ghost use Rattle.fx_data.specs.Types.{ColumnList, Shape, booleans, numbers, records, tables};
-ghost use Rattle.fx_data.specs.ValueView.{view};
-ghost use Rattle.fx_data.specs.Values.{row_list, tab};
-ghost use Rattle.fx_builtins.specs.Numbers.{whole_part_of};
+ghost use Rattle.fx_types.specs.Types.{ColumnList, Shape, booleans, numbers, records, tables};
+ghost use Rattle.fx_types.specs.ValueView.{view};
+ghost use Rattle.fx_types.specs.Values.{row_list, tab};
+ghost use Rattle.fx_primitives.specs.Numbers.{whole_part_of};
 ghost use Rattle.fx_tables.specs.Ends.{count_asked as count_asked_of, emptiness_of, first_rows, last_of, last_rows, natural as natural_of};
 ghost use Rattle.fx_tables.specs.RowCalls.{IsCountValue, first_of};
 ghost use Rattle.fx_value.specs.Fits.{fits_in};
 
 use crate::counts::count_value;
 use fx_base::Memory;
-use fx_builtins::whole_part;
-use fx_data::values::{Rows, Value};
 use fx_number::Num;
+use fx_primitives::whole_part;
+use fx_types::values::{Rows, Value};
 use std::alloc::Global;
 
 /// The first row as a record, or blank where there is none.

@@ -1,14 +1,14 @@
 // The first error of values.
 ghost use Rattle.std.specs.Prelude.{◌≡◌, ◌<◌, [], IfOk, MatchOption, MatchResult, length, map, None, Some, slice_index_or};
 ghost use Rattle.std.specs.List.{find};
-ghost use Rattle.fx_data.specs.Values.{fault};
-ghost use Rattle.fx_data.specs.ValueView.{view};
+ghost use Rattle.fx_types.specs.Values.{fault};
+ghost use Rattle.fx_types.specs.ValueView.{view};
 ghost use Rattle.fx_tables.specs.Unions.{is_fault};
 
 use fx_base::Memory;
-use fx_data::faults::{Fault, Kind};
-use fx_data::values::Value;
-use fx_data::words::Words;
+use fx_types::faults::{Fault, Kind};
+use fx_types::values::Value;
+use fx_types::words::Words;
 use std::alloc::Global;
 
 // These values where none is an error, or the first error among them.

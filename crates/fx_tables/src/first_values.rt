@@ -1,8 +1,8 @@
 // The distinct ones among values.
 ghost use Rattle.std.specs.Prelude.{◌≡◌, ◌++◌, ◌∷◌, [], IfOk, OnOk, List, map};
 ghost use Rattle.std.specs.List.{All};
-ghost use Rattle.fx_data.specs.Values.{Data};
-ghost use Rattle.fx_data.specs.ValueView.{view};
+ghost use Rattle.fx_types.specs.Values.{Data};
+ghost use Rattle.fx_types.specs.ValueView.{view};
 ghost use Rattle.fx_value.specs.Keys.{IsProper};
 ghost use Rattle.fx_value.specs.Order.{AreOfOneType, IsScalar};
 ghost use Rattle.fx_tables.specs.Distinct.{distinct_of, value_row as value_row_of};
@@ -11,7 +11,7 @@ ghost use Rattle.fx_tables.specs.Seen.{HoldsFirsts};
 
 use crate::unions::value_row;
 use fx_base::Memory;
-use fx_data::values::{Fields, Rows, Value};
+use fx_types::values::{Fields, Rows, Value};
 use fx_value::{key_of, keys_order, value_is_proper};
 use std::alloc::Global;
 use std::collections::BTreeSet;

@@ -1,20 +1,20 @@
 // The calls that make tables of what a formula gave for each row.
 ghost use Rattle.std.specs.Prelude.{◌≡◌, IfOk, length, map, not, true};
 ghost use Rattle.std.specs.List.{All, filter as filter_of};
-ghost use Rattle.fx_data.specs.Types.{Shape, tables};
-ghost use Rattle.fx_data.specs.ValueView.{view};
-ghost use Rattle.fx_data.specs.Values.{field_list, row_list, tab};
+ghost use Rattle.fx_types.specs.Types.{Shape, tables};
+ghost use Rattle.fx_types.specs.ValueView.{view};
+ghost use Rattle.fx_types.specs.Values.{field_list, row_list, tab};
 ghost use Rattle.fx_value.specs.Fits.{fits_in};
 ghost use Rattle.fx_tables.specs.RowCalls.{AreKeysOrErrors, CanBeRowType, IsSortOf, distinct_or, for_all_of, is_blank as is_blank_in, rows_by_values as rows_of};
 ghost use Rattle.fx_tables.specs.Distinct.{value_row as value_row_of};
 ghost use Rattle.fx_tables.specs.Unions.{fields_in};
-ghost use Rattle.fx_trees.specs.ColumnLists.{row_columns, value_column};
+ghost use Rattle.fx_core.specs.ColumnLists.{row_columns, value_column};
 
 use crate::errors::without_errors;
 use crate::{distinct, order_by};
 use fx_base::Memory;
-use fx_data::values::{Fields, Rows, Value};
-use fx_data::words::Words;
+use fx_types::values::{Fields, Rows, Value};
+use fx_types::words::Words;
 use std::alloc::Global;
 
 /// The table of the values that aren't blank: records, or scalars in a column `Value`. Where there

@@ -1,12 +1,12 @@
 // Rows in the order of their keys.
 ghost use Rattle.std.specs.Prelude.{◌≡◌, IfOk, map, length};
 ghost use Rattle.std.specs.List.{zip};
-ghost use Rattle.fx_data.specs.ValueView.{view};
+ghost use Rattle.fx_types.specs.ValueView.{view};
 ghost use Rattle.fx_tables.specs.Keyed.{pair_of};
 ghost use Rattle.fx_value.specs.Ordered.{IsOrderedBy, OrderedOnce, directed as directed_order};
 
 use fx_base::Memory;
-use fx_data::values::{Fields, Rows, Value};
+use fx_types::values::{Fields, Rows, Value};
 use fx_value::{compare, compare_is_total};
 use std::alloc::Global;
 use std::cmp::Ordering;

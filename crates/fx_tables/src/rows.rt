@@ -1,7 +1,7 @@
 // The first and the last rows of a table.
 ghost use Rattle.std.specs.Prelude.{◌≡◌, ◌-◌, length, take, drop};
 
-use fx_data::values::Rows;
+use fx_types::values::Rows;
 
 /// The first `n` rows, or all where there are fewer.
 pub fn first_n(rows: Rows, n: u32) -> Rows

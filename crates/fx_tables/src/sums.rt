@@ -1,12 +1,12 @@
 // What is summed up of many numbers.
 ghost use Rattle.std.specs.Prelude.{◌≡◌, ◌++◌, ◌∷◌, [], ◌+◌, ◌-◌, ◌^◌, ◌<◌, ◌≤◌, ◌+ℤ◌, IsSomeAnd, List, map};
-ghost use Rattle.fx_data.specs.Values.{Data};
-ghost use Rattle.fx_data.specs.ValueView.{view};
+ghost use Rattle.fx_types.specs.Values.{Data};
+ghost use Rattle.fx_types.specs.ValueView.{view};
 ghost use Rattle.fx_value.specs.Aggregates.{IsGreater, IsLesser, IsWithin, SumsUp, numbers_in};
 
-use fx_data::aggregates::Totals;
-use fx_data::values::Value;
 use fx_number::Num;
+use fx_types::aggregates::Totals;
+use fx_types::values::Value;
 
 /// How many numbers there are among these values, their sum in ten-thousandths, and the least and
 /// the greatest of them. What is no number, as blank, is passed over.

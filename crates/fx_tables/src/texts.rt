@@ -1,16 +1,16 @@
 // The texts that a formula gave, joined.
 ghost use Rattle.std.specs.Prelude.{◌≡◌, ◌++◌, ◌∷◌, [], IfOk, List, OnOk, map, true, ℕ};
-ghost use Rattle.fx_data.specs.Types.{texts as text_type};
-ghost use Rattle.fx_data.specs.ValueView.{view};
+ghost use Rattle.fx_types.specs.Types.{texts as text_type};
+ghost use Rattle.fx_types.specs.ValueView.{view};
 ghost use Rattle.fx_tables.specs.AggregateCalls.{characters_in, concatenated_by, made_value, separated};
-ghost use Rattle.fx_builtins.specs.Texts.{made as made_of, joined};
+ghost use Rattle.fx_primitives.specs.Texts.{made as made_of, joined};
 ghost use Rattle.fx_value.specs.Fits.{fits_in};
 
 use crate::errors::{made_error, without_errors};
 use fx_base::Memory;
-use fx_builtins::concatenate;
-use fx_data::values::Value;
-use fx_data::words::Words;
+use fx_primitives::concatenate;
+use fx_types::values::Value;
+use fx_types::words::Words;
 use std::alloc::Global;
 
 /// The texts joined in row order, with the separator between each two; a blank text or separator is

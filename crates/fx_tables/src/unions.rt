@@ -1,19 +1,19 @@
 // Values as the rows of one table.
 ghost use Rattle.std.specs.Prelude.{◌≡◌, IfOk, map, true};
 ghost use Rattle.std.specs.List.{All};
-ghost use Rattle.fx_data.specs.Types.{column_list, records, tables};
-ghost use Rattle.fx_data.specs.TypeView.{shape};
-ghost use Rattle.fx_data.specs.ValueView.{view};
-ghost use Rattle.fx_data.specs.Values.{field_list, rec, tab};
+ghost use Rattle.fx_types.specs.Types.{column_list, records, tables};
+ghost use Rattle.fx_types.specs.TypeView.{shape};
+ghost use Rattle.fx_types.specs.ValueView.{view};
+ghost use Rattle.fx_types.specs.Values.{field_list, rec, tab};
 ghost use Rattle.fx_value.specs.Coercion.{CanWiden, widened};
 ghost use Rattle.fx_value.specs.Fits.{fits_in};
 ghost use Rattle.fx_tables.specs.Distinct.{value_row as value_row_of};
 ghost use Rattle.fx_tables.specs.Unions.{CanBeRow, CanBeRows, fault_or, fields_in, rows_of, union_of};
 
 use fx_base::Memory;
-use fx_data::types::{Columns, Ty};
-use fx_data::values::{Fields, Rows, Value};
-use fx_data::words::Words;
+use fx_types::types::{Columns, Ty};
+use fx_types::values::{Fields, Rows, Value};
+use fx_types::words::Words;
 use fx_value::widening::widen;
 use std::alloc::Global;
 

@@ -1,7 +1,7 @@
 -- What the judgement calls broken is broken.
 use Rattle.std.proofs.Common.{◌≡◌, ℕ, ◌++◌, List, [], ◌∷◌, Bool, Option, Result, Ok, Err, refl, ap, sym, inl, inr, ◌⊎◌}
-use Rattle.fx_data.specs.Types.{Shape}
-use Rattle.fx_trees.specs.Tree.{Tree, node, Forest, none, more, Head}
+use Rattle.fx_types.specs.Types.{Shape}
+use Rattle.fx_core.specs.Tree.{Tree, node, Forest, none, more, Head}
 use Rattle.fx_typing.specs.Meaning.{Place}
 use Rattle.fx_typing.specs.Parts.{Part, Setting, parts_in}
 use Rattle.fx_typing.specs.Plans.{setting_at}

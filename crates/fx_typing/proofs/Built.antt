@@ -4,12 +4,12 @@ use Rattle.std.specs.Prelude.{Option, Some, None}
 use Rattle.std.proofs.lemmas.Slice.Eq.{bytes_eq-Decides}
 use Rattle.std.proofs.Math.Bool.{or-false}
 use Rattle.std.proofs.lemmas.List.{map_push}
-use Rattle.fx_data.specs.Types.{Shape, blanks, records, tables, ColumnList, no_columns, column}
-use Rattle.fx_trees.specs.declared.deeds.Target.{Target}
-use Rattle.fx_trees.specs.declared.names.Names.{Names}
-use Rattle.fx_trees.specs.Term.{Term, Terms, of, nil, cons, all, within, list, coerce}
+use Rattle.fx_types.specs.Types.{Shape, blanks, records, tables, ColumnList, no_columns, column}
+use Rattle.fx_core.specs.declared.deeds.Target.{Target}
+use Rattle.fx_core.specs.declared.names.Names.{Names}
+use Rattle.fx_core.specs.Term.{Term, Terms, of, nil, cons, all, within, list, coerce}
 use Rattle.fx_value.specs.Fits.{fields_fit}
-use Rattle.fx_trees.specs.ColumnLists.{and_then, row_columns}
+use Rattle.fx_core.specs.ColumnLists.{and_then, row_columns}
 use Rattle.fx_typing.specs.Local.{value, coerced, by_way, put_first, join_all, firsts}
 use Rattle.fx_typing.specs.Meaning.{Place, Scope}
 use Rattle.fx_typing.specs.Ways.{Way, same, changed, refused, way}

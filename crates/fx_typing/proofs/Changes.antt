@@ -2,17 +2,17 @@
 use Rattle.std.proofs.Common.{◌≡◌, ℕ, ◌<◌, List, [], ◌∷◌, Bool, true, false, ◌&&◌, not, is_some, length, codes, bytes_eq, option_and_then, Option, Some, None, Result, Ok, Err, refl, ap, sym, subst, ◌∙◌, if◌then◌else◌}
 use Rattle.std.proofs.lemmas.Option.{slice_get_within}
 use Rattle.std.proofs.lemmas.Bool.{and_parts}
-use Rattle.fx_data.specs.Types.{Shape, blanks, numbers, texts, booleans, records, tables, ColumnList, no_columns, column}
+use Rattle.fx_types.specs.Types.{Shape, blanks, numbers, texts, booleans, records, tables, ColumnList, no_columns, column}
 use Rattle.fx_value.specs.Join.{join_of}
-use Rattle.fx_trees.specs.declared.deeds.Deed.TheVariants as deed
-use Rattle.fx_trees.specs.declared.deeds.Target.{Target}
-use Rattle.fx_trees.specs.declared.deeds.Target.TheVariants as rows
-use Rattle.fx_trees.specs.declared.sources.Source.TheVariants as source
-use Rattle.fx_trees.specs.Controls.{input_type}
-use Rattle.fx_trees.specs.declared.names.ControlName.{ControlName}
-use Rattle.fx_trees.specs.declared.names.Names.{Names}
-use Rattle.fx_trees.specs.Term.{Term, of, nil, cons, read, list, act}
-use Rattle.fx_trees.specs.ColumnLists.{field_in}
+use Rattle.fx_core.specs.declared.deeds.Deed.TheVariants as deed
+use Rattle.fx_core.specs.declared.deeds.Target.{Target}
+use Rattle.fx_core.specs.declared.deeds.Target.TheVariants as rows
+use Rattle.fx_core.specs.declared.sources.Source.TheVariants as source
+use Rattle.fx_core.specs.Controls.{input_type}
+use Rattle.fx_core.specs.declared.names.ControlName.{ControlName}
+use Rattle.fx_core.specs.declared.names.Names.{Names}
+use Rattle.fx_core.specs.Term.{Term, of, nil, cons, read, list, act}
+use Rattle.fx_core.specs.ColumnLists.{field_in}
 use Rattle.fx_typing.specs.Local.{coerced, by_way, firsts}
 use Rattle.fx_typing.specs.WellTyped.{Context, context_for, inside, target_source, IsNumbered, IsNamedRow, AreNamedRows, LeavesId, IsChange, AreChanges, IsFilterOf, HasColumns, IsDone, IsTyped}
 use Rattle.fx_typing.specs.Ways.{way}

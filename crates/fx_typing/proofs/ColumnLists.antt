@@ -6,14 +6,14 @@ use Rattle.std.specs.declared.cmp.Ordering.{Ordering}
 use Rattle.std.specs.declared.cmp.Ordering.TheVariants.{Less, Equal, Greater}
 use Rattle.std.proofs.lemmas.Map.Lookups.{exact_bytes}
 use Rattle.std.proofs.lemmas.Map.Text.{is_eq-slice_cmp}
-use Rattle.fx_data.proofs.Risings.{names_of, rising_filter, rising_names, seen_length}
-use Rattle.fx_data.specs.Lookup.{item_of}
-use Rattle.fx_data.specs.Rising.{IsBelow, AreRising}
-use Rattle.fx_data.specs.Types.{Shape, ColumnList, no_columns, column, column_list}
-use Rattle.fx_data.specs.TypeView.{shape, columns_view}
-use Rattle.fx_data.specs.declared.types.Ty.{Ty}
-use Rattle.fx_trees.specs.SourceTypes.{put_column}
-use Rattle.fx_trees.specs.ColumnLists.{field_in, without, is_one_of, only}
+use Rattle.fx_types.proofs.Risings.{names_of, rising_filter, rising_names, seen_length}
+use Rattle.fx_types.specs.Lookup.{item_of}
+use Rattle.fx_types.specs.Rising.{IsBelow, AreRising}
+use Rattle.fx_types.specs.Types.{Shape, ColumnList, no_columns, column, column_list}
+use Rattle.fx_types.specs.TypeView.{shape, columns_view}
+use Rattle.fx_types.specs.declared.types.Ty.{Ty}
+use Rattle.fx_core.specs.SourceTypes.{put_column}
+use Rattle.fx_core.specs.ColumnLists.{field_in, without, is_one_of, only}
 use Rattle.fx_value.proofs.Unions.{Under, Rises, under_list, rises_list, list_rises, rises_with, under_further}
 use Rattle.fx_value.proofs.Widenings.{same_name, own_name}
 use Rattle.fx_value.specs.Join.{with_column}

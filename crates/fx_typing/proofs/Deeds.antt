@@ -1,20 +1,20 @@
 -- Acting calls are well typed.
 use Rattle.std.proofs.Common.{◌≡◌, ℕ, List, [], ◌∷◌, Bool, true, false, map, Option, Some, None, Result, Ok, Err, refl, ap, sym, subst, ◌∙◌, inl, inr, if◌then◌else◌}
-use Rattle.fx_data.specs.TypeView.{shape}
-use Rattle.fx_data.specs.Types.{Shape, blanks, numbers, texts, booleans, dates, records, tables, ColumnList}
-use Rattle.fx_trees.specs.declared.deeds.Deed.{Deed}
-use Rattle.fx_trees.specs.declared.deeds.Deed.TheVariants as deed
-use Rattle.fx_trees.specs.declared.deeds.Target.{Target}
-use Rattle.fx_trees.specs.declared.deeds.Target.TheVariants as rows
-use Rattle.fx_trees.specs.declared.sources.Source.{Source}
-use Rattle.fx_trees.specs.declared.sources.Source.TheVariants as source
-use Rattle.fx_trees.specs.declared.names.Collection.{Collection}
-use Rattle.fx_trees.specs.declared.names.Names.{Names}
-use Rattle.fx_trees.specs.declared.names.Variable.{Variable}
-use Rattle.fx_trees.specs.declared.schema.TableShape.{TableShape}
-use Rattle.fx_trees.specs.SourceTypes.{columns_of, sources}
-use Rattle.fx_trees.specs.Term.{Term, list, act}
-use Rattle.fx_trees.specs.ColumnLists.{row_columns}
+use Rattle.fx_types.specs.TypeView.{shape}
+use Rattle.fx_types.specs.Types.{Shape, blanks, numbers, texts, booleans, dates, records, tables, ColumnList}
+use Rattle.fx_core.specs.declared.deeds.Deed.{Deed}
+use Rattle.fx_core.specs.declared.deeds.Deed.TheVariants as deed
+use Rattle.fx_core.specs.declared.deeds.Target.{Target}
+use Rattle.fx_core.specs.declared.deeds.Target.TheVariants as rows
+use Rattle.fx_core.specs.declared.sources.Source.{Source}
+use Rattle.fx_core.specs.declared.sources.Source.TheVariants as source
+use Rattle.fx_core.specs.declared.names.Collection.{Collection}
+use Rattle.fx_core.specs.declared.names.Names.{Names}
+use Rattle.fx_core.specs.declared.names.Variable.{Variable}
+use Rattle.fx_core.specs.declared.schema.TableShape.{TableShape}
+use Rattle.fx_core.specs.SourceTypes.{columns_of, sources}
+use Rattle.fx_core.specs.Term.{Term, list, act}
+use Rattle.fx_core.specs.ColumnLists.{row_columns}
 use Rattle.fx_typing.specs.Local.{by_way, firsts, put_first}
 use Rattle.fx_typing.specs.WellTyped.{Context, AreAll, target_source, HasColumns, IsTyped}
 use Rattle.fx_typing.specs.Ways.{way}

@@ -1,23 +1,23 @@
 -- Formulas as the definitions judge them, worked out by hand.
 use Rattle.std.proofs.Common.{◌≡◌, inl, ℕ, zero, suc, List, [], ◌∷◌, true, false, Result, Ok, Err, refl}
 use Rattle.std.specs.Prelude.{Some, None, pos, codes}
-use Rattle.fx_data.specs.Types.{Shape, ColumnList, blanks, numbers, texts, booleans, records, tables, no_columns, column}
-use Rattle.fx_data.specs.Values.{number, text, boolean, tab, no_rows}
-use Rattle.fx_trees.specs.declared.functions.Fun.TheVariants as fun
-use Rattle.fx_trees.specs.declared.deeds.Target.TheVariants as rows
-use Rattle.fx_trees.specs.declared.functions.Form.TheVariants as form
-use Rattle.fx_trees.specs.declared.functions.Acting.TheVariants as acts
-use Rattle.fx_trees.specs.declared.signatures.SigShape.TheVariants as sig
-use Rattle.fx_trees.specs.declared.rows.Answer.TheVariants as answer
-use Rattle.fx_trees.specs.declared.literals.SortOrder.TheVariants as order
-use Rattle.fx_trees.specs.Rows.{row_of, form_row, takes_count}
-use Rattle.fx_trees.specs.declared.expr.Op.TheVariants as op
-use Rattle.fx_trees.specs.Tree.{Tree, node, Forest, none, more, Head}
-use Rattle.fx_trees.specs.Tree as tree
-use Rattle.fx_trees.specs.Term.{Term, of, nil, cons, const, call, over, coerce, rec, list, dot, row, chain}
-use Rattle.fx_trees.specs.ColumnLists.{and_then}
+use Rattle.fx_types.specs.Types.{Shape, ColumnList, blanks, numbers, texts, booleans, records, tables, no_columns, column}
+use Rattle.fx_types.specs.Values.{number, text, boolean, tab, no_rows}
+use Rattle.fx_core.specs.declared.functions.Fun.TheVariants as fun
+use Rattle.fx_core.specs.declared.deeds.Target.TheVariants as rows
+use Rattle.fx_core.specs.declared.functions.Form.TheVariants as form
+use Rattle.fx_core.specs.declared.functions.Acting.TheVariants as acts
+use Rattle.fx_core.specs.declared.signatures.SigShape.TheVariants as sig
+use Rattle.fx_core.specs.declared.rows.Answer.TheVariants as answer
+use Rattle.fx_core.specs.declared.literals.SortOrder.TheVariants as order
+use Rattle.fx_core.specs.Rows.{row_of, form_row, takes_count}
+use Rattle.fx_core.specs.declared.expr.Op.TheVariants as op
+use Rattle.fx_core.specs.Tree.{Tree, node, Forest, none, more, Head}
+use Rattle.fx_core.specs.Tree as tree
+use Rattle.fx_core.specs.Term.{Term, of, nil, cons, const, call, over, coerce, rec, list, dot, row, chain}
+use Rattle.fx_core.specs.ColumnLists.{and_then}
 use Rattle.fx_typing.specs.Local.{value, label}
-use Rattle.fx_data.specs.declared.controls.Control.TheVariants as control
+use Rattle.fx_types.specs.declared.controls.Control.TheVariants as control
 use Rattle.fx_typing.specs.Meaning.{Place, written_or}
 use Rattle.fx_typing.specs.Parts.{Part, piece, target, plainly}
 use Rattle.fx_typing.specs.Plans.{setting_by, plan_call}

@@ -1,12 +1,12 @@
 -- The rows that are filtered for a change.
 use Rattle.std.proofs.Common.{◌≡◌, ℕ, suc, ◌%◌, ◌++◌, List, [], ◌∷◌, Bool, true, false, nat_eq, ne_eqb, length, Option, Some, None, Ok, Err, refl, ap, sym, subst, ◌∙◌, if◌then◌else◌, arith}
-use Rattle.fx_data.specs.Types.{Shape, blanks, numbers, texts, booleans, dates, records, tables, ColumnList, no_columns}
-use Rattle.fx_trees.specs.declared.functions.Fun.TheVariants as fun
-use Rattle.fx_trees.specs.declared.rows.Row.{Row}
-use Rattle.fx_trees.specs.declared.rows.Scalar.TheVariants.{Boolean}
-use Rattle.fx_trees.specs.declared.rows.Takes.TheVariants as takes
-use Rattle.fx_trees.specs.Rows.{row_of, takes_at, takes_count}
-use Rattle.fx_trees.specs.Term.{Term, Terms, of, cons, all, over}
+use Rattle.fx_types.specs.Types.{Shape, blanks, numbers, texts, booleans, dates, records, tables, ColumnList, no_columns}
+use Rattle.fx_core.specs.declared.functions.Fun.TheVariants as fun
+use Rattle.fx_core.specs.declared.rows.Row.{Row}
+use Rattle.fx_core.specs.declared.rows.Scalar.TheVariants.{Boolean}
+use Rattle.fx_core.specs.declared.rows.Takes.TheVariants as takes
+use Rattle.fx_core.specs.Rows.{row_of, takes_at, takes_count}
+use Rattle.fx_core.specs.Term.{Term, Terms, of, cons, all, over}
 use Rattle.fx_typing.specs.Local.{Piece, value, label, coerced, stand_all, stand_rest, branches, common_of, firsts, answer_by, made_as, made}
 use Rattle.fx_typing.specs.WellTyped.{Context, row_type, context_for, standing_of, IsTyped}
 use Rattle.fx_typing.proofs.Rules.{Typed, PartsTyped, Agrees, Goes, function_typed, put_ok}

@@ -1,10 +1,10 @@
 -- The recursion of the law that what is admitted is well typed: from the local rule to whole trees.
 use Rattle.std.proofs.Common.{◌≡◌, ℕ, suc, ◌++◌, List, [], ◌∷◌, length, slice_get, Some, Result, Ok, Err, refl, ap, sym, subst, ◌∙◌}
-use Rattle.fx_data.specs.Types.{Shape}
-use Rattle.fx_trees.specs.Tree.{Tree, node, Forest, none, more, Head}
-use Rattle.fx_trees.specs.Term.{Term}
+use Rattle.fx_types.specs.Types.{Shape}
+use Rattle.fx_core.specs.Tree.{Tree, node, Forest, none, more, Head}
+use Rattle.fx_core.specs.Term.{Term}
 use Rattle.fx_typing.proofs.Rules.{PieceTyped, Typed}
-use Rattle.fx_trees.specs.declared.names.Names.{Names}
+use Rattle.fx_core.specs.declared.names.Names.{Names}
 use Rattle.fx_typing.specs.Meaning.{Place, valued, controlled}
 use Rattle.fx_typing.specs.WellTyped.{Context}
 use Rattle.fx_typing.specs.Parts.{Part, piece, meant, assigned, Setting, parts_in}

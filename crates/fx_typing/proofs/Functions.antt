@@ -2,19 +2,19 @@
 use Rattle.std.proofs.Common.{◌≡◌, ℕ, suc, ◌++◌, List, [], ◌∷◌, Bool, true, false, ◌&&◌, ◌||◌, ◌%◌, nat_eq, length, Result, Ok, Err, refl, ap, sym, subst, ◌∙◌, inl, inr, if◌then◌else◌}
 use Rattle.std.specs.Prelude.{Option, Some, None}
 use Rattle.std.proofs.lemmas.Bool.{and_parts, or_cases}
-use Rattle.fx_data.specs.Types.{Shape, blanks, tables, no_columns}
-use Rattle.fx_trees.specs.declared.functions.Form.{Form}
-use Rattle.fx_trees.specs.declared.functions.Form.TheVariants as forms
-use Rattle.fx_trees.specs.declared.functions.Fun.{Fun}
-use Rattle.fx_trees.specs.declared.functions.Fun.TheVariants as fun
-use Rattle.fx_trees.specs.declared.rows.Ending.{Ending}
-use Rattle.fx_trees.specs.declared.rows.Ending.TheVariants as ending
-use Rattle.fx_trees.specs.declared.rows.Row.{Row}
-use Rattle.fx_trees.specs.declared.rows.Takes.{Takes}
-use Rattle.fx_trees.specs.declared.rows.Takes.TheVariants as takes
-use Rattle.fx_trees.specs.Rows.{row_of, form_row, inner_at, ended_at, takes_at, takes_count}
-use Rattle.fx_trees.specs.Term.{Term, Top, form}
-use Rattle.fx_trees.specs.ColumnLists.{and_then}
+use Rattle.fx_types.specs.Types.{Shape, blanks, tables, no_columns}
+use Rattle.fx_core.specs.declared.functions.Form.{Form}
+use Rattle.fx_core.specs.declared.functions.Form.TheVariants as forms
+use Rattle.fx_core.specs.declared.functions.Fun.{Fun}
+use Rattle.fx_core.specs.declared.functions.Fun.TheVariants as fun
+use Rattle.fx_core.specs.declared.rows.Ending.{Ending}
+use Rattle.fx_core.specs.declared.rows.Ending.TheVariants as ending
+use Rattle.fx_core.specs.declared.rows.Row.{Row}
+use Rattle.fx_core.specs.declared.rows.Takes.{Takes}
+use Rattle.fx_core.specs.declared.rows.Takes.TheVariants as takes
+use Rattle.fx_core.specs.Rows.{row_of, form_row, inner_at, ended_at, takes_at, takes_count}
+use Rattle.fx_core.specs.Term.{Term, Top, form}
+use Rattle.fx_core.specs.ColumnLists.{and_then}
 use Rattle.fx_typing.specs.Local.{Piece, value, label, coerced, stand, branches, common_of, answer_by, made_as, made_by, made, formed}
 use Rattle.fx_typing.specs.Meaning.{Place}
 use Rattle.fx_typing.specs.WellTyped.{Context, head_of, Standing, standing_of, row_type, context_for}

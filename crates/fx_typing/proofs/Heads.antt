@@ -1,13 +1,13 @@
 -- Constants, names, dots, aliases, records, lists and chains: what the local rule makes of well typed parts is well typed.
 use Rattle.std.proofs.Common.{◌≡◌, ℕ, List, [], ◌∷◌, Bool, true, false, not, length, Option, Some, None, Result, Ok, Err, refl, inl, subst, if◌then◌else◌}
-use Rattle.fx_data.specs.Types.{Shape, numbers, texts, booleans}
-use Rattle.fx_data.specs.Values.{Data, number, text, boolean}
+use Rattle.fx_types.specs.Types.{Shape, numbers, texts, booleans}
+use Rattle.fx_types.specs.Values.{Data, number, text, boolean}
 use Rattle.fx_value.specs.Fits.{fits_in}
-use Rattle.fx_trees.specs.Lawful.{IsLawful}
-use Rattle.fx_trees.specs.Tree.{Head}
-use Rattle.fx_trees.specs.Tree as tree
-use Rattle.fx_trees.specs.Term.{Term, of, nil, const}
-use Rattle.fx_trees.specs.ColumnLists.{and_then}
+use Rattle.fx_core.specs.Lawful.{IsLawful}
+use Rattle.fx_core.specs.Tree.{Head}
+use Rattle.fx_core.specs.Tree as tree
+use Rattle.fx_core.specs.Term.{Term, of, nil, const}
+use Rattle.fx_core.specs.ColumnLists.{and_then}
 use Rattle.fx_typing.specs.LawfulTypes.{IsLawfulType}
 use Rattle.fx_typing.specs.Local.{value, label}
 use Rattle.fx_typing.specs.Meaning.{Place, Meaning, valued, controlled, screened, enumerated, in_globals, meaning_of, named}

@@ -1,30 +1,30 @@
 -- What names mean is well typed.
 use Rattle.std.proofs.Common.{◌≡◌, ℕ, zero, suc, ◌++◌, List, [], ◌∷◌, Bool, true, false, ◌&&◌, nat_eq, ne_eqb, eq-eqb, eqb-true, pos, length, map, option_map, option_and_then, slice_get, codes, bytes_eq, encode_utf8_all, Option, Some, None, Ok, refl, ap, sym, subst, ◌∙◌, append_assoc, inl, inr, ◌⊎◌, if◌then◌else◌}
 use Rattle.std.proofs.lemmas.Bool.{and_parts}
-use Rattle.fx_data.specs.TypeView.{shape}
-use Rattle.fx_data.specs.Types.{Shape, blanks, numbers, texts, booleans, dates, records, tables, no_columns}
-use Rattle.fx_data.specs.Values.{Data, blank, text, boolean, number}
+use Rattle.fx_types.specs.TypeView.{shape}
+use Rattle.fx_types.specs.Types.{Shape, blanks, numbers, texts, booleans, dates, records, tables, no_columns}
+use Rattle.fx_types.specs.Values.{Data, blank, text, boolean, number}
 use Rattle.fx_value.specs.Fits.{fits_in}
-use Rattle.fx_trees.specs.declared.literals.Enumeration.{Enumeration}
-use Rattle.fx_trees.specs.declared.sources.Source.{Source}
-use Rattle.fx_trees.specs.declared.sources.Source.TheVariants as source
-use Rattle.fx_trees.specs.Literals.{enumeration_of, has_member}
-use Rattle.fx_data.specs.declared.controls.Control.{Control}
-use Rattle.fx_data.specs.declared.controls.Control.TheVariants as control
-use Rattle.fx_trees.specs.declared.names.ControlName.{ControlName}
-use Rattle.fx_trees.specs.declared.names.Property.{Property}
-use Rattle.fx_trees.specs.declared.names.FormulaName.{FormulaName}
-use Rattle.fx_trees.specs.declared.names.Variable.{Variable}
-use Rattle.fx_trees.specs.declared.names.Collection.{Collection}
-use Rattle.fx_trees.specs.declared.names.Names.{Names}
-use Rattle.fx_trees.specs.declared.schema.TableShape.{TableShape}
-use Rattle.fx_trees.specs.Controls.{own_type, property_type, is_items, input_type}
-use Rattle.fx_trees.specs.Lawful.{DiffersFromAll, AreDistinct, IsLawful}
-use Rattle.fx_trees.specs.SourceTypes.{columns_of, item_columns, item_type, property_of, property_cell, formula_cell, if_global, if_context, chosen_of, sources}
-use Rattle.fx_trees.specs.Term.{Term, of, nil, cons, const, read, row, item, caught}
-use Rattle.fx_trees.specs.Term as term
+use Rattle.fx_core.specs.declared.literals.Enumeration.{Enumeration}
+use Rattle.fx_core.specs.declared.sources.Source.{Source}
+use Rattle.fx_core.specs.declared.sources.Source.TheVariants as source
+use Rattle.fx_core.specs.Literals.{enumeration_of, has_member}
+use Rattle.fx_types.specs.declared.controls.Control.{Control}
+use Rattle.fx_types.specs.declared.controls.Control.TheVariants as control
+use Rattle.fx_core.specs.declared.names.ControlName.{ControlName}
+use Rattle.fx_core.specs.declared.names.Property.{Property}
+use Rattle.fx_core.specs.declared.names.FormulaName.{FormulaName}
+use Rattle.fx_core.specs.declared.names.Variable.{Variable}
+use Rattle.fx_core.specs.declared.names.Collection.{Collection}
+use Rattle.fx_core.specs.declared.names.Names.{Names}
+use Rattle.fx_core.specs.declared.schema.TableShape.{TableShape}
+use Rattle.fx_core.specs.Controls.{own_type, property_type, is_items, input_type}
+use Rattle.fx_core.specs.Lawful.{DiffersFromAll, AreDistinct, IsLawful}
+use Rattle.fx_core.specs.SourceTypes.{columns_of, item_columns, item_type, property_of, property_cell, formula_cell, if_global, if_context, chosen_of, sources}
+use Rattle.fx_core.specs.Term.{Term, of, nil, cons, const, read, row, item, caught}
+use Rattle.fx_core.specs.Term as term
 use Rattle.fx_typing.specs.Columns.{field_of, fault_type}
-use Rattle.fx_trees.specs.ColumnLists.{field_in}
+use Rattle.fx_core.specs.ColumnLists.{field_in}
 use Rattle.fx_typing.specs.LawfulTypes.{IsLawfulType}
 use Rattle.fx_typing.specs.Meaning.{Place, Scope, Meaning, valued, controlled, screened, enumerated, or_else, field_at, in_scope_by, in_scopes, whole_by, this_record, this_item, first_error, reserved, place_of, is_on, is_global, in_context, in_globals, behind_scopes, meaning_of, named, own_default, default_of, default_type, is_input, is_chosen, written_or, property_read, input_read, control_read, member_of, known_field, field_read, dotted}
 use Rattle.fx_typing.specs.WellTyped.{Context, IsTyped}

@@ -1,27 +1,27 @@
 -- The rules of nodes: the relation admits what the definition admits.
 use Rattle.std.proofs.Common.{◌≡◌, ℕ, suc, List, [], ◌∷◌, Bool, true, false, ◌&&◌, not, codes, nat_eq, nat_le, is_some, length, take, drop, encode_utf8_all, Option, Some, None, Result, Ok, Err, refl, ap, sym, subst, ◌∙◌, if◌then◌else◌, arith}
 use Rattle.std.proofs.lemmas.Bool.{and_parts, not-false, not_from_true}
-use Rattle.fx_data.specs.Types.{Shape, blanks, dates, records, no_columns}
-use Rattle.fx_trees.specs.declared.functions.Acting.{Acting}
-use Rattle.fx_trees.specs.declared.functions.Form.{Form}
-use Rattle.fx_trees.specs.declared.functions.Form.TheVariants as form
-use Rattle.fx_trees.specs.declared.functions.Fun.{Fun}
-use Rattle.fx_trees.specs.declared.functions.Fun.TheVariants as fun
-use Rattle.fx_trees.specs.declared.rows.Takes.TheVariants as takes
-use Rattle.fx_trees.specs.declared.signatures.SigShape.{SigShape}
-use Rattle.fx_trees.specs.declared.signatures.SigShape.TheVariants as sig
-use Rattle.fx_trees.specs.declared.signatures.Signature.{Signature}
-use Rattle.fx_trees.specs.declared.sources.Source.TheVariants as source
-use Rattle.fx_trees.specs.Literals.{with_literal}
-use Rattle.fx_trees.specs.Rows.{row_of, form_row, is_within}
-use Rattle.fx_trees.specs.Signatures.{signature_in}
-use Rattle.fx_trees.specs.declared.expr.Op.{Op}
-use Rattle.fx_trees.specs.Tree.{Head}
-use Rattle.fx_trees.specs.Tree as tree
-use Rattle.fx_trees.specs.Term.{Term, of, nil, all, read, chain}
-use Rattle.fx_trees.specs.Term as term
+use Rattle.fx_types.specs.Types.{Shape, blanks, dates, records, no_columns}
+use Rattle.fx_core.specs.declared.functions.Acting.{Acting}
+use Rattle.fx_core.specs.declared.functions.Form.{Form}
+use Rattle.fx_core.specs.declared.functions.Form.TheVariants as form
+use Rattle.fx_core.specs.declared.functions.Fun.{Fun}
+use Rattle.fx_core.specs.declared.functions.Fun.TheVariants as fun
+use Rattle.fx_core.specs.declared.rows.Takes.TheVariants as takes
+use Rattle.fx_core.specs.declared.signatures.SigShape.{SigShape}
+use Rattle.fx_core.specs.declared.signatures.SigShape.TheVariants as sig
+use Rattle.fx_core.specs.declared.signatures.Signature.{Signature}
+use Rattle.fx_core.specs.declared.sources.Source.TheVariants as source
+use Rattle.fx_core.specs.Literals.{with_literal}
+use Rattle.fx_core.specs.Rows.{row_of, form_row, is_within}
+use Rattle.fx_core.specs.Signatures.{signature_in}
+use Rattle.fx_core.specs.declared.expr.Op.{Op}
+use Rattle.fx_core.specs.Tree.{Head}
+use Rattle.fx_core.specs.Tree as tree
+use Rattle.fx_core.specs.Term.{Term, of, nil, all, read, chain}
+use Rattle.fx_core.specs.Term as term
 use Rattle.fx_typing.specs.Columns.{is_told, is_told_or_missing, tells_error}
-use Rattle.fx_trees.specs.ColumnLists.{and_then, field_in}
+use Rattle.fx_core.specs.ColumnLists.{and_then, field_in}
 use Rattle.fx_typing.specs.Local.{Piece, value, label, join_all, firsts, made, formed}
 use Rattle.fx_typing.specs.Meaning.{Place, Meaning, valued, controlled, screened, enumerated, in_globals, meaning_of, named, dotted}
 use Rattle.fx_typing.specs.Operators.{function_of}

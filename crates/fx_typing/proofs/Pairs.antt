@@ -1,11 +1,11 @@
 -- Columns that are made of parts in pairs.
 use Rattle.std.proofs.Common.{◌≡◌, ℕ, ◌-◌, ◌≤◌, List, [], ◌∷◌, length, map, take, drop, get_or, Option, Some, None, Result, Ok, refl, sym, ap, ◌∙◌, arith}
 use Rattle.std.proofs.lemmas.List.{take_all}
-use Rattle.fx_data.specs.TypeView.{shape}
-use Rattle.fx_data.specs.Types.{ColumnList}
-use Rattle.fx_trees.specs.Term.{Term}
+use Rattle.fx_types.specs.TypeView.{shape}
+use Rattle.fx_types.specs.Types.{ColumnList}
+use Rattle.fx_core.specs.Term.{Term}
 use Rattle.fx_typing.specs.Columns.{label_of, by_label, added, renamed}
-use Rattle.fx_trees.specs.ColumnLists.{with_new, with_renamed}
+use Rattle.fx_core.specs.ColumnLists.{with_new, with_renamed}
 use Rattle.fx_typing.specs.declared.typed.Typed.{Typed}
 use Rattle.fx_typing.specs.TypedView.{typed}
 

@@ -1,13 +1,13 @@
 -- What a part can be, by what its place allows: the parts of a function of the table are values or names of columns.
 use Rattle.std.proofs.Common.{◌≡◌, ℕ, suc, List, [], ◌∷◌, Bool, true, false, Option, Some, None, refl, sym, subst}
-use Rattle.fx_trees.specs.declared.functions.Fun.{Fun}
-use Rattle.fx_trees.specs.declared.rows.Takes.{Takes}
-use Rattle.fx_trees.specs.declared.rows.Takes.TheVariants as takes
-use Rattle.fx_trees.specs.declared.signatures.SigShape.TheVariants as sig
-use Rattle.fx_trees.specs.Rows.{row_of, takes_at}
-use Rattle.fx_trees.specs.declared.names.Names.{Names}
-use Rattle.fx_trees.specs.Tree.{Tree, Forest, Head}
-use Rattle.fx_trees.specs.Tree as tree
+use Rattle.fx_core.specs.declared.functions.Fun.{Fun}
+use Rattle.fx_core.specs.declared.rows.Takes.{Takes}
+use Rattle.fx_core.specs.declared.rows.Takes.TheVariants as takes
+use Rattle.fx_core.specs.declared.signatures.SigShape.TheVariants as sig
+use Rattle.fx_core.specs.Rows.{row_of, takes_at}
+use Rattle.fx_core.specs.declared.names.Names.{Names}
+use Rattle.fx_core.specs.Tree.{Tree, Forest, Head}
+use Rattle.fx_core.specs.Tree as tree
 use Rattle.fx_typing.specs.Meaning.{Place, Meaning, valued, controlled, screened, enumerated, or_else}
 use Rattle.fx_typing.specs.WellTyped.{Standing, plain, inside, bound, catching}
 use Rattle.fx_typing.specs.Parts.{Grant, a_target, aliased_target, a_meaning, on_screen, Part, piece, meant, target, assigned, Setting, may_act}

@@ -2,8 +2,8 @@
 use Rattle.std.proofs.Common.{◌≡◌, ℕ, suc, ◌++◌, List, [], ◌∷◌, Bool, true, false, map, length, refl, ap, subst, ◌∙◌}
 use Rattle.std.proofs.Math.Bool.{or-false, or-true}
 use Rattle.std.proofs.lemmas.List.{map_push}
-use Rattle.fx_data.specs.Types.{Shape, texts}
-use Rattle.fx_trees.specs.Tree.{Head}
+use Rattle.fx_types.specs.Types.{Shape, texts}
+use Rattle.fx_core.specs.Tree.{Head}
 use Rattle.fx_typing.specs.Local.{Piece, value, label}
 use Rattle.fx_typing.specs.Meaning.{Place, Scope}
 use Rattle.fx_typing.specs.WellTyped.{Context, Standing, plain, inside, bound, catching, row_type, context_for}

@@ -1,28 +1,28 @@
 -- Names, dots and functions make nothing that acts of parts in which nothing acts.
 use Rattle.std.proofs.Common.{◌≡◌, ℕ, zero, suc, List, [], ◌∷◌, Bool, true, false, not, ◌&&◌, nat_lt, nat_eq, length, take, codes, bytes_eq, encode_utf8_all, option_map, slice_get, Option, Some, None, Result, Ok, Err, refl, if◌then◌else◌}
 use Rattle.std.proofs.lemmas.Bool.{or_from}
-use Rattle.fx_data.specs.Types.{Shape, blanks, records, tables, no_columns}
-use Rattle.fx_trees.specs.declared.functions.Form.{Form}
-use Rattle.fx_trees.specs.declared.functions.Fun.{Fun}
-use Rattle.fx_trees.specs.declared.rows.Row.{Row}
-use Rattle.fx_trees.specs.declared.rows.Takes.{Takes}
-use Rattle.fx_trees.specs.declared.rows.Takes.TheVariants as takes
-use Rattle.fx_trees.specs.Literals.{enumeration_of, has_member}
-use Rattle.fx_trees.specs.Rows.{shape_of, row_of, form_row, takes_at, takes_count}
-use Rattle.fx_trees.specs.Controls.{input_type}
-use Rattle.fx_trees.specs.declared.names.ControlName.{ControlName}
-use Rattle.fx_trees.specs.declared.names.Property.{Property}
-use Rattle.fx_trees.specs.declared.names.FormulaName.{FormulaName}
-use Rattle.fx_trees.specs.declared.names.Variable.{Variable}
-use Rattle.fx_trees.specs.declared.names.Collection.{Collection}
-use Rattle.fx_trees.specs.declared.names.Names.{Names}
-use Rattle.fx_trees.specs.declared.schema.TableShape.{TableShape}
-use Rattle.fx_trees.specs.SourceTypes.{property_of}
-use Rattle.fx_trees.specs.Term.{Term, of, nil, cons, all, Top, read, row, item}
-use Rattle.fx_trees.specs.Term as term
+use Rattle.fx_types.specs.Types.{Shape, blanks, records, tables, no_columns}
+use Rattle.fx_core.specs.declared.functions.Form.{Form}
+use Rattle.fx_core.specs.declared.functions.Fun.{Fun}
+use Rattle.fx_core.specs.declared.rows.Row.{Row}
+use Rattle.fx_core.specs.declared.rows.Takes.{Takes}
+use Rattle.fx_core.specs.declared.rows.Takes.TheVariants as takes
+use Rattle.fx_core.specs.Literals.{enumeration_of, has_member}
+use Rattle.fx_core.specs.Rows.{shape_of, row_of, form_row, takes_at, takes_count}
+use Rattle.fx_core.specs.Controls.{input_type}
+use Rattle.fx_core.specs.declared.names.ControlName.{ControlName}
+use Rattle.fx_core.specs.declared.names.Property.{Property}
+use Rattle.fx_core.specs.declared.names.FormulaName.{FormulaName}
+use Rattle.fx_core.specs.declared.names.Variable.{Variable}
+use Rattle.fx_core.specs.declared.names.Collection.{Collection}
+use Rattle.fx_core.specs.declared.names.Names.{Names}
+use Rattle.fx_core.specs.declared.schema.TableShape.{TableShape}
+use Rattle.fx_core.specs.SourceTypes.{property_of}
+use Rattle.fx_core.specs.Term.{Term, of, nil, cons, all, Top, read, row, item}
+use Rattle.fx_core.specs.Term as term
 use Rattle.fx_typing.specs.Acts.{is_acting, acts, any_acts}
 use Rattle.fx_typing.specs.Columns.{field_of, tells_error}
-use Rattle.fx_trees.specs.ColumnLists.{and_then, field_in}
+use Rattle.fx_core.specs.ColumnLists.{and_then, field_in}
 use Rattle.fx_typing.specs.Local.{Piece, value, label, by_way, exact_way, branch_way, when, without_kind, stand, put_first, stand_rest, stand_all, branches, common_of, firsts, answer_by, made_as, made_by, made, formed}
 use Rattle.fx_typing.specs.Meaning.{Place, Scope, Meaning, valued, controlled, screened, enumerated, or_else, field_at, in_scope_by, in_scopes, whole_by, this_record, this_item, first_error, reserved, place_of, is_on, is_global, in_context, in_globals, behind_scopes, meaning_of, named, is_input, is_chosen, written_or, property_read, input_read, control_read, member_of, known_field, field_read, dotted}
 use Rattle.fx_typing.specs.Ways.{Way, same, changed, refused, way, is_scalar, is_comparable}

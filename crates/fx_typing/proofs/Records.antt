@@ -2,10 +2,10 @@
 use Rattle.std.proofs.Common.{◌≡◌, ℕ, suc, List, [], ◌∷◌, Bool, true, false, length, Option, Some, None, Ok, Err, Ordering, Less, Equal, Greater, nat_cmp, refl, ap, subst, ◌∙◌, if◌then◌else◌}
 use Rattle.std.specs.Cmp.Lexicographic.{slice_cmp, nat_list_cmp_total}
 use Rattle.std.specs.Ordering.{match_ordering, ordering_reverse}
-use Rattle.fx_data.specs.Rising.{IsBelow}
-use Rattle.fx_data.specs.Types.{Shape, blanks, records, no_columns}
-use Rattle.fx_trees.specs.Term.{Term, of, all, chain}
-use Rattle.fx_trees.specs.Term as term
+use Rattle.fx_types.specs.Rising.{IsBelow}
+use Rattle.fx_types.specs.Types.{Shape, blanks, records, no_columns}
+use Rattle.fx_core.specs.Term.{Term, of, all, chain}
+use Rattle.fx_core.specs.Term as term
 use Rattle.fx_typing.specs.Local.{join_all, firsts}
 use Rattle.fx_typing.specs.WellTyped.{Context, IsBelowNames, NamesRise, columns_by, last_type}
 use Rattle.fx_typing.proofs.Rules.{Typed}

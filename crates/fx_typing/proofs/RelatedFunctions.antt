@@ -1,16 +1,16 @@
 -- The one rule of the table of functions: the relation admits what the definition admits.
 use Rattle.std.proofs.Common.{◌≡◌, ℕ, suc, List, [], ◌∷◌, Bool, true, false, ◌&&◌, length, Option, Some, None, Result, Ok, Err, refl, ap, subst, ◌∙◌, if◌then◌else◌}
-use Rattle.fx_data.specs.Types.{Shape, blanks, numbers, texts, booleans, dates, records, tables, ColumnList, no_columns}
-use Rattle.fx_trees.specs.declared.rows.Answer.{Answer}
-use Rattle.fx_trees.specs.declared.rows.Answer.TheVariants as answer
-use Rattle.fx_trees.specs.declared.rows.Row.{Row}
-use Rattle.fx_trees.specs.declared.rows.Takes.{Takes}
-use Rattle.fx_trees.specs.declared.rows.Takes.TheVariants as takes
-use Rattle.fx_trees.specs.Rows.{shape_of, takes_at, takes_count}
-use Rattle.fx_trees.specs.Term.{Term, of, all, Top}
-use Rattle.fx_trees.specs.SourceTypes.{put_column}
+use Rattle.fx_types.specs.Types.{Shape, blanks, numbers, texts, booleans, dates, records, tables, ColumnList, no_columns}
+use Rattle.fx_core.specs.declared.rows.Answer.{Answer}
+use Rattle.fx_core.specs.declared.rows.Answer.TheVariants as answer
+use Rattle.fx_core.specs.declared.rows.Row.{Row}
+use Rattle.fx_core.specs.declared.rows.Takes.{Takes}
+use Rattle.fx_core.specs.declared.rows.Takes.TheVariants as takes
+use Rattle.fx_core.specs.Rows.{shape_of, takes_at, takes_count}
+use Rattle.fx_core.specs.Term.{Term, of, all, Top}
+use Rattle.fx_core.specs.SourceTypes.{put_column}
 use Rattle.fx_typing.specs.Columns.{tells_error, label_of, by_label, names_there, added, dropped, shown, renamed}
-use Rattle.fx_trees.specs.ColumnLists.{and_then, field_in, without, without_all, only, if_there, if_free, with_new, with_renamed, value_column, row_columns}
+use Rattle.fx_core.specs.ColumnLists.{and_then, field_in, without, without_all, only, if_there, if_free, with_new, with_renamed, value_column, row_columns}
 use Rattle.fx_typing.specs.Local.{Piece, value, label, coerced, by_way, exact_way, branch_way, when, without_kind, stand, put_first, stand_rest, stand_all, branches, join_all, all_scalar, some_text, some_acts, or_blank, common_or, common_of, firsts, answer_by, made_as, made_by}
 use Rattle.fx_typing.specs.WellTyped.{row_type, as_table, answered}
 use Rattle.fx_typing.specs.Ways.{Way, same, changed, refused, way, is_scalar, is_comparable}

@@ -1,14 +1,14 @@
 -- Where the definition that judges puts the parts of a node is where they stand.
 use Rattle.std.proofs.Common.{◌≡◌, ℕ, suc, ◌++◌, List, [], ◌∷◌, Bool, ◌||◌, ◌&&◌, nat_lt, length, Option, Some, None, refl, ap, ◌∙◌}
 use Rattle.std.proofs.Math.Bool.{or-false, or-true}
-use Rattle.fx_data.specs.Types.{blanks, numbers, texts, booleans, dates, records, tables}
-use Rattle.fx_trees.specs.declared.functions.Fun.{Fun}
-use Rattle.fx_trees.specs.declared.signatures.SigShape.{SigShape}
-use Rattle.fx_trees.specs.declared.signatures.SigShape.TheVariants as sig
-use Rattle.fx_trees.specs.Rows.{row_of}
-use Rattle.fx_trees.specs.declared.names.Names.{Names}
-use Rattle.fx_trees.specs.Tree.{Head}
-use Rattle.fx_trees.specs.Tree as tree
+use Rattle.fx_types.specs.Types.{blanks, numbers, texts, booleans, dates, records, tables}
+use Rattle.fx_core.specs.declared.functions.Fun.{Fun}
+use Rattle.fx_core.specs.declared.signatures.SigShape.{SigShape}
+use Rattle.fx_core.specs.declared.signatures.SigShape.TheVariants as sig
+use Rattle.fx_core.specs.Rows.{row_of}
+use Rattle.fx_core.specs.declared.names.Names.{Names}
+use Rattle.fx_core.specs.Tree.{Head}
+use Rattle.fx_core.specs.Tree as tree
 use Rattle.fx_typing.specs.Local.{value, label}
 use Rattle.fx_typing.specs.Meaning.{Place, or_else}
 use Rattle.fx_typing.specs.WellTyped.{Standing, plain, inside, bound, catching}

@@ -1,17 +1,17 @@
 -- What stands behind a dot, and rows: the relation admits what the definition admits.
 use Rattle.std.proofs.Common.{◌≡◌, ℕ, List, [], ◌∷◌, Bool, true, false, Option, Some, None, Ok, encode_utf8_all, refl, ap, subst, ◌∙◌, if◌then◌else◌}
-use Rattle.fx_data.specs.Types.{Shape, blanks, numbers, texts, booleans, dates, records, tables, ColumnList, no_columns}
-use Rattle.fx_data.specs.Values.{text}
-use Rattle.fx_trees.specs.declared.literals.Enumeration.{Enumeration}
-use Rattle.fx_trees.specs.declared.sources.Source.TheVariants as source
-use Rattle.fx_trees.specs.Literals.{has_member}
-use Rattle.fx_trees.specs.declared.names.ControlName.{ControlName}
-use Rattle.fx_trees.specs.declared.names.Names.{Names}
-use Rattle.fx_trees.specs.declared.names.Property.{Property}
-use Rattle.fx_trees.specs.Controls.{input_type}
-use Rattle.fx_trees.specs.SourceTypes.{item_type, property_of}
-use Rattle.fx_trees.specs.Term.{Term, of, nil, cons, const, read, dot, within}
-use Rattle.fx_trees.specs.ColumnLists.{field_in, and_then}
+use Rattle.fx_types.specs.Types.{Shape, blanks, numbers, texts, booleans, dates, records, tables, ColumnList, no_columns}
+use Rattle.fx_types.specs.Values.{text}
+use Rattle.fx_core.specs.declared.literals.Enumeration.{Enumeration}
+use Rattle.fx_core.specs.declared.sources.Source.TheVariants as source
+use Rattle.fx_core.specs.Literals.{has_member}
+use Rattle.fx_core.specs.declared.names.ControlName.{ControlName}
+use Rattle.fx_core.specs.declared.names.Names.{Names}
+use Rattle.fx_core.specs.declared.names.Property.{Property}
+use Rattle.fx_core.specs.Controls.{input_type}
+use Rattle.fx_core.specs.SourceTypes.{item_type, property_of}
+use Rattle.fx_core.specs.Term.{Term, of, nil, cons, const, read, dot, within}
+use Rattle.fx_core.specs.ColumnLists.{field_in, and_then}
 use Rattle.fx_typing.specs.Local.{value, coerced, by_way, put_first}
 use Rattle.fx_typing.specs.Meaning.{Place, Meaning, valued, controlled, enumerated, is_chosen, is_input, written_or, property_read, input_read, control_read, member_of, known_field, dotted}
 use Rattle.fx_typing.specs.Ways.{way}

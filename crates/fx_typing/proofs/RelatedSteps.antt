@@ -1,9 +1,9 @@
 -- Steps through the definition that judges, forth and back.
 use Rattle.std.proofs.Common.{◌≡◌, ℕ, List, [], ◌∷◌, Bool, true, false, ◌&&◌, not, nat_lt, Option, Some, Result, Ok, Err, refl, ap, subst, ◌∙◌, if◌then◌else◌}
 use Rattle.std.proofs.lemmas.Bool.{not-false, not_from_true}
-use Rattle.fx_data.specs.Types.{Shape}
-use Rattle.fx_trees.specs.Term.{Term}
-use Rattle.fx_trees.specs.ColumnLists.{and_then}
+use Rattle.fx_types.specs.Types.{Shape}
+use Rattle.fx_core.specs.Term.{Term}
+use Rattle.fx_core.specs.ColumnLists.{and_then}
 use Rattle.fx_typing.specs.Local.{value, label, put_first}
 use Rattle.fx_typing.specs.Builds.{is_bounded, bounded}
 use Rattle.fx_typing.specs.Parts.{Part, piece, meant, target, assigned, plainly, as_part, put_value, values, unless, lowest}

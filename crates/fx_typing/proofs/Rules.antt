@@ -1,17 +1,17 @@
 -- The law of the one rule: what it makes of well typed parts is well typed.
 use Rattle.std.proofs.Common.{◌≡◌, ℕ, suc, ◌++◌, List, [], ◌∷◌, Bool, true, false, length, Result, Ok, Err, refl, ap, sym, subst, ◌∙◌, inl, if◌then◌else◌}
 use Rattle.std.specs.Prelude.{Option, Some, None}
-use Rattle.fx_data.specs.Types.{Shape, blanks, numbers, texts, booleans, dates, records, tables, no_columns}
-use Rattle.fx_data.specs.Values.{text}
-use Rattle.fx_trees.specs.declared.functions.Form.{Form}
-use Rattle.fx_trees.specs.declared.functions.Fun.{Fun}
-use Rattle.fx_trees.specs.declared.rows.Row.{Row}
-use Rattle.fx_trees.specs.declared.rows.Takes.{Takes}
-use Rattle.fx_trees.specs.declared.rows.Takes.TheVariants as takes
-use Rattle.fx_trees.specs.Rows.{shape_of, row_of, form_row, takes_at, takes_count}
-use Rattle.fx_trees.specs.Term.{Term, Terms, of, nil, cons, all, Top, const, coerce, form}
+use Rattle.fx_types.specs.Types.{Shape, blanks, numbers, texts, booleans, dates, records, tables, no_columns}
+use Rattle.fx_types.specs.Values.{text}
+use Rattle.fx_core.specs.declared.functions.Form.{Form}
+use Rattle.fx_core.specs.declared.functions.Fun.{Fun}
+use Rattle.fx_core.specs.declared.rows.Row.{Row}
+use Rattle.fx_core.specs.declared.rows.Takes.{Takes}
+use Rattle.fx_core.specs.declared.rows.Takes.TheVariants as takes
+use Rattle.fx_core.specs.Rows.{shape_of, row_of, form_row, takes_at, takes_count}
+use Rattle.fx_core.specs.Term.{Term, Terms, of, nil, cons, all, Top, const, coerce, form}
 use Rattle.fx_typing.specs.Columns.{tells_error}
-use Rattle.fx_trees.specs.ColumnLists.{and_then}
+use Rattle.fx_core.specs.ColumnLists.{and_then}
 use Rattle.fx_typing.specs.Local.{Piece, value, label, coerced, by_way, exact_way, branch_way, when, stand, put_first, stand_rest, stand_all, branches, common_of, firsts, answer_by, made_as, made_by, made, formed}
 use Rattle.fx_typing.specs.WellTyped.{Context, head_by, head_of, standing_of, standing_at, context_for, first_type, Stands, AllStand, paired, answered, IsByRow, IsRuled, parts_count, IsTyped, AreTyped}
 use Rattle.fx_typing.specs.Ways.{Way, same, changed, refused, way, is_scalar, is_comparable}

@@ -1,8 +1,8 @@
 -- Columns that are not as many.
 use Rattle.std.proofs.Common.{◌≡◌, ◌≢◌, ℕ, suc, List, [], ◌∷◌, length, Bool, true, false, ◌&&◌, refl, sym, ap, ◌∙◌, bytes_eq}
-use Rattle.fx_data.specs.Types.{column_list}
-use Rattle.fx_data.specs.TypeView.{shape, columns_view}
-use Rattle.fx_data.specs.declared.types.Ty.{Ty}
+use Rattle.fx_types.specs.Types.{column_list}
+use Rattle.fx_types.specs.TypeView.{shape, columns_view}
+use Rattle.fx_types.specs.declared.types.Ty.{Ty}
 use Rattle.fx_typing.specs.Ways.{same_shape, same_columns}
 
 none_of : (a b : Bool) → (a && (b && false)) ≡ false

@@ -1,9 +1,9 @@
 -- Steps that the law takes for many heads.
 use Rattle.std.proofs.Common.{◌≡◌, ℕ, ◌++◌, List, [], ◌∷◌, ◌||◌, length, map, option_map, Option, Some, None, Result, Ok, Err, refl, ap, sym, subst, ◌∙◌}
 use Rattle.std.proofs.Math.Bool.{or-false}
-use Rattle.fx_data.specs.Types.{Shape}
-use Rattle.fx_trees.specs.Tree.{Head}
-use Rattle.fx_trees.specs.Term.{Term, of, all, Top}
+use Rattle.fx_types.specs.Types.{Shape}
+use Rattle.fx_core.specs.Tree.{Head}
+use Rattle.fx_core.specs.Term.{Term, of, all, Top}
 use Rattle.fx_typing.specs.Local.{value, label, coerced, by_way, firsts}
 use Rattle.fx_typing.specs.Meaning.{Place, Scope}
 use Rattle.fx_typing.specs.Ways.{Way, same, changed, refused, way}

@@ -1,6 +1,6 @@
 -- Where a part answers an error, the whole does.
 use Rattle.std.proofs.Common.{◌≡◌, ℕ, Result, Ok, Err}
-use Rattle.fx_trees.specs.Rules.{number_of}
+use Rattle.fx_core.specs.Rules.{number_of}
 use Rattle.fx_base.specs.declared.or_memory.OrMemory.TheVariants.{Refused as Breaks, Memory}
 use Rattle.fx_typing.specs.Answers.{Answers, Wrong}
 

@@ -6,18 +6,18 @@ use Rattle.std.specs.declared.cmp.Ordering.{Ordering}
 use Rattle.std.specs.declared.cmp.Ordering.TheVariants.{Less, Equal, Greater}
 use Rattle.std.proofs.lemmas.Map.Text.{is_eq-slice_cmp}
 use Rattle.std.proofs.lemmas.Slice.Eq.{bytes_eq-Decides}
-use Rattle.fx_data.specs.Types.{Shape, blanks, tables, ColumnList, no_columns, column}
-use Rattle.fx_trees.specs.declared.functions.Fun.{Fun}
-use Rattle.fx_trees.specs.declared.functions.Fun.TheVariants as fun
-use Rattle.fx_trees.specs.declared.rows.Answer.TheVariants as answer
-use Rattle.fx_trees.specs.declared.rows.Row.{Row}
-use Rattle.fx_trees.specs.declared.rows.Takes.{Takes}
-use Rattle.fx_trees.specs.declared.rows.Takes.TheVariants as takes
-use Rattle.fx_trees.specs.Rows.{row_of, takes_at, takes_count}
-use Rattle.fx_trees.specs.SourceTypes.{put_column, item_columns}
-use Rattle.fx_trees.specs.Term.{Term}
+use Rattle.fx_types.specs.Types.{Shape, blanks, tables, ColumnList, no_columns, column}
+use Rattle.fx_core.specs.declared.functions.Fun.{Fun}
+use Rattle.fx_core.specs.declared.functions.Fun.TheVariants as fun
+use Rattle.fx_core.specs.declared.rows.Answer.TheVariants as answer
+use Rattle.fx_core.specs.declared.rows.Row.{Row}
+use Rattle.fx_core.specs.declared.rows.Takes.{Takes}
+use Rattle.fx_core.specs.declared.rows.Takes.TheVariants as takes
+use Rattle.fx_core.specs.Rows.{row_of, takes_at, takes_count}
+use Rattle.fx_core.specs.SourceTypes.{put_column, item_columns}
+use Rattle.fx_core.specs.Term.{Term}
 use Rattle.fx_typing.specs.Columns.{label_of, by_label, added, renamed}
-use Rattle.fx_trees.specs.ColumnLists.{field_in, without, is_one_of, if_there, if_free, and_then, with_new, with_renamed}
+use Rattle.fx_core.specs.ColumnLists.{field_in, without, is_one_of, if_there, if_free, and_then, with_new, with_renamed}
 use Rattle.fx_typing.specs.Local.{Piece, value, label, stand}
 use Rattle.fx_typing.specs.Breaks.{column_names, names_in, taken_or, taken_added, taken_renamed, taken_by, taken_at}
 use Rattle.fx_typing.specs.Parts.{Part, piece, meant, target, assigned, piece_of, pieces}

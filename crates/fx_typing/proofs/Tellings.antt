@@ -2,9 +2,9 @@
 use Rattle.std.proofs.Common.{◌≡◌, ℕ, List, Option, Some, None, Bool, true, false, refl, sym, ap, ◌∙◌, codes, option_map}
 use Rattle.std.specs.Prelude.{◌&&◌, unwrap_or}
 use Rattle.std.specs.Str.{chars}
-use Rattle.fx_data.specs.Types.{Shape, ColumnList, texts}
+use Rattle.fx_types.specs.Types.{Shape, ColumnList, texts}
 use Rattle.fx_typing.specs.Columns.{is_told, is_told_or_missing, tells_error}
-use Rattle.fx_trees.specs.ColumnLists.{field_in}
+use Rattle.fx_core.specs.ColumnLists.{field_in}
 use Rattle.fx_typing.specs.Local.{without_kind}
 use Rattle.fx_typing.specs.Ways.{way, is_open}
 

@@ -1,9 +1,9 @@
 -- The law for every node and for whole formulas: what is admitted is well typed.
 use Rattle.std.proofs.Common.{◌≡◌, Option, Some, None, Ok, ap, sym, subst}
-use Rattle.fx_data.specs.Types.{Shape, blanks, numbers, texts, booleans, dates, records, tables, no_columns, column}
-use Rattle.fx_trees.specs.Lawful.{IsLawful}
-use Rattle.fx_trees.specs.Tree as tree
-use Rattle.fx_trees.specs.Term.{Term}
+use Rattle.fx_types.specs.Types.{Shape, blanks, numbers, texts, booleans, dates, records, tables, no_columns, column}
+use Rattle.fx_core.specs.Lawful.{IsLawful}
+use Rattle.fx_core.specs.Tree as tree
+use Rattle.fx_core.specs.Term.{Term}
 use Rattle.fx_typing.specs.Local.{value, by_way}
 use Rattle.fx_typing.specs.Meaning.{Place}
 use Rattle.fx_typing.specs.Ways.{Way, same, changed, refused, way}

@@ -1,6 +1,6 @@
 -- Which typed trees act.
 use Rattle.std.specs.Prelude.{Bool, true, false, ◌||◌}
-use Rattle.fx_trees.specs.Term.{Term, Terms, of, nil, cons, Top, act, chain}
+use Rattle.fx_core.specs.Term.{Term, Terms, of, nil, cons, Top, act, chain}
 
 abbrev pub is_acting : Top → Bool
 is_acting (act d) = true

@@ -1,8 +1,8 @@
 -- What a body answers, where the definition answers a thing or the rule that is broken.
 use Rattle.std.specs.Prelude.{◌≡◌, ℕ, Result, Ok, Err}
-use Rattle.fx_trees.specs.Rules.{number_of}
+use Rattle.fx_core.specs.Rules.{number_of}
 use Rattle.fx_base.specs.declared.or_memory.OrMemory.{OrMemory}
-use Rattle.fx_trees.specs.declared.rule.Rule.{Rule}
+use Rattle.fx_core.specs.declared.rule.Rule.{Rule}
 use Rattle.fx_base.specs.declared.or_memory.OrMemory.TheVariants.{Refused as Breaks, Memory}
 
 -- a rule that is broken, or want of memory

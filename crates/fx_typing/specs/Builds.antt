@@ -2,12 +2,12 @@
 use Rattle.std.specs.Prelude.{ℕ, suc, max, List, [], ◌∷◌, Bool, true, ◌&&◌, not, nat_le, Option, Some, None, Result, Ok, Err, if◌then◌else◌}
 use Rattle.std.specs.Ordering.{nat_cmp, match_ordering}
 use Rattle.std.specs.Cmp.Lexicographic.{slice_cmp}
-use Rattle.fx_data.specs.Types.{Shape, blanks, records, tables, ColumnList, no_columns, column}
-use Rattle.fx_data.specs.Values.{blank, rec, FieldList, no_fields, field}
-use Rattle.fx_trees.specs.Term.{Term, of, nil, cons, all, const, within, list}
-use Rattle.fx_trees.specs.Term as term
-use Rattle.fx_trees.specs.Rules as rules
-use Rattle.fx_trees.specs.ColumnLists.{and_then, is_one_of, row_columns}
+use Rattle.fx_types.specs.Types.{Shape, blanks, records, tables, ColumnList, no_columns, column}
+use Rattle.fx_types.specs.Values.{blank, rec, FieldList, no_fields, field}
+use Rattle.fx_core.specs.Term.{Term, of, nil, cons, all, const, within, list}
+use Rattle.fx_core.specs.Term as term
+use Rattle.fx_core.specs.Rules as rules
+use Rattle.fx_core.specs.ColumnLists.{and_then, is_one_of, row_columns}
 use Rattle.fx_typing.specs.Local.{coerced, by_way, join_all, firsts, put_first}
 use Rattle.fx_typing.specs.WellTyped.{columns_by}
 use Rattle.fx_typing.specs.Ways.{way}

@@ -1,20 +1,20 @@
 -- Which calls are admitted.
 use Rattle.std.specs.Prelude.{ℕ, List, [], ◌∷◌, ◌&&◌, not, nat_le, nat_eq, suc, length, take, drop, Option, Some, None, is_some, Result, Ok, Err, encode_utf8_all, if◌then◌else◌}
-use Rattle.fx_data.specs.Types.{Shape, dates}
-use Rattle.fx_trees.specs.declared.functions.Acting.{Acting}
-use Rattle.fx_trees.specs.declared.functions.Fun.{Fun}
-use Rattle.fx_trees.specs.declared.signatures.SigShape.{SigShape}
-use Rattle.fx_trees.specs.declared.signatures.SigShape.TheVariants as sig
-use Rattle.fx_trees.specs.declared.signatures.Signature.{Signature}
-use Rattle.fx_trees.specs.declared.sources.Source.TheVariants as source
-use Rattle.fx_trees.specs.Literals.{with_literal}
-use Rattle.fx_trees.specs.Rows.{row_of, is_within}
-use Rattle.fx_trees.specs.Signatures.{signature_in}
-use Rattle.fx_trees.specs.declared.names.Names.{Names}
-use Rattle.fx_trees.specs.Term.{Term, of, nil, read}
-use Rattle.fx_trees.specs.Rules as rules
+use Rattle.fx_types.specs.Types.{Shape, dates}
+use Rattle.fx_core.specs.declared.functions.Acting.{Acting}
+use Rattle.fx_core.specs.declared.functions.Fun.{Fun}
+use Rattle.fx_core.specs.declared.signatures.SigShape.{SigShape}
+use Rattle.fx_core.specs.declared.signatures.SigShape.TheVariants as sig
+use Rattle.fx_core.specs.declared.signatures.Signature.{Signature}
+use Rattle.fx_core.specs.declared.sources.Source.TheVariants as source
+use Rattle.fx_core.specs.Literals.{with_literal}
+use Rattle.fx_core.specs.Rows.{row_of, is_within}
+use Rattle.fx_core.specs.Signatures.{signature_in}
+use Rattle.fx_core.specs.declared.names.Names.{Names}
+use Rattle.fx_core.specs.Term.{Term, of, nil, read}
+use Rattle.fx_core.specs.Rules as rules
 use Rattle.fx_typing.specs.Columns.{label_of}
-use Rattle.fx_trees.specs.ColumnLists.{and_then}
+use Rattle.fx_core.specs.ColumnLists.{and_then}
 use Rattle.fx_typing.specs.Local.{Piece, value, made, formed}
 use Rattle.fx_typing.specs.Meaning.{Place}
 use Rattle.fx_typing.specs.Breaks.{taken_at, mistells, could_act, gives_variables, large_given}

@@ -1,11 +1,11 @@
 -- Columns, and what functions of tables make of them.
 use Rattle.std.specs.Prelude.{ℕ, List, [], ◌∷◌, Bool, true, false, ◌&&◌, Option, Some, None, Result, Ok, Err, codes, if◌then◌else◌}
-use Rattle.fx_data.specs.Types.{Shape, texts, records, ColumnList, no_columns, column}
-use Rattle.fx_data.specs.Values.{text}
-use Rattle.fx_trees.specs.Term.{Term, of, nil, const}
-use Rattle.fx_trees.specs.Rules as rules
+use Rattle.fx_types.specs.Types.{Shape, texts, records, ColumnList, no_columns, column}
+use Rattle.fx_types.specs.Values.{text}
+use Rattle.fx_core.specs.Term.{Term, of, nil, const}
+use Rattle.fx_core.specs.Rules as rules
 use Rattle.fx_typing.specs.Ways.{way, is_open}
-use Rattle.fx_trees.specs.ColumnLists.{field_in, without_all, only, if_there, and_then, with_new, with_renamed}
+use Rattle.fx_core.specs.ColumnLists.{field_in, without_all, only, if_there, and_then, with_new, with_renamed}
 
 abbrev pub field_of : List ℕ → Shape → Option Shape
 field_of x (records cs) = field_in x cs

@@ -1,25 +1,25 @@
 -- Which acting calls are admitted.
 use Rattle.std.specs.Prelude.{ℕ, List, [], ◌∷◌, Bool, true, false, ◌&&◌, not, nat_eq, codes, Option, Some, None, is_some, Result, Ok, Err, if◌then◌else◌}
-use Rattle.fx_data.specs.TypeView.{shape}
-use Rattle.fx_data.specs.Types.{Shape, blanks, numbers, texts, booleans, records, tables, ColumnList, no_columns, column}
+use Rattle.fx_types.specs.TypeView.{shape}
+use Rattle.fx_types.specs.Types.{Shape, blanks, numbers, texts, booleans, records, tables, ColumnList, no_columns, column}
 use Rattle.fx_value.specs.Join.{join_of}
-use Rattle.fx_trees.specs.declared.deeds.Deed.{Deed}
-use Rattle.fx_trees.specs.declared.deeds.Deed.TheVariants as deed
-use Rattle.fx_trees.specs.declared.deeds.Target.{Target}
-use Rattle.fx_trees.specs.declared.deeds.Target.TheVariants as rows
-use Rattle.fx_trees.specs.declared.functions.Acting.{Acting}
-use Rattle.fx_trees.specs.declared.functions.Acting.TheVariants as acts
-use Rattle.fx_trees.specs.declared.functions.Fun.TheVariants as fun
-use Rattle.fx_trees.specs.declared.sources.Source.{Source}
-use Rattle.fx_trees.specs.declared.sources.Source.TheVariants as source
-use Rattle.fx_trees.specs.Controls.{input_type}
-use Rattle.fx_trees.specs.declared.names.Collection.{Collection}
-use Rattle.fx_trees.specs.declared.names.ControlName.{ControlName}
-use Rattle.fx_trees.specs.declared.names.Names.{Names}
-use Rattle.fx_trees.specs.declared.names.Variable.{Variable}
-use Rattle.fx_trees.specs.Term.{Term, of, nil, cons, all, read, list, act}
-use Rattle.fx_trees.specs.Rules as rules
-use Rattle.fx_trees.specs.ColumnLists.{and_then, field_in, without, row_columns}
+use Rattle.fx_core.specs.declared.deeds.Deed.{Deed}
+use Rattle.fx_core.specs.declared.deeds.Deed.TheVariants as deed
+use Rattle.fx_core.specs.declared.deeds.Target.{Target}
+use Rattle.fx_core.specs.declared.deeds.Target.TheVariants as rows
+use Rattle.fx_core.specs.declared.functions.Acting.{Acting}
+use Rattle.fx_core.specs.declared.functions.Acting.TheVariants as acts
+use Rattle.fx_core.specs.declared.functions.Fun.TheVariants as fun
+use Rattle.fx_core.specs.declared.sources.Source.{Source}
+use Rattle.fx_core.specs.declared.sources.Source.TheVariants as source
+use Rattle.fx_core.specs.Controls.{input_type}
+use Rattle.fx_core.specs.declared.names.Collection.{Collection}
+use Rattle.fx_core.specs.declared.names.ControlName.{ControlName}
+use Rattle.fx_core.specs.declared.names.Names.{Names}
+use Rattle.fx_core.specs.declared.names.Variable.{Variable}
+use Rattle.fx_core.specs.Term.{Term, of, nil, cons, all, read, list, act}
+use Rattle.fx_core.specs.Rules as rules
+use Rattle.fx_core.specs.ColumnLists.{and_then, field_in, without, row_columns}
 use Rattle.fx_typing.specs.Local.{value, coerced, by_way, firsts, put_first, made}
 use Rattle.fx_typing.specs.WellTyped.{target_source}
 use Rattle.fx_typing.specs.Ways.{way, same_shape}

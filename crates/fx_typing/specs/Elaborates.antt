@@ -1,8 +1,8 @@
 -- THE relation: which formulas have which typed trees and types. It judges a tree, and makes none.
 use Rattle.std.specs.Prelude.{ℕ, suc, List, [], ◌∷◌, Bool, true, false, Option, Some, None}
-use Rattle.fx_data.specs.Types.{Shape, tables, ColumnList, no_columns}
-use Rattle.fx_trees.specs.Tree.{Tree, node, Forest, none, more, Head}
-use Rattle.fx_trees.specs.Term.{Term}
+use Rattle.fx_types.specs.Types.{Shape, tables, ColumnList, no_columns}
+use Rattle.fx_core.specs.Tree.{Tree, node, Forest, none, more, Head}
+use Rattle.fx_core.specs.Term.{Term}
 use Rattle.fx_typing.specs.Local.{value}
 use Rattle.fx_typing.specs.Meaning.{Place, or_else}
 use Rattle.fx_typing.specs.Ways.{way}

@@ -1,21 +1,21 @@
 -- One rule for all functions, operators and forms of the table: the parts that stand at the places of
 -- a row, and what it answers of them.
 use Rattle.std.specs.Prelude.{◌≡◌, ℕ, suc, List, [], ◌∷◌, true, false, ◌&&◌, length, Option, Some, None}
-use Rattle.fx_data.specs.Types.{Shape, blanks, texts, records, tables, ColumnList, no_columns}
-use Rattle.fx_data.specs.Values.{text}
-use Rattle.fx_trees.specs.declared.functions.Form.{Form}
-use Rattle.fx_trees.specs.declared.functions.Fun.{Fun}
-use Rattle.fx_trees.specs.declared.rows.Answer.{Answer}
-use Rattle.fx_trees.specs.declared.rows.Answer.TheVariants as answer
-use Rattle.fx_trees.specs.declared.rows.Row.{Row}
-use Rattle.fx_trees.specs.declared.rows.Scalar.{Scalar}
-use Rattle.fx_trees.specs.declared.rows.Takes.{Takes}
-use Rattle.fx_trees.specs.declared.rows.Takes.TheVariants as takes
-use Rattle.fx_trees.specs.Rows.{shape_of, row_of, form_row, takes_at, takes_count}
-use Rattle.fx_trees.specs.SourceTypes.{put_column}
-use Rattle.fx_trees.specs.Term.{Term, of, nil, all, Top, const, form}
+use Rattle.fx_types.specs.Types.{Shape, blanks, texts, records, tables, ColumnList, no_columns}
+use Rattle.fx_types.specs.Values.{text}
+use Rattle.fx_core.specs.declared.functions.Form.{Form}
+use Rattle.fx_core.specs.declared.functions.Fun.{Fun}
+use Rattle.fx_core.specs.declared.rows.Answer.{Answer}
+use Rattle.fx_core.specs.declared.rows.Answer.TheVariants as answer
+use Rattle.fx_core.specs.declared.rows.Row.{Row}
+use Rattle.fx_core.specs.declared.rows.Scalar.{Scalar}
+use Rattle.fx_core.specs.declared.rows.Takes.{Takes}
+use Rattle.fx_core.specs.declared.rows.Takes.TheVariants as takes
+use Rattle.fx_core.specs.Rows.{shape_of, row_of, form_row, takes_at, takes_count}
+use Rattle.fx_core.specs.SourceTypes.{put_column}
+use Rattle.fx_core.specs.Term.{Term, of, nil, all, Top, const, form}
 use Rattle.fx_typing.specs.Columns.{tells_error, label_of}
-use Rattle.fx_trees.specs.ColumnLists.{value_column, row_columns, field_in, without, only, without_all}
+use Rattle.fx_core.specs.ColumnLists.{value_column, row_columns, field_in, without, only, without_all}
 use Rattle.fx_typing.specs.Local.{Piece, value, label, coerced, exact_way, branch_way, branches, join_all, all_scalar, some_text, some_acts, firsts}
 use Rattle.fx_typing.specs.WellTyped.{head_of, row_type}
 use Rattle.fx_typing.specs.Ways.{Way, same, changed, way, is_scalar, is_comparable}

@@ -1,7 +1,7 @@
 -- Which types are lawful: those whose columns have rising names.
 use Rattle.std.specs.Prelude.{ℕ, List}
-use Rattle.fx_data.specs.Rising.{IsBelow}
-use Rattle.fx_data.specs.Types.{Shape, records, tables, ColumnList, no_columns, column}
+use Rattle.fx_types.specs.Rising.{IsBelow}
+use Rattle.fx_types.specs.Types.{Shape, records, tables, ColumnList, no_columns, column}
 
 -- the name is below that of each of these columns
 abbrev pub IsUnder : List ℕ → ColumnList → Type 0

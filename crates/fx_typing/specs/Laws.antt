@@ -1,9 +1,9 @@
 -- What holds of every formula that the definitions judge.
 use Rattle.std.specs.Prelude.{◌≡◌, ℕ, List, Bool, false, Option, Some, None, Ok, Err}
-use Rattle.fx_data.specs.Types.{Shape, tables, ColumnList, no_columns}
-use Rattle.fx_trees.specs.Lawful.{IsLawful}
-use Rattle.fx_trees.specs.Tree.{Tree}
-use Rattle.fx_trees.specs.Term.{Term}
+use Rattle.fx_types.specs.Types.{Shape, tables, ColumnList, no_columns}
+use Rattle.fx_core.specs.Lawful.{IsLawful}
+use Rattle.fx_core.specs.Tree.{Tree}
+use Rattle.fx_core.specs.Term.{Term}
 use Rattle.fx_typing.specs.Acts.{acts}
 use Rattle.fx_typing.specs.Meaning.{Place}
 use Rattle.fx_typing.specs.WellTyped.{IsTyped}

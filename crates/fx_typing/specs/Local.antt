@@ -1,19 +1,19 @@
 -- The one rule of all functions, operators and forms, over their parts as they were judged.
 use Rattle.std.specs.Prelude.{ℕ, suc, codes, List, [], ◌∷◌, Bool, true, false, ◌||◌, ◌&&◌, length, Option, Some, None, Result, Ok, Err, if◌then◌else◌}
-use Rattle.fx_data.specs.Types.{Shape, blanks, texts, records, tables, no_columns}
-use Rattle.fx_data.specs.Values.{text}
+use Rattle.fx_types.specs.Types.{Shape, blanks, texts, records, tables, no_columns}
+use Rattle.fx_types.specs.Values.{text}
 use Rattle.fx_value.specs.Join.{join_of}
-use Rattle.fx_trees.specs.declared.functions.Form.{Form}
-use Rattle.fx_trees.specs.declared.functions.Fun.{Fun}
-use Rattle.fx_trees.specs.declared.rows.Row.{Row}
-use Rattle.fx_trees.specs.declared.rows.Takes.{Takes}
-use Rattle.fx_trees.specs.declared.rows.Takes.TheVariants as takes
-use Rattle.fx_trees.specs.Rows.{shape_of, row_of, form_row, takes_at, takes_count}
-use Rattle.fx_trees.specs.Term.{Term, of, nil, cons, all, Top, const, coerce, form}
-use Rattle.fx_trees.specs.Rules as rules
+use Rattle.fx_core.specs.declared.functions.Form.{Form}
+use Rattle.fx_core.specs.declared.functions.Fun.{Fun}
+use Rattle.fx_core.specs.declared.rows.Row.{Row}
+use Rattle.fx_core.specs.declared.rows.Takes.{Takes}
+use Rattle.fx_core.specs.declared.rows.Takes.TheVariants as takes
+use Rattle.fx_core.specs.Rows.{shape_of, row_of, form_row, takes_at, takes_count}
+use Rattle.fx_core.specs.Term.{Term, of, nil, cons, all, Top, const, coerce, form}
+use Rattle.fx_core.specs.Rules as rules
 use Rattle.fx_typing.specs.Acts.{acts}
 use Rattle.fx_typing.specs.Columns.{tells_error}
-use Rattle.fx_trees.specs.ColumnLists.{and_then, field_in}
+use Rattle.fx_core.specs.ColumnLists.{and_then, field_in}
 use Rattle.fx_typing.specs.Ways.{Way, same, changed, refused, way, same_shape, is_scalar, is_comparable}
 use Rattle.fx_typing.specs.WellTyped.{answered, head_of}
 

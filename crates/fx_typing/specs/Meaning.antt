@@ -1,26 +1,26 @@
 -- What the names of a formula mean.
 use Rattle.std.specs.Prelude.{ℕ, suc, pos, List, [], ◌∷◌, Bool, true, false, ◌&&◌, nat_eq, Option, Some, None, option_map, Result, Ok, Err, bytes_eq, codes, encode_utf8_all, if◌then◌else◌, slice_get}
-use Rattle.fx_data.specs.TypeView.{shape}
-use Rattle.fx_data.specs.Types.{Shape, texts, records, tables, no_columns}
-use Rattle.fx_data.specs.Values.{Data, blank, number, text, boolean, tab, no_rows}
-use Rattle.fx_trees.specs.declared.literals.Enumeration.{Enumeration}
-use Rattle.fx_trees.specs.declared.sources.Source.TheVariants as source
-use Rattle.fx_trees.specs.Literals.{enumeration_of, has_member}
-use Rattle.fx_data.specs.declared.controls.Control.{Control}
-use Rattle.fx_data.specs.declared.controls.Control.TheVariants as control
-use Rattle.fx_trees.specs.declared.names.ControlName.{ControlName}
-use Rattle.fx_trees.specs.declared.names.Property.{Property}
-use Rattle.fx_trees.specs.declared.names.FormulaName.{FormulaName}
-use Rattle.fx_trees.specs.declared.names.Variable.{Variable}
-use Rattle.fx_trees.specs.declared.names.Collection.{Collection}
-use Rattle.fx_trees.specs.declared.names.Names.{Names}
-use Rattle.fx_trees.specs.declared.schema.TableShape.{TableShape}
-use Rattle.fx_trees.specs.Controls.{is_items, input_type}
-use Rattle.fx_trees.specs.SourceTypes.{columns_of, item_type, property_of}
-use Rattle.fx_trees.specs.Term.{Term, of, nil, cons, const, read, row, item, caught, dot}
-use Rattle.fx_trees.specs.Rules as rules
+use Rattle.fx_types.specs.TypeView.{shape}
+use Rattle.fx_types.specs.Types.{Shape, texts, records, tables, no_columns}
+use Rattle.fx_types.specs.Values.{Data, blank, number, text, boolean, tab, no_rows}
+use Rattle.fx_core.specs.declared.literals.Enumeration.{Enumeration}
+use Rattle.fx_core.specs.declared.sources.Source.TheVariants as source
+use Rattle.fx_core.specs.Literals.{enumeration_of, has_member}
+use Rattle.fx_types.specs.declared.controls.Control.{Control}
+use Rattle.fx_types.specs.declared.controls.Control.TheVariants as control
+use Rattle.fx_core.specs.declared.names.ControlName.{ControlName}
+use Rattle.fx_core.specs.declared.names.Property.{Property}
+use Rattle.fx_core.specs.declared.names.FormulaName.{FormulaName}
+use Rattle.fx_core.specs.declared.names.Variable.{Variable}
+use Rattle.fx_core.specs.declared.names.Collection.{Collection}
+use Rattle.fx_core.specs.declared.names.Names.{Names}
+use Rattle.fx_core.specs.declared.schema.TableShape.{TableShape}
+use Rattle.fx_core.specs.Controls.{is_items, input_type}
+use Rattle.fx_core.specs.SourceTypes.{columns_of, item_type, property_of}
+use Rattle.fx_core.specs.Term.{Term, of, nil, cons, const, read, row, item, caught, dot}
+use Rattle.fx_core.specs.Rules as rules
 use Rattle.fx_typing.specs.Columns.{field_of, fault_type}
-use Rattle.fx_trees.specs.ColumnLists.{field_in}
+use Rattle.fx_core.specs.ColumnLists.{field_in}
 
 -- a scope of rows or of a record: its type, its alias if it has one, and whether it is a table call's,
 -- whose depth is limited

@@ -1,10 +1,10 @@
 -- The table of operators: which function the types of the operands choose.
 use Rattle.std.specs.Prelude.{Option, Some, None, option_map}
-use Rattle.fx_data.specs.Types.{Shape, blanks, numbers, texts, booleans, dates}
-use Rattle.fx_trees.specs.declared.expr.Op.{Op}
-use Rattle.fx_trees.specs.declared.expr.Op.TheVariants as op
-use Rattle.fx_trees.specs.declared.functions.Fun.{Fun}
-use Rattle.fx_trees.specs.declared.functions.Fun.TheVariants as fun
+use Rattle.fx_types.specs.Types.{Shape, blanks, numbers, texts, booleans, dates}
+use Rattle.fx_core.specs.declared.expr.Op.{Op}
+use Rattle.fx_core.specs.declared.expr.Op.TheVariants as op
+use Rattle.fx_core.specs.declared.functions.Fun.{Fun}
+use Rattle.fx_core.specs.declared.functions.Fun.TheVariants as fun
 
 -- the type that `=` and `<>` compare two operands by: their own, that of the one that isn't Blank, and
 -- Number where both are

@@ -1,9 +1,9 @@
 -- The parts of a node as they were judged, and where a node stands.
 use Rattle.std.specs.Prelude.{ℕ, suc, min, List, [], ◌∷◌, Bool, true, false, ◌&&◌, nat_lt, Option, None, Result, Ok, Err, if◌then◌else◌}
-use Rattle.fx_data.specs.Types.{Shape}
-use Rattle.fx_trees.specs.Tree.{Forest, none, more}
-use Rattle.fx_trees.specs.Term.{Term}
-use Rattle.fx_trees.specs.Rules as rules
+use Rattle.fx_types.specs.Types.{Shape}
+use Rattle.fx_core.specs.Tree.{Forest, none, more}
+use Rattle.fx_core.specs.Term.{Term}
+use Rattle.fx_core.specs.Rules as rules
 use Rattle.fx_typing.specs.Local.{Piece, value, label}
 use Rattle.fx_typing.specs.Meaning.{Scope, Meaning}
 

@@ -1,13 +1,13 @@
 -- Where each part of a node stands, by its place in the node and by the first part.
 use Rattle.std.specs.Prelude.{ℕ, suc, List, [], ◌∷◌, ◌++◌, Bool, true, false, ◌||◌, ◌&&◌, nat_lt, length, Option, Some, None}
-use Rattle.fx_data.specs.Types.{tables}
-use Rattle.fx_trees.specs.declared.functions.Fun.{Fun}
-use Rattle.fx_trees.specs.declared.signatures.SigShape.{SigShape}
-use Rattle.fx_trees.specs.declared.signatures.SigShape.TheVariants as sig
-use Rattle.fx_trees.specs.Rows.{row_of, form_row}
-use Rattle.fx_trees.specs.declared.names.Names.{Names}
-use Rattle.fx_trees.specs.Tree.{Head}
-use Rattle.fx_trees.specs.Tree as tree
+use Rattle.fx_types.specs.Types.{tables}
+use Rattle.fx_core.specs.declared.functions.Fun.{Fun}
+use Rattle.fx_core.specs.declared.signatures.SigShape.{SigShape}
+use Rattle.fx_core.specs.declared.signatures.SigShape.TheVariants as sig
+use Rattle.fx_core.specs.Rows.{row_of, form_row}
+use Rattle.fx_core.specs.declared.names.Names.{Names}
+use Rattle.fx_core.specs.Tree.{Head}
+use Rattle.fx_core.specs.Tree as tree
 use Rattle.fx_typing.specs.Local.{value}
 use Rattle.fx_typing.specs.Meaning.{or_else}
 use Rattle.fx_typing.specs.WellTyped.{Standing, plain, inside, bound, catching}

@@ -1,20 +1,20 @@
 -- How each part of a node is judged, from the parts before it.
 use Rattle.std.specs.Prelude.{ℕ, zero, suc, List, [], ◌∷◌, ◌++◌, Bool, true, false, ◌||◌, nat_lt, length, Option, Some, None, encode_utf8_all, if◌then◌else◌}
-use Rattle.fx_data.specs.Types.{Shape, records, tables, no_columns}
-use Rattle.fx_trees.specs.declared.functions.Acting.{Acting}
-use Rattle.fx_trees.specs.declared.functions.Acting.TheVariants as acts
-use Rattle.fx_trees.specs.declared.functions.Fun.{Fun}
-use Rattle.fx_trees.specs.declared.rows.Row.{Row}
-use Rattle.fx_trees.specs.declared.rows.Takes.{Takes}
-use Rattle.fx_trees.specs.declared.rows.Takes.TheVariants as takes
-use Rattle.fx_trees.specs.declared.signatures.SigShape.{SigShape}
-use Rattle.fx_trees.specs.declared.signatures.SigShape.TheVariants as sig
-use Rattle.fx_trees.specs.declared.signatures.Signature.{Signature}
-use Rattle.fx_trees.specs.Rows.{row_of, form_row, takes_at}
-use Rattle.fx_trees.specs.Signatures.{signature_in}
-use Rattle.fx_trees.specs.declared.names.Names.{Names}
-use Rattle.fx_trees.specs.Tree.{Head}
-use Rattle.fx_trees.specs.Tree as tree
+use Rattle.fx_types.specs.Types.{Shape, records, tables, no_columns}
+use Rattle.fx_core.specs.declared.functions.Acting.{Acting}
+use Rattle.fx_core.specs.declared.functions.Acting.TheVariants as acts
+use Rattle.fx_core.specs.declared.functions.Fun.{Fun}
+use Rattle.fx_core.specs.declared.rows.Row.{Row}
+use Rattle.fx_core.specs.declared.rows.Takes.{Takes}
+use Rattle.fx_core.specs.declared.rows.Takes.TheVariants as takes
+use Rattle.fx_core.specs.declared.signatures.SigShape.{SigShape}
+use Rattle.fx_core.specs.declared.signatures.SigShape.TheVariants as sig
+use Rattle.fx_core.specs.declared.signatures.Signature.{Signature}
+use Rattle.fx_core.specs.Rows.{row_of, form_row, takes_at}
+use Rattle.fx_core.specs.Signatures.{signature_in}
+use Rattle.fx_core.specs.declared.names.Names.{Names}
+use Rattle.fx_core.specs.Tree.{Head}
+use Rattle.fx_core.specs.Tree as tree
 use Rattle.fx_typing.specs.Local.{value}
 use Rattle.fx_typing.specs.Meaning.{Scope}
 use Rattle.fx_typing.specs.WellTyped.{Standing, plain, inside, bound, catching, standing_of, row_type}

@@ -1,17 +1,17 @@
 -- Values, records, lists, and what stands behind a dot.
 use Rattle.std.specs.Prelude.{◌≡◌, ℕ, List, [], ◌∷◌, true, false, ◌&&◌, nat_eq, bytes_eq, encode_utf8_all, Option, Some, None}
-use Rattle.fx_data.specs.Types.{Shape, blanks, texts, records, ColumnList, no_columns}
-use Rattle.fx_data.specs.Values.{text}
-use Rattle.fx_trees.specs.declared.literals.Enumeration.{Enumeration}
-use Rattle.fx_trees.specs.declared.sources.Source.TheVariants as source
-use Rattle.fx_trees.specs.Literals.{has_member}
-use Rattle.fx_trees.specs.declared.names.ControlName.{ControlName}
-use Rattle.fx_trees.specs.declared.names.Names.{Names}
-use Rattle.fx_trees.specs.declared.names.Property.{Property}
-use Rattle.fx_trees.specs.Controls.{input_type}
-use Rattle.fx_trees.specs.SourceTypes.{item_type, property_of}
-use Rattle.fx_trees.specs.Term.{Term, of, nil, cons, const, read, dot}
-use Rattle.fx_trees.specs.ColumnLists.{field_in}
+use Rattle.fx_types.specs.Types.{Shape, blanks, texts, records, ColumnList, no_columns}
+use Rattle.fx_types.specs.Values.{text}
+use Rattle.fx_core.specs.declared.literals.Enumeration.{Enumeration}
+use Rattle.fx_core.specs.declared.sources.Source.TheVariants as source
+use Rattle.fx_core.specs.Literals.{has_member}
+use Rattle.fx_core.specs.declared.names.ControlName.{ControlName}
+use Rattle.fx_core.specs.declared.names.Names.{Names}
+use Rattle.fx_core.specs.declared.names.Property.{Property}
+use Rattle.fx_core.specs.Controls.{input_type}
+use Rattle.fx_core.specs.SourceTypes.{item_type, property_of}
+use Rattle.fx_core.specs.Term.{Term, of, nil, cons, const, read, dot}
+use Rattle.fx_core.specs.ColumnLists.{field_in}
 use Rattle.fx_typing.specs.Local.{value, coerced, join_all}
 use Rattle.fx_typing.specs.Meaning.{Meaning, valued, controlled, enumerated, place_of, is_chosen, is_input, default_of, default_type}
 use Rattle.fx_typing.specs.Ways.{way}

@@ -1,8 +1,8 @@
 -- The definition that judges and the relation are one.
 use Rattle.std.specs.Prelude.{◌≡◌, ℕ, Bool, true, Option, Ok, Err}
-use Rattle.fx_data.specs.Types.{Shape}
-use Rattle.fx_trees.specs.Tree.{Tree}
-use Rattle.fx_trees.specs.Term.{Term}
+use Rattle.fx_types.specs.Types.{Shape}
+use Rattle.fx_core.specs.Tree.{Tree}
+use Rattle.fx_core.specs.Term.{Term}
 use Rattle.fx_typing.specs.Meaning.{Place}
 use Rattle.fx_typing.specs.Parts.{Part, Setting}
 use Rattle.fx_typing.specs.Typing.{judge, judge_whole}

@@ -1,9 +1,9 @@
 -- What a typed tree with its type, and a part of a node, are seen as.
 use Rattle.std.specs.Prelude.{List, map}
-use Rattle.fx_data.specs.TypeView.{shape}
-use Rattle.fx_data.specs.Types.{Shape}
-use Rattle.fx_data.specs.declared.types.Ty.{Ty}
-use Rattle.fx_trees.specs.Term.{Term, Top, of, all}
+use Rattle.fx_types.specs.TypeView.{shape}
+use Rattle.fx_types.specs.Types.{Shape}
+use Rattle.fx_types.specs.declared.types.Ty.{Ty}
+use Rattle.fx_core.specs.Term.{Term, Top, of, all}
 use Rattle.fx_typing.specs.Local as local
 use Rattle.fx_typing.specs.declared.typed.Piece.{Piece}
 use Rattle.fx_typing.specs.declared.typed.Piece.TheVariants.{Value, Label}

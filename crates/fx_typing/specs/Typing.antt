@@ -1,17 +1,17 @@
 -- Which formulas are admitted, as which typed tree, and where others are broken.
 use Rattle.std.specs.Prelude.{ℕ, List, [], ◌∷◌, ◌++◌, Bool, true, false, ◌&&◌, not, nat_lt, length, map, option_map, slice_get, Option, Some, None, Result, Ok, Err, if◌then◌else◌}
-use Rattle.fx_data.specs.Types.{Shape, numbers, texts, booleans, tables, no_columns}
-use Rattle.fx_data.specs.Values.{Data, number, text, boolean}
-use Rattle.fx_trees.specs.declared.functions.Form.TheVariants as form
-use Rattle.fx_trees.specs.declared.functions.Fun.TheVariants as fun
-use Rattle.fx_trees.specs.declared.names.Names.{Names}
-use Rattle.fx_trees.specs.SourceTypes.{item_type, sources}
-use Rattle.fx_trees.specs.declared.expr.Op.{Op}
-use Rattle.fx_trees.specs.Tree.{Tree, node, Forest, none, more, Head}
-use Rattle.fx_trees.specs.Tree as tree
-use Rattle.fx_trees.specs.Term.{Term, of, nil, all, const, chain}
-use Rattle.fx_trees.specs.Rules as rules
-use Rattle.fx_trees.specs.ColumnLists.{and_then}
+use Rattle.fx_types.specs.Types.{Shape, numbers, texts, booleans, tables, no_columns}
+use Rattle.fx_types.specs.Values.{Data, number, text, boolean}
+use Rattle.fx_core.specs.declared.functions.Form.TheVariants as form
+use Rattle.fx_core.specs.declared.functions.Fun.TheVariants as fun
+use Rattle.fx_core.specs.declared.names.Names.{Names}
+use Rattle.fx_core.specs.SourceTypes.{item_type, sources}
+use Rattle.fx_core.specs.declared.expr.Op.{Op}
+use Rattle.fx_core.specs.Tree.{Tree, node, Forest, none, more, Head}
+use Rattle.fx_core.specs.Tree as tree
+use Rattle.fx_core.specs.Term.{Term, of, nil, all, const, chain}
+use Rattle.fx_core.specs.Rules as rules
+use Rattle.fx_core.specs.ColumnLists.{and_then}
 use Rattle.fx_typing.specs.Local.{Piece, value, label, by_way, firsts, made, formed}
 use Rattle.fx_typing.specs.Meaning.{Place, Scope, Meaning, valued, in_globals, meaning_of, named, dotted}
 use Rattle.fx_typing.specs.Operators.{function_of}

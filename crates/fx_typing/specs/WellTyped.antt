@@ -1,29 +1,29 @@
 -- Which typed trees are well typed: one rule for each head, over the types of its parts.
 use Rattle.std.specs.Prelude.{◌≡◌, ℕ, zero, suc, ◌<◌, ◌++◌, List, [], ◌∷◌, ◌⊎◌, Bool, true, map, length, Option, Some, None, Result, Ok, Err, slice_get, codes, IsSome}
-use Rattle.fx_data.specs.Rising.{IsBelow}
-use Rattle.fx_data.specs.Types.{Shape, blanks, numbers, texts, booleans, records, tables, ColumnList, no_columns, column}
+use Rattle.fx_types.specs.Rising.{IsBelow}
+use Rattle.fx_types.specs.Types.{Shape, blanks, numbers, texts, booleans, records, tables, ColumnList, no_columns, column}
 use Rattle.fx_value.specs.Fits.{fits_in}
 use Rattle.fx_value.specs.Join.{join_of}
-use Rattle.fx_trees.specs.declared.deeds.Deed.{Deed}
-use Rattle.fx_trees.specs.declared.deeds.Deed.TheVariants as deed
-use Rattle.fx_trees.specs.declared.deeds.Target.{Target}
-use Rattle.fx_trees.specs.declared.deeds.Target.TheVariants as target
-use Rattle.fx_trees.specs.declared.functions.Fun.{Fun}
-use Rattle.fx_trees.specs.declared.functions.Fun.TheVariants as fun
-use Rattle.fx_trees.specs.declared.rows.Answer.{Answer}
-use Rattle.fx_trees.specs.declared.rows.Answer.TheVariants as answer
-use Rattle.fx_trees.specs.declared.rows.Row.{Row}
-use Rattle.fx_trees.specs.declared.rows.Takes.{Takes}
-use Rattle.fx_trees.specs.declared.rows.Takes.TheVariants as takes
-use Rattle.fx_trees.specs.declared.sources.Source.{Source}
-use Rattle.fx_trees.specs.declared.sources.Source.TheVariants as source
-use Rattle.fx_trees.specs.Rows.{shape_of, row_of, form_row, takes_at, takes_count}
-use Rattle.fx_trees.specs.Term.{Term, Terms, of, nil, cons, Top, const, read, row, item, caught, dot, call, over, form, within, rec, list, coerce, chain, act}
-use Rattle.fx_trees.specs.Rules as rules
+use Rattle.fx_core.specs.declared.deeds.Deed.{Deed}
+use Rattle.fx_core.specs.declared.deeds.Deed.TheVariants as deed
+use Rattle.fx_core.specs.declared.deeds.Target.{Target}
+use Rattle.fx_core.specs.declared.deeds.Target.TheVariants as target
+use Rattle.fx_core.specs.declared.functions.Fun.{Fun}
+use Rattle.fx_core.specs.declared.functions.Fun.TheVariants as fun
+use Rattle.fx_core.specs.declared.rows.Answer.{Answer}
+use Rattle.fx_core.specs.declared.rows.Answer.TheVariants as answer
+use Rattle.fx_core.specs.declared.rows.Row.{Row}
+use Rattle.fx_core.specs.declared.rows.Takes.{Takes}
+use Rattle.fx_core.specs.declared.rows.Takes.TheVariants as takes
+use Rattle.fx_core.specs.declared.sources.Source.{Source}
+use Rattle.fx_core.specs.declared.sources.Source.TheVariants as source
+use Rattle.fx_core.specs.Rows.{shape_of, row_of, form_row, takes_at, takes_count}
+use Rattle.fx_core.specs.Term.{Term, Terms, of, nil, cons, Top, const, read, row, item, caught, dot, call, over, form, within, rec, list, coerce, chain, act}
+use Rattle.fx_core.specs.Rules as rules
 use Rattle.fx_typing.specs.Ways.{way, changed, is_scalar, is_comparable}
 use Rattle.fx_typing.specs.LawfulTypes.{IsLawfulType}
 use Rattle.fx_typing.specs.Columns.{field_of, added, dropped, shown, renamed, fault_type, tells_error}
-use Rattle.fx_trees.specs.ColumnLists.{field_in, value_column, row_columns}
+use Rattle.fx_core.specs.ColumnLists.{field_in, value_column, row_columns}
 
 -- what a tree stands in: the types of the sources, how many screens there are, the types of the scopes
 -- from the outside, that of the gallery's item if there is one, and whether an error is caught around

@@ -1,11 +1,11 @@
 //! Columns, and what functions of tables make of them.
 ghost use Rattle.std.specs.Prelude.{◌≡◌, Ok, IfOk, map, filter, not, bytes_eq, option_map, unwrap_or};
-ghost use Rattle.fx_data.specs.TypeView.{shape, columns_view};
-ghost use Rattle.fx_data.specs.Types.{column_list, texts};
-ghost use Rattle.fx_data.specs.Words.{scalars_of};
-ghost use Rattle.fx_trees.specs.SourceTypes as sources;
+ghost use Rattle.fx_types.specs.TypeView.{shape, columns_view};
+ghost use Rattle.fx_types.specs.Types.{column_list, texts};
+ghost use Rattle.fx_types.specs.Words.{scalars_of};
+ghost use Rattle.fx_core.specs.SourceTypes as sources;
 ghost use Rattle.fx_typing.specs.Columns as typing;
-ghost use Rattle.fx_trees.specs.ColumnLists as lists;
+ghost use Rattle.fx_core.specs.ColumnLists as lists;
 ghost use Rattle.fx_typing.specs.Ways.{way, is_open};
 ghost use Rattle.fx_typing.specs.Answers.{Answers};
 ghost use Rattle.fx_typing.specs.ColumnPlaces.{place_of};
@@ -15,10 +15,10 @@ use crate::typed::Typed;
 use crate::ways::{Way, way_to};
 use crate::wrong::Wrong;
 use fx_base::Memory;
-use fx_data::types::{Columns, Ty};
-use fx_data::values::Value;
-use fx_data::words::Words;
-use fx_trees::{Core, CoreNode, Rule};
+use fx_core::{Core, CoreNode, Rule};
+use fx_types::types::{Columns, Ty};
+use fx_types::values::Value;
+use fx_types::words::Words;
 use std::alloc::Global;
 use std::cmp::Ordering;
 

@@ -1,8 +1,8 @@
 //! Typed trees with their types, and parts of a node.
 
-use fx_data::types::Ty;
-use fx_data::words::Words;
-use fx_trees::Core;
+use fx_core::Core;
+use fx_types::types::Ty;
+use fx_types::words::Words;
 
 /// A typed tree and its type.
 #[derive(Drop)]

@@ -1,7 +1,7 @@
 //! How a type comes to another.
 ghost use Rattle.std.specs.Prelude.{◌≡◌, IfOk};
-ghost use Rattle.fx_data.specs.TypeView.{shape};
-ghost use Rattle.fx_data.specs.Types.{column_list};
+ghost use Rattle.fx_types.specs.TypeView.{shape};
+ghost use Rattle.fx_types.specs.Types.{column_list};
 ghost use Rattle.fx_typing.specs.Local as local;
 ghost use Rattle.fx_typing.specs.Ways as ways;
 ghost use Rattle.fx_typing.specs.Answers.{Answers};
@@ -11,8 +11,8 @@ ghost use Rattle.fx_typing.specs.WayView.{way_view};
 use crate::typed::Typed;
 use crate::wrong::Wrong;
 use fx_base::Memory;
-use fx_data::types::{Columns, Ty};
-use fx_trees::{Core, Rule, make_core};
+use fx_core::{Core, Rule, make_core};
+use fx_types::types::{Columns, Ty};
 use fx_value::joining::join;
 use std::alloc::Global;
 

@@ -1,13 +1,13 @@
 -- Which values come to a coercion, and what stays as it is.
 use Rattle.std.proofs.Common.{◌≡◌, ℕ, ℤ, List, Some, Bool, true, refl}
-use Rattle.fx_data.specs.Types.{Shape, blanks, numbers, texts, booleans, dates, records, tables, no_columns}
-use Rattle.fx_data.specs.TypeView.{shape}
-use Rattle.fx_data.specs.Values.{Data, blank, number, text, boolean, date, fault, rec, tab}
-use Rattle.fx_data.specs.ValueView.{view}
-use Rattle.fx_data.specs.declared.types.Ty.{Ty}
-use Rattle.fx_data.specs.declared.types.Ty.TheVariants.{Blank as BlankTy, Number as NumberTy, Text as TextTy, Boolean as BooleanTy, Date as DateTy, Rec as RecTy, Tab as TabTy}
-use Rattle.fx_data.specs.declared.values.Value.{Value}
-use Rattle.fx_data.specs.declared.values.Value.TheVariants.{Blank, Number, Text, Boolean, Date, Rec, Tab, Fault}
+use Rattle.fx_types.specs.Types.{Shape, blanks, numbers, texts, booleans, dates, records, tables, no_columns}
+use Rattle.fx_types.specs.TypeView.{shape}
+use Rattle.fx_types.specs.Values.{Data, blank, number, text, boolean, date, fault, rec, tab}
+use Rattle.fx_types.specs.ValueView.{view}
+use Rattle.fx_types.specs.declared.types.Ty.{Ty}
+use Rattle.fx_types.specs.declared.types.Ty.TheVariants.{Blank as BlankTy, Number as NumberTy, Text as TextTy, Boolean as BooleanTy, Date as DateTy, Rec as RecTy, Tab as TabTy}
+use Rattle.fx_types.specs.declared.values.Value.{Value}
+use Rattle.fx_types.specs.declared.values.Value.TheVariants.{Blank, Number, Text, Boolean, Date, Rec, Tab, Fault}
 use Rattle.fx_value.specs.Coercion.{Widens, same, joined, CanWiden, CanCoerce, HasCoercion, IsCoerced}
 use Rattle.fx_value.specs.Fits.{fits_in}
 use Rattle.fx_value.specs.Join.{join_of}

@@ -1,8 +1,8 @@
 -- The value of a field, found or not.
 use Rattle.std.proofs.Common.{◌≡◌, ℕ, List, [], ◌∷◌, Bool, true, false, Some, None, refl}
 use Rattle.std.specs.Prelude.{bytes_eq, if◌then◌else◌}
-use Rattle.fx_data.specs.Lookup.{item_of}
-use Rattle.fx_data.specs.Values.{Data, blank, field_list}
+use Rattle.fx_types.specs.Lookup.{item_of}
+use Rattle.fx_types.specs.Values.{Data, blank, field_list}
 use Rattle.fx_value.specs.Coercion.{value_in}
 
 pub value_found : (n : List ℕ) (fs : List (List ℕ × Data)) (d : Data) → Some d ≡ item_of n fs → d ≡ value_in n (field_list fs)

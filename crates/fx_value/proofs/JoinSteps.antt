@@ -3,11 +3,11 @@ use Rattle.std.proofs.Common.{◌≡◌, ℕ, suc, ◌+◌, ◌≤◌, length, g
 use Rattle.std.specs.Ordering.{nat_cmp}
 use Rattle.std.specs.Cmp.Lexicographic.{slice_cmp}
 use Rattle.std.specs.declared.cmp.Ordering.TheVariants.{Equal, Greater}
-use Rattle.fx_data.specs.Types.{Shape, ColumnList, column, column_list, columns_size}
+use Rattle.fx_types.specs.Types.{Shape, ColumnList, column, column_list, columns_size}
 use Rattle.fx_value.specs.Join.{join_of, union}
-use Rattle.fx_data.specs.Rising.{IsBelow, AreRising}
-use Rattle.fx_data.specs.TypeView.{shape, columns_view}
-use Rattle.fx_data.specs.declared.types.Ty.{Ty}
+use Rattle.fx_types.specs.Rising.{IsBelow, AreRising}
+use Rattle.fx_types.specs.TypeView.{shape, columns_view}
+use Rattle.fx_types.specs.declared.types.Ty.{Ty}
 use Rattle.fx_value.proofs.Unions.{under_list, rises_list, list_rises, union_first, union_second, union_of_none, union_both, rises_union, under_further, below}
 
 -- these columns before others

@@ -11,12 +11,12 @@ use Rattle.std.specs.Cmp.Lexicographic.{slice_cmp}
 use Rattle.std.specs.Int.{bytes_high_first}
 use Rattle.std.specs.declared.cmp.Ordering.TheVariants.{Equal}
 use Rattle.std.specs.declared.cmp.Ordering.{Ordering}
-use Rattle.fx_data.specs.Values.{Data, blank, number, text, boolean, date}
-use Rattle.fx_data.specs.Days.{IsDay}
+use Rattle.fx_types.specs.Values.{Data, blank, number, text, boolean, date}
+use Rattle.fx_types.specs.Days.{IsDay}
 use Rattle.fx_value.specs.Keys.{IsProper, key_bytes}
 use Rattle.fx_value.specs.Order.{AreOfOneType, order}
 use Rattle.fx_value.proofs.Orders.{then_equal}
-use Rattle.fx_data.proofs.Utf8Order.{then_then, slice_cmp-encodes}
+use Rattle.fx_types.proofs.Utf8Order.{then_then, slice_cmp-encodes}
 use Rattle.fx_number.specs.Decimal.{IsInRange}
 
 numbers_shifted : (z w : ℤ) → IsInRange z → IsInRange w → nat_cmp (unsigned_abs (z +ℤ pos (2 ^ 63))) (unsigned_abs (w +ℤ pos (2 ^ 63))) ≡ int_cmp z w

@@ -1,6 +1,6 @@
 -- What is equal part for part is equal.
 use Rattle.std.proofs.Common.{◌≡◌, ℕ, List, [], ◌∷◌, refl}
-use Rattle.fx_data.specs.Values.{Data, rec, tab, field_list, row_list}
+use Rattle.fx_types.specs.Values.{Data, rec, tab, field_list, row_list}
 
 -- fields and rows are those of their lists
 pub field_list_tells : (fs gs : List (List ℕ × Data)) → field_list fs ≡ field_list gs → fs ≡ gs

@@ -4,9 +4,9 @@ use Rattle.std.specs.Ordering.{nat_cmp, ordering_reverse, match_ordering}
 use Rattle.std.specs.Cmp.Lexicographic.{slice_cmp, nat_list_cmp_total}
 use Rattle.std.specs.declared.cmp.Ordering.{Ordering}
 use Rattle.std.specs.declared.cmp.Ordering.TheVariants.{Less, Equal, Greater}
-use Rattle.fx_data.specs.Types.{Shape, blanks, numbers, texts, booleans, dates, records, tables, ColumnList, no_columns, column, column_list}
+use Rattle.fx_types.specs.Types.{Shape, blanks, numbers, texts, booleans, dates, records, tables, ColumnList, no_columns, column, column_list}
 use Rattle.fx_value.specs.Join.{with_column, join_of, union}
-use Rattle.fx_data.specs.Rising.{IsBelow, IsBelowAll, AreRising}
+use Rattle.fx_types.specs.Rising.{IsBelow, IsBelowAll, AreRising}
 
 -- the name is below all of these
 abbrev pub Under : List ℕ → ColumnList → Type 0

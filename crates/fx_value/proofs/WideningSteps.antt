@@ -8,14 +8,14 @@ use Rattle.std.specs.Cmp.{tied_itself}
 use Rattle.std.proofs.lemmas.Cmp.{nat_list_cmp_total}
 use Rattle.std.proofs.lemmas.List.{take_more, take_all, drop_all, length-set}
 use Rattle.std.proofs.lemmas.Bool.{and_from}
-use Rattle.fx_data.specs.Rising.{IsBelow, IsBelowAll, AreRising}
-use Rattle.fx_data.specs.Types.{ColumnList, column_list}
-use Rattle.fx_data.specs.TypeView.{shape, columns_view}
-use Rattle.fx_data.specs.Values.{Data, FieldList, no_fields, field, field_list, no_rows, row, row_list}
-use Rattle.fx_data.specs.ValueView.{view, fields_view}
-use Rattle.fx_data.specs.declared.types.Ty.{Ty}
-use Rattle.fx_data.specs.declared.values.Value.{Value}
-use Rattle.fx_data.proofs.Utf8Order.{and_second, and_first}
+use Rattle.fx_types.specs.Rising.{IsBelow, IsBelowAll, AreRising}
+use Rattle.fx_types.specs.Types.{ColumnList, column_list}
+use Rattle.fx_types.specs.TypeView.{shape, columns_view}
+use Rattle.fx_types.specs.Values.{Data, FieldList, no_fields, field, field_list, no_rows, row, row_list}
+use Rattle.fx_types.specs.ValueView.{view, fields_view}
+use Rattle.fx_types.specs.declared.types.Ty.{Ty}
+use Rattle.fx_types.specs.declared.values.Value.{Value}
+use Rattle.fx_types.proofs.Utf8Order.{and_second, and_first}
 use Rattle.fx_value.specs.Coercion.{value_in, widened, widened_fields, rows_by}
 use Rattle.fx_value.specs.Fits.{fits_in, fields_fit, rows_fit}
 use Rattle.fx_value.proofs.JoinSteps.{left}

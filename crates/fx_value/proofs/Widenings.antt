@@ -7,16 +7,16 @@ use Rattle.std.specs.declared.cmp.Ordering.{Ordering}
 use Rattle.std.specs.declared.cmp.Ordering.TheVariants.{Less, Equal, Greater}
 use Rattle.std.proofs.lemmas.Map.Text.{is_eq-slice_cmp}
 use Rattle.std.proofs.lemmas.Slice.Eq.{bytes_eq-Decides}
-use Rattle.fx_data.specs.Rising.{IsBelow, IsBelowAll, AreRising}
-use Rattle.fx_data.specs.Types.{Shape, blanks, numbers, texts, booleans, dates, records, tables, ColumnList, no_columns, column, column_list}
-use Rattle.fx_data.specs.TypeView.{shape, columns_view}
-use Rattle.fx_data.specs.Values.{Data, blank, number, text, boolean, date, fault, rec, tab, FieldList, no_fields, field, field_list, RowList, row_list}
-use Rattle.fx_data.specs.ValueView.{view}
-use Rattle.fx_data.specs.declared.types.Ty.{Ty}
-use Rattle.fx_data.specs.declared.types.Ty.TheVariants.{Rec as RecTy, Tab as TabTy}
-use Rattle.fx_data.specs.declared.values.Value.{Value}
-use Rattle.fx_data.specs.declared.values.Value.TheVariants.{Blank, Number, Text, Boolean, Date, Rec, Tab, Fault}
-use Rattle.fx_data.proofs.Utf8Order.{and_second, and_first}
+use Rattle.fx_types.specs.Rising.{IsBelow, IsBelowAll, AreRising}
+use Rattle.fx_types.specs.Types.{Shape, blanks, numbers, texts, booleans, dates, records, tables, ColumnList, no_columns, column, column_list}
+use Rattle.fx_types.specs.TypeView.{shape, columns_view}
+use Rattle.fx_types.specs.Values.{Data, blank, number, text, boolean, date, fault, rec, tab, FieldList, no_fields, field, field_list, RowList, row_list}
+use Rattle.fx_types.specs.ValueView.{view}
+use Rattle.fx_types.specs.declared.types.Ty.{Ty}
+use Rattle.fx_types.specs.declared.types.Ty.TheVariants.{Rec as RecTy, Tab as TabTy}
+use Rattle.fx_types.specs.declared.values.Value.{Value}
+use Rattle.fx_types.specs.declared.values.Value.TheVariants.{Blank, Number, Text, Boolean, Date, Rec, Tab, Fault}
+use Rattle.fx_types.proofs.Utf8Order.{and_second, and_first}
 use Rattle.fx_value.specs.Coercion.{Widens, same, joined, CanWiden, value_in}
 use Rattle.fx_value.specs.Fits.{fits_in, fields_fit, rows_fit}
 use Rattle.fx_value.specs.Join.{join_of, union, with_column}

@@ -2,8 +2,8 @@
 use Rattle.std.specs.Prelude.{◌≡◌, ◌⊎◌, ℕ, ◌*◌, ℤ, pos, neg_ℤ, ◌+ℤ◌, ◌≤ℤ◌, List, [], fold, length, MatchOption, Option, Some, None}
 use Rattle.std.specs.List.{All, Contains, filter_map}
 use Rattle.fx_number.specs.Decimal.{greatest as limit}
-use Rattle.fx_data.specs.Values.{Data, number}
-use Rattle.fx_data.specs.declared.aggregates.Totals.{Totals}
+use Rattle.fx_types.specs.Values.{Data, number}
+use Rattle.fx_types.specs.declared.aggregates.Totals.{Totals}
 
 -- the number in a value, if it is one
 abbrev pub number_of : Data → Option ℤ

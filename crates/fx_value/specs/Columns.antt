@@ -3,8 +3,8 @@ use Rattle.std.specs.Prelude.{◌≡◌, ℕ, List, [], ◌∷◌, map, not, byt
 use Rattle.std.specs.List.{All, filter, list_any, zip}
 use Rattle.std.specs.Cmp.Lexicographic.{slice_cmp}
 use Rattle.std.specs.Ordering.{nat_cmp, is_lt}
-use Rattle.fx_data.specs.Lookup.{item_of}
-use Rattle.fx_data.specs.Values.{Data, blank}
+use Rattle.fx_types.specs.Lookup.{item_of}
+use Rattle.fx_types.specs.Values.{Data, blank}
 
 -- a row of a table, a record as its fields by rising names
 abbrev pub Row : Type 0

@@ -5,8 +5,8 @@ use Rattle.std.specs.Cmp.Lexicographic.{slice_cmp}
 use Rattle.std.specs.Int.{to_be_bytes, w32, w64}
 use Rattle.std.specs.Str.{all_scalars}
 use Rattle.std.specs.declared.cmp.Ordering.TheVariants.{Equal}
-use Rattle.fx_data.specs.Days.{IsDay}
-use Rattle.fx_data.specs.Values.{Data, blank, number, text, boolean, date}
+use Rattle.fx_types.specs.Days.{IsDay}
+use Rattle.fx_types.specs.Values.{Data, blank, number, text, boolean, date}
 use Rattle.fx_number.specs.Decimal.{IsInRange}
 use Rattle.fx_value.specs.Order.{AreOfOneType, order}
 

@@ -1,23 +1,23 @@
 // Coercions.
 ghost use Rattle.std.specs.Prelude.{◌≡◌, IfOk, true, not, ℤ, List, ℕ, pos, codes, encode_utf8_all, if◌then◌else◌};
 ghost use Rattle.std.specs.Ordering.{int_eq};
-ghost use Rattle.fx_data.specs.DateText.{date_text as date_text_of};
-ghost use Rattle.fx_data.specs.TypeView.{shape};
-ghost use Rattle.fx_data.specs.Types.{blanks, numbers, texts, booleans};
-ghost use Rattle.fx_data.specs.ValueView.{view};
-ghost use Rattle.fx_data.specs.Words.{scalars_of};
+ghost use Rattle.fx_types.specs.DateText.{date_text as date_text_of};
+ghost use Rattle.fx_types.specs.TypeView.{shape};
+ghost use Rattle.fx_types.specs.Types.{blanks, numbers, texts, booleans};
+ghost use Rattle.fx_types.specs.ValueView.{view};
+ghost use Rattle.fx_types.specs.Words.{scalars_of};
 ghost use Rattle.fx_number.specs.Spelling.{text_of};
 ghost use Rattle.fx_value.specs.Coercion.{CanCoerce, IsCoerced, IsReadAs, JoinTakesBoth, are_spaces};
 ghost use Rattle.fx_value.specs.Fits.{fits_in};
 
 use crate::widening::widen;
 use fx_base::Memory;
-use fx_data::days::Day;
-use fx_data::faults::{Fault, Kind};
-use fx_data::types::Ty;
-use fx_data::values::Value;
-use fx_data::words::Words;
 use fx_number::Num;
+use fx_types::days::Day;
+use fx_types::faults::{Fault, Kind};
+use fx_types::types::Ty;
+use fx_types::values::Value;
+use fx_types::words::Words;
 use std::alloc::Global;
 
 /// The value as one of another type, for a pair of types that has a coercion. Blank and errors stay
@@ -128,7 +128,7 @@ fn number_text(alloc: Global, number: Num) -> Result<Words, Memory>
 fn date_text(alloc: Global, day: Day) -> Result<Words, Memory>
     ensures { IfOk result (λ w. w ≡ scalars_of (date_text_of day)) }
 {
-    let text = fx_data::date_text(alloc, day)?;
+    let text = fx_types::date_text(alloc, day)?;
     Words::of(alloc, text.as_str())
 }
 

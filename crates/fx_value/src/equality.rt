@@ -1,9 +1,9 @@
 // Which values are equal.
 ghost use Rattle.std.specs.Prelude.{◌≡◌, ◌↔◌, IsTrue};
-ghost use Rattle.fx_data.specs.ValueView.{view};
+ghost use Rattle.fx_types.specs.ValueView.{view};
 
-use fx_data::faults::Fault;
-use fx_data::values::{Fields, Rows, Value};
+use fx_types::faults::Fault;
+use fx_types::values::{Fields, Rows, Value};
 
 /// Whether two values are equal part for part, errors by their kind and their message.
 #[cycle(same)]

@@ -1,13 +1,13 @@
 // Which values fit which types.
 ghost use Rattle.std.specs.Prelude.{◌≡◌};
-ghost use Rattle.fx_data.specs.Values.{field_list, row_list};
+ghost use Rattle.fx_types.specs.Values.{field_list, row_list};
 ghost use Rattle.fx_value.specs.Fits.{fits_in, fields_fit, rows_fit};
-ghost use Rattle.fx_data.specs.Types.{column_list};
-ghost use Rattle.fx_data.specs.TypeView.{shape};
-ghost use Rattle.fx_data.specs.ValueView.{view};
+ghost use Rattle.fx_types.specs.Types.{column_list};
+ghost use Rattle.fx_types.specs.TypeView.{shape};
+ghost use Rattle.fx_types.specs.ValueView.{view};
 
-use fx_data::types::{Columns, Ty};
-use fx_data::values::{Fields, Rows, Value};
+use fx_types::types::{Columns, Ty};
+use fx_types::values::{Fields, Rows, Value};
 
 /// Whether a value fits a type.
 #[cycle(fits)]

@@ -1,12 +1,12 @@
 // How types join.
 ghost use Rattle.std.specs.Prelude.{◌≡◌, ◌++◌, ◌∷◌, [], IfOk, OnOk, option_map, ◌≤◌, length, drop};
 ghost use Rattle.fx_value.specs.Join.{join_of, union};
-ghost use Rattle.fx_data.specs.Types.{column_list};
-ghost use Rattle.fx_data.specs.TypeView.{shape};
+ghost use Rattle.fx_types.specs.Types.{column_list};
+ghost use Rattle.fx_types.specs.TypeView.{shape};
 
 use fx_base::Memory;
-use fx_data::types::{Columns, Ty};
-use fx_data::words::Words;
+use fx_types::types::{Columns, Ty};
+use fx_types::words::Words;
 use std::alloc::Global;
 use std::cmp::Ordering;
 

@@ -1,11 +1,11 @@
 // The keys of scalars.
 ghost use Rattle.std.specs.Prelude.{◌≡◌, ◌∷◌, IfOk};
-ghost use Rattle.fx_data.specs.ValueView.{view};
+ghost use Rattle.fx_types.specs.ValueView.{view};
 ghost use Rattle.fx_value.specs.Keys.{key_bytes, IsProper, KeysOrder, KeysTell};
 ghost use Rattle.fx_value.specs.Order.{IsScalar};
 
 use fx_base::Memory;
-use fx_data::values::Value;
+use fx_types::values::Value;
 use std::alloc::Global;
 
 /// The bytes that stand for a scalar in an index, which order as `compare` does.

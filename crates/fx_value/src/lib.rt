@@ -16,7 +16,7 @@ pub use coercion::coerce;
 pub use equality::same;
 pub use fitting::fits;
 pub use fx_base::Memory;
-pub use fx_data::{
+pub use fx_types::{
     Cmp, Columns, Control, Day, Fault, Fields, Kind, Rows, Totals, Ty, Value, Words,
 };
 pub use joining::join;

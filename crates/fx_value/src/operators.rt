@@ -1,11 +1,11 @@
 // The operators that compare.
 ghost use Rattle.std.specs.Prelude.{◌≡◌};
-ghost use Rattle.fx_data.specs.ValueView.{view};
+ghost use Rattle.fx_types.specs.ValueView.{view};
 ghost use Rattle.fx_value.specs.Operators.{holds_of, compared_by, takes as takes_of, sides as sides_of, CanCompare};
 
 use crate::ordering::compare;
-use fx_data::comparisons::Cmp;
-use fx_data::values::Value;
+use fx_types::comparisons::Cmp;
+use fx_types::values::Value;
 use std::cmp::Ordering;
 
 /// Whether an operator holds of two scalars of one type or blank: `=` and `<>` of any, and

@@ -1,10 +1,10 @@
 // The order of scalars.
 ghost use Rattle.std.specs.Prelude.{◌≡◌};
 ghost use Rattle.std.specs.Cmp.{IsTotalOrder};
-ghost use Rattle.fx_data.specs.ValueView.{view};
+ghost use Rattle.fx_types.specs.ValueView.{view};
 ghost use Rattle.fx_value.specs.Order.{order, rank_of, OrderTells};
 
-use fx_data::values::Value;
+use fx_types::values::Value;
 use std::cmp::Ordering;
 
 /// The order of sorting: blank first, and scalars of one type by their values. So that it is an

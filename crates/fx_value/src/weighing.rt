@@ -1,11 +1,11 @@
 // What values weigh.
 ghost use Rattle.std.specs.Prelude.{◌≡◌, ◌+◌, ◌-◌, ◌^◌, min};
-ghost use Rattle.fx_data.specs.Values.{field_list, row_list};
-ghost use Rattle.fx_data.specs.ValueView.{view};
+ghost use Rattle.fx_types.specs.Values.{field_list, row_list};
+ghost use Rattle.fx_types.specs.ValueView.{view};
 ghost use Rattle.fx_value.specs.Weight.{bytes_in, weight_of, fields_weight, rows_weight};
 
-use fx_data::values::{Fields, Rows, Value};
-use fx_data::words::Words;
+use fx_types::values::{Fields, Rows, Value};
+use fx_types::words::Words;
 
 /// How much a value weighs, in bytes: 16 for each part, and the bytes of its texts and names. The
 /// greatest `u64` stands for more.

@@ -1,16 +1,16 @@
 // Values as ones of a wider type.
 ghost use Rattle.std.specs.Prelude.{◌≡◌, ◌≢◌, IfOk, List, ℕ, true};
-ghost use Rattle.fx_data.specs.TypeView.{shape};
-ghost use Rattle.fx_data.specs.Types.{records, tables, column_list};
-ghost use Rattle.fx_data.specs.ValueView.{view, fields_view};
-ghost use Rattle.fx_data.specs.Values.{rec, tab, field_list, row_list};
+ghost use Rattle.fx_types.specs.TypeView.{shape};
+ghost use Rattle.fx_types.specs.Types.{records, tables, column_list};
+ghost use Rattle.fx_types.specs.ValueView.{view, fields_view};
+ghost use Rattle.fx_types.specs.Values.{rec, tab, field_list, row_list};
 ghost use Rattle.fx_value.specs.Coercion.{CanWiden, value_in, widened, widened_fields, rows_by};
 ghost use Rattle.fx_value.specs.Fits.{fits_in, fields_fit, rows_fit};
 
 use fx_base::Memory;
-use fx_data::types::{Columns, Ty};
-use fx_data::values::{Fields, Rows, Value};
-use fx_data::words::Words;
+use fx_types::types::{Columns, Ty};
+use fx_types::values::{Fields, Rows, Value};
+use fx_types::words::Words;
 use std::alloc::Global;
 
 /// The value as one of a wider type: records, and rows of tables, get the columns that they lack as

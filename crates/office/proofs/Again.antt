@@ -2,21 +2,21 @@
 use Rattle.serde_json.specs.Data as json
 use Rattle.std.proofs.Common.{◌≡◌, ◌≢◌, ◌⊎◌, inl, inr, ℕ, List, Option, None, Some, Result, Ok, Err, refl, ap, sym, ◌∙◌, subst}
 use Rattle.fx_base.specs.Silence.{IsLost, Marks}
-use Rattle.fx_trees.specs.declared.schema.TableShape.{TableShape}
+use Rattle.fx_core.specs.declared.schema.TableShape.{TableShape}
 use Rattle.row_keeper.specs.Tables.{Tables}
 use Rattle.app_wire.specs.Framing.{Asked}
 use Rattle.app_wire.specs.ReplyBytes.{refusal}
 use Rattle.app_wire.specs.Routing.{IsOneRoute, method_of}
 use Rattle.app_wire.specs.declared.head.Method.TheVariants.{Post}
 use Rattle.app_cells.specs.declared.app.App.{App}
-use Rattle.fx_data.specs.Values.{Data}
+use Rattle.fx_types.specs.Values.{Data}
 use Rattle.session_requests.specs.declared.trigger.Trigger.{Trigger}
 use Rattle.session_requests.specs.declared.trigger.Trigger.TheVariants.{OnSelect}
 use Rattle.app_wire.specs.declared.route.Route.{Route}
 use Rattle.app_wire.specs.declared.route.Route.TheVariants.{Begin, End, View, Named as Shown, Items, Event, Input, Rows, Edit, Page, Plan, Graph}
 use Rattle.session_state.specs.Once.{Kept}
 use Rattle.row_requests.specs.Bodies.{posted_in}
-use Rattle.request_checks.specs.Checks.{IsLastAsked, checks, desk_of, if_live, session_of}
+use Rattle.numbered_requests.specs.Checks.{IsLastAsked, checks, desk_of, if_live, session_of}
 use Rattle.session_state.specs.Sessions.{SessionState}
 use Rattle.session_requests.specs.Acting.{EndsEvent, EndsInput, TakesEffect, answered, input_trigger, item_seen, with_input, with_target}
 use Rattle.session_requests.specs.Bodies.{event_in, input_in}
@@ -27,23 +27,23 @@ use Rattle.session_requests.specs.declared.target.Target.{Target}
 use Rattle.session_requests.specs.declared.event.Event.{Event as Sent}
 use Rattle.session_requests.specs.declared.input.Input.{Input as Given}
 use Rattle.office.specs.DeskEdits.{Ends as Edited, Parts, PostsChecked as EditChecked, PostsEdit, accepted_reply as edit_reply, edit_checks}
-use Rattle.fx_trees.specs.declared.broken.Broken.{Broken}
-use Rattle.request_checks.specs.Bodies.{edit_in}
-use Rattle.request_checks.specs.declared.edit.Edit.{Edit as Change}
+use Rattle.fx_core.specs.declared.broken.Broken.{Broken}
+use Rattle.numbered_requests.specs.Bodies.{edit_in}
+use Rattle.numbered_requests.specs.declared.edit.Edit.{Edit as Change}
 use Rattle.view_text.specs.declared.refused.Refusal.{Refusal}
 use Rattle.row_requests.specs.DeskRows.{Outcome, PostsChecked, PostsRows, accepted_reply, desk_checks, desks_after, outcome_reply}
-use Rattle.request_checks.specs.Directory.{find}
+use Rattle.numbered_requests.specs.Directory.{find}
 use Rattle.row_requests.specs.Laws.{IsLast}
 use Rattle.row_requests.specs.declared.bodies.Posted.{Posted}
-use Rattle.request_checks.specs.declared.directory.Named.{Named}
+use Rattle.numbered_requests.specs.declared.directory.Named.{Named}
 use Rattle.office.specs.Answers.{Exchange, Plays}
 use Rattle.office.specs.Isolation.{AreOfOthers, Caller, IsOf, caller_of, desk, kept_of, kept_of_session, session}
 use Rattle.office.specs.State.{State, schema_of}
 use Rattle.office.specs.Step.{Answered, Does, Left, Reaches, parts_of}
 use Rattle.office.proofs.Repeats.{acts_once as edits_again}
 use Rattle.row_requests.proofs.Again.{checks_again}
-use Rattle.request_checks.proofs.Again.{Asks, comes_again, passed}
-use Rattle.request_checks.proofs.Directories.{find_put}
+use Rattle.numbered_requests.proofs.Again.{Asks, comes_again, passed}
+use Rattle.numbered_requests.proofs.Directories.{find_put}
 use Rattle.office.proofs.Isolation.{does_of, plays_keep_session, plays_leave_desk, route_is}
 use Rattle.office.proofs.StepLemmas.{left_all}
 

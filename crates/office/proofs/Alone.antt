@@ -7,7 +7,7 @@ use Rattle.app_wire.specs.Routing.{IsOneRoute, method_of}
 use Rattle.app_wire.specs.declared.head.Method.TheVariants.{Put}
 use Rattle.app_wire.specs.declared.route.Route.{Route}
 use Rattle.app_wire.specs.declared.route.Route.TheVariants.{Begin, End, View, Named as Shown, Items, Event, Input, Rows, Edit, Page, Plan, Graph}
-use Rattle.request_checks.specs.Directory.{find}
+use Rattle.numbered_requests.specs.Directory.{find}
 use Rattle.row_keeper.specs.Tables.{Tables, rows_told}
 use Rattle.row_requests.specs.Sound.{AreSound}
 use Rattle.session_requests.specs.Posting.{PostsEvent, PostsInput}

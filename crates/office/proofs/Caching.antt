@@ -4,9 +4,9 @@ use Rattle.std.specs.Prelude.{option_map, slice_get, slice_set}
 use Rattle.std.specs.List.{position}
 use Rattle.app_cells.specs.declared.app.App.{App}
 use Rattle.recalc.specs.Kept.{Kept}
-use Rattle.request_checks.specs.Directory.{is_named, put, put_at}
-use Rattle.request_checks.specs.declared.directory.Named.{Named}
-use Rattle.request_checks.proofs.Directories.{position_here, position_past}
+use Rattle.numbered_requests.specs.Directory.{is_named, put, put_at}
+use Rattle.numbered_requests.specs.declared.directory.Named.{Named}
+use Rattle.numbered_requests.proofs.Directories.{position_here, position_past}
 use Rattle.row_keeper.specs.Tables.{Tables}
 use Rattle.session_state.specs.Sessions.{SessionState}
 use Rattle.office.specs.Caches.{AreEach, AreKept, IsCacheOf}

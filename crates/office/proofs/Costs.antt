@@ -4,14 +4,14 @@ use Rattle.std.specs.Prelude.{IfOk, OnOk, slice_get, slice_set}
 use Rattle.std.specs.List.{position}
 use Rattle.std.proofs.lemmas.List.{length-set}
 use Rattle.app_cells.specs.declared.app.App.{App}
-use Rattle.app_views.specs.Galleries.{gallery_named}
+use Rattle.session_views.specs.Galleries.{gallery_named}
 use Rattle.app_wire.specs.Framing.{Asked}
 use Rattle.app_wire.specs.Routing.{Routing}
 use Rattle.app_wire.specs.declared.route.Route.{Route}
 use Rattle.app_wire.specs.declared.route.Route.TheVariants.{Begin, End, View, Named as Formulas, Items, Event, Input, Rows, Edit, Page, Plan, Graph}
 use Rattle.recalc.specs.Kept.{Kept}
-use Rattle.request_checks.specs.Directory.{find, is_named}
-use Rattle.request_checks.specs.declared.directory.Named.{Named}
+use Rattle.numbered_requests.specs.Directory.{find, is_named}
+use Rattle.numbered_requests.specs.declared.directory.Named.{Named}
 use Rattle.row_keeper.specs.Tables.{Tables}
 use Rattle.row_requests.specs.Page.{VisitsPage}
 use Rattle.session_state.specs.Sessions.{SessionState}

@@ -1,7 +1,7 @@
 -- What is left of a desk's edit.
 use Rattle.std.proofs.Common.{◌≡◌, ℕ, List, ◌∙◌}
-use Rattle.request_checks.specs.Directory.{put}
-use Rattle.request_checks.specs.declared.directory.Named.{Named}
+use Rattle.numbered_requests.specs.Directory.{put}
+use Rattle.numbered_requests.specs.declared.directory.Named.{Named}
 use Rattle.session_state.specs.Once.{Kept}
 use Rattle.office.specs.DeskEdits.{accepted_reply, answered}
 

@@ -2,18 +2,18 @@
 use Rattle.std.proofs.Common.{◌≡◌, ◌≢◌, ℕ, zero, suc, Bool, true, false, List, [], ◌∷◌, ◌++◌, Option, Some, None, refl, ap, sym, ◌∙◌, subst, arith}
 use Rattle.std.specs.Prelude.{option_map, slice_set}
 use Rattle.std.proofs.lemmas.Grind.{common_steps}
-use Rattle.request_checks.specs.Checked.{KeepsReply, SessionsKeepReplies}
-use Rattle.request_checks.specs.Directory.{find, is_named, put, put_at}
-use Rattle.request_checks.specs.declared.directory.Named.{Named}
-use Rattle.request_checks.proofs.Directories.{find_here, find_past, same_bytes}
+use Rattle.numbered_requests.specs.Checked.{KeepsReply, SessionsKeepReplies}
+use Rattle.numbered_requests.specs.Directory.{find, is_named, put, put_at}
+use Rattle.numbered_requests.specs.declared.directory.Named.{Named}
+use Rattle.numbered_requests.proofs.Directories.{find_here, find_past, same_bytes}
 use Rattle.std.specs.List.{AllByRecursion, position}
-use Rattle.fx_trees.specs.declared.names.Names.{Names}
+use Rattle.fx_core.specs.declared.names.Names.{Names}
 use Rattle.session_requests.specs.Scenes.{quiet, unasked}
 use Rattle.session_state.specs.Carrying.{carried}
 use Rattle.session_state.specs.Changes.{FitsNames}
 use Rattle.session_state.specs.Sessions.{SessionState}
 use Rattle.office.specs.DeskEdits.{all_carried}
-use Rattle.app_views.specs.Shows.{AreFit}
+use Rattle.session_views.specs.Shows.{AreFit}
 use Rattle.office.specs.Sessions.{without}
 
 pub without_here : (T : Type 0) (name : List ℕ) (n : Named T) (ns : List (Named T)) → is_named name n ≡ true → without name (n ∷ ns) ≡ without name ns

@@ -1,9 +1,9 @@
 -- An edited app takes the place of the one that was served.
 use Rattle.std.proofs.Common.{◌≡◌, ℕ, ◌<◌, Bool, List, [], ◌∷◌, length, map, Option, Some, refl, ap, sym, ◌∙◌, subst}
-use Rattle.fx_data.specs.declared.controls.Control.{Control}
-use Rattle.fx_trees.specs.declared.names.ControlName.{ControlName}
-use Rattle.fx_trees.specs.declared.names.Names.{Names}
-use Rattle.fx_trees.specs.declared.schema.Schema.{Schema}
+use Rattle.fx_types.specs.declared.controls.Control.{Control}
+use Rattle.fx_core.specs.declared.names.ControlName.{ControlName}
+use Rattle.fx_core.specs.declared.names.Names.{Names}
+use Rattle.fx_core.specs.declared.schema.Schema.{Schema}
 use Rattle.recalc.specs.Kept.{Kept as Values}
 use Rattle.row_keeper.specs.Tables.{Tables}
 use Rattle.row_requests.specs.Sound.{AreSound}
@@ -16,13 +16,13 @@ use Rattle.app_cells.specs.declared.app.App.{App}
 use Rattle.app_cells.specs.declared.frame.Frame.{Frame}
 use Rattle.app_loader.specs.Edits.{IsLoaded}
 use Rattle.app_loader.specs.app_edits.Frames.{frame_of, without_items}
-use Rattle.request_checks.specs.Checked.{SessionsKeepReplies}
-use Rattle.request_checks.specs.Replies.{KeepReplies}
-use Rattle.request_checks.specs.declared.directory.Named.{Named}
+use Rattle.numbered_requests.specs.Checked.{SessionsKeepReplies}
+use Rattle.numbered_requests.specs.Replies.{KeepReplies}
+use Rattle.numbered_requests.specs.declared.directory.Named.{Named}
 use Rattle.office.specs.Caches.{AreKept}
 use Rattle.office.specs.DeskEdits.{all_carried}
 use Rattle.office.specs.Editing.{KeepsApp}
-use Rattle.app_views.specs.Shows.{AreFit}
+use Rattle.session_views.specs.Shows.{AreFit}
 use Rattle.office.specs.Ready.{IsReady}
 use Rattle.office.specs.State.{schema_of}
 use Rattle.session_requests.specs.Opening.{CanOpen}

@@ -8,12 +8,12 @@ use Rattle.app_cells.specs.declared.app.App.{App}
 use Rattle.app_cells.specs.declared.frame.Frame.{Frame}
 use Rattle.app_loader.specs.app_edits.Frames.{frame_of}
 use Rattle.fx_scalar.specs.ScalarFunctions.{IsToday}
-use Rattle.fx_trees.specs.declared.names.Names.{Names}
+use Rattle.fx_core.specs.declared.names.Names.{Names}
 use Rattle.recalc.specs.Carrying.{IsCarried, IsEditOf}
 use Rattle.recalc.specs.Kept.{IsRoomFor, Kept, Room}
 use Rattle.recalc.specs.app_semantics.Present.{present}
 use Rattle.recalc.proofs.Touching.{room_carried, room_order, room_right}
-use Rattle.request_checks.specs.declared.directory.Named.{Named}
+use Rattle.numbered_requests.specs.declared.directory.Named.{Named}
 use Rattle.row_keeper.specs.Tables.{Tables}
 use Rattle.session_requests.proofs.WorldTelling.{holding}
 use Rattle.session_requests.specs.Caching.{IsCached}
@@ -26,7 +26,7 @@ use Rattle.office.proofs.Places.{one_at, set_same, there_too}
 use Rattle.office.proofs.Rounds.{IsSoFar}
 use Rattle.office.specs.Caches.{AreEach, AreInOrder, AreKept, HaveRoomFor, IsButRoom, IsCacheOf, WentOver}
 use Rattle.office.specs.DeskEdits.{all_carried, one_carried}
-use Rattle.app_views.specs.Shows.{AreFit}
+use Rattle.session_views.specs.Shows.{AreFit}
 
 -- an edited app has the same frame
 pub edit_of : (a b : App) → frame_of b ≡ frame_of a → IsEditOf a b

@@ -8,8 +8,8 @@ use Rattle.app_loader.specs.app_semantics.Holding.{FittingHolds, HoldsFitting}
 use Rattle.app_loader.specs.app_semantics.Laws.{OneFreshAt}
 use Rattle.app_loader.specs.app_semantics.Present.{present}
 use Rattle.app_loader.specs.app_semantics.Sound.{IsSound}
-use Rattle.app_views.specs.Laws.{OneItemsReply, OneViewReply}
-use Rattle.app_views.specs.Shows.{ShowsItemsTo, ShowsViewTo}
+use Rattle.session_views.specs.Laws.{OneItemsReply, OneViewReply}
+use Rattle.session_views.specs.Shows.{ShowsItemsTo, ShowsViewTo}
 use Rattle.app_wire.specs.Framing.{Asked}
 use Rattle.app_wire.specs.ReplyBytes.{reply}
 use Rattle.app_wire.specs.Routing.{IsOneRoute, Routing, method_of}
@@ -24,8 +24,8 @@ use Rattle.session_state.specs.Carrying.{carried}
 use Rattle.session_state.specs.Changes.{FitsNames}
 use Rattle.session_state.specs.Sessions.{SessionState}
 use Rattle.row_requests.specs.DeskRows.{desk_checks}
-use Rattle.request_checks.specs.Directory.{find}
-use Rattle.request_checks.specs.declared.directory.Named.{Named}
+use Rattle.numbered_requests.specs.Directory.{find}
+use Rattle.numbered_requests.specs.declared.directory.Named.{Named}
 use Rattle.office.specs.Answers.{Exchange, Plays}
 use Rattle.office.specs.DeskEdits.{PostsEdit, all_carried}
 use Rattle.office.specs.Editing.{IsEdit}
@@ -38,7 +38,7 @@ use Rattle.office.specs.State.{State, schema_of}
 use Rattle.office.specs.Step.{Answered, Does, DoesAt, Step, parts_of}
 use Rattle.office.proofs.Repeats.{carries_sessions, leaves_others as edits_leave}
 use Rattle.row_requests.proofs.Again.{posts_others}
-use Rattle.request_checks.proofs.Directories.{find_other}
+use Rattle.numbered_requests.proofs.Directories.{find_other}
 use Rattle.office.proofs.Directories.{find_carried, find_without, found_fits}
 use Rattle.office.proofs.Replies.{one_body}
 

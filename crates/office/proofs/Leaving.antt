@@ -10,9 +10,9 @@ use Rattle.app_wire.specs.ReplyBytes.{refusal, reply}
 use Rattle.app_wire.specs.Routing.{Routing}
 use Rattle.app_wire.specs.declared.route.Route.{Route}
 use Rattle.app_wire.specs.declared.route.Route.TheVariants.{Begin, End, View, Named as Formulas, Items, Event, Input, Rows, Edit, Page, Plan, Graph}
-use Rattle.fx_trees.specs.Reads.{IsAmong}
-use Rattle.fx_trees.specs.declared.sources.Source.{Source}
-use Rattle.fx_trees.specs.declared.sources.Source.TheVariants as source
+use Rattle.fx_core.specs.Reads.{IsAmong}
+use Rattle.fx_core.specs.declared.sources.Source.{Source}
+use Rattle.fx_core.specs.declared.sources.Source.TheVariants as source
 use Rattle.recalc.proofs.Leaving.{day_left, left_same, left_then, left_wider}
 use Rattle.recalc.specs.Changes.{IsLeftBut}
 use Rattle.fx_base.specs.Silence.{Goes, IsLost, Marks}
@@ -23,10 +23,10 @@ use Rattle.session_requests.specs.Writable.{AreAll}
 use Rattle.session_requests.specs.declared.event.Event.{Event as Asks}
 use Rattle.session_requests.specs.declared.input.Input.{Input as Gives}
 use Rattle.session_state.specs.Sessions.{SessionState}
-use Rattle.request_checks.proofs.Directories.{find_here, find_other, find_past, itself, position_here, position_past, same_bytes}
-use Rattle.request_checks.specs.Directory.{find, is_among, is_named, it_at, put}
-use Rattle.request_checks.specs.Checks.{checks, session_of}
-use Rattle.request_checks.specs.declared.directory.Named.{Named}
+use Rattle.numbered_requests.proofs.Directories.{find_here, find_other, find_past, itself, position_here, position_past, same_bytes}
+use Rattle.numbered_requests.specs.Directory.{find, is_among, is_named, it_at, put}
+use Rattle.numbered_requests.specs.Checks.{checks, session_of}
+use Rattle.numbered_requests.specs.declared.directory.Named.{Named}
 use Rattle.office.proofs.Directories.{find_without, without_here, without_past}
 use Rattle.office.proofs.Rounds.{no_table, one_table}
 use Rattle.office.proofs.Sent.{other_apart, other_itself}

@@ -7,9 +7,9 @@ use Rattle.app_cells.specs.declared.app.CellInfo.{CellInfo}
 use Rattle.app_loader.specs.app_semantics.Needed.{IsFreshAt, is_alone, stands_alone, stands_by}
 use Rattle.app_loader.specs.app_semantics.Present.{Present}
 use Rattle.app_loader.specs.app_semantics.Sound.{IsSound}
-use Rattle.app_views.proofs.Needing.{needed_clean}
-use Rattle.fx_data.specs.Values.{Data}
-use Rattle.fx_trees.specs.declared.names.FormulaName.{FormulaName}
+use Rattle.session_views.proofs.Needing.{needed_clean}
+use Rattle.fx_types.specs.Values.{Data}
+use Rattle.fx_core.specs.declared.names.FormulaName.{FormulaName}
 use Rattle.office.specs.NamedReply.{AreNamedFresh, AreNamedMade, named_cells}
 use Rattle.recalc.specs.Kept.{IsClean, IsInOrder, Kept}
 

@@ -3,8 +3,8 @@ use Rattle.std.proofs.Common.{◌≡◌, ◌⊎◌, inl, inr, ℕ, zero, suc, Li
 use Rattle.app_loader.specs.app_semantics.Fresh.{AreKnown}
 use Rattle.app_loader.specs.app_semantics.Holding.{HoldRows}
 use Rattle.app_loader.specs.app_semantics.Present.{present}
-use Rattle.app_views.specs.Galleries.{gallery_named}
-use Rattle.app_views.specs.Shows.{SaysItemsOf, ShowsItemsTo, ShowsViewTo}
+use Rattle.session_views.specs.Galleries.{gallery_named}
+use Rattle.session_views.specs.Shows.{SaysItemsOf, ShowsItemsTo, ShowsViewTo}
 use Rattle.fx_base.specs.Silence.{Goes, IsLost, Marks}
 use Rattle.fx_base.specs.Telling.{Stays}
 use Rattle.std.specs.List.{All}
@@ -18,8 +18,8 @@ use Rattle.app_cells.specs.declared.app.App.{App}
 use Rattle.app_loader.specs.Verdicts.{IsSameApp}
 use Rattle.office.specs.DeskEdits.{Parts}
 use Rattle.office.specs.DeskEditLaws.{AreRefused, IsOneOutcome as IsOneEditOutcome}
-use Rattle.fx_trees.specs.declared.schema.TableShape.{TableShape}
-use Rattle.fx_trees.specs.declared.schema.Schema.{Schema}
+use Rattle.fx_core.specs.declared.schema.TableShape.{TableShape}
+use Rattle.fx_core.specs.declared.schema.Schema.{Schema}
 use Rattle.row_keeper.specs.Tables.{AreStatesOf, TableState, Tables, rows_of, rows_told, state_at}
 use Rattle.row_queries.specs.TableRows.{IsRowOf, rows_at}
 use Rattle.row_queries.specs.declared.rows.Row.{Row}
@@ -31,8 +31,8 @@ use Rattle.row_requests.specs.DeskRows.{Acts, Outcome, PostsChecked, PostsRows, 
 use Rattle.row_requests.specs.Page.{ShowsPage, ShowsTable}
 use Rattle.row_requests.specs.declared.bodies.Change.{Change}
 use Rattle.row_requests.specs.declared.bodies.Posted.{Posted}
-use Rattle.request_checks.specs.Directory.{find, put}
-use Rattle.request_checks.specs.declared.directory.Named.{Named}
+use Rattle.numbered_requests.specs.Directory.{find, put}
+use Rattle.numbered_requests.specs.declared.directory.Named.{Named}
 use Rattle.row_requests.specs.Sound.{AreSound}
 use Rattle.row_requests.proofs.Soundness.{state_is}
 use Rattle.session_requests.specs.EventLaws.{OneOpening}

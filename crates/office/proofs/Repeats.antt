@@ -3,16 +3,16 @@ use Rattle.std.proofs.Common.{◌≡◌, ◌≢◌, ◌⊎◌, inl, inr, ℕ, Bo
 use Rattle.app_cells.specs.declared.app.App.{App}
 use Rattle.app_loader.specs.Edits.{IsOneEdit, IsOneEdited, IsOneEditRefusal, JudgedEdit}
 use Rattle.app_loader.specs.Verdicts.{IsSameApp}
-use Rattle.fx_trees.specs.declared.broken.Broken.{Broken}
-use Rattle.request_checks.specs.Bodies.{edit_in}
-use Rattle.request_checks.specs.Checks.{IsLastAsked, checks, desk_of, is_full, kept_of}
-use Rattle.request_checks.specs.Directory.{find}
-use Rattle.request_checks.specs.declared.directory.Named.{Named}
-use Rattle.request_checks.specs.declared.edit.Edit.{Edit}
-use Rattle.request_checks.proofs.Again.{comes_again}
-use Rattle.request_checks.proofs.Directories.{find_other, found_among}
+use Rattle.fx_core.specs.declared.broken.Broken.{Broken}
+use Rattle.numbered_requests.specs.Bodies.{edit_in}
+use Rattle.numbered_requests.specs.Checks.{IsLastAsked, checks, desk_of, is_full, kept_of}
+use Rattle.numbered_requests.specs.Directory.{find}
+use Rattle.numbered_requests.specs.declared.directory.Named.{Named}
+use Rattle.numbered_requests.specs.declared.edit.Edit.{Edit}
+use Rattle.numbered_requests.proofs.Again.{comes_again}
+use Rattle.numbered_requests.proofs.Directories.{find_other, found_among}
 use Rattle.session_state.specs.Once.{Kept, nobody}
-use Rattle.fx_trees.specs.declared.names.Names.{Names}
+use Rattle.fx_core.specs.declared.names.Names.{Names}
 use Rattle.office.specs.DeskEdits.{Ends, MakesEdit, Parts, PostsChecked, accepted_reply, all_carried, edit_checks, edited}
 use Rattle.office.specs.DeskEditLaws.{ActsOnce, AreRefused, CarriesSessions, IsOneOutcome, LeavesOthers}
 

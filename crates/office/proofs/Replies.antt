@@ -11,8 +11,8 @@ use Rattle.app_loader.specs.app_semantics.Holding.{HoldsFitting}
 use Rattle.app_loader.specs.app_semantics.Laws.{OneFreshAt}
 use Rattle.app_loader.specs.app_semantics.Present.{Present}
 use Rattle.app_loader.specs.app_semantics.Sound.{IsSound}
-use Rattle.fx_data.specs.Values.{Data}
-use Rattle.fx_trees.specs.declared.names.FormulaName.{FormulaName}
+use Rattle.fx_types.specs.Values.{Data}
+use Rattle.fx_core.specs.declared.names.FormulaName.{FormulaName}
 use Rattle.view_text.specs.JsonText.{tagged}
 use Rattle.view_text.specs.ReplyText.{named_data, named_text}
 use Rattle.view_text.specs.declared.replies.Named.{Named}

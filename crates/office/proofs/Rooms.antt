@@ -1,10 +1,10 @@
 -- Room beside sessions.
 use Rattle.std.proofs.Common.{◌≡◌, ℕ, zero, suc, List, [], ◌∷◌, ◌++◌, drop, map, get_or, set, take, refl, ap, sym, arith}
-use Rattle.fx_trees.specs.declared.names.Names.{Names}
+use Rattle.fx_core.specs.declared.names.Names.{Names}
 use Rattle.session_state.specs.Sessions.{HasRoom, Room, SessionState, room_with}
-use Rattle.request_checks.specs.declared.directory.Named.{Named}
+use Rattle.numbered_requests.specs.declared.directory.Named.{Named}
 use Rattle.office.specs.DeskEdits.{all_carried, one_carried}
-use Rattle.app_views.specs.Shows.{AreFit}
+use Rattle.session_views.specs.Shows.{AreFit}
 use Rattle.office.specs.Rooms.{HaveNoRoom, HaveRoom, with_room, without_room}
 
 -- there is none beside sessions that fit an app

@@ -6,16 +6,16 @@ use Rattle.std.proofs.lemmas.Grind.{common_steps}
 use Rattle.std.proofs.lemmas.List.{append-nil, length-append, length-set, take_more}
 use Rattle.std.proofs.lemmas.Option.{slice_get_within}
 use Rattle.app_cells.specs.declared.app.App.{App}
-use Rattle.fx_trees.specs.Reads.{IsAmong}
-use Rattle.fx_trees.specs.declared.sources.Source.{Source}
-use Rattle.fx_trees.specs.declared.sources.Source.TheVariants as source
+use Rattle.fx_core.specs.Reads.{IsAmong}
+use Rattle.fx_core.specs.declared.sources.Source.{Source}
+use Rattle.fx_core.specs.declared.sources.Source.TheVariants as source
 use Rattle.recalc.proofs.Leaving.{left_same, left_then, left_wider}
 use Rattle.recalc.specs.Changes.{IsLeftBut, IsTouched}
 use Rattle.recalc.specs.Kept.{HasRoom, IsClean, IsInOrder, IsRight, Kept}
 use Rattle.recalc.specs.Asking.{ToldRows}
 use Rattle.recalc.specs.app_cells.Reach.{Reaches, is_cell}
 use Rattle.recalc.specs.app_semantics.Present.{present}
-use Rattle.request_checks.specs.declared.directory.Named.{Named}
+use Rattle.numbered_requests.specs.declared.directory.Named.{Named}
 use Rattle.session_state.specs.Sessions.{SessionState}
 use Rattle.office.proofs.Places.{cases_of, one_at, set_here, set_same, set_there, some_at, there_too}
 use Rattle.office.specs.Caches.{AreEach, AreTouched, is_table, tables_in}

@@ -9,16 +9,16 @@ use Rattle.app_loader.specs.app_semantics.Sound.{IsSound}
 use Rattle.fx_base.specs.Silence.{Goes}
 use Rattle.fx_base.specs.Telling.{Stays}
 use Rattle.fx_scalar.specs.ScalarFunctions.{IsToday}
-use Rattle.fx_trees.specs.Reads.{IsAmong}
-use Rattle.fx_trees.specs.declared.names.Names.{Names}
-use Rattle.fx_trees.specs.declared.schema.TableShape.{TableShape}
-use Rattle.fx_trees.specs.declared.sources.Source.{Source}
-use Rattle.fx_trees.specs.declared.sources.Source.TheVariants as source
+use Rattle.fx_core.specs.Reads.{IsAmong}
+use Rattle.fx_core.specs.declared.names.Names.{Names}
+use Rattle.fx_core.specs.declared.schema.TableShape.{TableShape}
+use Rattle.fx_core.specs.declared.sources.Source.{Source}
+use Rattle.fx_core.specs.declared.sources.Source.TheVariants as source
 use Rattle.recalc.specs.Kept.{IsInOrder, IsSourceOf, Kept}
 use Rattle.recalc.specs.Outcomes.{IsRightOver}
-use Rattle.request_checks.proofs.Directories.{find_put, same_bytes}
-use Rattle.request_checks.specs.Directory.{find, is_named, it_at, put, put_at}
-use Rattle.request_checks.specs.declared.directory.Named.{Named}
+use Rattle.numbered_requests.proofs.Directories.{find_put, same_bytes}
+use Rattle.numbered_requests.specs.Directory.{find, is_named, it_at, put, put_at}
+use Rattle.numbered_requests.specs.declared.directory.Named.{Named}
 use Rattle.row_keeper.specs.Tables.{Tables}
 use Rattle.row_requests.specs.Changes.{place_of, table_of}
 use Rattle.row_requests.specs.Written.{AreTablesBut, tables_named}

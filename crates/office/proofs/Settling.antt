@@ -1,8 +1,8 @@
 -- Requests leave an office settled.
 use Rattle.std.proofs.Common.{◌≡◌, ◌⊎◌, ℕ, inl, inr, List, [], ◌∷◌, Option, Some, None, Result, Ok, Err, ap, sym, ◌∙◌, subst}
 use Rattle.fx_base.specs.Silence.{IsLost, Marks}
-use Rattle.fx_data.specs.Values.{Data}
-use Rattle.fx_trees.specs.declared.names.Names.{Names}
+use Rattle.fx_types.specs.Values.{Data}
+use Rattle.fx_core.specs.declared.names.Names.{Names}
 use Rattle.app_cells.specs.declared.app.App.{App}
 use Rattle.app_loader.specs.app_edits.Frames.{frame_of}
 use Rattle.app_loader.specs.app_semantics.Sound.{IsSound}
@@ -18,8 +18,8 @@ use Rattle.session_requests.specs.declared.trigger.Trigger.TheVariants.{OnSelect
 use Rattle.session_state.specs.Changes.{FitsNames}
 use Rattle.session_state.specs.Sessions.{SessionState}
 use Rattle.view_text.specs.declared.refused.Refusal.{Refusal}
-use Rattle.request_checks.specs.Checks.{checks, session_of}
-use Rattle.request_checks.specs.declared.directory.Named.{Named}
+use Rattle.numbered_requests.specs.Checks.{checks, session_of}
+use Rattle.numbered_requests.specs.declared.directory.Named.{Named}
 use Rattle.session_requests.specs.Bodies.{event_in, input_in}
 use Rattle.session_requests.specs.Acting.{EndsEvent, EndsInput, TakesEffect, answered, input_trigger, item_seen, with_input, with_target}
 use Rattle.session_requests.specs.Posting.{PostsEvent, PostsEventChecked, PostsInput, PostsInputChecked}
@@ -29,7 +29,7 @@ use Rattle.session_requests.specs.declared.input.Input.{Input as Given}
 use Rattle.session_requests.specs.declared.target.Target.{Target}
 use Rattle.office.specs.Answers.{Exchange, Plays}
 use Rattle.office.specs.Editing.{KeepsApp}
-use Rattle.app_views.specs.Shows.{AreFit}
+use Rattle.session_views.specs.Shows.{AreFit}
 use Rattle.office.specs.Ready.{IsSettled}
 use Rattle.office.specs.Sessions.{BeginsChecked, BeginsSession, begin_checks, without}
 use Rattle.office.specs.State.{State, started}

@@ -9,15 +9,15 @@ use Rattle.app_wire.specs.Framing.{Asked}
 use Rattle.app_wire.specs.ReplyBytes.{refusal}
 use Rattle.app_wire.specs.Routing.{Routing}
 use Rattle.app_wire.specs.declared.route.Route.{Route}
-use Rattle.app_views.specs.Shows.{ReachesItems, ReachesView}
+use Rattle.session_views.specs.Shows.{ReachesItems, ReachesView}
 use Rattle.app_wire.specs.declared.route.Route.TheVariants.{Event, Input, Items, Named, Page, View}
 use Rattle.app_wire.specs.declared.route.RouteEnd.TheVariants.{NoRoute, WrongMethod}
 use Rattle.app_cells.specs.declared.app.App.{App}
-use Rattle.fx_trees.specs.declared.schema.Schema.{Schema}
+use Rattle.fx_core.specs.declared.schema.Schema.{Schema}
 use Rattle.session_requests.specs.recalc.Asking.{HasRead, Keeping}
 use Rattle.recalc.proofs.Asked.{read_none}
-use Rattle.request_checks.specs.declared.directory.Named.{Named as Caller}
-use Rattle.request_checks.specs.declared.reply.Reply.{Reply}
+use Rattle.numbered_requests.specs.declared.directory.Named.{Named as Caller}
+use Rattle.numbered_requests.specs.declared.reply.Reply.{Reply}
 use Rattle.row_requests.specs.Page.{ReachesPage}
 use Rattle.row_requests.proofs.Soundness.{sound_stays}
 use Rattle.recalc.specs.Kept.{Kept as Values}

@@ -3,7 +3,7 @@ use Rattle.std.proofs.Common.{◌≡◌, ℕ, ◌/◌, List, Option, refl, ◌�
 use Rattle.app_cells.specs.declared.app.App.{App}
 use Rattle.app_loader.specs.app_semantics.Sound.{IsSound}
 use Rattle.recalc.specs.Kept.{Kept}
-use Rattle.request_checks.specs.declared.directory.Named.{Named}
+use Rattle.numbered_requests.specs.declared.directory.Named.{Named}
 use Rattle.row_keeper.specs.Tables.{Tables}
 use Rattle.session_state.specs.Sessions.{SessionState}
 use Rattle.office.specs.Caches.{AreEach, AreKept, IsCacheOf, IsTurned}

@@ -2,11 +2,11 @@
 use Rattle.std.specs.Prelude.{◌≡◌, ◌⊎◌, ◌+◌, ℕ, Bool, true, false, List, [], ◌∷◌, length, Option, Some, None, nat_eq, not, slice_get}
 use Rattle.std.specs.List.{filter}
 use Rattle.app_cells.specs.declared.app.App.{App}
-use Rattle.fx_data.specs.Values.{Data}
+use Rattle.fx_types.specs.Values.{Data}
 use Rattle.fx_scalar.specs.ScalarFunctions.{IsToday}
-use Rattle.fx_trees.specs.Reads.{IsAmong}
-use Rattle.fx_trees.specs.declared.sources.Source.{Source}
-use Rattle.fx_trees.specs.declared.sources.Source.TheVariants as source
+use Rattle.fx_core.specs.Reads.{IsAmong}
+use Rattle.fx_core.specs.declared.sources.Source.{Source}
+use Rattle.fx_core.specs.declared.sources.Source.TheVariants as source
 use Rattle.recalc.specs.Carrying.{IsCarried}
 use Rattle.recalc.specs.Changes.{IsLeftBut, IsTouched, on_day}
 use Rattle.recalc.specs.Kept.{HasRoom, IsClean, IsInOrder, IsRight, IsRoomFor, Kept}
@@ -14,7 +14,7 @@ use Rattle.recalc.specs.Outcomes.{IsEmpty}
 use Rattle.recalc.specs.Asking.{ToldRows}
 use Rattle.recalc.specs.app_cells.Reach.{Reaches}
 use Rattle.recalc.specs.app_semantics.Present.{present}
-use Rattle.request_checks.specs.declared.directory.Named.{Named}
+use Rattle.numbered_requests.specs.declared.directory.Named.{Named}
 use Rattle.row_keeper.specs.Tables.{Tables}
 use Rattle.session_requests.specs.Caching.{IsCached}
 use Rattle.session_state.specs.Sessions.{SessionState}

@@ -1,10 +1,10 @@
 -- What answering a request costs: steps of evaluation, and rows that the keeper visits.
 use Rattle.std.specs.Prelude.{◌≡◌, ◌⊎◌, ℕ, List, Option, Some, None, Ok}
 use Rattle.app_cells.specs.declared.app.App.{App}
-use Rattle.app_views.specs.Bounds.{AreMade}
-use Rattle.app_views.specs.Galleries.{gallery_named}
-use Rattle.app_views.specs.Looking.{is_on}
-use Rattle.app_views.specs.Shows.{CostsItems, CostsView, MakesItems, VisitsItems, VisitsView}
+use Rattle.session_views.specs.Bounds.{AreMade}
+use Rattle.session_views.specs.Galleries.{gallery_named}
+use Rattle.session_views.specs.Looking.{is_on}
+use Rattle.session_views.specs.Shows.{CostsItems, CostsView, MakesItems, VisitsItems, VisitsView}
 use Rattle.app_wire.specs.Framing.{Asked}
 use Rattle.app_wire.specs.ReplyBytes.{refusal}
 use Rattle.app_wire.specs.Routing.{Routing}
@@ -13,8 +13,8 @@ use Rattle.app_wire.specs.declared.route.Route.TheVariants.{Begin, End, View, Na
 use Rattle.recalc.specs.Kept.{HasRoom, Kept}
 use Rattle.recalc.specs.Steps.{Leaves, OncePerCell}
 use Rattle.recalc.specs.Visits.{VisitsPerCell, WhereTold}
-use Rattle.request_checks.specs.Directory.{find}
-use Rattle.request_checks.specs.declared.directory.Named.{Named}
+use Rattle.numbered_requests.specs.Directory.{find}
+use Rattle.numbered_requests.specs.declared.directory.Named.{Named}
 use Rattle.row_keeper.specs.Tables.{Tables}
 use Rattle.row_requests.specs.Page.{VisitsPage}
 use Rattle.session_state.specs.Sessions.{SessionState}

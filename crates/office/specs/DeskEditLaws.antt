@@ -1,12 +1,12 @@
 -- Edits that come again, beside other desks, and with what outcomes.
 use Rattle.std.specs.Prelude.{◌≡◌, ◌≢◌, ◌⊎◌, ℕ, List, Some}
 use Rattle.app_loader.specs.Verdicts.{AreSameBreaks, IsSameApp}
-use Rattle.fx_trees.specs.declared.broken.Broken.{Broken}
-use Rattle.request_checks.specs.Bodies.{edit_in}
-use Rattle.request_checks.specs.Checks.{IsLastAsked}
-use Rattle.request_checks.specs.Directory.{find}
-use Rattle.request_checks.specs.Replies.{refusal_reply}
-use Rattle.request_checks.specs.declared.edit.Edit.{Edit}
+use Rattle.fx_core.specs.declared.broken.Broken.{Broken}
+use Rattle.numbered_requests.specs.Bodies.{edit_in}
+use Rattle.numbered_requests.specs.Checks.{IsLastAsked}
+use Rattle.numbered_requests.specs.Directory.{find}
+use Rattle.numbered_requests.specs.Replies.{refusal_reply}
+use Rattle.numbered_requests.specs.declared.edit.Edit.{Edit}
 use Rattle.session_state.specs.Once.{Kept}
 use Rattle.office.specs.DeskEdits.{Parts, PostsEdit, all_carried, refusal_of}
 

@@ -5,16 +5,16 @@ use Rattle.serde_json.specs.Written.{compact_text}
 use Rattle.app_cells.specs.declared.app.App.{App}
 use Rattle.app_loader.specs.Edits.{JudgedEdit}
 use Rattle.app_wire.specs.ReplyBytes.{reply}
-use Rattle.fx_data.specs.Words.{scalars_of}
-use Rattle.fx_trees.specs.BrokenText.{line_of}
-use Rattle.fx_trees.specs.declared.broken.Broken.{Broken}
-use Rattle.fx_trees.specs.declared.names.Names.{Names}
-use Rattle.request_checks.specs.Bodies.{edit_in}
-use Rattle.request_checks.specs.Checks.{checks, desk_of}
-use Rattle.request_checks.specs.Directory.{put}
-use Rattle.request_checks.specs.Replies.{refusal_reply}
-use Rattle.request_checks.specs.declared.directory.Named.{Named}
-use Rattle.request_checks.specs.declared.edit.Edit.{Edit}
+use Rattle.fx_types.specs.Words.{scalars_of}
+use Rattle.fx_core.specs.BrokenText.{line_of}
+use Rattle.fx_core.specs.declared.broken.Broken.{Broken}
+use Rattle.fx_core.specs.declared.names.Names.{Names}
+use Rattle.numbered_requests.specs.Bodies.{edit_in}
+use Rattle.numbered_requests.specs.Checks.{checks, desk_of}
+use Rattle.numbered_requests.specs.Directory.{put}
+use Rattle.numbered_requests.specs.Replies.{refusal_reply}
+use Rattle.numbered_requests.specs.declared.directory.Named.{Named}
+use Rattle.numbered_requests.specs.declared.edit.Edit.{Edit}
 use Rattle.session_state.specs.Carrying.{carried}
 use Rattle.session_state.specs.Once.{Kept}
 use Rattle.session_state.specs.Sessions.{SessionState}

@@ -8,8 +8,8 @@ use Rattle.app_wire.specs.Framing.{Asked}
 use Rattle.app_wire.specs.Routing.{Routing}
 use Rattle.app_wire.specs.declared.route.Route.TheVariants.{Edit}
 use Rattle.office.specs.DeskEdits.{refusal_of}
-use Rattle.fx_trees.specs.declared.broken.Broken.{Broken}
-use Rattle.request_checks.specs.Replies.{refusal_reply}
+use Rattle.fx_core.specs.declared.broken.Broken.{Broken}
+use Rattle.numbered_requests.specs.Replies.{refusal_reply}
 use Rattle.session_state.specs.Changes.{HoldsTables}
 
 -- What an edit keeps: the app is sound, an empty table fits each of its collections, and it is the same beside its formulas.

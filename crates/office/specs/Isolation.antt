@@ -10,7 +10,7 @@ use Rattle.app_wire.specs.Routing.{Routing}
 use Rattle.app_wire.specs.declared.head.Method.TheVariants.{Get, Post, Put}
 use Rattle.app_wire.specs.declared.route.Route.{Route}
 use Rattle.app_wire.specs.declared.route.Route.TheVariants.{Begin, End, View, Named, Items, Event, Input, Rows, Edit}
-use Rattle.request_checks.specs.Directory.{find}
+use Rattle.numbered_requests.specs.Directory.{find}
 use Rattle.session_state.specs.Carrying.{carried}
 use Rattle.session_state.specs.Once.{Kept}
 use Rattle.session_state.specs.Sessions.{SessionState}

@@ -8,9 +8,9 @@ use Rattle.serde_json.specs.Written.{compact_text}
 use Rattle.app_cells.specs.declared.app.App.{App}
 use Rattle.app_loader.specs.app_semantics.Needed.{IsFreshAt, Needs, is_alone}
 use Rattle.app_loader.specs.app_semantics.Present.{Present}
-use Rattle.fx_data.specs.Values.{Data}
-use Rattle.fx_data.specs.ValueView.{view}
-use Rattle.fx_trees.specs.declared.names.FormulaName.{FormulaName}
+use Rattle.fx_types.specs.Values.{Data}
+use Rattle.fx_types.specs.ValueView.{view}
+use Rattle.fx_core.specs.declared.names.FormulaName.{FormulaName}
 use Rattle.recalc.specs.Kept.{IsClean, Kept}
 use Rattle.view_text.specs.JsonText.{tagged, value_data}
 use Rattle.view_text.specs.declared.replies.Named.{Named}

@@ -3,17 +3,17 @@ use Rattle.std.specs.Prelude.{◌≡◌, ℕ, Bool, false, List, Option, Some}
 use Rattle.app_cells.specs.declared.app.App.{App}
 use Rattle.app_loader.specs.Edits.{IsLoaded}
 use Rattle.app_loader.specs.app_semantics.Sound.{IsSound}
-use Rattle.app_views.specs.Shows.{AreFit}
-use Rattle.fx_trees.specs.declared.schema.Schema.{Schema}
+use Rattle.session_views.specs.Shows.{AreFit}
+use Rattle.fx_core.specs.declared.schema.Schema.{Schema}
 use Rattle.recalc.specs.Kept.{Kept as Values}
 use Rattle.row_keeper.specs.Tables.{Tables}
 use Rattle.session_requests.specs.Opening.{CanOpen}
 use Rattle.session_state.specs.Once.{Kept}
 use Rattle.session_state.specs.Sessions.{SessionState}
-use Rattle.request_checks.specs.Checked.{SessionsKeepReplies}
-use Rattle.request_checks.specs.Replies.{KeepReplies}
+use Rattle.numbered_requests.specs.Checked.{SessionsKeepReplies}
+use Rattle.numbered_requests.specs.Replies.{KeepReplies}
 use Rattle.row_requests.specs.Sound.{AreSound}
-use Rattle.request_checks.specs.declared.directory.Named.{Named}
+use Rattle.numbered_requests.specs.declared.directory.Named.{Named}
 use Rattle.office.specs.Caches.{AreKept}
 use Rattle.office.specs.State.{State, schema_of}
 

@@ -1,8 +1,8 @@
 -- Room beside sessions, while an app is edited.
 use Rattle.std.specs.Prelude.{◌≡◌, List, map}
 use Rattle.std.specs.List.{AllByRecursion}
-use Rattle.fx_trees.specs.declared.names.Names.{Names}
-use Rattle.request_checks.specs.declared.directory.Named.{Named}
+use Rattle.fx_core.specs.declared.names.Names.{Names}
+use Rattle.numbered_requests.specs.declared.directory.Named.{Named}
 use Rattle.session_state.specs.Sessions.{HasRoom, SessionState, no_room, room_with}
 
 -- with as much room as the names want

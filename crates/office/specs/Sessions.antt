@@ -6,15 +6,15 @@ use Rattle.app_loader.specs.app_semantics.Present.{present}
 use Rattle.app_wire.specs.ReplyBytes.{refusal, reply}
 use Rattle.fx_base.specs.Silence.{Goes}
 use Rattle.fx_base.specs.Telling.{Stays}
-use Rattle.fx_trees.specs.declared.sources.Source.{Source}
+use Rattle.fx_core.specs.declared.sources.Source.{Source}
 use Rattle.row_keeper.specs.Tables.{Tables, rows_told}
 use Rattle.session_requests.specs.Opening.{OpensNew}
 use Rattle.session_requests.specs.Running.{OpensWriting}
 use Rattle.session_requests.specs.Scenes.{scene}
 use Rattle.session_state.specs.Sessions.{SessionState, opened}
 use Rattle.view_text.specs.ReplyText.{ok_text}
-use Rattle.request_checks.specs.Directory.{find, is_among, is_named, put}
-use Rattle.request_checks.specs.declared.directory.Named.{Named}
+use Rattle.numbered_requests.specs.Directory.{find, is_among, is_named, put}
+use Rattle.numbered_requests.specs.declared.directory.Named.{Named}
 use Rattle.office.specs.NamedReply.{IsNamedBody}
 
 -- the most sessions that live at a time

@@ -1,13 +1,13 @@
 -- The office between two requests.
 use Rattle.std.specs.Prelude.{ℕ, List, [], Option}
 use Rattle.fx_base.specs.Silence.{Marks}
-use Rattle.fx_trees.specs.declared.schema.Schema.{Schema}
+use Rattle.fx_core.specs.declared.schema.Schema.{Schema}
 use Rattle.recalc.specs.Kept.{Kept as Values}
 use Rattle.row_keeper.specs.Tables.{Tables}
 use Rattle.session_state.specs.Once.{Kept}
 use Rattle.session_state.specs.Sessions.{SessionState}
 use Rattle.app_cells.specs.declared.app.App.{App}
-use Rattle.request_checks.specs.declared.directory.Named.{Named}
+use Rattle.numbered_requests.specs.declared.directory.Named.{Named}
 
 -- the tables of an app
 abbrev pub schema_of : App → Schema

@@ -4,9 +4,9 @@ use Rattle.fx_base.specs.Faults.{Rose}
 use Rattle.fx_base.specs.Silence.{Goes, IsLost, Marks}
 use Rattle.fx_base.specs.Telling.{Stays}
 use Rattle.app_loader.specs.Verdicts.{IsSameApp}
-use Rattle.app_graph.specs.Graph.{graph_text}
-use Rattle.app_graph.specs.Plans.{plan_text}
-use Rattle.app_views.specs.Shows.{ReachesItems, ReachesView, ShowsItems, ShowsView}
+use Rattle.app_reports.specs.Graph.{graph_text}
+use Rattle.app_reports.specs.Plans.{plan_text}
+use Rattle.session_views.specs.Shows.{ReachesItems, ReachesView, ShowsItems, ShowsView}
 use Rattle.row_keeper.specs.Tables.{Tables}
 use Rattle.app_wire.specs.Framing.{Asked}
 use Rattle.app_wire.specs.ReplyBytes.{refusal, reply}

@@ -1,14 +1,14 @@
 //! What is said of an edit, and what an accepted one leaves of its desk.
 ghost use Rattle.std.specs.Prelude.{◌≡◌, ◌<◌, IfOk, OnErr, vec_capacity, vec_len};
 ghost use Rattle.office.specs.DeskEdits as editing;
-ghost use Rattle.request_checks.specs.Directory.{put as put_into};
-ghost use Rattle.request_checks.specs.Replies.{IsReply, refusal_reply, said};
+ghost use Rattle.numbered_requests.specs.Directory.{put as put_into};
+ghost use Rattle.numbered_requests.specs.Replies.{IsReply, refusal_reply, said};
 ghost use Rattle.serde_json.specs.View.{view as json_view};
 
 use fx_base::{InOrder, Memory};
-use fx_data::Words;
-use fx_trees::{Broken, line};
-use request_checks::{Named, Reply, put};
+use fx_core::{Broken, line};
+use fx_types::Words;
+use numbered_requests::{Named, Reply, put};
 use serde_json::{Value as Json, json};
 use session_state::Desk;
 use std::alloc::Global;

@@ -4,8 +4,8 @@ ghost use Rattle.office.specs.DeskEdits.{all_carried};
 ghost use Rattle.office.specs.Rooms.{HaveNoRoom, HaveRoom, with_room, without_room};
 
 use fx_base::Memory;
-use fx_trees::Names;
-use request_checks::Named;
+use fx_core::Names;
+use numbered_requests::Named;
 use session_state::Session;
 
 /// Makes room beside each session for what the names want, as far as there is memory.

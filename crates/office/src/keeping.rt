@@ -2,22 +2,22 @@
 ghost use Rattle.std.specs.Prelude.{◌≡◌, ◌<◌, ℕ, IfOk, OnErr, length, slice_get, Some, vec_capacity};
 ghost use Rattle.std.specs.List.{AllByRecursion};
 ghost use Rattle.app_loader.specs.app_semantics.Sound.{IsSound};
-ghost use Rattle.fx_data.specs.ValueView.{view};
+ghost use Rattle.fx_types.specs.ValueView.{view};
 ghost use Rattle.fx_scalar.specs.ScalarFunctions.{IsToday};
-ghost use Rattle.fx_trees.specs.declared.sources.Source.TheVariants.{Today};
+ghost use Rattle.fx_core.specs.declared.sources.Source.TheVariants.{Today};
 ghost use Rattle.recalc.specs.Carrying.{AreOldCells, IsCarried, IsEditOf};
 ghost use Rattle.recalc.specs.Kept.{IsInOrder, Kept, place_of};
-ghost use Rattle.request_checks.specs.declared.directory.Named.{Named as Under};
+ghost use Rattle.numbered_requests.specs.declared.directory.Named.{Named as Under};
 ghost use Rattle.session_requests.specs.Caching.{AreSources};
 ghost use Rattle.office.specs.Caches.{AreEach, AreInOrder, AreTouched, HaveRoomFor, IsButRoom, IsNew, IsToldAside, IsTurned, is_other as is_other_of, is_table as is_table_of, tables_in};
 
 use app_cells::App;
 use fx_base::Memory;
-use fx_data::Value;
+use fx_core::Source;
 use fx_scalar::today;
-use fx_trees::Source;
+use fx_types::Value;
+use numbered_requests::Named;
 use recalc::Cache;
-use request_checks::Named;
 use std::alloc::Global;
 
 /// How many seconds a day has.

@@ -6,9 +6,9 @@ ghost use Rattle.office.specs.Step.{IsOneAnswer};
 
 use crate::app_semantics::{fitting_holds, one_fresh_at};
 use crate::desk_edit_laws::one_outcome as one_edit_outcome;
-use app_views::{one_items_reply, one_view_reply};
 use app_wire::route::one_route;
 use session_requests::{laws as requests, one_opening};
+use session_views::{one_items_reply, one_view_reply};
 
 /// A request has one answer where the tables are told: the state before it, its moment and its bytes determine the state
 /// after it and the reply, want of memory and faults of the keeper aside. An edit determines the app up to what has no

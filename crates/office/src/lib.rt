@@ -21,6 +21,6 @@ pub use app_loader::{load, load_named, loaded_app, one_app, one_verdict};
 pub use converse::{ConvEnd, MOST_REQUESTS};
 pub use machine::Office;
 pub use named::named_list;
+pub use numbered_requests::Reply;
 pub use recalc::Steps;
-pub use request_checks::Reply;
 pub use sessions::MOST_SESSIONS;

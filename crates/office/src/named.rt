@@ -75,7 +75,7 @@ fn named_roots(alloc: Global, app: &App) -> Result<Vec<u32>, Memory>
 }
 
 /// The named formulas of an app with their values over a session, of which some may be kept.
-#[tactic(auto, using(app_views::proofs::Needing::leaves_none, recalc::proofs::Leaving::left_same))]
+#[tactic(auto, using(session_views::proofs::Needing::leaves_none, recalc::proofs::Leaving::left_same))]
 fn kept_list<K: Keeper, L: Ledger>(
     alloc: Global,
     app: &App,
@@ -111,7 +111,7 @@ fn kept_list<K: Keeper, L: Ledger>(
 
 /// The body of the reply that shows each named formula with its value. What is kept is right afterwards, also where it stops; the
 /// cells that the named formulas need are then clean, and what was clean stays so. `Failed` only where the keeper counted a fault.
-#[tactic(auto, using(app_views::proofs::Needing::leaves_none, recalc::proofs::Leaving::left_same))]
+#[tactic(auto, using(session_views::proofs::Needing::leaves_none, recalc::proofs::Leaving::left_same))]
 pub(crate) fn named_body<K: Keeper, L: Ledger>(
     alloc: Global,
     app: &App,

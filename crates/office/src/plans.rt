@@ -1,14 +1,14 @@
 // Where formulas take rows of tables, and what they read, shown.
 ghost use Rattle.std.specs.Prelude.{◌≡◌, IfOk};
-ghost use Rattle.app_graph.specs.Graph.{graph_text};
-ghost use Rattle.app_graph.specs.Plans.{plan_text};
+ghost use Rattle.app_reports.specs.Graph.{graph_text};
+ghost use Rattle.app_reports.specs.Plans.{plan_text};
 ghost use Rattle.app_wire.specs.ReplyBytes.{reply};
-ghost use Rattle.request_checks.specs.Replies.{IsReply, said};
+ghost use Rattle.numbered_requests.specs.Replies.{IsReply, said};
 
 use app_cells::App;
-use app_graph::{graph_json, plan_json};
+use app_reports::{graph_json, plan_json};
 use fx_base::Memory;
-use request_checks::Reply;
+use numbered_requests::Reply;
 use std::alloc::Global;
 
 /// Shows each place where a formula of the app takes rows of a table. No keeper is called.

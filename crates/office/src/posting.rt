@@ -5,9 +5,9 @@ ghost use Rattle.app_loader.specs.Edits.{IsLoaded};
 ghost use Rattle.app_loader.specs.app_semantics.Sound.{IsSound};
 ghost use Rattle.office.specs.Caches.{AreEach, AreKept, WentOver};
 ghost use Rattle.office.specs.DeskEdits.{MakesEdit, PostsEdit, all_carried};
-ghost use Rattle.app_views.specs.Shows.{AreFit};
-ghost use Rattle.request_checks.specs.Checked.{SessionsKeepReplies};
-ghost use Rattle.request_checks.specs.Replies.{IsReply, KeepReplies, said};
+ghost use Rattle.session_views.specs.Shows.{AreFit};
+ghost use Rattle.numbered_requests.specs.Checked.{SessionsKeepReplies};
+ghost use Rattle.numbered_requests.specs.Replies.{IsReply, KeepReplies, said};
 ghost use Rattle.row_keeper.specs.Tables.{Tables};
 ghost use Rattle.session_state.specs.Changes.{HoldsTables};
 
@@ -17,10 +17,10 @@ use crate::keeping::{carry_all, make_rooms};
 use app_cells::App;
 use app_loader::edit;
 use fx_base::Memory;
-use fx_data::Words;
-use fx_trees::AppEnd;
+use fx_core::AppEnd;
+use fx_types::Words;
+use numbered_requests::{Checked, Edit, Named, Reply, check_desk};
 use recalc::{Cache, old_cells};
-use request_checks::{Checked, Edit, Named, Reply, check_desk};
 use session_state::{Desk, Session};
 use std::alloc::Global;
 

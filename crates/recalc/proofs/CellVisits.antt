@@ -3,13 +3,13 @@ use Rattle.std.proofs.Common.{◌≡◌, ◌∙◌, ◌+◌, ℕ, List, [], ◌�
 use Rattle.std.specs.Prelude.{OnOk, Result, Ok, Err, slice_get}
 use Rattle.fx_base.specs.Silence.{Goes, IsLost}
 use Rattle.fx_base.specs.Telling.{Stays}
-use Rattle.fx_data.specs.Values.{Data}
+use Rattle.fx_types.specs.Values.{Data}
 use Rattle.fx_env.specs.Scopes.{around}
 use Rattle.fx_eval.proofs.Widening.{visits_stay}
 use Rattle.fx_eval.specs.Visits.{AskedTables, AtMost, Visits}
 use Rattle.fx_plan.specs.Limited.{limited}
 use Rattle.fx_scalar.specs.ScalarFunctions.{IsToday}
-use Rattle.fx_trees.specs.Term.{Term}
+use Rattle.fx_core.specs.Term.{Term}
 use Rattle.recalc.proofs.Asked.{heard_before}
 use Rattle.recalc.proofs.Freshening.{aside_fresh, clean_fresh}
 use Rattle.recalc.proofs.Tellings.{over_gives, outermost}

@@ -4,7 +4,7 @@ use Rattle.std.specs.Prelude.{slice_get, slice_index_or}
 use Rattle.std.specs.List.{Contains}
 use Rattle.std.proofs.lemmas.Bool.{cases_Bool, cases_eq, eqb-true}
 use Rattle.std.proofs.lemmas.List.{get_or-set_other, get_or-set_same, get_or_past}
-use Rattle.fx_trees.specs.declared.sources.Source.{Source}
+use Rattle.fx_core.specs.declared.sources.Source.{Source}
 use Rattle.recalc.specs.Asking.{ToldRows}
 use Rattle.recalc.specs.Changes.{IsCellTouched, ReachesCell, itself, through}
 use Rattle.recalc.specs.Clearing.{AreCleared, AreUnmarked, IsMarkedIf, IsToMark, greatest, is_mark, is_marked, marked, unmarked}

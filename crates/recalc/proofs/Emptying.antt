@@ -2,12 +2,12 @@
 use Rattle.std.proofs.Common.{◌≡◌, ℕ, zero, suc, ◌+◌, ◌<◌, ◌≤◌, List, [], ◌∷◌, length, true, get_or, map, replicate, set, Option, Some, None, refl, sym, subst, ap, ◌∙◌, arith, inl, inr}
 use Rattle.std.proofs.lemmas.Bool.{cases_eq}
 use Rattle.std.proofs.lemmas.List.{get_or-set_other, length-replicate, map-set}
-use Rattle.fx_data.specs.TypeView.{shape}
-use Rattle.fx_data.specs.ValueView.{view}
-use Rattle.fx_data.specs.Values.{Data, blank}
-use Rattle.fx_data.specs.declared.values.Value.{Value}
-use Rattle.fx_data.specs.declared.values.Value.TheVariants.{Blank}
-use Rattle.fx_trees.specs.declared.sources.Source.{Source}
+use Rattle.fx_types.specs.TypeView.{shape}
+use Rattle.fx_types.specs.ValueView.{view}
+use Rattle.fx_types.specs.Values.{Data, blank}
+use Rattle.fx_types.specs.declared.values.Value.{Value}
+use Rattle.fx_types.specs.declared.values.Value.TheVariants.{Blank}
+use Rattle.fx_core.specs.declared.sources.Source.{Source}
 use Rattle.fx_value.specs.Fits.{fits_in}
 use Rattle.recalc.specs.Reading.{cell_value}
 use Rattle.recalc.specs.app_cells.declared.app.App.{App}

@@ -4,12 +4,12 @@ use Rattle.std.specs.Prelude.{◌≤◌, option_map}
 use Rattle.app_semantics.specs.Telling.{told_on}
 use Rattle.fx_base.specs.Silence.{Goes, IsLater, IsLost, Marks}
 use Rattle.fx_base.specs.Telling.{Stays}
-use Rattle.fx_data.specs.Values.{Data}
+use Rattle.fx_types.specs.Values.{Data}
 use Rattle.fx_env.specs.Scopes.{Fixed}
 use Rattle.fx_env.specs.Telling.{Told, values_told}
-use Rattle.fx_trees.specs.declared.names.Names.{Names}
-use Rattle.fx_trees.specs.declared.schema.Schema.{Schema}
-use Rattle.fx_trees.specs.declared.sources.Source.{Source}
+use Rattle.fx_core.specs.declared.names.Names.{Names}
+use Rattle.fx_core.specs.declared.schema.Schema.{Schema}
+use Rattle.fx_core.specs.declared.sources.Source.{Source}
 use Rattle.recalc.specs.Asking.{HasRead, keeping}
 use Rattle.recalc.specs.Reading.{Kept, cell_value, fixed_over, loans_of, told_by, told_over}
 use Rattle.row_keeper.specs.Tables.{Tables, rows_told}

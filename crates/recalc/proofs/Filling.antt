@@ -4,11 +4,11 @@ use Rattle.std.proofs.lemmas.Bool.{cases_eq}
 use Rattle.std.proofs.lemmas.List.{get_or-set_other, get_or-set_same, length-set}
 use Rattle.std.specs.Prelude.{option_map, slice_get, slice_index}
 use Rattle.std.proofs.lemmas.Option.{slice_get_within}
-use Rattle.fx_data.specs.TypeView.{shape}
-use Rattle.fx_data.specs.Types.{Shape}
-use Rattle.fx_data.specs.Values.{Data, blank}
-use Rattle.fx_trees.specs.declared.names.Collection.{Collection}
-use Rattle.fx_trees.specs.declared.sources.Source.TheVariants as source
+use Rattle.fx_types.specs.TypeView.{shape}
+use Rattle.fx_types.specs.Types.{Shape}
+use Rattle.fx_types.specs.Values.{Data, blank}
+use Rattle.fx_core.specs.declared.names.Collection.{Collection}
+use Rattle.fx_core.specs.declared.sources.Source.TheVariants as source
 use Rattle.fx_value.specs.Fits.{fits_in}
 use Rattle.recalc.specs.app_cells.declared.app.App.{App}
 use Rattle.recalc.specs.app_cells.declared.app.CellInfo.{CellInfo}

@@ -14,18 +14,18 @@ use Rattle.app_semantics.specs.Telling.{told_on}
 use Rattle.app_semantics.specs.app_cells.Leaning.{cell_of_property}
 use Rattle.app_semantics.specs.app_cells.declared.app.App.{App}
 use Rattle.app_semantics.specs.app_cells.declared.app.CellInfo.{CellInfo}
-use Rattle.fx_data.specs.TypeView.{shape}
-use Rattle.fx_data.specs.Types.{Shape, booleans}
-use Rattle.fx_data.specs.Values.{Data}
-use Rattle.fx_data.specs.declared.controls.Control.{Control}
-use Rattle.fx_data.specs.declared.controls.Control.TheVariants as control
+use Rattle.fx_types.specs.TypeView.{shape}
+use Rattle.fx_types.specs.Types.{Shape, booleans}
+use Rattle.fx_types.specs.Values.{Data}
+use Rattle.fx_types.specs.declared.controls.Control.{Control}
+use Rattle.fx_types.specs.declared.controls.Control.TheVariants as control
 use Rattle.fx_semantics.proofs.Wider.{stays}
 use Rattle.fx_semantics.specs.Sound.{IsItemFit}
 use Rattle.fx_semantics.specs.Sources.{Gives as GivesTold}
 use Rattle.fx_semantics.specs.Unique.{OneValue}
-use Rattle.fx_trees.specs.SourceTypes.{sources}
-use Rattle.fx_trees.specs.declared.names.Names.{Names}
-use Rattle.fx_trees.specs.declared.sources.Source.{Source}
+use Rattle.fx_core.specs.SourceTypes.{sources}
+use Rattle.fx_core.specs.declared.names.Names.{Names}
+use Rattle.fx_core.specs.declared.sources.Source.{Source}
 use Rattle.fx_typing.specs.Typing.{item_of}
 use Rattle.recalc.specs.Templates.{IsTemplateProperty, StandsIn}
 use Rattle.recalc.specs.Values.{CellsFit}

@@ -1,13 +1,13 @@
 -- Derived comparisons of enums of which some variants have fields.
 use Rattle.std.proofs.Common.{◌≡◌, List, [], ◌∷◌, Bool, true, false, refl, sym, ap, ◌∙◌, inl, inr}
-use Rattle.fx_data.specs.contracts.formats.DateFormat.{the_type as date_format}
-use Rattle.fx_data.specs.contracts.formats.NumberFormat.{the_type as number_format}
-use Rattle.fx_data.specs.contracts.formats.TimeUnit.{the_type as time_unit}
-use Rattle.fx_trees.specs.contracts.functions.Fun.{enum, the_parts}
-use Rattle.fx_trees.specs.contracts.functions.FunEq.TheImpl.Laws as fun_laws
-use Rattle.fx_trees.specs.contracts.functions.FunPartialEq.TheImpl as of_fun
-use Rattle.fx_trees.specs.contracts.literals.SortOrder.{the_type as sort_order}
-use Rattle.fx_trees.specs.declared.functions.Fun.{Fun}
+use Rattle.fx_types.specs.contracts.formats.DateFormat.{the_type as date_format}
+use Rattle.fx_types.specs.contracts.formats.NumberFormat.{the_type as number_format}
+use Rattle.fx_types.specs.contracts.formats.TimeUnit.{the_type as time_unit}
+use Rattle.fx_core.specs.contracts.functions.Fun.{enum, the_parts}
+use Rattle.fx_core.specs.contracts.functions.FunEq.TheImpl.Laws as fun_laws
+use Rattle.fx_core.specs.contracts.functions.FunPartialEq.TheImpl as of_fun
+use Rattle.fx_core.specs.contracts.literals.SortOrder.{the_type as sort_order}
+use Rattle.fx_core.specs.declared.functions.Fun.{Fun}
 use denote.Enum.Bare.{sameb, same_true}
 use denote.Enum.Compared.{Each, by}
 use denote.Enum.Declared.{Choice}

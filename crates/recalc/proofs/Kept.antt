@@ -17,17 +17,17 @@ use Rattle.app_semantics.specs.Fresh.{CanRead, IsByItself, IsCellValue, IsFresh,
 use Rattle.app_semantics.specs.Needed.{stands_alone, stands_by}
 use Rattle.app_semantics.specs.Present.{Gives, Present, present}
 use Rattle.app_semantics.specs.Sound.{IsSound}
-use Rattle.fx_data.specs.TypeView.{shape}
-use Rattle.fx_data.specs.ValueView.{view}
-use Rattle.fx_data.specs.Values.{Data, blank}
-use Rattle.fx_data.specs.declared.values.Value.{Value}
+use Rattle.fx_types.specs.TypeView.{shape}
+use Rattle.fx_types.specs.ValueView.{view}
+use Rattle.fx_types.specs.Values.{Data, blank}
+use Rattle.fx_types.specs.declared.values.Value.{Value}
 use Rattle.fx_semantics.proofs.Wider.{stays}
 use Rattle.fx_scalar.specs.ScalarFunctions.{IsToday}
 use Rattle.fx_env.specs.Telling.{IsHeard}
 use Rattle.fx_eval.specs.fx_plan.Limited.{limited}
 use Rattle.recalc.specs.Asking.{ToldRows}
-use Rattle.fx_trees.specs.declared.sources.Source.TheVariants as source
-use Rattle.fx_trees.specs.declared.sources.Source.{Source}
+use Rattle.fx_core.specs.declared.sources.Source.TheVariants as source
+use Rattle.fx_core.specs.declared.sources.Source.{Source}
 use Rattle.fx_value.specs.Fits.{fits_in}
 use Rattle.recalc.specs.Reading.{cell_value}
 use Rattle.recalc.specs.Values.{CellsFit}

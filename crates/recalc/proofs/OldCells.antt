@@ -1,15 +1,15 @@
 -- The values of formulas that an edit left.
 use Rattle.std.proofs.Common.{◌≡◌, ℕ, ◌<◌, List, [], ◌∷◌, ◌++◌, length, Bool, true, false, Option, Some, None, refl, sym, subst, ap, inl, inr}
 use Rattle.std.specs.Prelude.{not}
-use Rattle.fx_data.specs.TypeView.{shape}
-use Rattle.fx_data.specs.Values.{Data}
+use Rattle.fx_types.specs.TypeView.{shape}
+use Rattle.fx_types.specs.Values.{Data}
 use Rattle.fx_plan.specs.Limited.{limited}
 use Rattle.fx_semantics.specs.Fresh.{meaning}
-use Rattle.fx_trees.specs.Reads.{IsAmong, read_by, sources_among, sources_in}
-use Rattle.fx_trees.specs.Term.{Term, Terms, Top, cons, nil, of}
-use Rattle.fx_trees.specs.Term as top
-use Rattle.fx_trees.specs.declared.sources.Source.{Source}
-use Rattle.fx_trees.specs.declared.sources.Source.TheVariants as source
+use Rattle.fx_core.specs.Reads.{IsAmong, read_by, sources_among, sources_in}
+use Rattle.fx_core.specs.Term.{Term, Terms, Top, cons, nil, of}
+use Rattle.fx_core.specs.Term as top
+use Rattle.fx_core.specs.declared.sources.Source.{Source}
+use Rattle.fx_core.specs.declared.sources.Source.TheVariants as source
 use Rattle.fx_value.specs.Fits.{fits_in}
 use Rattle.recalc.proofs.Kept.{own_value}
 use Rattle.recalc.proofs.of_app_semantics.Taken.{limited_reads}

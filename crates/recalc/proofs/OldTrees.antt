@@ -1,23 +1,23 @@
 -- A value of a tree is one of the old tree, where what it reads gives no less than what was read there.
 use Rattle.std.proofs.Common.{◌≡◌, ℕ, List, [], ◌∷◌, true, false, Option, refl, sym, subst, ap}
-use Rattle.fx_data.specs.Values.{Data, blank, number, text, boolean, date, rec, tab, fault}
+use Rattle.fx_types.specs.Values.{Data, blank, number, text, boolean, date, rec, tab, fault}
 use Rattle.fx_semantics.specs.Around.{Around, Meaning, AreValues, AreEach, catching, inside, record_of}
 use Rattle.fx_semantics.specs.Forms.{IsAll, IsAny, IsIf, IsMatched, IsSwitch, IsRecovered, IsCaughtBy, IsCoalesced, IsFormed}
 use Rattle.fx_semantics.specs.Fresh.{IsCalled, IsNode, IsWithin, OfAll, OfOne, meaning, meanings}
 use Rattle.fx_semantics.specs.Rows.{AreNames, AreNew, ArePairs, IsConcat, IsLookedUp, IsMade, IsNamed, IsOfFound, IsOver, IsTaken, IsVerdict, OfEach, OfVerdicts, rows_in}
 use Rattle.fx_semantics.proofs.Wider.{by_decision, error_or, giving, passed_or}
-use Rattle.fx_trees.specs.declared.functions.Form.{Form}
-use Rattle.fx_trees.specs.declared.functions.Form.TheVariants as form
-use Rattle.fx_trees.specs.declared.functions.Fun.{Fun}
-use Rattle.fx_trees.specs.declared.functions.Fun.TheVariants as fun
-use Rattle.fx_trees.specs.declared.sources.Source.{Source}
+use Rattle.fx_core.specs.declared.functions.Form.{Form}
+use Rattle.fx_core.specs.declared.functions.Form.TheVariants as form
+use Rattle.fx_core.specs.declared.functions.Fun.{Fun}
+use Rattle.fx_core.specs.declared.functions.Fun.TheVariants as fun
+use Rattle.fx_core.specs.declared.sources.Source.{Source}
 use Rattle.fx_tables.specs.Ends.{first_rows, last_rows}
 use Rattle.fx_tables.specs.RowCalls.{looked_up}
 use Rattle.fx_scalar.specs.LazyForms.{decision_of, equality}
 use Rattle.fx_scalar.specs.ScalarFunctions.{is_blank}
 use Rattle.fx_value.specs.Columns.{Row}
-use Rattle.fx_trees.specs.Term.{Term, Terms, of, nil, cons, Top}
-use Rattle.fx_trees.specs.Term as top
+use Rattle.fx_core.specs.Term.{Term, Terms, of, nil, cons, Top}
+use Rattle.fx_core.specs.Term as top
 use Rattle.recalc.specs.Carrying.{AreOldTrees, IsOldTop, IsOldTree}
 
 abbrev Giving : Type 1

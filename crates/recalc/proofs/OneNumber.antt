@@ -7,7 +7,7 @@ use Rattle.app_semantics.proofs.Freshness.{AllFit, given_in, given_told, got, re
 use Rattle.app_semantics.proofs.Given.{told_agrees}
 use Rattle.app_semantics.proofs.Ordered.{by_order, leaning_edge}
 use Rattle.app_semantics.specs.Telling.{told_on}
-use Rattle.fx_data.specs.Values.{Data}
+use Rattle.fx_types.specs.Values.{Data}
 use Rattle.fx_eval.proofs.Single.{one_visits}
 use Rattle.fx_eval.proofs.Widening.{visits_stay}
 use Rattle.fx_eval.specs.Laws.{AreHeld}
@@ -15,9 +15,9 @@ use Rattle.fx_eval.specs.Visits.{AskedTables, Visits}
 use Rattle.fx_plan.specs.Limited.{limited}
 use Rattle.fx_semantics.specs.Sources.{Gives as GivesTold}
 use Rattle.fx_semantics.specs.Unique.{OneValue}
-use Rattle.fx_trees.specs.SourceTypes.{sources}
-use Rattle.fx_trees.specs.Term.{Term}
-use Rattle.fx_trees.specs.declared.sources.Source.{Source}
+use Rattle.fx_core.specs.SourceTypes.{sources}
+use Rattle.fx_core.specs.Term.{Term}
+use Rattle.fx_core.specs.declared.sources.Source.{Source}
 use Rattle.recalc.proofs.Tellings.{outermost}
 use Rattle.recalc.specs.ItemVisits.{OneItemVisits}
 use Rattle.recalc.specs.Visits.{FormulaVisits, OneCellVisits}

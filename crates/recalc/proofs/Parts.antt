@@ -3,9 +3,9 @@ use Rattle.std.proofs.Common.{◌≡◌, ℕ, zero, suc, ◌+◌, ◌<◌, ◌�
 use Rattle.std.proofs.lemmas.Bool.{cases_lt}
 use Rattle.std.specs.Borrow.{Bor}
 use Rattle.std.specs.Prelude.{MatchOption, slice_get}
-use Rattle.fx_trees.specs.Term.{Term, Terms, all, cons, names_of, nil, of, term_size, terms_size}
-use Rattle.fx_trees.specs.Term as term
-use Rattle.fx_trees.specs.declared.sources.Source.{Source}
+use Rattle.fx_core.specs.Term.{Term, Terms, all, cons, names_of, nil, of, term_size, terms_size}
+use Rattle.fx_core.specs.Term as term
+use Rattle.fx_core.specs.declared.sources.Source.{Source}
 use Rattle.recalc.specs.Carrying.{AreOldTrees, IsOldPart, IsOldTop, IsOldTree, IsPast, part_at, parts_of, top_of}
 
 abbrev Was : Type 1

@@ -2,8 +2,8 @@
 use Rattle.std.proofs.Common.{◌≡◌, ◌≢◌, ℕ, ◌+◌, ◌<◌, ◌≤◌, List, ◌∷◌, length, length-set, get_or, set, false, sym, subst, ap, ◌∙◌, arith, inl, inr}
 use Rattle.std.proofs.lemmas.Bool.{cases_eq}
 use Rattle.std.proofs.lemmas.List.{get_or-set_other, get_or-set_same}
-use Rattle.fx_trees.specs.Reads.{IsAmong}
-use Rattle.fx_trees.specs.declared.sources.Source.{Source}
+use Rattle.fx_core.specs.Reads.{IsAmong}
+use Rattle.fx_core.specs.declared.sources.Source.{Source}
 use Rattle.recalc.specs.Asking.{ToldRows}
 use Rattle.recalc.specs.app_cells.Reach.{Reaches, is_cell, through}
 use Rattle.recalc.specs.app_cells.declared.app.App.{App}

@@ -6,18 +6,18 @@ use Rattle.std.proofs.lemmas.List.Elements.{recursion_from_All}
 use Rattle.app_semantics.proofs.Freshness.{IsNoTable}
 use Rattle.app_semantics.specs.Holding.{HoldsFitting}
 use Rattle.app_semantics.specs.Telling.{table_told, told_on}
-use Rattle.fx_data.specs.Types.{Shape, tables}
-use Rattle.fx_data.specs.Values.{Data}
+use Rattle.fx_types.specs.Types.{Shape, tables}
+use Rattle.fx_types.specs.Values.{Data}
 use Rattle.fx_eval.proofs.of_fx_plan.Placing.{lawful_at}
 use Rattle.fx_env.specs.Queries.{AreValuesOf, KeepsTables}
 use Rattle.fx_env.specs.Telling.{Told, tables_told, values_told}
 use Rattle.fx_semantics.specs.Sources.{FitsIn, Gives, IsTold}
-use Rattle.fx_trees.specs.Lawful.{IsLawfulSchema, IsLawfulTable}
-use Rattle.fx_trees.specs.SourceTypes.{columns_of}
-use Rattle.fx_trees.specs.declared.names.Names.{Names}
-use Rattle.fx_trees.specs.declared.schema.TableShape.{TableShape}
-use Rattle.fx_trees.specs.declared.sources.Source.TheVariants as source
-use Rattle.fx_trees.specs.declared.sources.Source.{Source}
+use Rattle.fx_core.specs.Lawful.{IsLawfulSchema, IsLawfulTable}
+use Rattle.fx_core.specs.SourceTypes.{columns_of}
+use Rattle.fx_core.specs.declared.names.Names.{Names}
+use Rattle.fx_core.specs.declared.schema.TableShape.{TableShape}
+use Rattle.fx_core.specs.declared.sources.Source.TheVariants as source
+use Rattle.fx_core.specs.declared.sources.Source.{Source}
 use Rattle.fx_value.specs.Fits.{fits_in}
 use Rattle.recalc.proofs.Tellings.{is_held, typed_fits}
 use Rattle.recalc.specs.Queries.{IsTableValue}

@@ -1,7 +1,7 @@
 -- The chosen row of a table.
 use Rattle.std.proofs.Common.{◌≡◌, ℕ, List, Option, ap, ◌∙◌}
 use Rattle.app_semantics.specs.Chosen.{chosen_of, chosen_row, row_or_blank}
-use Rattle.fx_data.specs.Values.{Data, row_list, tab}
+use Rattle.fx_types.specs.Values.{Data, row_list, tab}
 use Rattle.fx_semantics.proofs.RowsBack.{rows_back}
 
 -- a row of a table

@@ -5,8 +5,8 @@ use Rattle.std.proofs.lemmas.List.{get_or-set_other, get_or-set_same}
 use Rattle.std.proofs.lemmas.Option.{slice_get_within}
 use Rattle.std.specs.List.{slice_get}
 use Rattle.std.specs.Prelude.{slice_index_or}
-use Rattle.fx_data.specs.TypeView.{shape}
-use Rattle.fx_data.specs.Values.{Data, blank}
+use Rattle.fx_types.specs.TypeView.{shape}
+use Rattle.fx_types.specs.Values.{Data, blank}
 use Rattle.fx_value.specs.Fits.{fits_in}
 use Rattle.recalc.proofs.Asked.{heard_before}
 use Rattle.recalc.specs.Asking.{HasRead, IsHeardOf, Keeping, ToldRows}

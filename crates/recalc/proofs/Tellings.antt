@@ -15,9 +15,9 @@ use Rattle.app_semantics.specs.Holding.{HoldRows, HoldsFitting}
 use Rattle.app_semantics.specs.Present.{Gives, IsTable, Present, present}
 use Rattle.app_semantics.specs.Sound.{IsCalm, IsSound, IsSoundCell, context_at}
 use Rattle.app_semantics.specs.Telling.{table_told, told_on}
-use Rattle.fx_data.specs.TypeView.{shape}
-use Rattle.fx_data.specs.Types.{Shape, tables}
-use Rattle.fx_data.specs.Values.{Data}
+use Rattle.fx_types.specs.TypeView.{shape}
+use Rattle.fx_types.specs.Types.{Shape, tables}
+use Rattle.fx_types.specs.Values.{Data}
 use Rattle.fx_semantics.proofs.Wider.{stays}
 use Rattle.fx_env.specs.Scopes.{Held, IsReady, around, fitted}
 use Rattle.fx_env.specs.Telling.{IsHeard}
@@ -26,17 +26,17 @@ use Rattle.fx_semantics.proofs.Lawful.{typings_lawful}
 use Rattle.fx_semantics.specs.Fresh.{IsValue}
 use Rattle.fx_semantics.specs.Sound.{IsItemFit, IsLawfulContext, IsLawfulTyping}
 use Rattle.fx_semantics.specs.Sources.{FitsIn, Gives as GivesTold}
-use Rattle.fx_trees.specs.Reads.{IsAmong, number_of, rank_of}
-use Rattle.fx_trees.specs.SourceTypes.{columns_of, sources}
-use Rattle.fx_trees.specs.Term.{Term}
-use Rattle.fx_trees.specs.declared.schema.TableShape.{TableShape}
-use Rattle.fx_trees.specs.declared.names.Names.{Names}
-use Rattle.fx_trees.specs.declared.sources.Source.TheVariants as source
-use Rattle.fx_trees.specs.declared.sources.Source.{Source}
+use Rattle.fx_core.specs.Reads.{IsAmong, number_of, rank_of}
+use Rattle.fx_core.specs.SourceTypes.{columns_of, sources}
+use Rattle.fx_core.specs.Term.{Term}
+use Rattle.fx_core.specs.declared.schema.TableShape.{TableShape}
+use Rattle.fx_core.specs.declared.names.Names.{Names}
+use Rattle.fx_core.specs.declared.sources.Source.TheVariants as source
+use Rattle.fx_core.specs.declared.sources.Source.{Source}
 use Rattle.fx_typing.specs.Typing.{item_of}
 use Rattle.fx_typing.specs.WellTyped.{Context, IsTyped}
 use Rattle.fx_value.specs.Fits.{fits_in}
-use Rattle.fx_trees.proofs.Ordered.{source_is}
+use Rattle.fx_core.proofs.Ordered.{source_is}
 use Rattle.fx_eval.proofs.of_fx_plan.Retyped.{types_limited}
 use Rattle.fx_eval.specs.fx_plan.Constants.{ReadsTables}
 use Rattle.fx_eval.specs.fx_plan.Limited.{IsTakenValue, limited}

@@ -9,10 +9,10 @@ use Rattle.fx_value.specs.Keys.{key_bytes}
 use Rattle.fx_eval.proofs.of_fx_plan.Arranged.{by_number}
 use Rattle.fx_base.specs.Silence.{Goes}
 use Rattle.fx_base.specs.Telling.{Stays}
-use Rattle.fx_data.specs.ValueView.{view}
-use Rattle.fx_data.specs.Values.{Data}
-use Rattle.fx_data.specs.declared.values.Value.{Value}
-use Rattle.fx_trees.specs.declared.schema.TableShape.{TableShape}
+use Rattle.fx_types.specs.ValueView.{view}
+use Rattle.fx_types.specs.Values.{Data}
+use Rattle.fx_types.specs.declared.values.Value.{Value}
+use Rattle.fx_core.specs.declared.schema.TableShape.{TableShape}
 use Rattle.recalc.specs.Queries.{IsTableValue, whole_table}
 use Rattle.row_keeper.specs.Tables.{Tables, rows_of, rows_told}
 use Rattle.row_keeper.specs.declared.keeper.KeeperEnd.{KeeperEnd}

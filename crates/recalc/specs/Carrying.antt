@@ -1,12 +1,12 @@
 -- What is kept as an app is edited.
 use Rattle.std.specs.Prelude.{◌≡◌, ◌↔◌, ◌⊎◌, ◌<◌, ℕ, zero, suc, List, [], length, true, Option, Some, None, IsSome, slice_get, slice_set, bytes_eq}
 use Rattle.std.specs.List.{position, slice_index_or}
-use Rattle.fx_data.specs.TypeView.{shape}
-use Rattle.fx_data.specs.Values.{Data, blank}
-use Rattle.fx_trees.specs.Reads.{IsAmong}
-use Rattle.fx_trees.specs.Term.{Term, Terms, Top, act, cons, nil, of, read}
-use Rattle.fx_trees.specs.declared.sources.Source.{Source}
-use Rattle.fx_trees.specs.declared.sources.Source.TheVariants as source
+use Rattle.fx_types.specs.TypeView.{shape}
+use Rattle.fx_types.specs.Values.{Data, blank}
+use Rattle.fx_core.specs.Reads.{IsAmong}
+use Rattle.fx_core.specs.Term.{Term, Terms, Top, act, cons, nil, of, read}
+use Rattle.fx_core.specs.declared.sources.Source.{Source}
+use Rattle.fx_core.specs.declared.sources.Source.TheVariants as source
 use Rattle.recalc.specs.Asking.{ToldRows}
 use Rattle.recalc.specs.app_cells.Leaning.{cell_behind}
 use Rattle.recalc.specs.app_cells.declared.app.App.{App}

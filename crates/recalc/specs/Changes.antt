@@ -1,10 +1,10 @@
 -- What changes of sources do to what is kept.
 use Rattle.std.specs.Prelude.{◌≡◌, ◌+◌, ◌<◌, ◌≤◌, ◌^◌, ℕ, List, [], ◌∷◌, length, false, Some, None, slice_get, slice_set}
-use Rattle.fx_data.specs.Types.{Shape}
-use Rattle.fx_data.specs.Values.{Data}
-use Rattle.fx_trees.specs.Reads.{IsAmong}
-use Rattle.fx_trees.specs.SourceTypes.{sources}
-use Rattle.fx_trees.specs.declared.sources.Source.{Source}
+use Rattle.fx_types.specs.Types.{Shape}
+use Rattle.fx_types.specs.Values.{Data}
+use Rattle.fx_core.specs.Reads.{IsAmong}
+use Rattle.fx_core.specs.SourceTypes.{sources}
+use Rattle.fx_core.specs.declared.sources.Source.{Source}
 use Rattle.recalc.specs.Asking.{ToldRows}
 use Rattle.recalc.specs.app_cells.Leaning.{LeansOn}
 use Rattle.recalc.specs.app_cells.Reach.{Reaches, is_cell}

@@ -1,7 +1,7 @@
 -- That a session holds a source is a fact.
 use Rattle.std.proofs.Props.{props}
-use Rattle.fx_trees.specs.declared.sources.Source.{Source}
-use Rattle.fx_trees.specs.declared.sources.Source.TheVariants as source
+use Rattle.fx_core.specs.declared.sources.Source.{Source}
+use Rattle.fx_core.specs.declared.sources.Source.TheVariants as source
 use Rattle.session_state.specs.Sessions.{Holds, SessionState}
 
 pub holds_prop : (s : SessionState) (x : Source) → IsProp (Holds s x)

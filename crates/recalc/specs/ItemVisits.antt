@@ -1,6 +1,6 @@
 -- How many rows evaluating the formulas of templates for items visits, where the rows of tables are told.
 use Rattle.std.specs.Prelude.{◌≡◌, ℕ, List, Option, Some, None, slice_get}
-use Rattle.fx_data.specs.Values.{Data}
+use Rattle.fx_types.specs.Values.{Data}
 use Rattle.fx_eval.specs.Laws.{AreHeld}
 use Rattle.recalc.specs.app_cells.Leaning.{LeansOn}
 use Rattle.recalc.specs.app_cells.declared.app.App.{App}

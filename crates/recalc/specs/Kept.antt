@@ -1,10 +1,10 @@
 -- Kept values, and the numbers by which it is known which of them stand.
 use Rattle.std.specs.Prelude.{◌≡◌, ◌+◌, ◌*◌, ◌<◌, ◌≤◌, ◌^◌, ℕ, List, length, true, false, Option, Some, None, slice_get, slice_index, slice_index_or}
-use Rattle.fx_data.specs.Values.{Data, blank}
-use Rattle.fx_trees.specs.Reads.{IsAmong, number_of, rank_of}
-use Rattle.fx_trees.specs.declared.names.Names.{Names}
-use Rattle.fx_trees.specs.declared.sources.Source.{Source}
-use Rattle.fx_trees.specs.declared.sources.Source.TheVariants as source
+use Rattle.fx_types.specs.Values.{Data, blank}
+use Rattle.fx_core.specs.Reads.{IsAmong, number_of, rank_of}
+use Rattle.fx_core.specs.declared.names.Names.{Names}
+use Rattle.fx_core.specs.declared.sources.Source.{Source}
+use Rattle.fx_core.specs.declared.sources.Source.TheVariants as source
 use Rattle.recalc.specs.Values.{CellsFit, Values}
 use Rattle.recalc.specs.Values as values
 use Rattle.recalc.specs.app_cells.Leaning.{LeansOn}

@@ -1,8 +1,8 @@
 -- What formulas ask of tables.
 use Rattle.std.specs.Prelude.{◌≡◌, ℕ, List, Option, None, Some, IfSome, slice_get}
-use Rattle.fx_data.specs.Values.{Data}
+use Rattle.fx_types.specs.Values.{Data}
 use Rattle.fx_eval.specs.fx_plan.Ranges.{everything}
-use Rattle.fx_trees.specs.declared.schema.TableShape.{TableShape}
+use Rattle.fx_core.specs.declared.schema.TableShape.{TableShape}
 use Rattle.row_queries.specs.Conditions.{always}
 use Rattle.row_queries.specs.TableRows.{AreHeldRows, rows_at, table_of}
 use Rattle.row_queries.specs.declared.queries.Query.{Query}

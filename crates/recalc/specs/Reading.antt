@@ -2,16 +2,16 @@
 use Rattle.std.specs.Prelude.{ℕ, List, [], ◌∷◌, Bool, true, false, ◌&&◌, nat_eq, Option, Some, None, slice_index_or}
 use Rattle.std.specs.List.{list_any}
 use Rattle.app_semantics.specs.Telling.{told_on}
-use Rattle.fx_data.specs.Types.{Shape}
-use Rattle.fx_data.specs.Values.{Data, blank}
+use Rattle.fx_types.specs.Types.{Shape}
+use Rattle.fx_types.specs.Values.{Data, blank}
 use Rattle.fx_env.specs.Scopes.{Fixed, fitted}
 use Rattle.fx_env.specs.Telling.{Told}
-use Rattle.fx_trees.specs.Reads.{number_of, rank_of}
-use Rattle.fx_trees.specs.SourceTypes.{sources, table_type}
-use Rattle.fx_trees.specs.declared.names.Names.{Names}
-use Rattle.fx_trees.specs.declared.schema.Schema.{Schema}
-use Rattle.fx_trees.specs.declared.sources.Source.{Source}
-use Rattle.fx_trees.specs.declared.sources.Source.TheVariants as source
+use Rattle.fx_core.specs.Reads.{number_of, rank_of}
+use Rattle.fx_core.specs.SourceTypes.{sources, table_type}
+use Rattle.fx_core.specs.declared.names.Names.{Names}
+use Rattle.fx_core.specs.declared.schema.Schema.{Schema}
+use Rattle.fx_core.specs.declared.sources.Source.{Source}
+use Rattle.fx_core.specs.declared.sources.Source.TheVariants as source
 use Rattle.fx_value.specs.Fits.{fits_in}
 use Rattle.row_keeper.specs.Tables.{Tables, rows_of}
 use Rattle.session_state.specs.Sessions.{SessionState}

@@ -2,12 +2,12 @@
 use Rattle.std.specs.Prelude.{◌≡◌, List, [], ◌∷◌, Option}
 use Rattle.std.specs.Coded.{Coded-set, coded_option}
 use Rattle.std.proofs.Props.{props}
-use Rattle.fx_data.specs.declared.types.Ty.{Ty}
-use Rattle.fx_data.specs.declared.types.Ty.TheVariants as ty
-use Rattle.fx_trees.specs.Lawful.{AreDistinct, DiffersFromAll, IsColumnType, IsLawfulSchema, IsLawfulTable}
-use Rattle.fx_trees.specs.contracts.schema.Schema.{the_row}
-use Rattle.fx_trees.specs.declared.schema.Schema.{Schema}
-use Rattle.fx_trees.specs.declared.schema.TableShape.{TableShape}
+use Rattle.fx_types.specs.declared.types.Ty.{Ty}
+use Rattle.fx_types.specs.declared.types.Ty.TheVariants as ty
+use Rattle.fx_core.specs.Lawful.{AreDistinct, DiffersFromAll, IsColumnType, IsLawfulSchema, IsLawfulTable}
+use Rattle.fx_core.specs.contracts.schema.Schema.{the_row}
+use Rattle.fx_core.specs.declared.schema.Schema.{Schema}
+use Rattle.fx_core.specs.declared.schema.TableShape.{TableShape}
 
 pub shaped_prop : (x y : Option Schema) → IsProp (x ≡ y)
 shaped_prop x y = Coded-set (coded_option the_row.coded) x y

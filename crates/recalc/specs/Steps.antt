@@ -1,7 +1,7 @@
 -- Which cells are evaluated, and what that does to their stamps.
 use Rattle.std.specs.Prelude.{◌≡◌, ◌≢◌, ◌⊎◌, ◌+◌, ◌≤◌, ℕ, List, length, Bool, true, Some, IsSome, slice_get, slice_set}
 use Rattle.std.specs.List.{All, AllPairs}
-use Rattle.fx_data.specs.Values.{Data}
+use Rattle.fx_types.specs.Values.{Data}
 use Rattle.recalc.specs.app_cells.declared.app.App.{App}
 use Rattle.recalc.specs.app_cells.declared.app.CellInfo.{CellInfo}
 use Rattle.recalc.specs.app_semantics.Needed.{is_alone}

@@ -2,9 +2,9 @@
 use Rattle.std.specs.Prelude.{◌≡◌, ℕ, Option, Some, None, slice_get}
 use Rattle.app_semantics.specs.Sound.{IsCellOf}
 use Rattle.app_semantics.specs.app_cells.declared.app.App.{App}
-use Rattle.fx_data.specs.Types.{Shape}
-use Rattle.fx_trees.specs.declared.names.ControlName.{ControlName}
-use Rattle.fx_trees.specs.declared.names.Names.{Names}
+use Rattle.fx_types.specs.Types.{Shape}
+use Rattle.fx_core.specs.declared.names.ControlName.{ControlName}
+use Rattle.fx_core.specs.declared.names.Names.{Names}
 
 -- the control of this number stands in a gallery
 abbrev pub StandsIn : Names → ℕ → ℕ → Type 0

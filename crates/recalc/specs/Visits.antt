@@ -1,7 +1,7 @@
 -- How many rows evaluating the formulas of cells visits, where the rows of tables are told.
 use Rattle.std.specs.Prelude.{◌≡◌, ◌≢◌, ◌⊎◌, ◌+◌, ◌≤◌, ℕ, List, [], ◌∷◌, length, false, Option, None, Some, slice_get}
 use Rattle.std.specs.List.{All, AllPairs}
-use Rattle.fx_data.specs.Values.{Data}
+use Rattle.fx_types.specs.Values.{Data}
 use Rattle.fx_eval.specs.Laws.{AreHeld}
 use Rattle.fx_eval.specs.Visits.{AtMost, Both, Visits}
 use Rattle.fx_eval.specs.fx_plan.Limited.{limited}

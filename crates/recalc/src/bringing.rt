@@ -1,7 +1,7 @@
 // Cells are brought up to date.
 ghost use Rattle.std.specs.Prelude.{◌≡◌, ◌≢◌, ◌+◌, ◌<◌, ◌≤◌, ◌^◌, ◌↔◌, ℕ, IfOk, IfSome, IsErrOf, IsNone, IsTrue, [], OnErr, OnOk, Some, length, slice_get, true};
 ghost use Rattle.std.specs.List.{Contains};
-ghost use Rattle.fx_data.specs.ValueView.{view};
+ghost use Rattle.fx_types.specs.ValueView.{view};
 ghost use Rattle.fx_scalar.specs.ScalarFunctions.{IsToday};
 ghost use Rattle.recalc.specs.Asking.{CanAsk, IsHeardOf, ReadsNone, ToldRows};
 ghost use Rattle.recalc.specs.AskingOver.{HasRead};
@@ -24,7 +24,7 @@ use crate::Steps;
 use crate::app_cells::{App, CellInfo};
 use crate::cache::Cache;
 use crate::needing::{is_due, needs_of};
-use fx_data::values::Value;
+use fx_types::values::Value;
 use fx_value::same;
 use row_keeper::{Keeper, KeeperEnd};
 use session_state::Session;

@@ -1,6 +1,6 @@
 //! A session's cache.
 ghost use Rattle.std.specs.Prelude.{◌≡◌, ◌+◌, ◌<◌, ◌≤◌, ◌^◌, ℕ, IfOk, IfSome, None, OnErr, length, slice_index, slice_index_or};
-ghost use Rattle.fx_trees.specs.declared.sources.Source.{Source as Src};
+ghost use Rattle.fx_core.specs.declared.sources.Source.{Source as Src};
 ghost use Rattle.recalc.specs.Clearing.{is_mark as is_mark_of, unmarked as unmarked_of};
 ghost use Rattle.recalc.specs.Kept.{IsSourceOf, place_of};
 
@@ -8,8 +8,8 @@ use crate::app_cells::App;
 use crate::stamps::Stamp;
 use crate::valued::{Valued, blank_first, blanks};
 use fx_base::Memory;
-use fx_data::values::Value;
-use fx_trees::{Names, Source};
+use fx_core::{Names, Source};
+use fx_types::values::Value;
 use std::alloc::Global;
 use std::marker::Model;
 use std::mem;
@@ -57,7 +57,7 @@ impl Drop for Cache {
 impl Model for Cache {
     ghost use Rattle.std.specs.Prelude.{length};
     ghost use Rattle.std.specs.Coded.{codes};
-    ghost use Rattle.fx_data.specs.ValueCode.{data_code};
+    ghost use Rattle.fx_types.specs.ValueCode.{data_code};
     ghost use Rattle.recalc.specs.Kept.{Kept};
 
     ghost Value = { Kept };
@@ -167,7 +167,7 @@ fn place(source: Source) -> usize
 }
 
 impl Cache {
-    ghost use Rattle.fx_data.specs.ValueView.{view};
+    ghost use Rattle.fx_types.specs.ValueView.{view};
     ghost use Rattle.recalc.specs.Changes.{on_day, raised};
     ghost use Rattle.recalc.specs.Kept.{IsInOrder, IsRoomFor, Room, place_of, stamp_of, value_of, version_of};
     ghost use Rattle.recalc.specs.Outcomes.{IsEmpty, IsEmptied, IsForgotten, IsRestarted, let_out};

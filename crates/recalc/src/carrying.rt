@@ -1,7 +1,7 @@
 // What is kept goes over to an edited app.
 ghost use Rattle.std.specs.Prelude.{◌≡◌, ◌↔◌, ◌+◌, ◌<◌, ℕ, IfNone, IfOk, IfSome, IsFalse, IsSome, IsTrue, None, Some, length, slice_index, true};
-ghost use Rattle.fx_trees.specs.Reads.{IsAmong};
-ghost use Rattle.fx_trees.specs.declared.sources.Source.{Source as Src};
+ghost use Rattle.fx_core.specs.Reads.{IsAmong};
+ghost use Rattle.fx_core.specs.declared.sources.Source.{Source as Src};
 ghost use Rattle.recalc.specs.app_cells.Leaning.{cell_behind as behind};
 ghost use Rattle.recalc.specs.app_semantics.Fresh.{reads_table as reads_any};
 ghost use Rattle.recalc.specs.app_semantics.Needed.{is_alone as is_alone_in, stands_alone as is_by_itself};
@@ -18,7 +18,7 @@ use crate::standing::is_alone;
 use crate::trees::{are_old_reads, is_old_tree, old_places, place_at};
 use crate::valued::stands_alone;
 use fx_base::Memory;
-use fx_trees::Source;
+use fx_core::Source;
 use std::alloc::Global;
 
 // Whether two formulas have values by themselves, and both read tables or none does.

@@ -1,8 +1,8 @@
 // What changes of sources do to a cache.
 ghost use Rattle.std.specs.Prelude.{◌≡◌, ◌↔◌, ◌<◌, ℕ, IfOk, false, length};
 ghost use Rattle.std.specs.List.{AllPairs, Contains};
-ghost use Rattle.fx_data.specs.ValueView.{view};
-ghost use Rattle.fx_trees.specs.declared.sources.Source.TheVariants.{Cell, Today};
+ghost use Rattle.fx_types.specs.ValueView.{view};
+ghost use Rattle.fx_core.specs.declared.sources.Source.TheVariants.{Cell, Today};
 ghost use Rattle.recalc.specs.app_cells.declared.app.App.{App as AnApp};
 ghost use Rattle.recalc.specs.app_cells.Reach.{is_cell};
 ghost use Rattle.recalc.specs.app_semantics.Sound.{IsSound};
@@ -13,8 +13,8 @@ ghost use Rattle.recalc.specs.Outcomes.{HasNumbers};
 use crate::app_cells::App;
 use crate::cache::Cache;
 use fx_base::Memory;
-use fx_data::values::Value;
-use fx_trees::Source;
+use fx_core::Source;
+use fx_types::values::Value;
 use std::alloc::Global;
 
 /// How many numbers a call may take at most: one for each cell, and one.

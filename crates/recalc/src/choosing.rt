@@ -2,12 +2,12 @@
 ghost use Rattle.std.specs.Prelude.{◌≡◌, IfOk, codes, option_map};
 ghost use Rattle.std.specs.List.{find};
 ghost use Rattle.app_semantics.specs.Chosen as spec;
-ghost use Rattle.fx_data.specs.ValueView.{view};
+ghost use Rattle.fx_types.specs.ValueView.{view};
 
 use crate::ids::id_name;
 use fx_base::Memory;
-use fx_data::values::{Fields, Value};
-use fx_data::words::Words;
+use fx_types::values::{Fields, Value};
+use fx_types::words::Words;
 use std::alloc::Global;
 
 /// The chosen row of these items, or blank where there is none. An error in their place is the answer.

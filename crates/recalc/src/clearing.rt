@@ -1,7 +1,7 @@
 // What a cell's change does to a cache.
 ghost use Rattle.std.specs.Prelude.{◌≡◌, ◌↔◌, ℕ, IsFalse, IsTrue, Some, slice_get, true};
-ghost use Rattle.fx_trees.specs.Reads.{IsAmong};
-ghost use Rattle.fx_trees.specs.declared.sources.Source.{Source as Src};
+ghost use Rattle.fx_core.specs.Reads.{IsAmong};
+ghost use Rattle.fx_core.specs.declared.sources.Source.{Source as Src};
 ghost use Rattle.recalc.specs.app_cells.Leaning.{LeansOn, cell_behind as behind};
 ghost use Rattle.recalc.specs.app_cells.declared.app.CellInfo.{CellInfo as Info};
 ghost use Rattle.recalc.specs.app_semantics.Sound.{IsSound};
@@ -12,7 +12,7 @@ ghost use Rattle.recalc.specs.Kept.{HasRoom, IsInOrder};
 use crate::app_cells::App;
 use crate::cache::Cache;
 use crate::sources::cell_behind;
-use fx_trees::Source;
+use fx_core::Source;
 
 impl Cache {
     // Whether the cell is marked on which leans who reads a source.

@@ -1,15 +1,15 @@
 // What sources are worth to a formula, but for tables.
 ghost use Rattle.std.specs.Prelude.{◌≡◌, ℕ, IfOk, map};
-ghost use Rattle.fx_data.specs.ValueView.{view};
-ghost use Rattle.fx_trees.specs.declared.sources.Source.TheVariants.{Table};
+ghost use Rattle.fx_types.specs.ValueView.{view};
+ghost use Rattle.fx_core.specs.declared.sources.Source.TheVariants.{Table};
 ghost use Rattle.recalc.specs.Reading.{told_by};
 ghost use Rattle.session_state.specs.Changes.{IsOwn};
 ghost use Rattle.session_state.specs.Sessions.{Holds};
 
 use crate::sources::{chosen_item, input, value_of};
 use fx_base::Memory;
-use fx_data::Value;
-use fx_trees::{Names, Source};
+use fx_core::{Names, Source};
+use fx_types::Value;
 use session_state::Session;
 use std::alloc::Global;
 

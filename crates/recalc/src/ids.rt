@@ -1,12 +1,12 @@
 //! The ids of items.
 ghost use Rattle.std.specs.Prelude.{◌≡◌, IfOk, Some};
 ghost use Rattle.app_semantics.specs.Chosen.{id_of, item_id as item_id_of};
-ghost use Rattle.fx_data.specs.ValueView.{view};
-ghost use Rattle.fx_trees.specs.Lawful.{id_name as id_name_of};
+ghost use Rattle.fx_types.specs.ValueView.{view};
+ghost use Rattle.fx_core.specs.Lawful.{id_name as id_name_of};
 
 use fx_base::Memory;
-use fx_data::values::{Fields, Value};
-use fx_data::words::Words;
+use fx_types::values::{Fields, Value};
+use fx_types::words::Words;
 use std::alloc::Global;
 
 /// The ten-thousandths of 1.

@@ -1,8 +1,8 @@
 // Which cells have to be brought up to date.
 ghost use Rattle.std.specs.Prelude.{◌≡◌, ◌⊎◌, ◌<◌, ℕ, IfOk, IsFalse, IsTrue, Some, false, length, slice_get, true};
 ghost use Rattle.std.specs.List.{Contains};
-ghost use Rattle.fx_trees.specs.Reads.{IsAmong};
-ghost use Rattle.fx_trees.specs.declared.sources.Source.{Source as Src};
+ghost use Rattle.fx_core.specs.Reads.{IsAmong};
+ghost use Rattle.fx_core.specs.declared.sources.Source.{Source as Src};
 ghost use Rattle.recalc.specs.app_cells.Leaning.{cell_behind as behind};
 ghost use Rattle.recalc.specs.app_semantics.Needed.{is_alone as is_alone_in};
 ghost use Rattle.recalc.specs.app_semantics.Sound.{IsSound};
@@ -14,7 +14,7 @@ use crate::cache::Cache;
 use crate::sources::cell_behind;
 use crate::standing::is_alone;
 use fx_base::Memory;
-use fx_trees::Source;
+use fx_core::Source;
 use std::alloc::Global;
 
 // Marks a cell, where there is one of this number.

@@ -2,16 +2,16 @@
 ghost use Rattle.std.specs.Prelude.{◌≡◌, Some, length, map};
 ghost use Rattle.std.proofs.Math.Bool.{Bool-set};
 ghost use Rattle.app_semantics.specs.Holding.{HoldsFitting};
-ghost use Rattle.fx_data.specs.ValueView.{view};
+ghost use Rattle.fx_types.specs.ValueView.{view};
 ghost use Rattle.fx_env.specs.Telling.{unmarked};
 ghost use Rattle.recalc.specs.Holds.{holds_prop};
 ghost use Rattle.recalc.specs.Reading.{fixed_on, told_by, told_values};
 
 use crate::given::given_value;
-use fx_data::{Totals, Value};
+use fx_core::{Names, Schema, Source};
 use fx_env::Steps;
 use fx_env::environment::{Env, Stop};
-use fx_trees::{Names, Schema, Source};
+use fx_types::{Totals, Value};
 use row_queries::Query;
 use session_state::Session;
 use std::alloc::Global;

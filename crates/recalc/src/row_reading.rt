@@ -2,8 +2,8 @@
 ghost use Rattle.std.specs.Prelude.{◌≡◌, Some, map, option_map};
 ghost use Rattle.std.proofs.Math.Bool.{Bool-set};
 ghost use Rattle.app_semantics.specs.Holding.{HoldsFitting};
-ghost use Rattle.fx_data.specs.ValueView.{view};
-ghost use Rattle.fx_trees.specs.Lawful.{IsLawfulSchema};
+ghost use Rattle.fx_types.specs.ValueView.{view};
+ghost use Rattle.fx_core.specs.Lawful.{IsLawfulSchema};
 ghost use Rattle.recalc.specs.Holds.{holds_prop};
 ghost use Rattle.recalc.specs.Reading.{Kept, fixed_over, loans_of, told_by, told_over};
 ghost use Rattle.recalc.specs.Schemas.{schema_prop, shaped_prop};
@@ -11,10 +11,10 @@ ghost use Rattle.recalc.specs.Stops.{stop_of as stop_by};
 
 use crate::given::given_value;
 use crate::tables::table_value;
-use fx_data::{Totals, Value};
+use fx_core::{Names, Schema, Source};
 use fx_env::Steps;
 use fx_env::environment::{Env, Stop};
-use fx_trees::{Names, Schema, Source};
+use fx_types::{Totals, Value};
 use row_keeper::scan_values::scan;
 use row_keeper::{Keeper, KeeperEnd};
 use row_queries::{Query, rows_fit};

@@ -1,6 +1,6 @@
 // The value of one cell.
 ghost use Rattle.std.specs.Prelude.{◌≡◌, ◌∷◌, [], ◌+◌, ◌≤◌, ℕ, IfOk, IsErrOf, OnOk, true};
-ghost use Rattle.fx_data.specs.ValueView.{view};
+ghost use Rattle.fx_types.specs.ValueView.{view};
 ghost use Rattle.fx_scalar.specs.ScalarFunctions.{IsToday};
 ghost use Rattle.recalc.specs.Asking.{CanAsk, IsHeardOf, ReadsNone, ToldRows};
 ghost use Rattle.recalc.specs.AskingOver.{HasRead};
@@ -19,7 +19,7 @@ ghost use Rattle.recalc.specs.Visits.{VisitsPerCell, WhereTold};
 use crate::Steps;
 use crate::app_cells::App;
 use crate::cache::Cache;
-use fx_data::values::Value;
+use fx_types::values::Value;
 use row_keeper::{Keeper, KeeperEnd};
 use session_state::Session;
 use std::alloc::Global;

@@ -2,18 +2,18 @@
 ghost use Rattle.std.specs.Prelude.{◌≡◌, ℕ, ◌<◌, IfOk, Some, length, map, option_map, slice_get};
 ghost use Rattle.app_semantics.specs.app_cells.Leaning as leaning;
 ghost use Rattle.app_semantics.specs.Present as spec;
-ghost use Rattle.fx_data.specs.ValueView.{view};
-ghost use Rattle.fx_data.specs.Values.{Data};
+ghost use Rattle.fx_types.specs.ValueView.{view};
+ghost use Rattle.fx_types.specs.Values.{Data};
 ghost use Rattle.recalc.specs.Reading.{cell_value};
 ghost use Rattle.session_state.specs.Sessions.{Holds};
-ghost use Rattle.fx_trees.specs.declared.sources.Source.TheVariants as source;
+ghost use Rattle.fx_core.specs.declared.sources.Source.TheVariants as source;
 
 use crate::choosing::selection;
 use fx_base::Memory;
-use fx_data::controls::Control;
-use fx_data::values::{Rows, Value};
+use fx_core::{Names, Source};
 use fx_number::Num;
-use fx_trees::{Names, Source};
+use fx_types::controls::Control;
+use fx_types::values::{Rows, Value};
 use session_state::Session;
 use std::alloc::Global;
 

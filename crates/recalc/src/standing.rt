@@ -1,7 +1,7 @@
 // Whether kept values stand.
 ghost use Rattle.std.specs.Prelude.{◌≡◌, ◌<◌, ◌≤◌, ℕ, IsFalse, IsTrue, Some, false, true};
-ghost use Rattle.fx_trees.specs.Reads.{IsAmong};
-ghost use Rattle.fx_trees.specs.declared.sources.Source.{Source as Src};
+ghost use Rattle.fx_core.specs.Reads.{IsAmong};
+ghost use Rattle.fx_core.specs.declared.sources.Source.{Source as Src};
 ghost use Rattle.recalc.specs.app_cells.Leaning.{cell_behind as behind};
 ghost use Rattle.recalc.specs.app_cells.Reach.{is_cell as is_cell_of};
 ghost use Rattle.recalc.specs.app_semantics.Needed.{is_alone as is_alone_in};
@@ -12,7 +12,7 @@ use crate::app_cells::{App, CellInfo};
 use crate::cache::Cache;
 use crate::sources::cell_behind;
 use crate::valued::stands_alone;
-use fx_trees::Source;
+use fx_core::Source;
 
 // Whether a source is a cell.
 fn is_cell(source: Source) -> bool

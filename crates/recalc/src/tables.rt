@@ -1,8 +1,8 @@
 // Tables of a keeper, as formulas ask for them.
 ghost use Rattle.std.specs.Prelude.{◌≡◌, ◌+◌, ◌≤◌, IfOk, IfSome, IsSome, OnErr, length, slice_get};
 ghost use Rattle.fx_base.specs.Telling.{Stays};
-ghost use Rattle.fx_data.specs.ValueView.{view};
-ghost use Rattle.fx_trees.specs.Lawful.{IsLawfulSchema};
+ghost use Rattle.fx_types.specs.ValueView.{view};
+ghost use Rattle.fx_core.specs.Lawful.{IsLawfulSchema};
 ghost use Rattle.recalc.specs.Asking.{HasRead};
 ghost use Rattle.recalc.specs.Queries.{IsTableValue, whole_table as whole_query};
 ghost use Rattle.row_keeper.specs.Over.{Becomes, BeganStays, HasCause};
@@ -11,8 +11,8 @@ ghost use Rattle.row_queries.specs.TableRows.{rows_at};
 
 use crate::fx_plan::ranges::everything;
 use fx_base::Memory;
-use fx_data::Value;
-use fx_trees::Schema;
+use fx_core::Schema;
+use fx_types::Value;
 use row_keeper::scan_values::scan;
 use row_keeper::{Keeper, KeeperEnd};
 use row_queries::{Query, Test, TestNode, asked_once};

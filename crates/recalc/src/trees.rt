@@ -1,9 +1,9 @@
 // Whether trees of an edited app are the ones that they were.
 ghost use Rattle.std.specs.Prelude.{◌≡◌, ◌↔◌, ℕ, IfOk, IsTrue, MatchOption, None, Some, slice_index_or};
-ghost use Rattle.fx_data.specs.TypeView.{shape};
-ghost use Rattle.fx_trees.specs.Term.{all, cons, names_of, nil, parts_of as parts_of_fields};
-ghost use Rattle.fx_trees.specs.Reads.{IsAmong};
-ghost use Rattle.fx_trees.specs.declared.sources.Source.{Source as Src};
+ghost use Rattle.fx_types.specs.TypeView.{shape};
+ghost use Rattle.fx_core.specs.Term.{all, cons, names_of, nil, parts_of as parts_of_fields};
+ghost use Rattle.fx_core.specs.Reads.{IsAmong};
+ghost use Rattle.fx_core.specs.declared.sources.Source.{Source as Src};
 ghost use Rattle.recalc.specs.app_cells.Leaning.{cell_behind as behind};
 ghost use Rattle.recalc.specs.Carrying.{AreOldPlaces, IsOldBehind, IsOldOne, IsOldPart, IsOldSource, IsOldTop, IsOldTree, IsPast, part_at, parts_of, top_of};
 ghost use Rattle.recalc.specs.Carrying as carrying;
@@ -13,9 +13,9 @@ use crate::app_cells::{App, CellInfo};
 use crate::sources::cell_behind;
 use crate::standing::is_alone;
 use fx_base::Memory;
-use fx_data::types::Ty;
-use fx_trees::trees::{CoreArgs, CoreFields, CoreNode};
-use fx_trees::{Core, Fun, Names, Source};
+use fx_core::trees::{CoreArgs, CoreFields, CoreNode};
+use fx_core::{Core, Fun, Names, Source};
+use fx_types::types::Ty;
 use fx_typing::ways::same_shape;
 use fx_value::same;
 use session_state::{collection_was, variable_was};

@@ -3,7 +3,7 @@ use Rattle.std.proofs.Common.{◌≡◌, ℕ, ◌==◌, List, [], ◌∷◌, ref
 use Rattle.std.specs.Prelude.{bytes_eq}
 use Rattle.std.specs.Option.{is_some}
 use Rattle.std.proofs.lemmas.Bool.{eqb-true}
-use Rattle.fx_data.specs.Values.{Data}
+use Rattle.fx_types.specs.Values.{Data}
 use Rattle.row_keeper.specs.Covered.{Agrees, NoneAbove, covers, entries_of, has_entry, key_at}
 use Rattle.row_keeper.specs.Entries.{Entry, Entries, is_one_of, now_in, then_in}
 use Rattle.row_keeper.specs.Slots.{now_at, then_at}

@@ -5,11 +5,11 @@ use Rattle.std.specs.List.{All, AllByRecursion, filter}
 use Rattle.std.proofs.lemmas.List.{length-take, take-append-drop, take-append-le, take_all}
 use Rattle.std.proofs.lemmas.List.Sorted.{length_permutation}
 use Rattle.std.proofs.lemmas.List.Elements.{All-filter, All-from_recursion, All-take, filter-append}
-use Rattle.fx_data.specs.Values.{Data, blank, boolean, fault}
-use Rattle.fx_data.specs.declared.faults.Fault.{Fault}
-use Rattle.fx_data.specs.declared.aggregates.Totals.{Totals}
+use Rattle.fx_types.specs.Values.{Data, blank, boolean, fault}
+use Rattle.fx_types.specs.declared.faults.Fault.{Fault}
+use Rattle.fx_types.specs.declared.aggregates.Totals.{Totals}
 use Rattle.fx_value.specs.Aggregates.{SumsUp, numbers_in}
-use Rattle.fx_trees.specs.declared.schema.TableShape.{TableShape}
+use Rattle.fx_core.specs.declared.schema.TableShape.{TableShape}
 use Rattle.row_queries.specs.Conditions.{Condition, ConditionList, all_of, also, always, any_of, compares, constant, contains, flag, is_blank, no_conditions, opposite, starts}
 use Rattle.row_queries.specs.Queries.{AreAsked, IsQuery, IsScanned, IsTotalled, lies, first_fault, first_of, given_of, outcome_on, rows_or_fault}
 use Rattle.row_queries.specs.RowTests.{CanAsk, CanAskAll, HasNoFaults, HaveNoFaults, IsFaultOr, IsNoFault, IsTruth, Outcome, all_outcome, and_then, any_outcome, decided, decided_by, failed, fault_in, is_met, met, or_else, outcome, reversed, unless_fault, unmet}

@@ -19,7 +19,7 @@ use Rattle.std.proofs.lemmas.Map.Made.{is_some-lookup}
 use Rattle.std.proofs.lemmas.Map.Lookups.{btree_set_from_contains, exact_unsigned, exact_bytes}
 use Rattle.std.proofs.lemmas.Map.Text.{is_eq-slice_cmp}
 use Rattle.std.specs.Cmp.Lexicographic.{slice_cmp, nat_list_eq_equiv}
-use Rattle.fx_data.specs.Values.{Data}
+use Rattle.fx_types.specs.Values.{Data}
 use Rattle.row_queries.specs.declared.rows.Row.{Row}
 use Rattle.row_queries.specs.declared.ranges.KeyRange.{KeyRange}
 use Rattle.row_queries.specs.Ranges.{in_range}
@@ -31,7 +31,7 @@ use Rattle.std.specs.Prelude.{option_to_list}
 use Rattle.row_keeper.specs.Found.{row_under, rows_of_ids}
 use Rattle.row_keeper.specs.Slots.{cells_now, now_at, now_in_slot, row_before, rows_now}
 use Rattle.row_keeper.proofs.MarkLemmas.{entry_total, same_entry}
-use Rattle.fx_trees.proofs.Spelled.{same_truth}
+use Rattle.fx_core.proofs.Spelled.{same_truth}
 
 -- an entry of a row now, in the range, is a hit
 hit_from : (column : ℕ) (r : KeyRange) (es : Entries) (q : Entry) → q.0.0 ≡ column → now_in es q ≡ true → in_range q.0.1 r ≡ true → hits column r es q.1 ≡ true

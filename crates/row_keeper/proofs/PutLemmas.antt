@@ -2,8 +2,8 @@
 use Rattle.std.proofs.Common.{◌≡◌, ◌⊎◌, inl, inr, ℕ, ◌+◌, ◌-◌, ◌^◌, ◌==◌, ◌<◌, ◌≤◌, List, [], ◌∷◌, length, refl, arith, Bool, true, false, cond, ◌||◌, Option, None, Some, subst}
 use Rattle.std.specs.Prelude.{nat_le, nat_lt, is_none, ◌&&◌}
 use Rattle.std.proofs.lemmas.Bool.Decides.{nat_tests}
-use Rattle.fx_data.specs.Values.{Data}
-use Rattle.fx_trees.specs.declared.schema.Column.{Column}
+use Rattle.fx_types.specs.Values.{Data}
+use Rattle.fx_core.specs.declared.schema.Column.{Column}
 use Rattle.row_keeper.specs.Changes.{NamesItsColumn}
 use Rattle.row_keeper.specs.RowRules.{cells_weight, first_broken, first_of_two, in_column, is_full, lacks, others, repeats, rule_in, where_broken}
 use Rattle.row_keeper.specs.Tables.{TableState}

@@ -7,10 +7,10 @@ use Rattle.std.proofs.lemmas.List.Sums.{sum_by-cons}
 use Rattle.std.proofs.lemmas.Bool.{eq-eqb, or_right}
 use Rattle.std.specs.Ordering.{is_le, is_eq}
 use Rattle.std.specs.Cmp.Lexicographic.{nat_list_cmp_total}
-use Rattle.fx_data.specs.TypeView.{shape}
-use Rattle.fx_data.specs.Types.{Shape, blanks, numbers, texts, booleans, dates, records, tables}
-use Rattle.fx_data.specs.Values.{Data, blank, number, text, boolean, date, rec, tab, fault}
-use Rattle.fx_trees.specs.declared.schema.Column.{Column}
+use Rattle.fx_types.specs.TypeView.{shape}
+use Rattle.fx_types.specs.Types.{Shape, blanks, numbers, texts, booleans, dates, records, tables}
+use Rattle.fx_types.specs.Values.{Data, blank, number, text, boolean, date, rec, tab, fault}
+use Rattle.fx_core.specs.declared.schema.Column.{Column}
 use Rattle.fx_value.specs.Keys.{IsProper, KeysOrder, key_bytes}
 use Rattle.fx_value.specs.Order.{AreOfOneType, IsScalar}
 use Rattle.fx_value.specs.Fits.{fits_in}

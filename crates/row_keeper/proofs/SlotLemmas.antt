@@ -6,7 +6,7 @@ use Rattle.std.specs.Option.{option_map, is_some}
 use Rattle.std.specs.BTreeMap.{is_at}
 use Rattle.std.specs.Ordering.{nat_cmp}
 use Rattle.std.proofs.lemmas.Bool.{eqb-true}
-use Rattle.fx_data.specs.Values.{Data}
+use Rattle.fx_types.specs.Values.{Data}
 use Rattle.row_keeper.specs.declared.slots.Made.{Made}
 use Rattle.row_keeper.specs.declared.slots.Made.TheVariants.{Same, Gone, New}
 use Rattle.row_keeper.specs.declared.slots.Slot.{Slot}

@@ -6,8 +6,8 @@ use Rattle.std.specs.Map.{keys_of, lookup}
 use Rattle.std.specs.Option.{is_some}
 use Rattle.std.specs.BTreeMap.{is_at}
 use Rattle.std.specs.Ordering.{nat_cmp}
-use Rattle.fx_data.specs.Values.{Data}
-use Rattle.fx_trees.specs.declared.schema.Column.{Column}
+use Rattle.fx_types.specs.Values.{Data}
+use Rattle.fx_core.specs.declared.schema.Column.{Column}
 use Rattle.fx_value.specs.Order.{IsScalar}
 use Rattle.row_queries.specs.Ranges.{HoldEveryKey}
 use Rattle.row_queries.specs.TableRows.{value_at, values_of}

@@ -11,11 +11,11 @@ use Rattle.std.proofs.lemmas.List.Sorted.{All-permutation, IsPermutation-refl, l
 use Rattle.std.proofs.lemmas.Option.{get_or_from_slice_get}
 use Rattle.std.proofs.Math.Seq.{map-set_same}
 use Rattle.std.proofs.lemmas.Bool.{or_right}
-use Rattle.fx_data.specs.Values.{Data}
-use Rattle.fx_trees.specs.Lawful.{IsColumnType, IsLawfulSchema, IsLawfulTable}
-use Rattle.fx_trees.specs.declared.schema.Column.{Column}
-use Rattle.fx_trees.specs.declared.schema.Schema.{Schema}
-use Rattle.fx_trees.specs.declared.schema.TableShape.{TableShape}
+use Rattle.fx_types.specs.Values.{Data}
+use Rattle.fx_core.specs.Lawful.{IsColumnType, IsLawfulSchema, IsLawfulTable}
+use Rattle.fx_core.specs.declared.schema.Column.{Column}
+use Rattle.fx_core.specs.declared.schema.Schema.{Schema}
+use Rattle.fx_core.specs.declared.schema.TableShape.{TableShape}
 use Rattle.row_queries.specs.Queries.{AreAsked, IsIndexed, IsQuery, lies, row_order}
 use Rattle.row_queries.specs.Ranges.{HoldEveryKey}
 use Rattle.row_queries.specs.TableRows.{AreCellsOf, AreInIdOrder, IsRowOf, rows_at}

@@ -1,10 +1,10 @@
 -- How calls change the tables, and what they answer.
 use Rattle.std.specs.Prelude.{◌≡◌, ◌≢◌, ℕ, ◌+◌, ◌≤◌, Bool, true, false, List, length, Option, Some, None, IfSome, IsSomeAnd}
 use Rattle.std.specs.List.{list_any}
-use Rattle.fx_data.specs.Values.{Data}
-use Rattle.fx_data.specs.declared.aggregates.Totals.{Totals}
-use Rattle.fx_trees.specs.declared.schema.Column.{Column}
-use Rattle.fx_trees.specs.declared.schema.Schema.{Schema}
+use Rattle.fx_types.specs.Values.{Data}
+use Rattle.fx_types.specs.declared.aggregates.Totals.{Totals}
+use Rattle.fx_core.specs.declared.schema.Column.{Column}
+use Rattle.fx_core.specs.declared.schema.Schema.{Schema}
 use Rattle.row_queries.specs.Queries.{IsCounted, IsScanned, IsTotalled}
 use Rattle.row_queries.specs.TableRows.{rows_at}
 use Rattle.row_queries.specs.declared.queries.Query.{Query}

@@ -1,6 +1,6 @@
 -- The rows of some numbers.
 use Rattle.std.specs.Prelude.{ℕ, List, [], ◌∷◌, ◌++◌, Option, None, Some, option_to_list}
-use Rattle.fx_data.specs.Values.{Data}
+use Rattle.fx_types.specs.Values.{Data}
 use Rattle.row_queries.specs.declared.rows.Row.{Row}
 use Rattle.row_keeper.specs.Slots.{now_at}
 use Rattle.row_keeper.specs.declared.slots.Slot.{Slot}

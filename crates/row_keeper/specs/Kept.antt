@@ -1,9 +1,9 @@
 -- What holds of the tables of a store at any time.
 use Rattle.std.specs.Prelude.{◌≡◌, Bool, false, List, map, Option, IfSome}
-use Rattle.fx_trees.specs.Lawful.{IsLawfulSchema}
-use Rattle.fx_trees.specs.declared.schema.Column.{Column}
-use Rattle.fx_trees.specs.declared.schema.Schema.{Schema}
-use Rattle.fx_trees.specs.declared.schema.TableShape.{TableShape}
+use Rattle.fx_core.specs.Lawful.{IsLawfulSchema}
+use Rattle.fx_core.specs.declared.schema.Column.{Column}
+use Rattle.fx_core.specs.declared.schema.Schema.{Schema}
+use Rattle.fx_core.specs.declared.schema.TableShape.{TableShape}
 use Rattle.row_keeper.specs.TableView.{TableView, states_now, states_then}
 use Rattle.row_keeper.specs.Tables.{no_rows, shapes_of}
 

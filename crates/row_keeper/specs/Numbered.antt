@@ -1,6 +1,6 @@
 -- The query of the row of a number.
 use Rattle.std.specs.Prelude.{ℕ, [], ◌∷◌, None}
-use Rattle.fx_data.specs.declared.comparisons.Cmp.TheVariants.{Eq}
+use Rattle.fx_types.specs.declared.comparisons.Cmp.TheVariants.{Eq}
 use Rattle.fx_value.specs.Keys.{key_bytes}
 use Rattle.row_queries.specs.Conditions.{compares}
 use Rattle.row_queries.specs.TableRows.{id_value}

@@ -1,7 +1,7 @@
 -- What becomes of one table.
 use Rattle.std.specs.Prelude.{◌≡◌, ℕ, ◌+◌, Bool, true, false, List, set, slice_get, Some, None}
 use Rattle.std.specs.List.{list_any}
-use Rattle.fx_data.specs.Values.{Data}
+use Rattle.fx_types.specs.Values.{Data}
 use Rattle.row_keeper.specs.RowRules.{rule_in}
 use Rattle.row_keeper.specs.TableView.{TableView}
 use Rattle.row_keeper.specs.Tables.{TableState, has_id, with_cells, with_row, without_row}

@@ -1,8 +1,8 @@
 -- The rules of columns, as an index is asked for them.
 use Rattle.std.specs.Prelude.{◌≡◌, true, false, ℕ, zero, suc, Bool, not, List, [], ◌∷◌, ◌++◌, Option, Some, None}
-use Rattle.fx_data.specs.TypeView.{shape}
-use Rattle.fx_data.specs.Values.{Data}
-use Rattle.fx_trees.specs.declared.schema.Column.{Column}
+use Rattle.fx_types.specs.TypeView.{shape}
+use Rattle.fx_types.specs.Values.{Data}
+use Rattle.fx_core.specs.declared.schema.Column.{Column}
 use Rattle.fx_value.specs.Order.{IsScalar}
 use Rattle.fx_value.specs.Fits.{fits_in}
 use Rattle.row_queries.specs.declared.ranges.KeyRange.{KeyRange}

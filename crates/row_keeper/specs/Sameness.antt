@@ -1,9 +1,9 @@
 -- Tests of sameness.
 use Rattle.std.specs.Prelude.{◌≡◌, ◌≢◌, Bool, true, false}
 use Rattle.std.specs.List.{AllByRecursion}
-use Rattle.fx_trees.specs.Lawful.{IsColumnType}
-use Rattle.fx_trees.specs.declared.schema.Column.{Column}
-use Rattle.fx_trees.specs.declared.schema.TableShape.{TableShape}
+use Rattle.fx_core.specs.Lawful.{IsColumnType}
+use Rattle.fx_core.specs.declared.schema.Column.{Column}
+use Rattle.fx_core.specs.declared.schema.TableShape.{TableShape}
 
 -- an answer tells whether two are the same
 abbrev pub Tells : {A : Type 0} → Bool → A → A → Type 0

@@ -1,7 +1,7 @@
 -- What holds of the rows of a table that is seen.
 use Rattle.std.specs.Prelude.{ℕ, ◌^◌, ◌<◌, ◌≤◌, Bool, List, length}
 use Rattle.std.specs.List.{AllByRecursion}
-use Rattle.fx_trees.specs.declared.schema.Column.{Column}
+use Rattle.fx_core.specs.declared.schema.Column.{Column}
 use Rattle.fx_value.specs.Keys.{IsProper, key_bytes}
 use Rattle.row_queries.specs.Ranges.{in_ranges}
 use Rattle.row_queries.specs.TableRows.{AreCellsOf, AreInIdOrder, value_at, values_of}

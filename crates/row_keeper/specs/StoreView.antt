@@ -1,6 +1,6 @@
 -- What a store of tables is seen as.
 use Rattle.std.specs.Prelude.{Bool, false, List, [], Option, None}
-use Rattle.fx_trees.specs.declared.schema.Schema.{Schema}
+use Rattle.fx_core.specs.declared.schema.Schema.{Schema}
 use Rattle.row_keeper.specs.Tables.{TableState, Tables}
 
 -- the schema that is kept, if any, its tables now and as the transaction began, and whether one is begun

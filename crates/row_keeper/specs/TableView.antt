@@ -1,6 +1,6 @@
 -- What a table is seen as.
 use Rattle.std.specs.Prelude.{List, map}
-use Rattle.fx_trees.specs.declared.schema.Column.{Column}
+use Rattle.fx_core.specs.declared.schema.Column.{Column}
 use Rattle.row_keeper.specs.Tables.{TableState}
 
 -- a table with its columns, now and as the transaction began

@@ -1,14 +1,14 @@
 // What queries answer of the rows that they ask.
 ghost use Rattle.std.specs.Prelude.{◌≡◌, map, IfOk};
 ghost use Rattle.std.specs.List.{AllByRecursion};
-ghost use Rattle.fx_data.specs.ValueView.{view};
+ghost use Rattle.fx_types.specs.ValueView.{view};
 ghost use Rattle.row_queries.specs.Queries.{first_fault, given_of, outcome_on, rows_or_fault};
 ghost use Rattle.row_queries.specs.RowTests.{CanAsk, HasNoFaults};
 ghost use Rattle.row_queries.specs.TableRows.{value_at, values_of};
 
 use crate::scans::{Judged, first_rows, judge, list, value_in};
 use fx_base::{InOrder, Memory};
-use fx_data::Value;
+use fx_types::Value;
 use row_queries::{Query, Row, RowList};
 use std::alloc::Global;
 

@@ -1,10 +1,10 @@
 // Whether the constants of a test are sound.
 ghost use Rattle.std.specs.Prelude.{◌≡◌, true};
-ghost use Rattle.fx_data.specs.ValueView.{view};
+ghost use Rattle.fx_types.specs.ValueView.{view};
 ghost use Rattle.row_queries.specs.Conditions.{condition_list};
 ghost use Rattle.row_queries.specs.RowTests.{HasNoFaults, HaveNoFaults, IsNoFault};
 
-use fx_data::Value;
+use fx_types::Value;
 use row_queries::{Test, TestNode};
 
 fn is_no_fault(value: &Value) -> bool

@@ -4,8 +4,8 @@ ghost use Rattle.std.specs.Prelude.{◌≡◌, ◌≢◌, ℕ, ◌≤◌, Bool, 
 ghost use Rattle.std.specs.List.{All};
 ghost use Rattle.fx_base.specs.Silence.{Goes, IsLater, IsLost, Marks};
 ghost use Rattle.fx_base.specs.Telling.{Stays};
-ghost use Rattle.fx_trees.specs.Lawful.{IsLawfulSchema};
-ghost use Rattle.fx_trees.specs.declared.schema.Schema.{Schema as KeptSchema};
+ghost use Rattle.fx_core.specs.Lawful.{IsLawfulSchema};
+ghost use Rattle.fx_core.specs.declared.schema.Schema.{Schema as KeptSchema};
 ghost use Rattle.row_queries.specs.Answers.{IsCountAnswer, IsScanAnswer, IsTotalAnswer};
 ghost use Rattle.row_queries.specs.Queries.{CanTotal, IsQuery};
 ghost use Rattle.row_queries.specs.RowTests.{HasNoFaults};
@@ -17,8 +17,8 @@ ghost use Rattle.row_keeper.specs.Tables.{AreStatesOf, Tables, columns_at, rows_
 
 use crate::rows::Put;
 use fx_base::Memory;
-use fx_data::Totals;
-use fx_trees::Schema;
+use fx_core::Schema;
+use fx_types::Totals;
 use row_queries::{Cells, Query, RowList};
 use std::alloc::{AllocError, AllocFailed};
 

@@ -8,7 +8,7 @@ ghost use Rattle.row_keeper.specs.Covered.{key_at};
 
 use crate::scans::number_of;
 use fx_base::Memory;
-use fx_data::Value;
+use fx_types::Value;
 use fx_value::value_is_proper;
 use row_queries::{Cells, Key};
 use std::alloc::Global;

@@ -17,9 +17,9 @@ use crate::scans::list;
 use crate::store::Store;
 use fx_base::Memory;
 use fx_base::plan::FaultPlan;
-use fx_data::Totals;
+use fx_core::Schema;
 use fx_tables::totals;
-use fx_trees::Schema;
+use fx_types::Totals;
 use row_queries::{Cells, Query, Row, RowList};
 use std::alloc::Global;
 use std::marker::Model;
@@ -37,7 +37,7 @@ pub struct MemoryKeeper {
 impl Model for MemoryKeeper {
     ghost use Rattle.std.specs.Prelude.{option_map, string_bytes};
     ghost use Rattle.std.specs.Coded.{codes};
-    ghost use Rattle.fx_trees.specs.contracts.schema.Schema.{the_row as schema_row};
+    ghost use Rattle.fx_core.specs.contracts.schema.Schema.{the_row as schema_row};
     ghost use Rattle.row_queries.specs.contracts.rows.Row.{the_row as row_row};
     ghost use Rattle.row_keeper.specs.InMemory.{InMemory};
 

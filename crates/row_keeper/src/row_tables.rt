@@ -1,16 +1,16 @@
 //! The rows of a table as a value.
 ghost use Rattle.std.specs.Prelude.{◌≡◌, [], ◌∷◌, length, map, slice_get, unwrap_or, IfOk};
 ghost use Rattle.std.specs.List.{AllByRecursion};
-ghost use Rattle.fx_data.specs.ValueView.{view};
-ghost use Rattle.fx_data.specs.Values.{blank};
-ghost use Rattle.fx_trees.specs.Lawful.{IsLawfulTable, id_name};
+ghost use Rattle.fx_types.specs.ValueView.{view};
+ghost use Rattle.fx_types.specs.Values.{blank};
+ghost use Rattle.fx_core.specs.Lawful.{IsLawfulTable, id_name};
 ghost use Rattle.row_queries.specs.TableRows.{IsRowOf, id_value, table_of};
 
 use crate::scans::number_of;
 use fx_base::Memory;
-use fx_data::{Fields, Rows, Value, Words};
+use fx_core::TableShape;
 use fx_tables::add_column;
-use fx_trees::TableShape;
+use fx_types::{Fields, Rows, Value, Words};
 use row_queries::Row;
 use std::alloc::Global;
 

@@ -1,8 +1,8 @@
 // The rules that rows keep, asked of a table.
 ghost use Rattle.std.specs.Prelude.{◌≡◌, ◌≤◌, ◌+◌, ◌-◌, ◌^◌, ◌<◌, [], ◌∷◌, ◌++◌, length, map, min, nat_lt, ◌&&◌, is_none, slice_get, true, Some, None, IfOk, MatchOption};
 ghost use Rattle.std.specs.List.{list_any};
-ghost use Rattle.fx_data.specs.ValueView.{view};
-ghost use Rattle.fx_data.specs.Values.{text as text_data};
+ghost use Rattle.fx_types.specs.ValueView.{view};
+ghost use Rattle.fx_types.specs.Values.{text as text_data};
 ghost use Rattle.fx_value.specs.Keys.{key_bytes};
 ghost use Rattle.fx_value.specs.Order.{IsScalar};
 ghost use Rattle.row_queries.specs.RowTests.{is_empty as is_empty_data};
@@ -17,8 +17,8 @@ ghost use Rattle.row_keeper.specs.Rules.{FitsColumn, breaks_by, is_other as is_o
 use crate::rows::{RowRefusal, RowRule};
 use crate::table::Table;
 use fx_base::Memory;
-use fx_data::{Value, Words};
-use fx_trees::Column;
+use fx_core::Column;
+use fx_types::{Value, Words};
 use fx_value::{keys_order, value_is_proper, weigh};
 use row_queries::{Cells, Key, KeyRange, Row};
 use std::alloc::Global;

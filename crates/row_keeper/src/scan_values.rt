@@ -2,8 +2,8 @@
 ghost use Rattle.std.specs.Prelude.{◌≡◌, ◌≤◌, IfOk, Some};
 ghost use Rattle.std.specs.List.{All};
 ghost use Rattle.fx_base.specs.Telling.{Stays};
-ghost use Rattle.fx_data.specs.ValueView.{view};
-ghost use Rattle.fx_trees.specs.Lawful.{IsLawfulSchema, IsLawfulTable};
+ghost use Rattle.fx_types.specs.ValueView.{view};
+ghost use Rattle.fx_core.specs.Lawful.{IsLawfulSchema, IsLawfulTable};
 ghost use Rattle.row_keeper.specs.Over.{AttachedStays, Becomes, BeganStays, HasCause};
 ghost use Rattle.row_keeper.specs.Tables.{rows_told};
 ghost use Rattle.row_queries.specs.Answers.{IsScanValue, rows_in, table_or_fault};
@@ -14,8 +14,8 @@ ghost use Rattle.row_queries.specs.Visits.{VisitsAtLeast, VisitsTold};
 use crate::row_tables::table;
 use crate::{Keeper, KeeperEnd};
 use fx_base::Memory;
-use fx_data::Value;
-use fx_trees::{Schema, TableShape};
+use fx_core::{Schema, TableShape};
+use fx_types::Value;
 use row_queries::{Query, RowList};
 use std::alloc::Global;
 

@@ -2,16 +2,16 @@
 ghost use Rattle.std.specs.Prelude.{◌≡◌, filter, map, None, Some, IfOk, MatchOption};
 ghost use Rattle.std.specs.List.{AllByRecursion};
 ghost use Rattle.std.specs.List.Sorted.{IsPermutation, IsSorted};
-ghost use Rattle.fx_data.specs.ValueView.{view};
-ghost use Rattle.fx_data.specs.Values.{blank as blank_data};
+ghost use Rattle.fx_types.specs.ValueView.{view};
+ghost use Rattle.fx_types.specs.Values.{blank as blank_data};
 ghost use Rattle.fx_value.specs.Order.{order};
 ghost use Rattle.row_queries.specs.Queries.{first_fault, first_of, lies, outcome_on, row_order};
 ghost use Rattle.row_queries.specs.RowTests.{CanAsk, held_of, is_met};
 ghost use Rattle.row_queries.specs.TableRows.{id_value, value_at, values_of};
 
 use fx_base::{InOrder, Memory};
-use fx_data::{Fault, Value};
 use fx_number::Num;
+use fx_types::{Fault, Value};
 use fx_value::{compare, compare_is_total};
 use row_queries::{Held, Query, Row, fault_of, meets};
 use std::alloc::Global;

@@ -1,13 +1,13 @@
 // Schemas: copies, and whether two are the same.
 ghost use Rattle.std.specs.Prelude.{◌≡◌, IfOk};
-ghost use Rattle.fx_trees.specs.Lawful.{IsColumnType};
+ghost use Rattle.fx_core.specs.Lawful.{IsColumnType};
 ghost use Rattle.std.specs.List.{AllByRecursion};
-ghost use Rattle.fx_trees.specs.declared.schema.Column.{Column as ColumnValue};
+ghost use Rattle.fx_core.specs.declared.schema.Column.{Column as ColumnValue};
 ghost use Rattle.row_keeper.specs.Sameness.{HasColumnTypes, Tells};
 
 use fx_base::{InOrder, Memory};
-use fx_data::Ty;
-use fx_trees::{Column, ColumnList, Schema, TableList, TableShape};
+use fx_core::{Column, ColumnList, Schema, TableList, TableShape};
+use fx_types::Ty;
 use std::alloc::Global;
 
 fn copy_column(alloc: Global, column: &Column) -> Result<Column, Memory>

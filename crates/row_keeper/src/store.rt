@@ -1,8 +1,8 @@
 // The tables of a schema, with a transaction.
 ghost use Rattle.std.specs.Prelude.{◌≡◌, ◌≢◌, ◌≤◌, true, false, List, length, map, slice_get, None, IfNone, IfOk, IfSome, IsSome, IsSomeAnd, OnErr, OnOk};
 ghost use Rattle.std.specs.List.{AllByRecursion};
-ghost use Rattle.fx_trees.specs.Lawful.{IsLawfulSchema};
-ghost use Rattle.fx_trees.specs.declared.schema.TableShape.{TableShape as Shape};
+ghost use Rattle.fx_core.specs.Lawful.{IsLawfulSchema};
+ghost use Rattle.fx_core.specs.declared.schema.TableShape.{TableShape as Shape};
 ghost use Rattle.row_queries.specs.Queries.{AreAsked, IsQuery};
 ghost use Rattle.row_queries.specs.RowTests.{CanAsk};
 ghost use Rattle.row_queries.specs.TableRows.{AreCellsOf, AreHeldRows, IsRowOf, rows_at, values_of};
@@ -20,7 +20,7 @@ use crate::scans::sort_rows;
 use crate::schemas::{copy_columns, copy_schema, is_same_schema};
 use crate::table::Table;
 use fx_base::Memory;
-use fx_trees::{Schema, TableShape};
+use fx_core::{Schema, TableShape};
 use row_queries::{Cells, Query, Row};
 use std::alloc::Global;
 use std::marker::Model;
@@ -41,7 +41,7 @@ impl Model for Store {
     ghost use Rattle.row_keeper.specs.StoreView.{StoreView};
     ghost use Rattle.row_keeper.specs.TableView.{states_now, states_then};
     ghost use Rattle.std.specs.Coded.{codes};
-    ghost use Rattle.fx_trees.specs.contracts.schema.Schema.{the_row as schema_row};
+    ghost use Rattle.fx_core.specs.contracts.schema.Schema.{the_row as schema_row};
     ghost use Rattle.row_queries.specs.contracts.rows.Row.{the_row as row_row};
 
     ghost Value = { StoreView };

@@ -17,7 +17,7 @@ use crate::keys::{cells_are_proper, key_in};
 use crate::picked::{all_rows, rows_at, rows_of};
 use crate::slots::{Made, Slots};
 use fx_base::Memory;
-use fx_trees::ColumnList;
+use fx_core::ColumnList;
 use fx_value::keys_order;
 use row_queries::{Cells, KeyRange, Row};
 use std::alloc::Global;
@@ -45,7 +45,7 @@ impl Model for Table {
     ghost use Rattle.row_keeper.specs.TableView.{TableView};
     ghost use Rattle.row_keeper.specs.Whole.{IsWhole};
     ghost use Rattle.std.specs.Coded.{codes};
-    ghost use Rattle.fx_trees.specs.contracts.schema.Column.{the_row as column_row};
+    ghost use Rattle.fx_core.specs.contracts.schema.Column.{the_row as column_row};
     ghost use Rattle.row_queries.specs.contracts.rows.Row.{the_row as row_row};
 
     ghost Value = { TableView };

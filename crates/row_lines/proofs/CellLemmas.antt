@@ -2,11 +2,11 @@
 use Rattle.std.proofs.Common.{◌≡◌, ◌∙◌, ◌+◌, ◌<◌, ℕ, zero, suc, true, List, [], ◌∷◌, ◌++◌, get_or, length, map, take, ap, arith, subst, sym}
 use Rattle.std.proofs.lemmas.List.{take_more}
 use Rattle.std.specs.List.{AllByRecursion}
-use Rattle.fx_data.specs.TypeView.{shape}
-use Rattle.fx_data.specs.ValueView.{view}
-use Rattle.fx_data.specs.Values.{Data}
-use Rattle.fx_data.specs.declared.values.Value.{Value}
-use Rattle.fx_trees.specs.declared.schema.Column.{Column}
+use Rattle.fx_types.specs.TypeView.{shape}
+use Rattle.fx_types.specs.ValueView.{view}
+use Rattle.fx_types.specs.Values.{Data}
+use Rattle.fx_types.specs.declared.values.Value.{Value}
+use Rattle.fx_core.specs.declared.schema.Column.{Column}
 use Rattle.fx_value.specs.Fits.{fits_in}
 use Rattle.fx_value.specs.Order.{IsScalar}
 use Rattle.row_queries.specs.TableRows.{AreCellsOf}

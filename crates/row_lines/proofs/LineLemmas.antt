@@ -5,15 +5,15 @@ use Rattle.std.proofs.lemmas.List.{take_all}
 use Rattle.std.proofs.lemmas.Nat.{from_be_bytes-to_be_bytes_4, from_be_bytes-to_be_bytes_8}
 use Rattle.std.proofs.lemmas.Str.{chars-encodes}
 use Rattle.std.specs.List.{AllByRecursion}
-use Rattle.fx_data.specs.Days.{IsDay}
-use Rattle.fx_data.specs.TypeView.{shape}
-use Rattle.fx_data.specs.ValueView.{view}
-use Rattle.fx_data.specs.Values.{Data, blank, number, text, boolean, date, rec, tab, fault}
-use Rattle.fx_data.specs.declared.types.Ty.{Ty}
-use Rattle.fx_data.specs.declared.types.Ty.TheVariants as ty
-use Rattle.fx_data.specs.declared.values.Value.{Value}
+use Rattle.fx_types.specs.Days.{IsDay}
+use Rattle.fx_types.specs.TypeView.{shape}
+use Rattle.fx_types.specs.ValueView.{view}
+use Rattle.fx_types.specs.Values.{Data, blank, number, text, boolean, date, rec, tab, fault}
+use Rattle.fx_types.specs.declared.types.Ty.{Ty}
+use Rattle.fx_types.specs.declared.types.Ty.TheVariants as ty
+use Rattle.fx_types.specs.declared.values.Value.{Value}
 use Rattle.fx_number.specs.Decimal.{IsInRange}
-use Rattle.fx_trees.specs.declared.schema.Column.{Column}
+use Rattle.fx_core.specs.declared.schema.Column.{Column}
 use Rattle.fx_value.specs.Fits.{fits_in}
 use Rattle.fx_value.specs.Keys.{IsProper, key_bytes}
 use Rattle.fx_value.specs.Order.{IsScalar}

@@ -4,12 +4,12 @@ use Rattle.std.proofs.lemmas.List.{length-append, take_all}
 use Rattle.std.proofs.lemmas.List.Elements.{recursion_from_All}
 use Rattle.std.proofs.lemmas.Str.{chars-encodes}
 use Rattle.std.specs.List.{AllByRecursion}
-use Rattle.fx_data.specs.declared.types.Ty.{Ty}
-use Rattle.fx_data.specs.declared.types.Ty.TheVariants as ty
-use Rattle.fx_trees.specs.Lawful.{IsColumnType, IsLawfulSchema, IsLawfulTable}
-use Rattle.fx_trees.specs.declared.schema.Column.{Column}
-use Rattle.fx_trees.specs.declared.schema.Schema.{Schema}
-use Rattle.fx_trees.specs.declared.schema.TableShape.{TableShape}
+use Rattle.fx_types.specs.declared.types.Ty.{Ty}
+use Rattle.fx_types.specs.declared.types.Ty.TheVariants as ty
+use Rattle.fx_core.specs.Lawful.{IsColumnType, IsLawfulSchema, IsLawfulTable}
+use Rattle.fx_core.specs.declared.schema.Column.{Column}
+use Rattle.fx_core.specs.declared.schema.Schema.{Schema}
+use Rattle.fx_core.specs.declared.schema.TableShape.{TableShape}
 use Rattle.row_lines.specs.Bodies.{column_bytes, piece, schema_bytes, table_bytes, truth_byte, type_byte}
 use Rattle.row_lines.specs.FromBytes.{behind_column, behind_piece, first_column, first_piece, items_in, schema_in, table_in, truth_in, type_in}
 use Rattle.row_lines.specs.Laws.{HasShortName, HasTypeByte, HasTypeBytes, HaveTypeBytes, IsShortName, IsShortTable}

@@ -1,12 +1,12 @@
 -- Rows and schemas out of their bytes. All bytes are read, those too that stand for no row and no schema.
 use Rattle.std.specs.Prelude.{ℕ, zero, suc, ◌^◌, ℤ, pos, ◌-ℤ◌, Bool, true, false, List, [], ◌∷◌, chars, drop, length, slice_index, take}
 use Rattle.std.specs.Int.{Width, from_be_bytes, w32, w64}
-use Rattle.fx_data.specs.Values.{Data, blank, number, text, boolean, date}
-use Rattle.fx_data.specs.declared.types.Ty.{Ty}
-use Rattle.fx_data.specs.declared.types.Ty.TheVariants as ty
-use Rattle.fx_trees.specs.declared.schema.Column.{Column}
-use Rattle.fx_trees.specs.declared.schema.Schema.{Schema}
-use Rattle.fx_trees.specs.declared.schema.TableShape.{TableShape}
+use Rattle.fx_types.specs.Values.{Data, blank, number, text, boolean, date}
+use Rattle.fx_types.specs.declared.types.Ty.{Ty}
+use Rattle.fx_types.specs.declared.types.Ty.TheVariants as ty
+use Rattle.fx_core.specs.declared.schema.Column.{Column}
+use Rattle.fx_core.specs.declared.schema.Schema.{Schema}
+use Rattle.fx_core.specs.declared.schema.TableShape.{TableShape}
 
 -- the length of the piece that comes first, its bytes, and those behind it
 abbrev pub first_length : List ℕ → ℕ

@@ -2,11 +2,11 @@
 use Rattle.std.specs.Prelude.{◌≡◌, ℕ, ◌^◌, ◌<◌, true, List, encode_utf8_all, length}
 use Rattle.std.specs.List.{AllByRecursion}
 use Rattle.std.specs.Str.{all_scalars}
-use Rattle.fx_data.specs.Values.{Data}
-use Rattle.fx_trees.specs.declared.schema.Column.{Column}
-use Rattle.fx_trees.specs.declared.schema.Schema.{Schema}
-use Rattle.fx_trees.specs.declared.schema.TableShape.{TableShape}
-use Rattle.fx_trees.specs.Lawful.{IsLawfulSchema}
+use Rattle.fx_types.specs.Values.{Data}
+use Rattle.fx_core.specs.declared.schema.Column.{Column}
+use Rattle.fx_core.specs.declared.schema.Schema.{Schema}
+use Rattle.fx_core.specs.declared.schema.TableShape.{TableShape}
+use Rattle.fx_core.specs.Lawful.{IsLawfulSchema}
 use Rattle.fx_value.specs.Keys.{IsProper, key_bytes}
 use Rattle.row_queries.specs.TableRows.{AreCellsOf, value_at}
 use Rattle.row_lines.specs.Bodies.{line_bytes, schema_bytes, table_bytes, type_byte}

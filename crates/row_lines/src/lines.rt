@@ -1,8 +1,8 @@
 // The lines of rows.
 ghost use Rattle.std.specs.Prelude.{◌≡◌, ◌++◌, ◌≤◌, IfOk, IfSome, OnOk, map};
 ghost use Rattle.std.specs.List.{AllByRecursion};
-ghost use Rattle.fx_data.specs.ValueView.{view};
-ghost use Rattle.fx_data.specs.Values.{Data};
+ghost use Rattle.fx_types.specs.ValueView.{view};
+ghost use Rattle.fx_types.specs.Values.{Data};
 ghost use Rattle.fx_value.specs.Keys.{key_bytes};
 ghost use Rattle.fx_value.specs.Order.{IsScalar};
 ghost use Rattle.row_queries.specs.TableRows.{AreCellsOf, IsHeldRow};
@@ -13,8 +13,8 @@ ghost use Rattle.row_lines.specs.Laws.{HasShortKey};
 use crate::pieces::{push_piece, split_piece};
 use crate::values::value_of;
 use fx_base::Memory;
-use fx_data::Value;
-use fx_trees::{Column, TableShape};
+use fx_core::{Column, TableShape};
+use fx_types::Value;
 use fx_value::key_of;
 use row_keeper::keys::cells_are_proper;
 use row_queries::{Cells, Row};

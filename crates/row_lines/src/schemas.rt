@@ -7,8 +7,8 @@ ghost use Rattle.row_lines.specs.Laws.{HasShortName, HasTypeByte, HasTypeBytes, 
 
 use crate::pieces::{push_piece, split_piece};
 use fx_base::{InOrder, Memory};
-use fx_data::{Ty, Words};
-use fx_trees::{Column, ColumnList, Schema, TableList, TableShape};
+use fx_core::{Column, ColumnList, Schema, TableList, TableShape};
+use fx_types::{Ty, Words};
 use std::alloc::Global;
 
 fn type_byte(ty: &Ty) -> u8

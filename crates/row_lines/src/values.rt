@@ -1,13 +1,13 @@
 // Values of columns out of their keys.
 ghost use Rattle.std.specs.Prelude.{◌≡◌, true, IfOk, IfSome};
-ghost use Rattle.fx_data.specs.TypeView.{shape};
-ghost use Rattle.fx_data.specs.ValueView.{view};
+ghost use Rattle.fx_types.specs.TypeView.{shape};
+ghost use Rattle.fx_types.specs.ValueView.{view};
 ghost use Rattle.fx_value.specs.Fits.{fits_in};
 ghost use Rattle.fx_value.specs.Order.{IsScalar};
 
 use fx_base::Memory;
-use fx_data::{Day, Ty, Value, Words};
 use fx_number::Num;
+use fx_types::{Day, Ty, Value, Words};
 use std::alloc::Global;
 
 /// The number whose count plus 2^63 has these eight bytes.

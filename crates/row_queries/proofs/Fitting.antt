@@ -11,13 +11,13 @@ use Rattle.std.proofs.lemmas.List.Elements.{recursion_from_All}
 use Rattle.std.proofs.lemmas.Map.Lookups.{exact_bytes}
 use Rattle.std.proofs.lemmas.Slice.Eq.{bytes_eq-Decides}
 use Rattle.std.proofs.lemmas.Bool.{and_from}
-use Rattle.fx_data.specs.TypeView.{shape}
-use Rattle.fx_data.specs.Types.{Shape, ColumnList, no_columns, column, numbers}
-use Rattle.fx_data.specs.Values.{Data, field_list, row_list}
-use Rattle.fx_trees.specs.declared.schema.Column.{Column}
-use Rattle.fx_trees.specs.declared.schema.TableShape.{TableShape}
-use Rattle.fx_trees.specs.Lawful.{AreDistinct, id_name}
-use Rattle.fx_trees.specs.SourceTypes.{columns_of, put_column, put_columns}
+use Rattle.fx_types.specs.TypeView.{shape}
+use Rattle.fx_types.specs.Types.{Shape, ColumnList, no_columns, column, numbers}
+use Rattle.fx_types.specs.Values.{Data, field_list, row_list}
+use Rattle.fx_core.specs.declared.schema.Column.{Column}
+use Rattle.fx_core.specs.declared.schema.TableShape.{TableShape}
+use Rattle.fx_core.specs.Lawful.{AreDistinct, id_name}
+use Rattle.fx_core.specs.SourceTypes.{columns_of, put_column, put_columns}
 use Rattle.fx_value.specs.Columns.{with_field}
 use Rattle.fx_value.specs.Columns.{Row as Fields}
 use Rattle.fx_value.specs.Fits.{fields_fit, fits_in, rows_fit}

@@ -1,6 +1,6 @@
 -- One part of a test after another.
 use Rattle.std.proofs.Common.{◌≡◌, ℕ, zero, suc, ◌<◌, List, [], ◌∷◌, length, get_or, sym, subst, arith}
-use Rattle.fx_data.specs.Values.{Data}
+use Rattle.fx_types.specs.Values.{Data}
 use Rattle.row_queries.specs.Conditions.{Condition, condition_list, condition_size, list_size}
 use Rattle.row_queries.specs.RowTests.{CanAsk, CanAskAll}
 

@@ -5,11 +5,11 @@ use Rattle.std.proofs.lemmas.Bool.Decides.{nat_tests}
 use Rattle.std.proofs.lemmas.Slice.Eq.{bytes_eq-Decides}
 use Rattle.std.proofs.lemmas.Str.{length-le-encodes}
 use Rattle.std.proofs.lemmas.Bool.{or_right}
-use Rattle.fx_data.specs.Values.{text}
-use Rattle.fx_builtins.specs.Folding.{HasPart}
-use Rattle.fx_builtins.specs.Search.{StandsAt}
+use Rattle.fx_types.specs.Values.{text}
+use Rattle.fx_primitives.specs.Folding.{HasPart}
+use Rattle.fx_primitives.specs.Search.{StandsAt}
 use Rattle.row_queries.specs.RowTests.{begins, has_part, is_empty}
-use Rattle.fx_trees.proofs.Spelled.{same_truth}
+use Rattle.fx_core.proofs.Spelled.{same_truth}
 
 -- a text is empty where its bytes are
 pub empty_by_bytes : (cs bs : List ℕ) → bs ≡ encode_utf8_all cs → nat_eq (length bs) 0 ≡ is_empty (text cs)

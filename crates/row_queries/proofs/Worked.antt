@@ -1,8 +1,8 @@
 -- Worked rows of what row tests come to, and of ranges.
 use Rattle.std.proofs.Common.{◌≡◌, ℕ, pos, negsuc, List, [], ◌∷◌, true, false, Some, refl}
-use Rattle.fx_data.specs.declared.comparisons.Cmp.TheVariants.{Eq, Lt, Gt}
-use Rattle.fx_data.specs.declared.faults.Kind.TheVariants.{Div0, Custom}
-use Rattle.fx_data.specs.Values.{Data, blank, number, text, fault}
+use Rattle.fx_types.specs.declared.comparisons.Cmp.TheVariants.{Eq, Lt, Gt}
+use Rattle.fx_types.specs.declared.faults.Kind.TheVariants.{Div0, Custom}
+use Rattle.fx_types.specs.Values.{Data, blank, number, text, fault}
 use Rattle.fx_value.specs.Keys.{key_bytes}
 use Rattle.row_queries.specs.Conditions.{Condition, flag, constant, compares, is_blank, all_of, any_of, opposite, no_conditions, also}
 use Rattle.row_queries.specs.Queries.{first_fault, first_of}

@@ -1,10 +1,10 @@
 -- What scans, counts and totals answer, where the rows of all tables are told and where they aren't.
 use Rattle.std.specs.Prelude.{◌≡◌, ℕ, suc, List, Option, Some, None, slice_get, IfSome}
-use Rattle.fx_data.specs.declared.aggregates.Totals.{Totals}
-use Rattle.fx_data.specs.declared.faults.Fault.{Fault}
-use Rattle.fx_data.specs.Values.{Data, fault, tab, no_rows, row}
-use Rattle.fx_data.specs.Values.{RowList as TableRowList}
-use Rattle.fx_trees.specs.declared.schema.TableShape.{TableShape}
+use Rattle.fx_types.specs.declared.aggregates.Totals.{Totals}
+use Rattle.fx_types.specs.declared.faults.Fault.{Fault}
+use Rattle.fx_types.specs.Values.{Data, fault, tab, no_rows, row}
+use Rattle.fx_types.specs.Values.{RowList as TableRowList}
+use Rattle.fx_core.specs.declared.schema.TableShape.{TableShape}
 use Rattle.row_queries.specs.declared.queries.Query.{Query}
 use Rattle.row_queries.specs.declared.rows.Row.{Row}
 use Rattle.row_queries.specs.declared.rows.RowList.{RowList}

@@ -3,10 +3,10 @@ use Rattle.std.specs.Prelude.{◌≡◌, refl, ℕ, List}
 use Rattle.std.proofs.Common.{ap}
 use Rattle.std.specs.Coded.{Coded, coded_list}
 use base.Stored.{Gv, gnil, gnum, gcons}
-use Rattle.fx_data.specs.contracts.comparisons.Cmp.{the_row as cmp_row}
-use Rattle.fx_data.specs.ValueCode.{data_code}
+use Rattle.fx_types.specs.contracts.comparisons.Cmp.{the_row as cmp_row}
+use Rattle.fx_types.specs.ValueCode.{data_code}
 use Rattle.row_queries.specs.Conditions.{Condition, ConditionList, always, flag, constant, compares, is_blank, starts, contains, all_of, any_of, opposite, no_conditions, also}
-use Rattle.fx_trees.specs.TermCode.{front, back}
+use Rattle.fx_core.specs.TermCode.{front, back}
 
 abbrev pub count : Gv → ℕ
 count (gnum n) = n

@@ -1,7 +1,7 @@
 -- Row tests as plain data.
 use Rattle.std.specs.Prelude.{ℕ, suc, ◌+◌, List, [], ◌∷◌}
-use Rattle.fx_data.specs.declared.comparisons.Cmp.{Cmp}
-use Rattle.fx_data.specs.Values.{Data}
+use Rattle.fx_types.specs.declared.comparisons.Cmp.{Cmp}
+use Rattle.fx_types.specs.Values.{Data}
 
 mutual
   -- what a row must meet: columns go by number, and values are constants

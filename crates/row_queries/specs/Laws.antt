@@ -1,10 +1,10 @@
 -- Laws of queries.
 use Rattle.std.specs.Prelude.{◌≡◌, true, List}
 use Rattle.std.specs.List.{All}
-use Rattle.fx_data.specs.Types.{tables}
-use Rattle.fx_trees.specs.declared.schema.TableShape.{TableShape}
-use Rattle.fx_trees.specs.Lawful.{IsLawfulTable}
-use Rattle.fx_trees.specs.SourceTypes.{columns_of}
+use Rattle.fx_types.specs.Types.{tables}
+use Rattle.fx_core.specs.declared.schema.TableShape.{TableShape}
+use Rattle.fx_core.specs.Lawful.{IsLawfulTable}
+use Rattle.fx_core.specs.SourceTypes.{columns_of}
 use Rattle.fx_value.specs.Fits.{fits_in}
 use Rattle.row_queries.specs.Queries.{AreAsked}
 use Rattle.row_queries.specs.TableRows.{AreInIdOrder, IsRowOf, table_of}

@@ -1,9 +1,9 @@
 -- What row tests come to: what the conditions that they stand for come to, on a row.
 use Rattle.std.specs.Prelude.{◌≡◌, ◌⊎◌, ℕ, Bool, true, false, ◌||◌, List, [], ◌∷◌, bytes_eq, length, take, Option, Some, None, slice_get, IsSomeAnd}
 use Rattle.caseless.specs.Caseless.{default_case_fold}
-use Rattle.fx_data.specs.declared.faults.Fault.{Fault}
-use Rattle.fx_data.specs.declared.faults.Kind.{Kind}
-use Rattle.fx_data.specs.Values.{Data, blank, text, boolean, fault}
+use Rattle.fx_types.specs.declared.faults.Fault.{Fault}
+use Rattle.fx_types.specs.declared.faults.Kind.{Kind}
+use Rattle.fx_types.specs.Values.{Data, blank, text, boolean, fault}
 use Rattle.fx_value.specs.Operators.{CanCompare, holds_of}
 use Rattle.fx_value.specs.Order.{IsScalar}
 use Rattle.row_queries.specs.Conditions.{Condition, ConditionList, always, flag, constant, compares, is_blank, starts, contains, all_of, any_of, opposite, no_conditions, also}

@@ -1,11 +1,11 @@
 -- The rows of a table, and the records that they are.
 use Rattle.std.specs.Prelude.{◌≡◌, true, ℕ, ◌*◌, ◌<◌, ◌≤◌, pos, List, [], ◌∷◌, slice_get, unwrap_or, map}
 use Rattle.std.specs.List.{All}
-use Rattle.fx_data.specs.TypeView.{shape}
-use Rattle.fx_data.specs.Values.{Data, blank, number, tab, row_list}
-use Rattle.fx_trees.specs.declared.schema.Column.{Column}
-use Rattle.fx_trees.specs.declared.schema.TableShape.{TableShape}
-use Rattle.fx_trees.specs.Lawful.{id_name}
+use Rattle.fx_types.specs.TypeView.{shape}
+use Rattle.fx_types.specs.Values.{Data, blank, number, tab, row_list}
+use Rattle.fx_core.specs.declared.schema.Column.{Column}
+use Rattle.fx_core.specs.declared.schema.TableShape.{TableShape}
+use Rattle.fx_core.specs.Lawful.{id_name}
 use Rattle.fx_value.specs.Keys.{IsProper}
 use Rattle.fx_value.specs.Order.{IsScalar}
 use Rattle.fx_value.specs.Columns.{with_field}

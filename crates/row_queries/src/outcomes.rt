@@ -1,8 +1,8 @@
 //! What row tests come to on rows.
 ghost use Rattle.std.specs.Prelude.{◌≡◌, ◌⊎◌, [], IfOk, IsSome, MatchOption, OnErr, Some, slice_get};
 ghost use Rattle.caseless.specs.Caseless.{default_case_fold};
-ghost use Rattle.fx_data.specs.ValueView.{view};
-ghost use Rattle.fx_data.specs.Values.{text as text_data};
+ghost use Rattle.fx_types.specs.ValueView.{view};
+ghost use Rattle.fx_types.specs.Values.{text as text_data};
 ghost use Rattle.fx_value.specs.Operators.{CanCompare, holds_of};
 ghost use Rattle.row_queries.specs.Conditions.{condition_list};
 ghost use Rattle.row_queries.specs.Judgements.{judged};
@@ -13,8 +13,8 @@ ghost use Rattle.row_queries.specs.TableRows.{id_value, value_at, values_of};
 use crate::row_tests::{Held, Test, TestNode};
 use crate::rows::Row;
 use fx_base::Memory;
-use fx_data::{Cmp, Fault, Value, Words};
 use fx_number::Num;
+use fx_types::{Cmp, Fault, Value, Words};
 use fx_value::holds;
 use std::alloc::Global;
 
@@ -215,14 +215,14 @@ fn contains(alloc: Global, row: &Row, column: u16, part: &Value) -> Result<bool,
 fn starts_with(alloc: Global, text: &Words, part: &Words) -> Result<bool, Memory>
     ensures { IfOk result (λ b. b ≡ begins (default_case_fold text.now) (default_case_fold part.now)) }
 {
-    fx_builtins::starts_with(alloc, text, part)
+    fx_primitives::starts_with(alloc, text, part)
 }
 
 // Whether a text has a part somewhere, without case.
 fn has_part(alloc: Global, text: &Words, part: &Words) -> Result<bool, Memory>
     ensures { IfOk result (λ b. b ≡ has_part_in (default_case_fold text.now) (default_case_fold part.now)) }
 {
-    Ok(fx_builtins::contains(alloc, text, part)?)
+    Ok(fx_primitives::contains(alloc, text, part)?)
 }
 
 // The text in a column, or an empty one. The empty one is lent by the caller, so that no text is copied.

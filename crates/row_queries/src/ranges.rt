@@ -3,12 +3,12 @@ ghost use Rattle.std.specs.Prelude.{◌≡◌, IfOk};
 ghost use Rattle.std.specs.Cmp.Lexicographic.{slice_cmp, nat_list_eq_equiv, nat_list_cmp_total, texts_po, texts_ties};
 ghost use Rattle.std.specs.Cmp.{partial_equiv_from_equiv};
 ghost use Rattle.std.specs.Ordering.{nat_cmp};
-ghost use Rattle.fx_data.specs.ValueView.{view};
+ghost use Rattle.fx_types.specs.ValueView.{view};
 ghost use Rattle.fx_value.specs.Keys.{key_bytes};
 ghost use Rattle.fx_value.specs.Order.{IsScalar};
 
 use fx_base::{InOrder, Memory};
-use fx_data::Value;
+use fx_types::Value;
 use fx_value::key_of;
 use std::alloc::Global;
 use std::cmp::Ordering;

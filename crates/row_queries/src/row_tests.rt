@@ -2,7 +2,7 @@
 ghost use Rattle.std.specs.Prelude.{◌≡◌, ◌≤◌, ◌++◌, ◌∷◌, [], length, slice_get, Some, OnOk, OnErr, MatchOption};
 
 use fx_base::Memory;
-use fx_data::{Cmp, Value};
+use fx_types::{Cmp, Value};
 use std::alloc::Global;
 use std::marker::Model;
 

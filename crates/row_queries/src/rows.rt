@@ -1,9 +1,9 @@
 //! The rows of tables.
 ghost use Rattle.std.specs.Prelude.{◌≡◌, ◌≤◌, ◌++◌, ◌∷◌, [], length, map, slice_get, Some, IfOk, OnOk, OnErr, MatchOption};
-ghost use Rattle.fx_data.specs.ValueView.{view};
+ghost use Rattle.fx_types.specs.ValueView.{view};
 
 use fx_base::{InOrder, Memory};
-use fx_data::{Fault, Value};
+use fx_types::{Fault, Value};
 use std::alloc::Global;
 use std::marker::Model;
 
@@ -17,9 +17,9 @@ pub struct Cells {
 impl Model for Cells {
     ghost use Rattle.std.specs.Prelude.{List, map};
     ghost use Rattle.std.specs.Coded.{coded_list};
-    ghost use Rattle.fx_data.specs.Values.{Data};
-    ghost use Rattle.fx_data.specs.ValueCode.{data_code};
-    ghost use Rattle.fx_data.specs.ValueView.{view as value_view};
+    ghost use Rattle.fx_types.specs.Values.{Data};
+    ghost use Rattle.fx_types.specs.ValueCode.{data_code};
+    ghost use Rattle.fx_types.specs.ValueView.{view as value_view};
 
     ghost Value = { List Data };
 

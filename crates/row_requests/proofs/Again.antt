@@ -1,18 +1,18 @@
 -- Requests that come again.
 use Rattle.std.proofs.Common.{◌≡◌, ◌≢◌, ℕ, Bool, false, if◌then◌else◌, unwrap_or, List, [], ◌∷◌, Option, Some, Result, Ok, Err, refl, ap, ◌∙◌, subst}
 use Rattle.fx_base.specs.Silence.{IsLost, Marks}
-use Rattle.fx_trees.specs.declared.schema.TableShape.{TableShape}
+use Rattle.fx_core.specs.declared.schema.TableShape.{TableShape}
 use Rattle.row_keeper.specs.Tables.{Tables}
 use Rattle.session_state.specs.Once.{Kept, nobody}
-use Rattle.request_checks.specs.Checks.{checks, desk_of, is_full, kept_of}
+use Rattle.numbered_requests.specs.Checks.{checks, desk_of, is_full, kept_of}
 use Rattle.row_requests.specs.Bodies.{posted_in}
 use Rattle.row_requests.specs.DeskRows.{Outcome, PostsChecked, PostsRows, accepted_reply, desk_checks, desks_after}
-use Rattle.request_checks.specs.Directory.{find}
+use Rattle.numbered_requests.specs.Directory.{find}
 use Rattle.row_requests.specs.Laws.{AreOfOthers, IsLast, Post}
 use Rattle.row_requests.specs.declared.bodies.Posted.{Posted}
-use Rattle.request_checks.specs.declared.directory.Named.{Named}
-use Rattle.request_checks.proofs.Again.{comes_again}
-use Rattle.request_checks.proofs.Directories.{find_other, found_among}
+use Rattle.numbered_requests.specs.declared.directory.Named.{Named}
+use Rattle.numbered_requests.proofs.Again.{comes_again}
+use Rattle.numbered_requests.proofs.Directories.{find_other, found_among}
 
 has_room : (name : List ℕ) (k : Kept) (desks : List (Named Kept)) → find name desks ≡ Some k → is_full name desks ≡ false
 has_room name k desks e = rw (found_among Kept name k desks e) refl

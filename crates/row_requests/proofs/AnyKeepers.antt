@@ -2,15 +2,15 @@
 use Rattle.std.proofs.Common.{◌≡◌, ℕ, suc, ◌+◌, ◌<◌, ◌≤◌, List, [], ◌∷◌, ◌++◌, length, drop, get_or, refl, ap, sym, append_assoc, subst, inl, inr, Option, Some, None, Result, Ok, Err, arith, rules}
 use Rattle.std.proofs.lemmas.List.{append-nil}
 use Rattle.std.specs.Prelude.{option_map}
-use Rattle.fx_data.specs.Values.{Data}
-use Rattle.fx_trees.specs.declared.schema.Column.{Column}
-use Rattle.fx_trees.specs.declared.schema.TableShape.{TableShape}
+use Rattle.fx_types.specs.Values.{Data}
+use Rattle.fx_core.specs.declared.schema.Column.{Column}
+use Rattle.fx_core.specs.declared.schema.TableShape.{TableShape}
 use Rattle.row_keeper.specs.Changes.{IsInserted, IsReplaced}
 use Rattle.row_keeper.specs.Tables.{columns_at}
 use Rattle.row_keeper.specs.declared.rows.Put.{Put}
 use Rattle.row_keeper.specs.declared.rows.Put.TheVariants as put
 use Rattle.view_text.specs.declared.refused.Refusal.{Refusal}
-use Rattle.request_checks.specs.Replies.{plain}
+use Rattle.numbered_requests.specs.Replies.{plain}
 use Rattle.row_requests.proofs.Performing.{drop_all, rest_of}
 use Rattle.row_requests.specs.AnyKeeper.{BreaksRule, IsOfChanges, IsRefusedAt, MayAdd, MayChange, MayChangeIn, MayEnd, MayPut, MayReplace}
 use Rattle.row_requests.specs.Changes.{broken, column_named, judged, kept_rule, name_at, or_else, place_of, rule_of_given, table_of}

@@ -2,12 +2,12 @@
 use Rattle.std.proofs.Common.{◌≡◌, ℕ, zero, suc, ◌+◌, Bool, true, false, cond, List, [], ◌∷◌, ◌++◌, map, take, length, Option, Some, None, refl, ap, ap₂, sym, ◌∙◌, subst, bytes_eq, add-one}
 use Rattle.std.specs.Prelude.{IfSome, option_and_then, option_map, slice_get, unwrap_or}
 use Rattle.std.specs.List.{AllByRecursion, find}
-use Rattle.fx_data.specs.TypeView.{shape}
-use Rattle.fx_data.specs.ValueView.{view}
-use Rattle.fx_data.specs.Values.{Data}
-use Rattle.fx_data.specs.declared.values.Value.{Value}
-use Rattle.fx_trees.specs.declared.schema.Column.{Column}
-use Rattle.fx_trees.specs.Lawful.{AreDistinct, DiffersFromAll, id_name}
+use Rattle.fx_types.specs.TypeView.{shape}
+use Rattle.fx_types.specs.ValueView.{view}
+use Rattle.fx_types.specs.Values.{Data}
+use Rattle.fx_types.specs.declared.values.Value.{Value}
+use Rattle.fx_core.specs.declared.schema.Column.{Column}
+use Rattle.fx_core.specs.Lawful.{AreDistinct, DiffersFromAll, id_name}
 use Rattle.fx_value.specs.Fits.{fits_in}
 use Rattle.fx_value.specs.Order.{IsScalar}
 use Rattle.row_queries.specs.TableRows.{AreCellsOf}
@@ -15,7 +15,7 @@ use Rattle.view_text.specs.declared.refused.Refusal.{Refusal}
 use Rattle.row_requests.specs.Changes.{blanks, broken, cells_with, column_named, given_at, has_type, judged, or_else, rule_of_given}
 use Rattle.row_requests.specs.GivenRows.{AreScalars}
 use Rattle.row_requests.specs.declared.rule.Rule.TheVariants.{ColumnType}
-use Rattle.request_checks.proofs.Directories.{apart, itself, same_bytes}
+use Rattle.numbered_requests.proofs.Directories.{apart, itself, same_bytes}
 
 -- ---- blanks fit
 

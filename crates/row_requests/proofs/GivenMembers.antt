@@ -1,6 +1,6 @@
 -- What the members of an object give for a row.
 use Rattle.serde_json.specs.Data.{Members, member, no_members}
-use Rattle.request_checks.proofs.JsonValues.{of_value}
+use Rattle.numbered_requests.proofs.JsonValues.{of_value}
 use Rattle.row_requests.specs.GivenRows.{AreScalars, given_in}
 
 pub given_scalars : (ms : Members) → AreScalars (given_in ms)

@@ -8,7 +8,7 @@ use Rattle.std.proofs.lemmas.List.Elements.{All-from_recursion}
 use Rattle.std.proofs.lemmas.Option.{slice_get_past}
 use Rattle.std.proofs.lemmas.Str.{chars-IsAscii}
 use Rattle.std.proofs.lemmas.Str.Ascii.{IsAscii-from_all}
-use Rattle.fx_trees.specs.declared.schema.Column.{Column}
+use Rattle.fx_core.specs.declared.schema.Column.{Column}
 use Rattle.row_requests.specs.Changes.{name_at, rule_name}
 use Rattle.row_requests.specs.declared.rule.Rule.{Rule}
 use Rattle.row_requests.specs.declared.rule.Rule.TheVariants as rule

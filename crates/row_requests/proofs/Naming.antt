@@ -9,10 +9,10 @@ use Rattle.std.proofs.lemmas.List.Elements.{filter_map-append}
 use Rattle.std.proofs.lemmas.Option.{unwrap_or-slice_get}
 use Rattle.fx_base.specs.Silence.{Goes}
 use Rattle.fx_base.proofs.Silences.{goes_weaker}
-use Rattle.fx_trees.specs.Reads.{IsAmong}
-use Rattle.fx_trees.specs.declared.schema.TableShape.{TableShape}
-use Rattle.fx_trees.specs.declared.sources.Source.{Source}
-use Rattle.fx_trees.specs.declared.sources.Source.TheVariants.{Table}
+use Rattle.fx_core.specs.Reads.{IsAmong}
+use Rattle.fx_core.specs.declared.schema.TableShape.{TableShape}
+use Rattle.fx_core.specs.declared.sources.Source.{Source}
+use Rattle.fx_core.specs.declared.sources.Source.TheVariants.{Table}
 use Rattle.row_keeper.specs.RowRules.{rule_of}
 use Rattle.row_keeper.specs.Tables.{TableState, Tables, columns_at, has_id, no_rows, state_at, with_cells, with_row, with_state, without_row}
 use Rattle.row_queries.specs.declared.rows.Row.{Row}

@@ -6,11 +6,11 @@ use Rattle.std.proofs.lemmas.Bool.{cases_lt}
 use Rattle.std.proofs.lemmas.List.{length-take, take-take, take_all}
 use Rattle.app_wire.specs.ReplyBytes.{reply}
 use Rattle.fx_base.specs.Silence.{Goes}
-use Rattle.fx_trees.specs.declared.schema.Column.{Column}
+use Rattle.fx_core.specs.declared.schema.Column.{Column}
 use Rattle.row_queries.specs.TableRows.{AreCellsOf}
 use Rattle.row_queries.specs.declared.rows.Row.{Row}
 use Rattle.row_keeper.specs.Tables.{Tables, state_at}
-use Rattle.fx_data.specs.Values.{Data}
+use Rattle.fx_types.specs.Values.{Data}
 use Rattle.serde_json.specs.Data.{Members, put}
 use Rattle.serde_json.specs.Written.{compact_text}
 use Rattle.view_text.specs.JsonText.{value_data}

@@ -4,9 +4,9 @@ use Rattle.std.specs.Prelude.{IfSome, option_map}
 use Rattle.std.specs.List.{list_any}
 use Rattle.fx_base.specs.Silence.{Goes, IsLater, IsLost, Marks}
 use Rattle.fx_base.proofs.Silences.{goes_two, goes_weaker}
-use Rattle.fx_data.specs.Values.{Data}
-use Rattle.fx_trees.specs.declared.schema.Column.{Column}
-use Rattle.fx_trees.specs.declared.schema.TableShape.{TableShape}
+use Rattle.fx_types.specs.Values.{Data}
+use Rattle.fx_core.specs.declared.schema.Column.{Column}
+use Rattle.fx_core.specs.declared.schema.TableShape.{TableShape}
 use Rattle.row_queries.specs.TableRows.{AreInIdOrder}
 use Rattle.row_queries.specs.declared.rows.Row.{Row}
 use Rattle.row_keeper.specs.Changes.{Inserts, Replaces}
@@ -17,7 +17,7 @@ use Rattle.row_keeper.specs.declared.rows.Put.TheVariants as put
 use Rattle.view_text.specs.declared.refused.Refusal.{Refusal}
 use Rattle.row_requests.specs.Changes.{add_row, blanks, cells_with, change_in_table, change_row, judged, kept_refusal, place_of, row_of, table_of, unless}
 use Rattle.row_requests.specs.Queries.{FindsRow}
-use Rattle.request_checks.specs.Replies.{plain}
+use Rattle.numbered_requests.specs.Replies.{plain}
 use Rattle.row_requests.specs.Steps.{ChangesOne, Comes, came}
 use Rattle.row_requests.specs.declared.bodies.Change.{Change}
 use Rattle.row_requests.specs.declared.changes.Changed.{Changed}

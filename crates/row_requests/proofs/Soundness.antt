@@ -5,10 +5,10 @@ use Rattle.std.specs.List.{All}
 use Rattle.std.proofs.lemmas.List.Elements.{All-append, All-cons, All-filter, All-map, All-nil, recursion_from_All}
 use Rattle.fx_base.specs.Silence.{Goes}
 use Rattle.fx_base.specs.Telling.{Stays}
-use Rattle.fx_data.specs.Values.{Data}
-use Rattle.fx_trees.specs.declared.schema.Column.{Column}
-use Rattle.fx_trees.specs.declared.schema.Schema.{Schema}
-use Rattle.fx_trees.specs.declared.schema.TableShape.{TableShape}
+use Rattle.fx_types.specs.Values.{Data}
+use Rattle.fx_core.specs.declared.schema.Column.{Column}
+use Rattle.fx_core.specs.declared.schema.Schema.{Schema}
+use Rattle.fx_core.specs.declared.schema.TableShape.{TableShape}
 use Rattle.row_queries.specs.TableRows.{AreCellsOf, IsRowOf}
 use Rattle.row_queries.specs.declared.rows.Row.{Row}
 use Rattle.row_keeper.specs.Changes.{Inserts, Removes, Replaces}

@@ -4,7 +4,7 @@ use Rattle.std.specs.Result.{is_ok}
 use Rattle.fx_base.specs.Silence.{Goes, IsLater, IsLost, Marks}
 use Rattle.fx_base.specs.Telling.{Stays}
 use Rattle.fx_base.proofs.Silences.{goes_two, later_then, lost_before, lost_more}
-use Rattle.fx_trees.specs.declared.schema.TableShape.{TableShape}
+use Rattle.fx_core.specs.declared.schema.TableShape.{TableShape}
 use Rattle.row_keeper.specs.Tables.{Tables}
 use Rattle.row_requests.specs.Changes.{perform}
 use Rattle.row_requests.specs.DeskRows.{Acts, Outcome}

@@ -1,13 +1,13 @@
 -- What may become of posted changes, whatever the tables are, which may not be told.
 use Rattle.std.specs.Prelude.{◌≡◌, ◌⊎◌, ℕ, ◌+◌, ◌<◌, ◌≤◌, List, [], ◌∷◌, length, Option, Some, None, Result, Ok, Err}
-use Rattle.fx_data.specs.Values.{Data}
-use Rattle.fx_trees.specs.declared.schema.Column.{Column}
-use Rattle.fx_trees.specs.declared.schema.TableShape.{TableShape}
+use Rattle.fx_types.specs.Values.{Data}
+use Rattle.fx_core.specs.declared.schema.Column.{Column}
+use Rattle.fx_core.specs.declared.schema.TableShape.{TableShape}
 use Rattle.row_keeper.specs.Changes.{NamesItsColumn}
 use Rattle.row_keeper.specs.Tables.{columns_at}
 use Rattle.row_keeper.specs.declared.rows.RowRefusal.{RowRefusal}
 use Rattle.view_text.specs.declared.refused.Refusal.{Refusal}
-use Rattle.request_checks.specs.Replies.{plain}
+use Rattle.numbered_requests.specs.Replies.{plain}
 use Rattle.row_requests.specs.Changes.{broken, judged, kept_refusal, place_of, table_of}
 use Rattle.row_requests.specs.declared.bodies.Change.{Change}
 use Rattle.row_requests.specs.declared.bodies.Change.TheVariants.{Add, Replace, Remove}

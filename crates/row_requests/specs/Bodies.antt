@@ -1,7 +1,7 @@
 -- The bodies of requests that change rows.
 use Rattle.std.specs.Prelude.{ℕ, ◌==◌, ◌&&◌, ◌≤◌, nat_le, List, [], ◌∷◌, length, codes, bytes_eq, Option, Some, None, option_and_then, option_map, if◌then◌else◌}
 use Rattle.serde_json.specs.Data as json
-use Rattle.request_checks.specs.GivenValues.{bytes_at, items_at, member_count, members_at, number_at, text_at}
+use Rattle.numbered_requests.specs.GivenValues.{bytes_at, items_at, member_count, members_at, number_at, text_at}
 use Rattle.row_requests.specs.GivenRows.{given_in}
 use Rattle.row_requests.specs.declared.bodies.Posted.{Posted}
 use Rattle.row_requests.specs.declared.bodies.Change.{Change}

@@ -1,11 +1,11 @@
 -- What posted changes do to tables.
 use Rattle.std.specs.Prelude.{ℕ, ◌+◌, ◌-◌, Bool, true, false, bytes_eq, cond, List, [], ◌∷◌, map, codes, slice_get, Option, Some, None, option_and_then, option_map, unwrap_or, Result, Ok, Err}
 use Rattle.std.specs.List.{find, list_any, position}
-use Rattle.fx_data.specs.TypeView.{shape}
-use Rattle.fx_data.specs.Values.{Data, blank}
+use Rattle.fx_types.specs.TypeView.{shape}
+use Rattle.fx_types.specs.Values.{Data, blank}
 use Rattle.fx_value.specs.Fits.{fits_in}
-use Rattle.fx_trees.specs.declared.schema.Column.{Column as ColumnShape}
-use Rattle.fx_trees.specs.declared.schema.TableShape.{TableShape}
+use Rattle.fx_core.specs.declared.schema.Column.{Column as ColumnShape}
+use Rattle.fx_core.specs.declared.schema.TableShape.{TableShape}
 use Rattle.row_queries.specs.declared.rows.Row.{Row}
 use Rattle.row_keeper.specs.RowRules.{rule_of}
 use Rattle.row_keeper.specs.Tables.{Tables, columns_at, has_id, state_at, with_cells, with_row, with_state, without_row}
@@ -14,7 +14,7 @@ use Rattle.row_keeper.specs.declared.rows.RowRule.{RowRule}
 use Rattle.row_keeper.specs.declared.rows.RowRule.TheVariants as row
 use Rattle.view_text.specs.declared.refused.Detail.TheVariants as detail
 use Rattle.view_text.specs.declared.refused.Refusal.{Refusal}
-use Rattle.request_checks.specs.Replies.{plain}
+use Rattle.numbered_requests.specs.Replies.{plain}
 use Rattle.row_requests.specs.declared.rule.Rule.{Rule}
 use Rattle.row_requests.specs.declared.rule.Rule.TheVariants.{Column, ColumnType, Required, Unique, Size, Full}
 use Rattle.row_requests.specs.declared.bodies.Change.{Change}

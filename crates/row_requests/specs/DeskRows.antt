@@ -5,19 +5,19 @@ use Rattle.serde_json.specs.View.{items_of}
 use Rattle.serde_json.specs.Written.{compact_text}
 use Rattle.app_wire.specs.ReplyBytes.{reply}
 use Rattle.fx_base.specs.Silence.{Goes}
-use Rattle.fx_trees.specs.declared.schema.TableShape.{TableShape}
+use Rattle.fx_core.specs.declared.schema.TableShape.{TableShape}
 use Rattle.row_keeper.specs.Tables.{Tables}
 use Rattle.session_state.specs.Once.{Kept}
 use Rattle.view_text.specs.declared.refused.Refusal.{Refusal}
 use Rattle.row_requests.specs.AnyKeeper.{MayEnd}
 use Rattle.row_requests.specs.Bodies.{posted_in}
 use Rattle.row_requests.specs.Changes.{perform}
-use Rattle.request_checks.specs.Checks.{checks, desk_of}
-use Rattle.request_checks.specs.Directory.{put}
-use Rattle.request_checks.specs.Replies.{refusal_reply}
+use Rattle.numbered_requests.specs.Checks.{checks, desk_of}
+use Rattle.numbered_requests.specs.Directory.{put}
+use Rattle.numbered_requests.specs.Replies.{refusal_reply}
 use Rattle.row_requests.specs.declared.bodies.Change.{Change}
 use Rattle.row_requests.specs.declared.bodies.Posted.{Posted}
-use Rattle.request_checks.specs.declared.directory.Named.{Named}
+use Rattle.numbered_requests.specs.declared.directory.Named.{Named}
 
 -- the checks of posted rows: JSON (9), its shape (10), a desk too many (12), and the number (13, 14, or the kept reply)
 abbrev pub desk_checks : List (Named Kept) → List ℕ → List ℕ → Result Posted (List ℕ)

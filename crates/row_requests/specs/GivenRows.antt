@@ -1,13 +1,13 @@
 -- What is given for rows.
 use Rattle.std.specs.Prelude.{ℕ, List, [], ◌∷◌, map, Option, IfSome, option_map}
 use Rattle.std.specs.List.{AllByRecursion}
-use Rattle.fx_data.specs.ValueView.{view}
-use Rattle.fx_data.specs.Values.{Data}
-use Rattle.fx_data.specs.declared.values.Value.{Value}
-use Rattle.fx_data.specs.Words.{scalars_of}
+use Rattle.fx_types.specs.ValueView.{view}
+use Rattle.fx_types.specs.Values.{Data}
+use Rattle.fx_types.specs.declared.values.Value.{Value}
+use Rattle.fx_types.specs.Words.{scalars_of}
 use Rattle.fx_value.specs.Order.{IsScalar}
 use Rattle.serde_json.specs.Data.{Members, no_members, member}
-use Rattle.request_checks.specs.GivenValues.{value_in}
+use Rattle.numbered_requests.specs.GivenValues.{value_in}
 
 abbrev pub given_view : List (List ℕ × Option Value) → List (List ℕ × Option Data)
 given_view gs = map (λ g. (g.0, option_map view g.1)) gs

@@ -2,15 +2,15 @@
 use Rattle.std.specs.Prelude.{◌≡◌, ◌≢◌, ℕ, List, [], ◌∷◌, Option, Some}
 use Rattle.serde_json.specs.Data as json
 use Rattle.fx_base.specs.Silence.{IsLost, Marks}
-use Rattle.fx_trees.specs.declared.schema.TableShape.{TableShape}
+use Rattle.fx_core.specs.declared.schema.TableShape.{TableShape}
 use Rattle.row_keeper.specs.Tables.{Tables}
 use Rattle.session_state.specs.Once.{Kept}
-use Rattle.request_checks.specs.Bodies.{json_of}
+use Rattle.numbered_requests.specs.Bodies.{json_of}
 use Rattle.row_requests.specs.Bodies.{posted_in}
 use Rattle.row_requests.specs.DeskRows.{PostsRows}
-use Rattle.request_checks.specs.Directory.{find}
+use Rattle.numbered_requests.specs.Directory.{find}
 use Rattle.row_requests.specs.declared.bodies.Posted.{Posted}
-use Rattle.request_checks.specs.declared.directory.Named.{Named}
+use Rattle.numbered_requests.specs.declared.directory.Named.{Named}
 
 -- this is kept of a desk: its last accepted request posted changes under the last number
 pub record IsLast (desks : List (Named Kept)) (name : List ℕ) (k : Kept) : Type 0 where

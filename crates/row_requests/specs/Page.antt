@@ -7,14 +7,14 @@ use Rattle.serde_json.specs.View.{items_of}
 use Rattle.serde_json.specs.Written.{compact_text}
 use Rattle.app_wire.specs.ReplyBytes.{reply}
 use Rattle.fx_base.specs.Silence.{Goes}
-use Rattle.fx_data.specs.Values.{Data}
-use Rattle.fx_trees.specs.declared.schema.Column.{Column}
-use Rattle.fx_trees.specs.declared.schema.TableShape.{TableShape}
+use Rattle.fx_types.specs.Values.{Data}
+use Rattle.fx_core.specs.declared.schema.Column.{Column}
+use Rattle.fx_core.specs.declared.schema.TableShape.{TableShape}
 use Rattle.row_queries.specs.declared.rows.Row.{Row}
 use Rattle.row_keeper.specs.Tables.{Tables, columns_at, state_at}
 use Rattle.view_text.specs.JsonText.{value_data}
 use Rattle.row_requests.specs.Changes.{place_of}
-use Rattle.request_checks.specs.Replies.{plain, refusal_reply}
+use Rattle.numbered_requests.specs.Replies.{plain, refusal_reply}
 
 -- the most rows of a page
 abbrev pub most_rows : ℕ

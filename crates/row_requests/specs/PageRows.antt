@@ -1,7 +1,7 @@
 -- Rows that can be shown.
 use Rattle.std.specs.Prelude.{List}
 use Rattle.std.specs.List.{AllByRecursion}
-use Rattle.fx_trees.specs.declared.schema.Column.{Column}
+use Rattle.fx_core.specs.declared.schema.Column.{Column}
 use Rattle.row_queries.specs.TableRows.{AreCellsOf}
 use Rattle.row_queries.specs.declared.rows.Row.{Row}
 

@@ -1,9 +1,9 @@
 -- A reply that was made, with a copy of it to keep, before anything is settled.
 use Rattle.std.specs.Prelude.{◌≡◌, ℕ, List}
-use Rattle.fx_trees.specs.declared.schema.TableShape.{TableShape}
+use Rattle.fx_core.specs.declared.schema.TableShape.{TableShape}
 use Rattle.row_requests.specs.AnyKeeper.{MayEnd}
 use Rattle.row_requests.specs.DeskRows.{outcome_reply}
-use Rattle.request_checks.specs.Replies.{IsReply, said}
+use Rattle.numbered_requests.specs.Replies.{IsReply, said}
 use Rattle.row_requests.specs.declared.bodies.Posted.{Posted}
 use Rattle.row_requests.specs.declared.transaction.Prepared.{Prepared}
 

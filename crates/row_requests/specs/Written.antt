@@ -1,13 +1,13 @@
 -- Which tables are written.
 use Rattle.std.specs.Prelude.{◌≡◌, ℕ, List, Option, option_map, Ok}
 use Rattle.std.specs.List.{filter_map}
-use Rattle.fx_trees.specs.Reads.{IsAmong}
-use Rattle.fx_trees.specs.declared.schema.TableShape.{TableShape}
-use Rattle.fx_trees.specs.declared.sources.Source.{Source}
-use Rattle.fx_trees.specs.declared.sources.Source.TheVariants.{Table}
+use Rattle.fx_core.specs.Reads.{IsAmong}
+use Rattle.fx_core.specs.declared.schema.TableShape.{TableShape}
+use Rattle.fx_core.specs.declared.sources.Source.{Source}
+use Rattle.fx_core.specs.declared.sources.Source.TheVariants.{Table}
 use Rattle.row_keeper.specs.Tables.{Tables, state_at}
 use Rattle.session_state.specs.Once.{Kept}
-use Rattle.request_checks.specs.declared.directory.Named.{Named}
+use Rattle.numbered_requests.specs.declared.directory.Named.{Named}
 use Rattle.row_requests.specs.Changes.{place_of, table_of}
 use Rattle.row_requests.specs.DeskRows.{desk_checks}
 use Rattle.row_requests.specs.declared.bodies.Change.{Change}

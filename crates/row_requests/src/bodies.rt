@@ -1,16 +1,16 @@
 //! The bodies of requests that change rows.
 ghost use Rattle.std.specs.Prelude.{◌≡◌, IfOk, IfSome, codes, option_and_then, option_map};
 ghost use Rattle.serde_json.specs.View.{items_view, members_view, view as json_view};
-ghost use Rattle.fx_data.specs.ValueView.{view};
+ghost use Rattle.fx_types.specs.ValueView.{view};
 ghost use Rattle.row_requests.specs.Bodies.{added_in as added, change_by as by_operation, change_in as one_change, changes_in as all_changes, if_few as few_of, IsSoundPost, posted_in as posted, removed_in as removed, replaced_in as replaced};
 ghost use Rattle.row_requests.specs.Changes.{given_at, table_of};
 ghost use Rattle.row_requests.specs.GivenRows.{AreScalars, given_in as given_of_members, given_view};
-ghost use Rattle.request_checks.specs.GivenValues.{members_at as members_at_key};
+ghost use Rattle.numbered_requests.specs.GivenValues.{members_at as members_at_key};
 
 use fx_base::{InOrder, Memory};
-use fx_data::{Value, Words};
-use request_checks::Body;
-use request_checks::values::{items_at, member_count, members_at, number_at, text_at, value_in};
+use fx_types::{Value, Words};
+use numbered_requests::Body;
+use numbered_requests::values::{items_at, member_count, members_at, number_at, text_at, value_in};
 use serde_json::{Map, Value as Json};
 use std::alloc::Global;
 use std::marker::Model;
@@ -27,8 +27,8 @@ pub struct Given {
 impl Model for Given {
     ghost use Rattle.std.specs.Prelude.{ℕ, List, Option};
     ghost use Rattle.std.specs.Coded.{codes};
-    ghost use Rattle.fx_data.specs.ValueCode.{data_code};
-    ghost use Rattle.fx_data.specs.Values.{Data};
+    ghost use Rattle.fx_types.specs.ValueCode.{data_code};
+    ghost use Rattle.fx_types.specs.Values.{Data};
     ghost use Rattle.row_requests.specs.GivenRows.{AreScalars, given_view};
 
     ghost Value = { List (List ℕ × Option Data) };

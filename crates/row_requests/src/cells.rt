@@ -1,12 +1,12 @@
 // The cells of rows, with what is given for them.
 ghost use Rattle.std.specs.Prelude.{◌≡◌, IfOk, length, map, unwrap_or};
-ghost use Rattle.fx_data.specs.ValueView.{view};
+ghost use Rattle.fx_types.specs.ValueView.{view};
 ghost use Rattle.row_requests.specs.Changes.{blanks as blanks_of, cells_with as cells_with_given, given_at};
 
 use crate::bodies::Given;
 use fx_base::Memory;
-use fx_data::Value;
-use fx_trees::Column;
+use fx_core::Column;
+use fx_types::Value;
 use row_queries::Cells;
 use std::alloc::Global;
 

@@ -1,12 +1,12 @@
 // Changes of rows, inside a transaction.
 ghost use Rattle.std.specs.Prelude.{◌≡◌, ◌<◌, true, IfOk, IfSome, length, Some};
 ghost use Rattle.std.specs.List.{list_any};
-ghost use Rattle.fx_trees.specs.Lawful.{IsLawfulSchema};
+ghost use Rattle.fx_core.specs.Lawful.{IsLawfulSchema};
 ghost use Rattle.row_keeper.specs.Over.{Becomes, BeganStays, HasCause};
 ghost use Rattle.row_keeper.specs.Tables.{columns_at, has_id, state_at};
 ghost use Rattle.row_requests.specs.AnyKeeper.{MayAdd, MayChange, MayChangeIn, MayRemove, MayReplace};
 ghost use Rattle.row_requests.specs.Changes.{add_row, change_in_table, change_row, place_of as place_of_name, remove_row, row_of};
-ghost use Rattle.request_checks.specs.Replies.{plain};
+ghost use Rattle.numbered_requests.specs.Replies.{plain};
 ghost use Rattle.row_requests.specs.Sound.{AreSound};
 ghost use Rattle.row_requests.specs.Steps.{ChangesOne, Comes, came as came_of, said_of};
 
@@ -15,8 +15,8 @@ use crate::cells::{cells_with, new_cells};
 use crate::finding::find_row;
 use crate::judging::{judge, kept_refusal};
 use fx_base::Memory;
-use fx_data::Words;
-use fx_trees::{Column, Schema, TableShape};
+use fx_core::{Column, Schema, TableShape};
+use fx_types::Words;
 use row_keeper::{Keeper, KeeperEnd, Put};
 use std::alloc::Global;
 use view_text::{Detail, Refusal};

@@ -2,7 +2,7 @@
 ghost use Rattle.std.specs.Prelude.{◌≡◌, ◌<◌, ◌∷◌, [], IfOk, IfSome, IsSome, IsSomeAnd, OnErr, length, slice_get};
 ghost use Rattle.std.specs.List.{All};
 ghost use Rattle.fx_base.specs.Telling.{Stays};
-ghost use Rattle.fx_data.specs.ValueView.{view};
+ghost use Rattle.fx_types.specs.ValueView.{view};
 ghost use Rattle.fx_value.specs.Keys.{key_bytes};
 ghost use Rattle.row_queries.specs.TableRows.{IsRowOf, id_value as id_value_of};
 ghost use Rattle.row_keeper.specs.Numbered.{one_row as one_row_query};
@@ -12,8 +12,8 @@ ghost use Rattle.row_keeper.specs.Tables.{shapes_of};
 ghost use Rattle.row_requests.specs.Queries.{FindsRow, FindsRows, VisitsPast, after_key, beyond as beyond_key, next_rows as next_rows_query};
 
 use fx_base::{InOrder, Memory};
-use fx_data::{Cmp, Value};
 use fx_number::Num;
+use fx_types::{Cmp, Value};
 use fx_value::keys_order;
 use row_keeper::{Keeper, KeeperEnd};
 use row_queries::{Key, KeyRange, Query, Row, Test, TestNode, asked_once};

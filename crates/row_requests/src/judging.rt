@@ -1,15 +1,15 @@
 // What is given for rows, judged.
 ghost use Rattle.std.specs.Prelude.{◌≡◌, IfOk, option_map};
-ghost use Rattle.fx_data.specs.ValueView.{view};
-ghost use Rattle.fx_data.specs.Words.{scalars_of};
+ghost use Rattle.fx_types.specs.ValueView.{view};
+ghost use Rattle.fx_types.specs.Words.{scalars_of};
 ghost use Rattle.row_requests.specs.Changes.{broken as broken_of, column_named, has_type as has_type_of, judged, kept_refusal as kept_refusal_of, name_at as name_at_of, rule_of_given};
 ghost use Rattle.row_requests.specs.GivenRows.{AreScalars};
 
 use crate::bodies::Given;
 use crate::rule::Rule;
 use fx_base::Memory;
-use fx_data::{Value, Words};
-use fx_trees::Column;
+use fx_core::Column;
+use fx_types::{Value, Words};
 use fx_value::fits;
 use row_keeper::RowRefusal;
 use std::alloc::Global;

@@ -16,6 +16,6 @@ mod transaction;
 
 pub use desk::post_rows;
 pub use end::settle;
+pub use numbered_requests::{MOST_DESKS, Named, Reply, is_among, place_of, put};
 pub use page::{MOST_ROWS, show_page};
-pub use request_checks::{MOST_DESKS, Named, Reply, is_among, place_of, put};
 pub use rule::Rule;

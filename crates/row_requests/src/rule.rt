@@ -1,6 +1,6 @@
 //! The rules of rows, as refusals name them.
 ghost use Rattle.std.specs.Prelude.{◌≡◌};
-ghost use Rattle.fx_data.specs.Words.{scalars_of};
+ghost use Rattle.fx_types.specs.Words.{scalars_of};
 ghost use Rattle.row_requests.specs.Changes.{kept_rule, rule_name};
 
 use row_keeper::RowRule;

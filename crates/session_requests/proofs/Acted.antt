@@ -1,12 +1,12 @@
 -- What acts sees the item that it should.
 use Rattle.std.proofs.Common.{◌≡◌, ℕ, Bool, true, false, List, Option, Some, None, refl, ap, sym, ◌∙◌, subst, codes, encode_utf8_all, if◌then◌else◌}
 use Rattle.std.specs.Prelude.{IfSome, option_map, slice_get}
-use Rattle.fx_data.specs.Values.{Data}
-use Rattle.fx_data.specs.declared.controls.Control.{Control}
-use Rattle.fx_data.specs.declared.controls.Control.TheVariants as control
-use Rattle.fx_trees.specs.Lawful.{IsGallery, IsLawfulGallery}
-use Rattle.fx_trees.specs.declared.names.ControlName.{ControlName}
-use Rattle.fx_trees.specs.declared.names.Names.{Names}
+use Rattle.fx_types.specs.Values.{Data}
+use Rattle.fx_types.specs.declared.controls.Control.{Control}
+use Rattle.fx_types.specs.declared.controls.Control.TheVariants as control
+use Rattle.fx_core.specs.Lawful.{IsGallery, IsLawfulGallery}
+use Rattle.fx_core.specs.declared.names.ControlName.{ControlName}
+use Rattle.fx_core.specs.declared.names.Names.{Names}
 use Rattle.fx_typing.specs.Typing.{item_of}
 use Rattle.recalc.specs.app_cells.Spots.{acts_for_gallery, item_in, item_or}
 use Rattle.recalc.specs.app_cells.declared.app.App.{App}

@@ -7,8 +7,8 @@ use base.Stored.{Gv, gnil, gnum, gcons}
 use Rattle.recalc.specs.app_cells.contracts.app.App.{the_row as app_row}
 use Rattle.recalc.specs.app_cells.declared.app.App.{App}
 use Rattle.fx_env.specs.Scopes.{Fixed}
-use Rattle.fx_trees.specs.contracts.sources.Source.{the_row as source_row}
-use Rattle.fx_trees.specs.declared.sources.Source.{Source}
+use Rattle.fx_core.specs.contracts.sources.Source.{the_row as source_row}
+use Rattle.fx_core.specs.declared.sources.Source.{Source}
 use Rattle.session_state.specs.contracts.session.Session.{the_row as session_row}
 use Rattle.session_state.specs.Sessions.{SessionState}
 use Rattle.session_requests.specs.Anchors.{Anchor, anchor, coded_onto, numbered}

@@ -10,24 +10,24 @@ use Rattle.std.proofs.lemmas.Option.{slice_get_within, unwrap_or-slice_get}
 use Rattle.std.specs.Coded.{Coded-set}
 use Rattle.fx_base.specs.Silence.{Goes}
 use Rattle.fx_base.specs.Telling.{Stays}
-use Rattle.fx_data.specs.TypeView.{shape}
-use Rattle.fx_data.specs.Types.{Shape, tables as table_type}
-use Rattle.fx_data.specs.Values.{Data, blank, no_rows as no_rows_at_all, tab}
-use Rattle.fx_data.specs.ValueCode.{data_code}
-use Rattle.fx_data.specs.ValueView.{view}
+use Rattle.fx_types.specs.TypeView.{shape}
+use Rattle.fx_types.specs.Types.{Shape, tables as table_type}
+use Rattle.fx_types.specs.Values.{Data, blank, no_rows as no_rows_at_all, tab}
+use Rattle.fx_types.specs.ValueCode.{data_code}
+use Rattle.fx_types.specs.ValueView.{view}
 use Rattle.fx_deeds.specs.Changed.{written}
 use Rattle.fx_scalar.specs.ScalarFunctions.{IsToday}
-use Rattle.fx_trees.specs.Reads.{IsAmong}
-use Rattle.fx_trees.specs.Controls.{input_type}
-use Rattle.fx_trees.specs.SourceTypes.{chosen_of as item_chosen, columns_of, if_context, if_global, item_type, sources}
-use Rattle.fx_trees.specs.declared.names.Collection.{Collection}
-use Rattle.fx_trees.specs.declared.names.ControlName.{ControlName}
-use Rattle.fx_trees.specs.declared.names.Names.{Names}
-use Rattle.fx_trees.specs.declared.names.Variable.{Variable}
-use Rattle.fx_trees.specs.declared.schema.Column.{Column}
-use Rattle.fx_trees.specs.declared.schema.TableShape.{TableShape}
-use Rattle.fx_trees.specs.declared.sources.Source.{Source}
-use Rattle.fx_trees.specs.declared.sources.Source.TheVariants as source
+use Rattle.fx_core.specs.Reads.{IsAmong}
+use Rattle.fx_core.specs.Controls.{input_type}
+use Rattle.fx_core.specs.SourceTypes.{chosen_of as item_chosen, columns_of, if_context, if_global, item_type, sources}
+use Rattle.fx_core.specs.declared.names.Collection.{Collection}
+use Rattle.fx_core.specs.declared.names.ControlName.{ControlName}
+use Rattle.fx_core.specs.declared.names.Names.{Names}
+use Rattle.fx_core.specs.declared.names.Variable.{Variable}
+use Rattle.fx_core.specs.declared.schema.Column.{Column}
+use Rattle.fx_core.specs.declared.schema.TableShape.{TableShape}
+use Rattle.fx_core.specs.declared.sources.Source.{Source}
+use Rattle.fx_core.specs.declared.sources.Source.TheVariants as source
 use Rattle.recalc.proofs.of_app_semantics.Freshness.{given_told, today_is}
 use Rattle.recalc.proofs.of_app_semantics.Typings.{among_either}
 use Rattle.recalc.specs.Asking.{IsHeardOf, ToldRows}
@@ -42,7 +42,7 @@ use Rattle.recalc.proofs.Leaving.{left_same, left_then, left_wider}
 use Rattle.recalc.specs.Changes.{AreSameBut, IsLeftBut}
 use Rattle.recalc.specs.Kept.{IsInOrder, IsRight, IsSourceOf, Kept, place_of}
 use Rattle.recalc.specs.Outcomes.{IsRightOver}
-use Rattle.fx_data.specs.declared.aggregates.Totals.{Totals}
+use Rattle.fx_types.specs.declared.aggregates.Totals.{Totals}
 use Rattle.row_keeper.specs.Changes.{Counts, Inserts, Removes, Replaces, TotalsUp}
 use Rattle.row_keeper.specs.declared.keeper.KeeperEnd.{KeeperEnd}
 use Rattle.row_queries.specs.declared.queries.Query.{Query}

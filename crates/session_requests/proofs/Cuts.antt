@@ -9,13 +9,13 @@ use Rattle.fx_base.specs.Telling.{Stays}
 use Rattle.fx_behave.specs.CutOff.{CutsGoOn, IsCutOff}
 use Rattle.fx_behave.specs.Perform.{Performs}
 use Rattle.fx_behave.specs.Unique.{GivesOne}
-use Rattle.fx_data.specs.Values.{Data}
+use Rattle.fx_types.specs.Values.{Data}
 use Rattle.fx_deeds.specs.State.{State}
 use Rattle.fx_deeds.specs.Within.{Within}
 use Rattle.fx_env.specs.Scopes.{Held}
 use Rattle.fx_semantics.proofs.Wider.{among_left, among_right}
-use Rattle.fx_trees.specs.Reads.{IsAmong}
-use Rattle.fx_trees.specs.declared.sources.Source.{Source}
+use Rattle.fx_core.specs.Reads.{IsAmong}
+use Rattle.fx_core.specs.declared.sources.Source.{Source}
 use Rattle.recalc.specs.app_cells.declared.app.App.{App}
 use Rattle.recalc.specs.app_cells.declared.app.CellInfo.{CellInfo}
 use Rattle.row_keeper.specs.Tables.{Tables}

@@ -3,8 +3,8 @@ use Rattle.std.proofs.Common.{◌≡◌, ℕ, List, Some, refl, ap, ◌∙◌, g
 use Rattle.std.specs.Prelude.{option_map}
 use Rattle.std.proofs.lemmas.Option.{slice_get_read}
 use Rattle.session_state.specs.Sessions.{SessionState}
-use Rattle.request_checks.specs.Directory.{find, it_at}
-use Rattle.request_checks.specs.declared.directory.Named.{Named}
+use Rattle.numbered_requests.specs.Directory.{find, it_at}
+use Rattle.numbered_requests.specs.declared.directory.Named.{Named}
 use Rattle.session_requests.specs.Acting.{IsAt}
 
 -- the session of a name is what stands at its place

@@ -2,16 +2,16 @@
 use Rattle.std.proofs.Common.{◌≡◌, ℕ, zero, suc, ◌<◌, List, [], ◌∷◌, ◌++◌, Option, Some, None, length, refl, ap, sym, subst}
 use Rattle.std.specs.Prelude.{IfSome, slice_set, unwrap_or}
 use Rattle.std.specs.List.{AllByRecursion, position}
-use Rattle.fx_data.specs.Values.{Data, blank, number, text, boolean, date, rec, tab, fault, FieldList, no_fields, field, field_list, RowList, no_rows, row, row_list}
-use Rattle.fx_data.specs.declared.values.Value.TheVariants as value
+use Rattle.fx_types.specs.Values.{Data, blank, number, text, boolean, date, rec, tab, fault, FieldList, no_fields, field, field_list, RowList, no_rows, row, row_list}
+use Rattle.fx_types.specs.declared.values.Value.TheVariants as value
 use Rattle.recalc.specs.fx_semantics.Rows.{fields_of, rows_of}
-use Rattle.fx_trees.specs.declared.names.Names.{Names}
+use Rattle.fx_core.specs.declared.names.Names.{Names}
 use Rattle.session_requests.proofs.RequestFitting.{fits_with}
-use Rattle.fx_trees.specs.declared.sources.Source.{Source}
-use Rattle.fx_trees.specs.declared.sources.Source.TheVariants as source
-use Rattle.request_checks.specs.Checked.{KeepsReply, SessionsKeepReplies}
-use Rattle.request_checks.specs.Directory.{is_named, put, put_at}
-use Rattle.request_checks.specs.declared.directory.Named.{Named}
+use Rattle.fx_core.specs.declared.sources.Source.{Source}
+use Rattle.fx_core.specs.declared.sources.Source.TheVariants as source
+use Rattle.numbered_requests.specs.Checked.{KeepsReply, SessionsKeepReplies}
+use Rattle.numbered_requests.specs.Directory.{is_named, put, put_at}
+use Rattle.numbered_requests.specs.declared.directory.Named.{Named}
 use Rattle.session_state.specs.Changes.{FitsNames, FitsSource}
 use Rattle.session_state.specs.Sessions.{SessionState}
 use Rattle.session_state.specs.declared.change.Change.TheVariants as change

@@ -4,13 +4,13 @@ use Rattle.std.specs.Prelude.{IfSome, option_and_then, slice_get}
 use Rattle.recalc.specs.app_cells.Spots.{item_or}
 use Rattle.recalc.specs.app_semantics.Chosen.{row_at}
 use Rattle.recalc.specs.app_semantics.Present.{items_of}
-use Rattle.fx_data.specs.ValueView.{view}
-use Rattle.fx_data.specs.Values.{Data}
-use Rattle.fx_data.specs.declared.values.Value.{Value}
+use Rattle.fx_types.specs.ValueView.{view}
+use Rattle.fx_types.specs.Values.{Data}
+use Rattle.fx_types.specs.declared.values.Value.{Value}
 use Rattle.recalc.specs.fx_semantics.Rows.{rows_in}
 use Rattle.fx_value.specs.Columns.{Row}
-use Rattle.fx_trees.specs.declared.names.ControlName.{ControlName}
-use Rattle.fx_trees.specs.declared.names.Names.{Names}
+use Rattle.fx_core.specs.declared.names.ControlName.{ControlName}
+use Rattle.fx_core.specs.declared.names.Names.{Names}
 use Rattle.recalc.specs.Reading.{cell_value}
 use Rattle.recalc.specs.Values.{Values, value_of}
 use Rattle.session_requests.specs.Shown.{cell_values}

@@ -9,20 +9,20 @@ use Rattle.recalc.proofs.of_app_semantics.Given.{items_fit}
 use Rattle.recalc.specs.app_semantics.Chosen.{item_id, row_at}
 use Rattle.recalc.specs.app_semantics.Present.{items_of}
 use Rattle.recalc.specs.app_semantics.Sound.{IsSound}
-use Rattle.fx_data.specs.TypeView.{shape}
-use Rattle.fx_data.specs.Types.{ColumnList}
-use Rattle.fx_data.specs.Values.{Data}
-use Rattle.fx_data.specs.declared.controls.Control.TheVariants as control
+use Rattle.fx_types.specs.TypeView.{shape}
+use Rattle.fx_types.specs.Types.{ColumnList}
+use Rattle.fx_types.specs.Values.{Data}
+use Rattle.fx_types.specs.declared.controls.Control.TheVariants as control
 use Rattle.recalc.proofs.of_fx_semantics.Tables.{RowsFit, rows_in_fit}
 use Rattle.recalc.specs.fx_semantics.Around.{record_of}
 use Rattle.recalc.specs.fx_semantics.Rows.{rows_in}
 use Rattle.recalc.specs.fx_semantics.Sound.{IsItemFit}
 use Rattle.fx_tables.proofs.FitRows.{RowFits}
 use Rattle.fx_value.specs.Columns.{Row}
-use Rattle.fx_trees.specs.Lawful.{IsGallery, IsLawful, IsLawfulControl, IsLawfulGallery}
-use Rattle.fx_trees.specs.SourceTypes.{item_columns, item_type}
-use Rattle.fx_trees.specs.declared.names.ControlName.{ControlName}
-use Rattle.fx_trees.specs.declared.names.Names.{Names}
+use Rattle.fx_core.specs.Lawful.{IsGallery, IsLawful, IsLawfulControl, IsLawfulGallery}
+use Rattle.fx_core.specs.SourceTypes.{item_columns, item_type}
+use Rattle.fx_core.specs.declared.names.ControlName.{ControlName}
+use Rattle.fx_core.specs.declared.names.Names.{Names}
 use Rattle.fx_typing.specs.Typing.{item_of}
 use Rattle.recalc.specs.Values.{CellsFit}
 use Rattle.session_state.specs.Sessions.{SessionState}

@@ -20,11 +20,11 @@ use Rattle.recalc.specs.app_semantics.Properties.{IsForItem, IsPropertyForItem, 
 use Rattle.recalc.specs.app_semantics.Sound.{IsSound}
 use Rattle.recalc.specs.fx_semantics.Around.{record_of}
 use Rattle.recalc.specs.fx_semantics.Rows.{rows_in}
-use Rattle.fx_data.specs.Values.{Data, blank, boolean, no_rows, number, tab}
+use Rattle.fx_types.specs.Values.{Data, blank, boolean, no_rows, number, tab}
 use Rattle.fx_eval.specs.fx_plan.Limited.{limited}
-use Rattle.fx_trees.specs.declared.names.ControlName.{ControlName}
-use Rattle.fx_trees.specs.declared.names.Names.{Names}
-use Rattle.fx_trees.specs.declared.sources.Source.TheVariants as source
+use Rattle.fx_core.specs.declared.names.ControlName.{ControlName}
+use Rattle.fx_core.specs.declared.names.Names.{Names}
+use Rattle.fx_core.specs.declared.sources.Source.TheVariants as source
 use Rattle.fx_value.specs.Columns.{Row}
 use Rattle.recalc.specs.Kept.{IsInOrder, Kept, value_of}
 use Rattle.session_state.specs.Sessions.{SessionState, held}

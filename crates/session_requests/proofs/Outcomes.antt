@@ -9,13 +9,13 @@ use Rattle.recalc.specs.app_semantics.Laws.{OneFreshAt}
 use Rattle.recalc.specs.app_semantics.Present.{Present, present}
 use Rattle.recalc.specs.app_semantics.Properties.{IsPropertyForItem, is_true}
 use Rattle.recalc.specs.app_semantics.Sound.{IsSound}
-use Rattle.fx_data.specs.Values.{Data, boolean}
+use Rattle.fx_types.specs.Values.{Data, boolean}
 use Rattle.recalc.specs.fx_semantics.Around.{record_of}
 use Rattle.recalc.specs.fx_semantics.Unique.{OneValue}
 use Rattle.fx_value.specs.Columns.{Row}
 use Rattle.fx_base.specs.Silence.{Goes, IsLost}
 use Rattle.fx_base.specs.Telling.{Stays}
-use Rattle.fx_trees.specs.declared.schema.Schema.{Schema}
+use Rattle.fx_core.specs.declared.schema.Schema.{Schema}
 use Rattle.row_keeper.specs.Tables.{AreStatesOf, Tables, rows_told}
 use Rattle.row_queries.specs.TableRows.{IsRowOf}
 use Rattle.row_queries.specs.declared.rows.Row.{Row as TableRow}
@@ -24,11 +24,11 @@ use Rattle.row_requests.proofs.Soundness.{state_is}
 use Rattle.session_state.specs.Changes.{FitsNames}
 use Rattle.session_state.specs.Sessions.{SessionState}
 use Rattle.view_text.specs.declared.refused.Refusal.{Refusal}
-use Rattle.request_checks.specs.Checks.{checks, if_live, session_of}
-use Rattle.request_checks.specs.Directory.{find, put}
-use Rattle.request_checks.specs.declared.directory.Named.{Named}
+use Rattle.numbered_requests.specs.Checks.{checks, if_live, session_of}
+use Rattle.numbered_requests.specs.Directory.{find, put}
+use Rattle.numbered_requests.specs.declared.directory.Named.{Named}
 use Rattle.recalc.specs.Values.{CellsFit}
-use Rattle.fx_data.specs.ValueCode.{data_code}
+use Rattle.fx_types.specs.ValueCode.{data_code}
 use Rattle.std.proofs.Math.Bool.{Bool-set}
 use Rattle.std.proofs.Math.Logic.{∥∥₁_elim}
 use Rattle.std.proofs.Props.{props}

@@ -2,10 +2,10 @@
 use Rattle.std.proofs.Common.{◌≡◌, ℕ, List, Option, Some, None, Result, Ok, Err, refl}
 use Rattle.std.specs.Prelude.{IsSome}
 use Rattle.serde_json.specs.Data as json
-use Rattle.request_checks.specs.Bodies.{json_of}
-use Rattle.request_checks.specs.Checks.{checks, if_live, session_of, then_numbered, worded}
-use Rattle.request_checks.specs.Directory.{find}
-use Rattle.request_checks.specs.declared.directory.Named.{Named}
+use Rattle.numbered_requests.specs.Bodies.{json_of}
+use Rattle.numbered_requests.specs.Checks.{checks, if_live, session_of, then_numbered, worded}
+use Rattle.numbered_requests.specs.Directory.{find}
+use Rattle.numbered_requests.specs.declared.directory.Named.{Named}
 use Rattle.session_state.specs.Sessions.{SessionState}
 
 none_passed : (T : Type 0) (number : T → ℕ) (code : ℕ) (body : List ℕ) (it : T) (r : Result T (List ℕ)) → then_numbered number (Err code) body r ≡ Ok it → ⊥

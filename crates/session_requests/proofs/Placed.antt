@@ -12,11 +12,11 @@ use Rattle.recalc.specs.app_cells.declared.app.CellInfo.{CellInfo}
 use Rattle.recalc.specs.app_cells.declared.cell.Spot.{Spot}
 use Rattle.recalc.specs.app_cells.declared.cell.Spot.TheVariants as spot
 use Rattle.recalc.specs.app_semantics.Sound.{IsSound, frame_in}
-use Rattle.fx_data.specs.declared.controls.Control.{Control}
-use Rattle.fx_data.specs.declared.controls.Control.TheVariants as control
-use Rattle.fx_trees.specs.Controls.{has_property, is_behaviour}
-use Rattle.fx_trees.specs.Lawful.{Has}
-use Rattle.fx_trees.specs.declared.names.ControlName.{ControlName}
+use Rattle.fx_types.specs.declared.controls.Control.{Control}
+use Rattle.fx_types.specs.declared.controls.Control.TheVariants as control
+use Rattle.fx_core.specs.Controls.{has_property, is_behaviour}
+use Rattle.fx_core.specs.Lawful.{Has}
+use Rattle.fx_core.specs.declared.names.ControlName.{ControlName}
 use Rattle.session_requests.specs.Triggers.{cell_at, gallery_at, gallery_of, is_at, is_property}
 use Rattle.session_requests.specs.declared.trigger.Trigger.{Trigger}
 use Rattle.session_requests.specs.declared.trigger.Trigger.TheVariants.{OnStart, OnVisible, OnSelect, OnChange, OnCheck, OnUncheck}

@@ -1,12 +1,12 @@
 -- Inputs and events from their checks to what they leave.
 use Rattle.std.proofs.Common.{◌≡◌, ℕ, ◌<◌, Bool, true, false, List, Option, Some, None, Result, Ok, Err, refl, ap, sym, ◌∙◌, subst, length, map}
 use Rattle.std.specs.Prelude.{IfOk, IfSome, option_map, unwrap_or}
-use Rattle.fx_data.specs.ValueView.{view}
-use Rattle.fx_data.specs.Values.{Data, blank}
-use Rattle.fx_data.specs.declared.values.Value.{Value}
-use Rattle.fx_trees.specs.Lawful.{IsLawful}
-use Rattle.fx_trees.specs.declared.names.Names.{Names}
-use Rattle.fx_trees.specs.declared.sources.Source.TheVariants as source
+use Rattle.fx_types.specs.ValueView.{view}
+use Rattle.fx_types.specs.Values.{Data, blank}
+use Rattle.fx_types.specs.declared.values.Value.{Value}
+use Rattle.fx_core.specs.Lawful.{IsLawful}
+use Rattle.fx_core.specs.declared.names.Names.{Names}
+use Rattle.fx_core.specs.declared.sources.Source.TheVariants as source
 use Rattle.recalc.specs.app_cells.declared.app.App.{App}
 use Rattle.recalc.specs.app_semantics.Present.{Present}
 use Rattle.recalc.specs.Reading.{cell_value}
@@ -18,9 +18,9 @@ use Rattle.view_text.specs.declared.refused.Refusal.{Refusal}
 use Rattle.fx_base.specs.Silence.{Goes, IsLater, IsLost, Marks}
 use Rattle.fx_base.specs.Telling.{Stays}
 use Rattle.fx_base.proofs.Silences.{lost_before, lost_more}
-use Rattle.request_checks.specs.Replies.{said}
-use Rattle.request_checks.specs.declared.directory.Named.{Named}
-use Rattle.request_checks.specs.declared.reply.Reply.{Reply}
+use Rattle.numbered_requests.specs.Replies.{said}
+use Rattle.numbered_requests.specs.declared.directory.Named.{Named}
+use Rattle.numbered_requests.specs.declared.reply.Reply.{Reply}
 use Rattle.session_requests.specs.Requests.{Accepts}
 use Rattle.session_requests.specs.Running.{Runs}
 use Rattle.session_requests.specs.Scenes.{begun, scene}

@@ -1,14 +1,14 @@
 -- What changes nothing that formulas read: notices, the last request, and where a session navigated.
 use Rattle.std.proofs.Common.{◌≡◌, ℕ, Bool, false, List, [], Option, Some, None, refl, sym, subst, ap, ◌∙◌}
-use Rattle.fx_trees.specs.Reads.{IsAmong}
-use Rattle.fx_trees.specs.declared.names.Names.{Names}
-use Rattle.fx_trees.specs.declared.sources.Source.{Source}
+use Rattle.fx_core.specs.Reads.{IsAmong}
+use Rattle.fx_core.specs.declared.names.Names.{Names}
+use Rattle.fx_core.specs.declared.sources.Source.{Source}
 use Rattle.recalc.specs.app_cells.declared.app.App.{App}
 use Rattle.recalc.specs.app_semantics.Sound.{IsSound}
 use Rattle.recalc.specs.Kept.{Kept}
-use Rattle.request_checks.proofs.Directories.{find_put}
-use Rattle.request_checks.specs.Directory.{find, put}
-use Rattle.request_checks.specs.declared.directory.Named.{Named}
+use Rattle.numbered_requests.proofs.Directories.{find_put}
+use Rattle.numbered_requests.specs.Directory.{find, put}
+use Rattle.numbered_requests.specs.declared.directory.Named.{Named}
 use Rattle.row_keeper.specs.Tables.{Tables, state_at}
 use Rattle.session_state.specs.Once.{nobody}
 use Rattle.session_state.specs.Once as once

@@ -5,17 +5,17 @@ use Rattle.std.specs.Coded.{Coded-set}
 use Rattle.std.specs.List.{All, slice_get, slice_index_or}
 use Rattle.fx_behave.proofs.SingleAll.{one_performing}
 use Rattle.fx_behave.specs.Unique.{GivesOne}
-use Rattle.fx_data.specs.ValueCode.{data_code}
-use Rattle.fx_data.specs.Values.{Data, no_rows, tab}
+use Rattle.fx_types.specs.ValueCode.{data_code}
+use Rattle.fx_types.specs.Values.{Data, no_rows, tab}
 use Rattle.fx_deeds.proofs.Single.{Outcome, Same}
 use Rattle.fx_deeds.specs.State.{State}
 use Rattle.fx_scalar.specs.ScalarFunctions.{IsToday}
 use Rattle.fx_semantics.proofs.SingleRows.{Once}
-use Rattle.fx_trees.specs.declared.names.Names.{Names}
-use Rattle.fx_trees.specs.declared.schema.Schema.{Schema}
-use Rattle.fx_trees.specs.declared.schema.TableShape.{TableShape}
-use Rattle.fx_trees.specs.declared.sources.Source.{Source}
-use Rattle.fx_trees.specs.declared.sources.Source.TheVariants as source
+use Rattle.fx_core.specs.declared.names.Names.{Names}
+use Rattle.fx_core.specs.declared.schema.Schema.{Schema}
+use Rattle.fx_core.specs.declared.schema.TableShape.{TableShape}
+use Rattle.fx_core.specs.declared.sources.Source.{Source}
+use Rattle.fx_core.specs.declared.sources.Source.TheVariants as source
 use Rattle.recalc.proofs.of_app_semantics.Freshness.{given_told, today_is}
 use Rattle.recalc.specs.app_cells.declared.app.App.{App}
 use Rattle.recalc.specs.app_cells.Leaning.{cell_behind, default_cell, items_cell}

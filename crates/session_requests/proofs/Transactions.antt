@@ -5,9 +5,9 @@ use Rattle.std.specs.Prelude.{IsSome}
 use Rattle.fx_base.proofs.Silences.{goes_two}
 use Rattle.fx_base.specs.Silence.{Goes, IsLater, IsLost}
 use Rattle.fx_base.specs.Telling.{Stays}
-use Rattle.fx_data.specs.Values.{Data}
+use Rattle.fx_types.specs.Values.{Data}
 use Rattle.fx_scalar.specs.ScalarFunctions.{IsToday}
-use Rattle.fx_trees.specs.declared.sources.Source.{Source}
+use Rattle.fx_core.specs.declared.sources.Source.{Source}
 use Rattle.recalc.proofs.Asked.{stays}
 use Rattle.recalc.proofs.Leaving.{left_then, left_wider}
 use Rattle.recalc.specs.Changes.{IsLeftBut}

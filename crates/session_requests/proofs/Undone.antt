@@ -8,9 +8,9 @@ use Rattle.fx_base.proofs.Silences.{goes_two, later_then}
 use Rattle.fx_base.specs.Silence.{Goes, IsLater, IsLost, Marks}
 use Rattle.fx_base.specs.Telling.{Stays}
 use Rattle.fx_scalar.specs.ScalarFunctions.{IsToday}
-use Rattle.fx_trees.specs.Reads.{IsAmong}
-use Rattle.fx_trees.specs.declared.names.Names.{Names}
-use Rattle.fx_trees.specs.declared.sources.Source.{Source}
+use Rattle.fx_core.specs.Reads.{IsAmong}
+use Rattle.fx_core.specs.declared.names.Names.{Names}
+use Rattle.fx_core.specs.declared.sources.Source.{Source}
 use Rattle.recalc.specs.Asking.{IsHeardOf, ToldRows}
 use Rattle.recalc.specs.app_cells.declared.app.App.{App}
 use Rattle.recalc.specs.app_semantics.Present.{present}

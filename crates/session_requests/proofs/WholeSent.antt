@@ -5,17 +5,17 @@ use Rattle.std.proofs.lemmas.Result.{on_err_weaker}
 use Rattle.fx_base.proofs.Silences.{goes_two}
 use Rattle.fx_base.specs.Silence.{Goes, IsLater, IsLost, Marks}
 use Rattle.fx_base.specs.Telling.{Stays}
-use Rattle.fx_data.specs.Values.{Data}
-use Rattle.fx_trees.specs.declared.sources.Source.{Source}
-use Rattle.fx_trees.specs.declared.sources.Source.TheVariants as source
+use Rattle.fx_types.specs.Values.{Data}
+use Rattle.fx_core.specs.declared.sources.Source.{Source}
+use Rattle.fx_core.specs.declared.sources.Source.TheVariants as source
 use Rattle.recalc.specs.app_cells.declared.app.App.{App}
 use Rattle.recalc.specs.app_semantics.Holding.{FittingHolds}
 use Rattle.recalc.specs.app_semantics.Laws.{OneFreshAt}
 use Rattle.recalc.specs.app_semantics.Present.{Present, present}
 use Rattle.recalc.specs.app_semantics.Sound.{IsSound}
 use Rattle.recalc.specs.fx_semantics.Unique.{OneValue}
-use Rattle.request_checks.specs.Directory.{find}
-use Rattle.request_checks.specs.declared.directory.Named.{Named}
+use Rattle.numbered_requests.specs.Directory.{find}
+use Rattle.numbered_requests.specs.declared.directory.Named.{Named}
 use Rattle.row_keeper.specs.Tables.{Tables, rows_told}
 use Rattle.row_requests.proofs.Soundness.{sound_stays}
 use Rattle.row_requests.specs.Sound.{AreSound}

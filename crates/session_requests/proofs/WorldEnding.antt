@@ -7,8 +7,8 @@ use Rattle.fx_base.specs.Silence.{Goes}
 use Rattle.fx_base.specs.Telling.{Stays}
 use Rattle.fx_behave.specs.Actable.{IsActable}
 use Rattle.fx_behave.specs.Perform.{Performs}
-use Rattle.fx_data.specs.TypeView.{shape}
-use Rattle.fx_data.specs.Values.{Data}
+use Rattle.fx_types.specs.TypeView.{shape}
+use Rattle.fx_types.specs.Values.{Data}
 use Rattle.fx_deeds.specs.State.{State}
 use Rattle.fx_deeds.specs.Within as deeds
 use Rattle.fx_deeds.specs.Within.{Within}
@@ -18,10 +18,10 @@ use Rattle.fx_env.specs.declared.environment.Stop.{Stop}
 use Rattle.fx_env.specs.declared.environment.Stop.TheVariants as stop
 use Rattle.fx_semantics.specs.Sound.{IsItemFit}
 use Rattle.fx_scalar.specs.ScalarFunctions.{IsToday}
-use Rattle.fx_trees.specs.Reads.{IsAmong}
-use Rattle.fx_trees.specs.SourceTypes.{sources}
-use Rattle.fx_trees.specs.declared.sources.Source.{Source}
-use Rattle.fx_trees.specs.declared.sources.Source.TheVariants as source
+use Rattle.fx_core.specs.Reads.{IsAmong}
+use Rattle.fx_core.specs.SourceTypes.{sources}
+use Rattle.fx_core.specs.declared.sources.Source.{Source}
+use Rattle.fx_core.specs.declared.sources.Source.TheVariants as source
 use Rattle.fx_typing.specs.Typing.{item_of}
 use Rattle.recalc.specs.app_semantics.Sound.{context_at}
 use Rattle.recalc.specs.app_cells.declared.app.App.{App}

@@ -6,9 +6,9 @@ use Rattle.std.proofs.lemmas.Result.{IfOk-weaker}
 use Rattle.fx_base.proofs.Silences.{goes_two, later_then, lost_before}
 use Rattle.fx_base.specs.Silence.{Goes, IsLater, IsLost, Marks}
 use Rattle.fx_base.specs.Telling.{Stays}
-use Rattle.fx_data.specs.Values.{Data, blank}
-use Rattle.fx_trees.specs.declared.sources.Source.{Source}
-use Rattle.fx_trees.specs.declared.sources.Source.TheVariants as source
+use Rattle.fx_types.specs.Values.{Data, blank}
+use Rattle.fx_core.specs.declared.sources.Source.{Source}
+use Rattle.fx_core.specs.declared.sources.Source.TheVariants as source
 use Rattle.recalc.specs.app_cells.declared.app.App.{App}
 use Rattle.recalc.specs.app_cells.declared.app.CellInfo.{CellInfo}
 use Rattle.row_keeper.specs.Tables.{Tables}
@@ -24,7 +24,7 @@ use Rattle.session_requests.specs.Scenes.{Scene, arrived, begun, scene}
 use Rattle.session_requests.specs.Triggers.{cell_at}
 use Rattle.session_requests.specs.declared.trigger.Trigger.{Trigger}
 use Rattle.session_requests.specs.declared.trigger.Trigger.TheVariants.{OnSelect, OnStart, OnVisible}
-use Rattle.request_checks.specs.declared.reply.Reply.{Reply}
+use Rattle.numbered_requests.specs.declared.reply.Reply.{Reply}
 use Rattle.session_requests.specs.Targets.{Given}
 use Rattle.session_requests.specs.declared.target.Target.{Target}
 use Rattle.view_text.specs.declared.refused.Refusal.{Refusal}

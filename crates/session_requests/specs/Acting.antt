@@ -1,23 +1,23 @@
 -- What an event or an input that passed its checks does to its session and to tables.
 use Rattle.std.specs.Prelude.{◌≡◌, ◌<◌, ◌++◌, ℕ, Bool, true, false, List, [], ◌∷◌, length, slice_get, slice_set, Option, Some, None, Result, Ok, Err, option_and_then, option_map}
 use Rattle.std.specs.List.{position}
-use Rattle.fx_data.specs.Values.{Data}
-use Rattle.fx_data.specs.declared.controls.Control.{Control}
-use Rattle.fx_data.specs.declared.controls.Control.TheVariants as control
-use Rattle.fx_trees.specs.declared.names.ControlName.{ControlName}
-use Rattle.fx_trees.specs.declared.names.Names.{Names}
+use Rattle.fx_types.specs.Values.{Data}
+use Rattle.fx_types.specs.declared.controls.Control.{Control}
+use Rattle.fx_types.specs.declared.controls.Control.TheVariants as control
+use Rattle.fx_core.specs.declared.names.ControlName.{ControlName}
+use Rattle.fx_core.specs.declared.names.Names.{Names}
 use Rattle.recalc.specs.app_cells.declared.app.App.{App}
 use Rattle.recalc.specs.app_semantics.Chosen.{row_at}
 use Rattle.recalc.specs.app_semantics.Present.{input_of, items_of}
 use Rattle.recalc.specs.app_semantics.Properties.{is_true}
 use Rattle.recalc.specs.fx_semantics.Around.{record_of}
 use Rattle.recalc.specs.fx_semantics.Rows.{rows_in}
-use Rattle.fx_trees.specs.declared.sources.Source.{Source}
-use Rattle.fx_trees.specs.declared.sources.Source.TheVariants as source
+use Rattle.fx_core.specs.declared.sources.Source.{Source}
+use Rattle.fx_core.specs.declared.sources.Source.TheVariants as source
 use Rattle.recalc.specs.Kept.{Kept}
-use Rattle.request_checks.specs.Directory.{find, is_named, put}
-use Rattle.request_checks.specs.Replies.{refusal_reply}
-use Rattle.request_checks.specs.declared.directory.Named.{Named}
+use Rattle.numbered_requests.specs.Directory.{find, is_named, put}
+use Rattle.numbered_requests.specs.Replies.{refusal_reply}
+use Rattle.numbered_requests.specs.declared.directory.Named.{Named}
 use Rattle.row_keeper.specs.Tables.{Tables}
 use Rattle.session_requests.specs.Caching.{AreSessionsBut, IsCached}
 use Rattle.session_requests.specs.Requests.{Accepts, AcceptsWriting}

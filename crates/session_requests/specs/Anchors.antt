@@ -4,8 +4,8 @@ use Rattle.std.specs.Coded.{coded_list, coded_ℕ}
 use base.Stored.{Gv, gnil, gnum, gcons}
 use Rattle.recalc.specs.app_cells.contracts.app.App.{the_row as app_row}
 use Rattle.recalc.specs.app_cells.declared.app.App.{App}
-use Rattle.fx_trees.specs.contracts.sources.Source.{the_row as source_row}
-use Rattle.fx_trees.specs.declared.sources.Source.{Source}
+use Rattle.fx_core.specs.contracts.sources.Source.{the_row as source_row}
+use Rattle.fx_core.specs.declared.sources.Source.{Source}
 use Rattle.session_state.specs.contracts.session.Session.{the_row as session_row}
 use Rattle.session_state.specs.Sessions.{SessionState}
 

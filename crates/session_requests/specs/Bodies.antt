@@ -2,7 +2,7 @@
 use Rattle.std.specs.Prelude.{ℕ, ◌==◌, ◌≤◌, IfSome, List, Bool, true, false, codes, Option, Some, None, option_and_then, option_map, if◌then◌else◌}
 use Rattle.serde_json.specs.Data as json
 use Rattle.serde_json.specs.Find.{get}
-use Rattle.request_checks.specs.GivenValues.{member_count, number_at, text_at, value_in}
+use Rattle.numbered_requests.specs.GivenValues.{member_count, number_at, text_at, value_in}
 use Rattle.session_requests.specs.declared.event.Event.{Event}
 use Rattle.session_requests.specs.declared.event.Place.{Place}
 use Rattle.session_requests.specs.declared.input.Input.{Input}

@@ -1,14 +1,14 @@
 -- What is kept of the formulas of a session, and what is changed under it.
 use Rattle.std.specs.Prelude.{◌≡◌, ℕ, List, [], false, Option, Some, None, slice_get}
 use Rattle.std.specs.List.{slice_index_or}
-use Rattle.fx_data.specs.Types.{Shape}
-use Rattle.fx_data.specs.Values.{Data, blank}
+use Rattle.fx_types.specs.Types.{Shape}
+use Rattle.fx_types.specs.Values.{Data, blank}
 use Rattle.fx_scalar.specs.ScalarFunctions.{IsToday}
-use Rattle.fx_trees.specs.Reads.{IsAmong}
-use Rattle.fx_trees.specs.SourceTypes.{sources}
-use Rattle.fx_trees.specs.declared.names.Names.{Names}
-use Rattle.fx_trees.specs.declared.sources.Source.{Source}
-use Rattle.fx_trees.specs.declared.sources.Source.TheVariants as source
+use Rattle.fx_core.specs.Reads.{IsAmong}
+use Rattle.fx_core.specs.SourceTypes.{sources}
+use Rattle.fx_core.specs.declared.names.Names.{Names}
+use Rattle.fx_core.specs.declared.sources.Source.{Source}
+use Rattle.fx_core.specs.declared.sources.Source.TheVariants as source
 use Rattle.recalc.specs.Asking.{IsHeardOf, ToldRows}
 use Rattle.recalc.specs.Values.{CellsFit}
 use Rattle.recalc.specs.app_cells.Reach.{is_cell}

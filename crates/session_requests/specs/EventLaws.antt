@@ -1,6 +1,6 @@
 -- What the formulas of one request do, is one.
 use Rattle.std.specs.Prelude.{◌≡◌, ℕ, Option}
-use Rattle.fx_data.specs.Values.{Data}
+use Rattle.fx_types.specs.Values.{Data}
 use Rattle.recalc.specs.app_cells.declared.app.App.{App}
 use Rattle.session_requests.specs.Running.{Opens, Runs}
 use Rattle.session_requests.specs.Scenes.{Scene}

@@ -1,9 +1,9 @@
 -- What the behaviour formulas of an app are performed over, and what their sources then give.
 use Rattle.std.specs.Prelude.{◌≡◌, ℕ, List, Option, Some, None, slice_get}
-use Rattle.fx_data.specs.Values.{Data, blank}
+use Rattle.fx_types.specs.Values.{Data, blank}
 use Rattle.fx_deeds.specs.State.{Frame, Giving, Ground, State}
-use Rattle.fx_trees.specs.SourceTypes.{sources}
-use Rattle.fx_trees.specs.declared.sources.Source.{Source}
+use Rattle.fx_core.specs.SourceTypes.{sources}
+use Rattle.fx_core.specs.declared.sources.Source.{Source}
 use Rattle.recalc.specs.app_cells.Leaning.{cell_behind}
 use Rattle.recalc.specs.app_semantics.Needed.{IsFreshAt}
 use Rattle.recalc.specs.app_semantics.Present.{Gives, Present, present}

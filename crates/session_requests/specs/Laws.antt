@@ -3,9 +3,9 @@ use Rattle.std.specs.Prelude.{◌≡◌, ◌≢◌, ℕ, List, Option, Some}
 use Rattle.recalc.specs.app_cells.declared.app.App.{App}
 use Rattle.recalc.specs.app_semantics.Sound.{IsSound}
 use Rattle.fx_base.specs.Silence.{IsLost, Marks}
-use Rattle.request_checks.specs.Checks.{IsLastAsked}
-use Rattle.request_checks.specs.Directory.{find}
-use Rattle.request_checks.specs.declared.directory.Named.{Named}
+use Rattle.numbered_requests.specs.Checks.{IsLastAsked}
+use Rattle.numbered_requests.specs.Directory.{find}
+use Rattle.numbered_requests.specs.declared.directory.Named.{Named}
 use Rattle.row_keeper.specs.Tables.{Tables}
 use Rattle.row_requests.specs.Sound.{AreSound}
 use Rattle.session_state.specs.Changes.{FitsNames}

@@ -1,13 +1,13 @@
 -- What performing a behaviour formula of an app does.
 use Rattle.std.specs.Prelude.{ℕ, List, [], Option, None}
 use Rattle.fx_behave.specs.Perform.{Performs}
-use Rattle.fx_data.specs.TypeView.{shape}
-use Rattle.fx_data.specs.Values.{Data}
+use Rattle.fx_types.specs.TypeView.{shape}
+use Rattle.fx_types.specs.Values.{Data}
 use Rattle.fx_deeds.specs.Within.{Within}
 use Rattle.fx_env.specs.Scopes.{Held}
 use Rattle.fx_behave.specs.Actable.{IsPlaced}
 use Rattle.fx_semantics.specs.Sound.{IsLawfulTyping}
-use Rattle.fx_trees.specs.declared.sources.Source.{Source}
+use Rattle.fx_core.specs.declared.sources.Source.{Source}
 use Rattle.fx_typing.specs.WellTyped.{IsTyped}
 use Rattle.recalc.specs.app_semantics.Sound.{context_at}
 use Rattle.recalc.specs.app_cells.declared.app.App.{App}

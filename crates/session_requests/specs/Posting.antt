@@ -7,16 +7,16 @@ use Rattle.recalc.specs.app_cells.declared.app.CellInfo.{CellInfo}
 use Rattle.recalc.specs.app_semantics.Chosen.{row_at}
 use Rattle.recalc.specs.app_semantics.Present.{Present, items_of, present}
 use Rattle.recalc.specs.app_semantics.Properties.{IsPropertyForItem, is_true}
-use Rattle.fx_data.specs.Values.{Data, boolean}
+use Rattle.fx_types.specs.Values.{Data, boolean}
 use Rattle.recalc.specs.fx_semantics.Around.{record_of}
 use Rattle.recalc.specs.fx_semantics.Rows.{rows_in}
 use Rattle.fx_value.specs.Columns.{Row as Fields}
-use Rattle.fx_trees.specs.declared.names.ControlName.{ControlName}
-use Rattle.fx_trees.specs.declared.names.Names.{Names}
-use Rattle.fx_trees.specs.declared.sources.Source.{Source}
-use Rattle.request_checks.specs.Checks.{checks, session_of}
-use Rattle.request_checks.specs.Directory.{find}
-use Rattle.request_checks.specs.declared.directory.Named.{Named}
+use Rattle.fx_core.specs.declared.names.ControlName.{ControlName}
+use Rattle.fx_core.specs.declared.names.Names.{Names}
+use Rattle.fx_core.specs.declared.sources.Source.{Source}
+use Rattle.numbered_requests.specs.Checks.{checks, session_of}
+use Rattle.numbered_requests.specs.Directory.{find}
+use Rattle.numbered_requests.specs.declared.directory.Named.{Named}
 use Rattle.fx_base.specs.Silence.{Goes}
 use Rattle.fx_base.specs.Telling.{Stays}
 use Rattle.row_keeper.specs.Tables.{Tables, rows_told}

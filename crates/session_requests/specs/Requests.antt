@@ -2,12 +2,12 @@
 use Rattle.std.specs.Prelude.{◌≡◌, ℕ, List, Option}
 use Rattle.app_wire.specs.ReplyBytes.{reply}
 use Rattle.fx_base.specs.Silence.{Goes}
-use Rattle.fx_data.specs.Values.{Data}
+use Rattle.fx_types.specs.Values.{Data}
 use Rattle.recalc.specs.app_cells.declared.app.App.{App}
 use Rattle.row_keeper.specs.Tables.{Tables}
 use Rattle.session_state.specs.Changes.{FitsNames}
 use Rattle.session_state.specs.Sessions.{SessionState}
-use Rattle.fx_trees.specs.declared.sources.Source.{Source}
+use Rattle.fx_core.specs.declared.sources.Source.{Source}
 use Rattle.session_requests.specs.Running.{Runs, RunsWriting}
 use Rattle.session_requests.specs.Scenes.{begun, quiet, scene}
 use Rattle.session_requests.specs.declared.trigger.Trigger.{Trigger}

@@ -3,8 +3,8 @@ use Rattle.std.specs.Prelude.{◌≡◌, ◌++◌, ℕ, Bool, true, false, List,
 use Rattle.session_requests.specs.Performing.{Acts}
 use Rattle.recalc.specs.app_cells.declared.app.App.{App}
 use Rattle.recalc.specs.app_cells.declared.app.CellInfo.{CellInfo}
-use Rattle.fx_data.specs.Values.{Data, blank}
-use Rattle.fx_trees.specs.declared.sources.Source.{Source}
+use Rattle.fx_types.specs.Values.{Data, blank}
+use Rattle.fx_core.specs.declared.sources.Source.{Source}
 use Rattle.session_requests.specs.Scenes.{Scene, arrived, scene}
 use Rattle.session_requests.specs.Triggers.{cell_at}
 use Rattle.session_requests.specs.declared.trigger.Trigger.{Trigger}

@@ -4,15 +4,15 @@ use Rattle.recalc.specs.app_cells.Spots.{item_or}
 use Rattle.recalc.specs.app_semantics.Chosen.{item_id, row_at}
 use Rattle.recalc.specs.app_semantics.Present.{items_of}
 use Rattle.recalc.specs.app_semantics.Properties.{property_value}
-use Rattle.fx_data.specs.Values.{Data, blank, number, text, boolean, date}
-use Rattle.fx_data.specs.declared.controls.Control.{Control}
-use Rattle.fx_data.specs.declared.controls.Control.TheVariants as control
+use Rattle.fx_types.specs.Values.{Data, blank, number, text, boolean, date}
+use Rattle.fx_types.specs.declared.controls.Control.{Control}
+use Rattle.fx_types.specs.declared.controls.Control.TheVariants as control
 use Rattle.recalc.specs.fx_semantics.Rows.{rows_in}
 use Rattle.fx_value.specs.Columns.{Row}
-use Rattle.fx_trees.specs.Controls.{input_type, is_behaviour}
-use Rattle.fx_trees.specs.declared.names.ControlName.{ControlName}
-use Rattle.fx_trees.specs.declared.names.Names.{Names}
-use Rattle.request_checks.specs.Replies.{plain}
+use Rattle.fx_core.specs.Controls.{input_type, is_behaviour}
+use Rattle.fx_core.specs.declared.names.ControlName.{ControlName}
+use Rattle.fx_core.specs.declared.names.Names.{Names}
+use Rattle.numbered_requests.specs.Replies.{plain}
 use Rattle.session_state.specs.Sessions.{SessionState}
 use Rattle.view_text.specs.declared.refused.Detail.TheVariants as detail
 use Rattle.view_text.specs.declared.refused.Refusal.{Refusal}

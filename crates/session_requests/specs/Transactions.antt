@@ -1,11 +1,11 @@
 -- A session's transaction: when one can begin, what stands while it is under way, and what it leaves.
 use Rattle.std.specs.Prelude.{◌≡◌, ◌≤◌, ℕ, List, Option, Some, false, length, take, true}
 use Rattle.fx_base.specs.Silence.{IsLost}
-use Rattle.fx_data.specs.Values.{Data}
-use Rattle.fx_trees.specs.declared.sources.Source.{Source}
+use Rattle.fx_types.specs.Values.{Data}
+use Rattle.fx_core.specs.declared.sources.Source.{Source}
 use Rattle.recalc.specs.Kept.{Kept}
 use Rattle.recalc.specs.app_cells.declared.app.App.{App}
-use Rattle.request_checks.specs.Replies.{IsReply, said}
+use Rattle.numbered_requests.specs.Replies.{IsReply, said}
 use Rattle.row_keeper.specs.declared.keeper.Keeper.{Ghosts}
 use Rattle.row_requests.specs.Sound.{AreSound}
 use Rattle.row_requests.specs.Written.{AreTablesBut}

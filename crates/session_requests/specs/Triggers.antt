@@ -6,7 +6,7 @@ use Rattle.recalc.specs.app_cells.declared.app.App.{App}
 use Rattle.recalc.specs.app_cells.declared.app.CellInfo.{CellInfo}
 use Rattle.recalc.specs.app_cells.declared.cell.Spot.{Spot}
 use Rattle.recalc.specs.app_cells.declared.cell.Spot.TheVariants as spot
-use Rattle.fx_data.specs.Values.{Data}
+use Rattle.fx_types.specs.Values.{Data}
 use Rattle.fx_semantics.specs.Sound.{IsItemFit}
 use Rattle.fx_typing.specs.Typing.{item_of}
 use Rattle.session_requests.specs.declared.trigger.Trigger.{Trigger}

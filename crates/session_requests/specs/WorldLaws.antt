@@ -2,11 +2,11 @@
 use Rattle.std.proofs.Common.{sym, ap, ◌∙◌}
 use Rattle.std.proofs.lemmas.Option.{none-some}
 use Rattle.std.specs.Prelude.{◌≡◌, ℕ, List, Option, Some, None, option_map, unwrap_or}
-use Rattle.fx_data.specs.Values.{Data}
+use Rattle.fx_types.specs.Values.{Data}
 use Rattle.fx_deeds.specs.State.{State}
 use Rattle.fx_env.specs.Telling.{Told}
-use Rattle.fx_trees.specs.declared.sources.Source.{Source}
-use Rattle.fx_trees.specs.declared.sources.Source.TheVariants as source
+use Rattle.fx_core.specs.declared.sources.Source.{Source}
+use Rattle.fx_core.specs.declared.sources.Source.TheVariants as source
 use Rattle.row_keeper.specs.Tables.{Tables, rows_of}
 use Rattle.session_state.specs.Sessions.{SessionState, held}
 use Rattle.session_requests.specs.Grounds.{Grounds, state_on}

@@ -1,9 +1,9 @@
 //! The checks of what events and inputs act on.
 ghost use Rattle.std.specs.Prelude.{◌≡◌, ◌<◌, ◌^◌, IfErr, IsTrue, Some, length};
-ghost use Rattle.fx_data.specs.ValueView.{view};
-ghost use Rattle.fx_trees.specs.Lawful.{id_name};
+ghost use Rattle.fx_types.specs.ValueView.{view};
+ghost use Rattle.fx_core.specs.Lawful.{id_name};
 ghost use Rattle.session_state.specs.Sessions.{SessionState};
-ghost use Rattle.request_checks.specs.Replies.{is_plain, plain as plain_of};
+ghost use Rattle.numbered_requests.specs.Replies.{is_plain, plain as plain_of};
 ghost use Rattle.view_text.specs.RefusalText.{Fits};
 ghost use Rattle.session_requests.specs.Shown.{cell_values};
 ghost use Rattle.session_requests.specs.declared.input.Input.{Input as InputBody};
@@ -13,10 +13,10 @@ use crate::event::{Event, Place};
 use crate::input::{Given, Input};
 use crate::shown::{bound, control_named, is_shown, item_row};
 use crate::target::{Item, Target};
-use fx_data::{Control, Value, Words};
-use fx_trees::Names;
-use fx_trees::controls::{input_ty, is_behaviour};
-use fx_trees::names::ControlName;
+use fx_core::Names;
+use fx_core::controls::{input_ty, is_behaviour};
+use fx_core::names::ControlName;
+use fx_types::{Control, Value, Words};
 use recalc::item_id;
 use view_text::{Detail, Refusal};
 

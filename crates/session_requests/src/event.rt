@@ -5,9 +5,9 @@ ghost use Rattle.serde_json.specs.View.{view as json_view};
 ghost use Rattle.session_requests.specs.Bodies.{IsSoundEvent, event_in, event_with as event_of, id_at as id_at_key, is_null, place_in as place_of};
 
 use fx_base::Memory;
-use fx_data::Words;
-use request_checks::Body;
-use request_checks::values::{member_count, number_at, text_at};
+use fx_types::Words;
+use numbered_requests::Body;
+use numbered_requests::values::{member_count, number_at, text_at};
 use serde_json::Value as Json;
 use std::alloc::Global;
 

@@ -1,13 +1,13 @@
 //! The body of an input.
 ghost use Rattle.std.specs.Prelude.{◌≡◌, ◌≤◌, IfOk};
 ghost use Rattle.serde_json.specs.View.{view as json_view};
-ghost use Rattle.request_checks.specs.GivenValues.{value_in as value_of};
+ghost use Rattle.numbered_requests.specs.GivenValues.{value_in as value_of};
 ghost use Rattle.session_requests.specs.Bodies.{input_in};
 
 use fx_base::Memory;
-use fx_data::{Value, Words};
-use request_checks::Body;
-use request_checks::values::{member_count, number_at, text_at, value_in};
+use fx_types::{Value, Words};
+use numbered_requests::Body;
+use numbered_requests::values::{member_count, number_at, text_at, value_in};
 use serde_json::Value as Json;
 use std::alloc::Global;
 use std::marker::Model;
@@ -30,9 +30,9 @@ pub struct Given {
 impl Model for Given {
     ghost use Rattle.std.specs.Prelude.{Option, option_map};
     ghost use Rattle.std.specs.Coded.{codes};
-    ghost use Rattle.fx_data.specs.ValueCode.{data_code};
-    ghost use Rattle.fx_data.specs.Values.{Data};
-    ghost use Rattle.fx_data.specs.ValueView.{view as value_view};
+    ghost use Rattle.fx_types.specs.ValueCode.{data_code};
+    ghost use Rattle.fx_types.specs.Values.{Data};
+    ghost use Rattle.fx_types.specs.ValueView.{view as value_view};
 
     ghost Value = { Option Data };
 

@@ -9,7 +9,7 @@ use crate::app_cells::App;
 use crate::behind::{cells_behind, has_value};
 use crate::visible::gallery_around;
 use fx_base::Memory;
-use fx_trees::Source;
+use fx_core::Source;
 use recalc::{cell_behind, cell_of_property};
 use std::alloc::Global;
 

@@ -13,7 +13,7 @@ ghost use Rattle.session_requests.specs.Transactions.{CanGoBack, GoesOn};
 
 use crate::app_cells::App;
 use crate::running::open;
-use fx_trees::Source;
+use fx_core::Source;
 use recalc::{Cache, Steps};
 use row_keeper::{Keeper, KeeperEnd};
 use row_requests::settle;

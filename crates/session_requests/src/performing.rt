@@ -1,7 +1,7 @@
 //! Performing a behaviour formula of an app.
 ghost use Rattle.std.specs.Prelude.{◌≡◌, IfOk, OnErr, drop, length, option_map, true};
-ghost use Rattle.fx_data.specs.TypeView.{shape};
-ghost use Rattle.fx_data.specs.ValueView.{view};
+ghost use Rattle.fx_types.specs.TypeView.{shape};
+ghost use Rattle.fx_types.specs.ValueView.{view};
 ghost use Rattle.fx_scalar.specs.ScalarFunctions.{IsToday};
 ghost use Rattle.fx_semantics.specs.Sound.{IsItemFit};
 ghost use Rattle.fx_typing.specs.Typing.{item_of};
@@ -20,11 +20,11 @@ use crate::app_cells::{App, CellInfo};
 use crate::start::Start;
 use crate::world::SessionWorld;
 use fx_behave::{act, cuts_go_on};
-use fx_data::Value;
+use fx_core::Source;
 use fx_env::Steps;
 use fx_eval::Scope;
 use fx_scalar::today;
-use fx_trees::Source;
+use fx_types::Value;
 use recalc::{Cache, end_of};
 use row_keeper::{Keeper, KeeperEnd};
 use session_state::Session;

@@ -1,7 +1,7 @@
 //! Formulas that act in a request, one after another.
 ghost use Rattle.std.specs.Prelude.{IfOk, None, OnErr, OnOk, drop, length, option_map};
 ghost use Rattle.recalc.specs.app_semantics.Sound.{IsSound};
-ghost use Rattle.fx_data.specs.ValueView.{view};
+ghost use Rattle.fx_types.specs.ValueView.{view};
 ghost use Rattle.row_keeper.specs.Over.{Becomes, HasCause};
 ghost use Rattle.session_requests.specs.Running.{ActsWriting, OpensWriting, RunsWriting, ShowsWriting};
 ghost use Rattle.session_requests.specs.Scenes.{scene};
@@ -14,9 +14,9 @@ use crate::acting_laws::one_acting;
 use crate::app_cells::App;
 use crate::performing::perform;
 use crate::trigger::{Trigger, cell_at};
-use fx_data::Value;
+use fx_core::Source;
 use fx_semantics::all_typings_are_lawful;
-use fx_trees::Source;
+use fx_types::Value;
 use recalc::{Cache, Steps};
 use row_keeper::{Keeper, KeeperEnd};
 use session_state::Session;

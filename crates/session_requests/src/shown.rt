@@ -3,16 +3,16 @@ ghost use Rattle.std.specs.Prelude.{◌≡◌, ◌<◌, IfSome, length, option_m
 ghost use Rattle.recalc.specs.app_semantics.Chosen.{row_at as row_at_position};
 ghost use Rattle.recalc.specs.app_semantics.Present.{items_of};
 ghost use Rattle.recalc.specs.app_semantics.Properties.{property_value};
-ghost use Rattle.fx_data.specs.ValueView.{view};
-ghost use Rattle.fx_data.specs.Values.{blank, number as number_data};
+ghost use Rattle.fx_types.specs.ValueView.{view};
+ghost use Rattle.fx_types.specs.Values.{blank, number as number_data};
 ghost use Rattle.recalc.specs.fx_semantics.Rows.{rows_in};
 ghost use Rattle.session_state.specs.Sessions.{SessionState};
 ghost use Rattle.session_requests.specs.Shown.{cell_values, control_named as control_of, is_shown as is_shown_of};
 ghost use Rattle.session_requests.specs.Targets.{bound_of};
 
-use fx_data::{Fields, Value, Words};
-use fx_trees::Names;
-use fx_trees::names::ControlName;
+use fx_core::Names;
+use fx_core::names::ControlName;
+use fx_types::{Fields, Value, Words};
 use recalc::{cell_of_property, is_visible};
 
 /// The place of the control of a name.

@@ -11,7 +11,7 @@ pub(crate) trait Start {
 
 impl Start for Brand {
     ghost use Rattle.std.specs.Prelude.{[]};
-    ghost use Rattle.fx_data.specs.Values.{blank};
+    ghost use Rattle.fx_types.specs.Values.{blank};
     ghost use Rattle.recalc.specs.Kept.{no_room};
 
     ghost start = { record { emptied = 0; last = 0; versions = []; stamps = []; values = record { cells = []; day = blank }; room = no_room } };

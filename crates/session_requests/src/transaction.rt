@@ -1,9 +1,9 @@
 //! Accepted events and inputs, each in one transaction.
 ghost use Rattle.std.specs.Prelude.{◌≡◌, IfOk, OnErr, drop, length, option_map};
 ghost use Rattle.fx_base.specs.Telling.{Stays};
-ghost use Rattle.fx_data.specs.ValueView.{view};
+ghost use Rattle.fx_types.specs.ValueView.{view};
 ghost use Rattle.recalc.specs.app_semantics.Sound.{IsSound};
-ghost use Rattle.request_checks.specs.Replies.{IsReply, said};
+ghost use Rattle.numbered_requests.specs.Replies.{IsReply, said};
 ghost use Rattle.recalc.specs.app_cells.declared.app.App.{App as AnApp};
 ghost use Rattle.recalc.specs.Kept.{IsInOrder};
 ghost use Rattle.session_requests.specs.Caching.{AreSources, AreTouched, IsCached, IsPending};
@@ -20,10 +20,10 @@ use crate::app_cells::App;
 use crate::running::run;
 use crate::trigger::Trigger;
 use fx_base::Memory;
-use fx_data::Value;
-use fx_trees::Source;
+use fx_core::Source;
+use fx_types::Value;
+use numbered_requests::Reply;
 use recalc::{Cache, Steps};
-use request_checks::Reply;
 use row_keeper::{Keeper, KeeperEnd};
 use row_requests::settle;
 use session_state::Session;

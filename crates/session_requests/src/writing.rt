@@ -9,7 +9,7 @@ ghost use Rattle.recalc.specs.Kept.{place_of};
 ghost use Rattle.session_requests.specs.Caching.{IsTouchedIf};
 
 use crate::app_cells::App;
-use fx_trees::Source;
+use fx_core::Source;
 use recalc::Cache;
 use row_keeper::Put;
 use session_state::Change;

@@ -5,20 +5,20 @@ use Rattle.std.specs.Prelude.{Result, Ok, Err, IfOk, OnErr, Bool, false, if◌th
 use Rattle.std.proofs.lemmas.Bool.{cases_eq, cases_lt}
 use Rattle.std.proofs.lemmas.Option.{slice_get_past}
 use Rattle.std.proofs.lemmas.List.{length-replicate, get_or-replicate}
-use Rattle.fx_trees.specs.declared.names.Collection.{Collection}
-use Rattle.fx_trees.specs.declared.names.ControlName.{ControlName}
-use Rattle.fx_trees.specs.Controls.{input_type}
+use Rattle.fx_core.specs.declared.names.Collection.{Collection}
+use Rattle.fx_core.specs.declared.names.ControlName.{ControlName}
+use Rattle.fx_core.specs.Controls.{input_type}
 use Rattle.fx_number.specs.declared.memory.Memory.{Memory}
-use Rattle.fx_data.specs.Values.{Data, blank, tab, no_rows}
-use Rattle.fx_data.specs.Types.{Shape}
-use Rattle.fx_data.specs.TypeView.{shape}
-use Rattle.fx_data.specs.ValueView.{view}
+use Rattle.fx_types.specs.Values.{Data, blank, tab, no_rows}
+use Rattle.fx_types.specs.Types.{Shape}
+use Rattle.fx_types.specs.TypeView.{shape}
+use Rattle.fx_types.specs.ValueView.{view}
 use Rattle.fx_value.specs.Fits.{fits_in}
-use Rattle.fx_trees.specs.declared.sources.Source.{Source}
-use Rattle.fx_trees.specs.declared.sources.Source.TheVariants as source
-use Rattle.fx_trees.specs.declared.names.Names.{Names}
-use Rattle.fx_trees.specs.declared.names.Variable.{Variable}
-use Rattle.fx_trees.specs.SourceTypes.{sources, if_global, if_context}
+use Rattle.fx_core.specs.declared.sources.Source.{Source}
+use Rattle.fx_core.specs.declared.sources.Source.TheVariants as source
+use Rattle.fx_core.specs.declared.names.Names.{Names}
+use Rattle.fx_core.specs.declared.names.Variable.{Variable}
+use Rattle.fx_core.specs.SourceTypes.{sources, if_global, if_context}
 use Rattle.session_state.specs.declared.change.Change.{Change}
 use Rattle.session_state.specs.declared.change.Change.TheVariants.{Global, Context, Gather, Empty, Input, Choose, Screen, Notice}
 use Rattle.session_state.specs.Sessions.{SessionState, held, Holds, opened}

@@ -3,9 +3,9 @@ use Rattle.std.proofs.Common.{◌≡◌, ℕ, ◌+◌, ◌-◌, ◌*◌, ◌^◌
 use Rattle.std.proofs.lemmas.List.{length-map, get_or-map, map-set}
 use Rattle.std.proofs.lemmas.List.Sums.{sum_by-le, sum_by-set, sum_by-take-le, sum_by_more, get_or-le-sum_by}
 use Rattle.std.specs.List.{sum_by}
-use Rattle.fx_data.specs.Values.{Data, blank}
-use Rattle.fx_data.specs.ValueView.{view}
-use Rattle.fx_data.specs.declared.values.Value.{Value}
+use Rattle.fx_types.specs.Values.{Data, blank}
+use Rattle.fx_types.specs.ValueView.{view}
+use Rattle.fx_types.specs.declared.values.Value.{Value}
 use Rattle.std.specs.Prelude.{Bool, true, false, if◌then◌else◌}
 use Rattle.session_state.specs.Sessions.{SessionState, weighed}
 

@@ -1,13 +1,13 @@
 -- What sessions keep as an app is edited.
 use Rattle.std.specs.Prelude.{◌≡◌, ℕ, Bool, true, false, ◌&&◌, List, length, map, Option, Some, None, option_and_then, slice_get, bytes_eq, nat_eq, if◌then◌else◌}
 use Rattle.std.specs.List.{position, range_with_len, slice_index_or}
-use Rattle.fx_data.specs.TypeView.{shape}
-use Rattle.fx_data.specs.Values.{Data, blank, tab, no_rows}
-use Rattle.fx_data.specs.declared.types.Ty.{Ty}
-use Rattle.fx_trees.specs.declared.names.Collection.{Collection}
-use Rattle.fx_trees.specs.declared.names.ControlName.{ControlName}
-use Rattle.fx_trees.specs.declared.names.Names.{Names}
-use Rattle.fx_trees.specs.declared.names.Variable.{Variable}
+use Rattle.fx_types.specs.TypeView.{shape}
+use Rattle.fx_types.specs.Values.{Data, blank, tab, no_rows}
+use Rattle.fx_types.specs.declared.types.Ty.{Ty}
+use Rattle.fx_core.specs.declared.names.Collection.{Collection}
+use Rattle.fx_core.specs.declared.names.ControlName.{ControlName}
+use Rattle.fx_core.specs.declared.names.Names.{Names}
+use Rattle.fx_core.specs.declared.names.Variable.{Variable}
 use Rattle.fx_typing.specs.Ways.{same_shape}
 use Rattle.session_state.specs.Changes.{FitsNames, HoldsTables}
 use Rattle.session_state.specs.Sessions.{SessionState, no_room}

@@ -1,13 +1,13 @@
 -- What changes make of a session, which are refused, and what fits an app's names.
 use Rattle.std.specs.Prelude.{◌≡◌, ℕ, ◌<◌, ◌++◌, ◌∷◌, [], nat_le, not, ◌||◌, length, slice_set, Bool, true, false, Some, None, option_map}
-use Rattle.fx_data.specs.Values.{Data, blank, tab, no_rows}
-use Rattle.fx_data.specs.ValueView.{view}
-use Rattle.fx_data.specs.Types.{Shape}
+use Rattle.fx_types.specs.Values.{Data, blank, tab, no_rows}
+use Rattle.fx_types.specs.ValueView.{view}
+use Rattle.fx_types.specs.Types.{Shape}
 use Rattle.fx_value.specs.Fits.{fits_in}
-use Rattle.fx_trees.specs.declared.sources.Source.{Source}
-use Rattle.fx_trees.specs.declared.sources.Source.TheVariants as source
-use Rattle.fx_trees.specs.declared.names.Names.{Names}
-use Rattle.fx_trees.specs.SourceTypes.{sources}
+use Rattle.fx_core.specs.declared.sources.Source.{Source}
+use Rattle.fx_core.specs.declared.sources.Source.TheVariants as source
+use Rattle.fx_core.specs.declared.names.Names.{Names}
+use Rattle.fx_core.specs.SourceTypes.{sources}
 use Rattle.session_state.specs.declared.change.Change.{Change}
 use Rattle.session_state.specs.declared.change.Change.TheVariants.{Global, Context, Gather, Empty, Input, Choose, Screen, Notice}
 use Rattle.session_state.specs.Sessions.{SessionState, no_room, weight, may_weigh, held, Holds}

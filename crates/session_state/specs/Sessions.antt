@@ -1,11 +1,11 @@
 -- What is kept of a session.
 use Rattle.std.specs.Prelude.{ℕ, ◌+◌, ◌-◌, ◌^◌, ◌<◌, ◌≤◌, min, max, nat_le, ◌||◌, List, [], length, Bool, false, Option, None, unwrap_or, replicate}
 use Rattle.std.specs.List.{slice_index_or, sum_by}
-use Rattle.fx_data.specs.Values.{Data, blank, tab, no_rows}
+use Rattle.fx_types.specs.Values.{Data, blank, tab, no_rows}
 use Rattle.fx_value.specs.Weight.{weight_of}
-use Rattle.fx_trees.specs.declared.sources.Source.{Source}
-use Rattle.fx_trees.specs.declared.sources.Source.TheVariants as source
-use Rattle.fx_trees.specs.declared.names.Names.{Names}
+use Rattle.fx_core.specs.declared.sources.Source.{Source}
+use Rattle.fx_core.specs.declared.sources.Source.TheVariants as source
+use Rattle.fx_core.specs.declared.names.Names.{Names}
 use Rattle.session_state.specs.Once.{Kept, nobody}
 
 -- for how many variables and collections there is room beside a session, for an app that is edited

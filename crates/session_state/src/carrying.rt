@@ -1,13 +1,13 @@
 //! What a session keeps as an app is edited.
 ghost use Rattle.std.specs.Prelude.{◌≡◌, ◌+◌, ◌<◌, ◌≤◌, ◌++◌, ◌∷◌, [], MatchOption, map, length, slice_get, slice_set, vec_capacity, vec_len};
-ghost use Rattle.fx_data.specs.ValueView.{view};
-ghost use Rattle.fx_data.specs.Values.{blank, tab, no_rows};
+ghost use Rattle.fx_types.specs.ValueView.{view};
+ghost use Rattle.fx_types.specs.Values.{blank, tab, no_rows};
 ghost use Rattle.session_state.specs.Carrying as carrying;
 ghost use Rattle.session_state.specs.Carrying.{value_or, carried_values};
 
-use fx_data::values::{Rows, Value};
-use fx_trees::Names;
-use fx_trees::names::{Collection, Variable};
+use fx_core::Names;
+use fx_core::names::{Collection, Variable};
+use fx_types::values::{Rows, Value};
 use fx_typing::ways::same_shape;
 use std::alloc::Global;
 use std::mem;

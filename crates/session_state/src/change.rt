@@ -1,7 +1,7 @@
 //! Changes of a session.
 
-use fx_data::values::Value;
-use fx_data::words::Words;
+use fx_types::values::Value;
+use fx_types::words::Words;
 
 /// A change of a session. Numbers are places in the lists of the app's names, from 0.
 #[derive(Drop)]

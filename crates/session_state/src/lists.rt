@@ -1,11 +1,11 @@
 //! Lists as a session has them at first, and their copies.
 ghost use Rattle.std.specs.Prelude.{◌≡◌, map, length, None, IfOk, replicate};
-ghost use Rattle.fx_data.specs.ValueView.{view};
-ghost use Rattle.fx_data.specs.Values.{blank, tab, no_rows};
+ghost use Rattle.fx_types.specs.ValueView.{view};
+ghost use Rattle.fx_types.specs.Values.{blank, tab, no_rows};
 
 use fx_base::Memory;
-use fx_data::values::{Rows, Value};
-use fx_data::words::Words;
+use fx_types::values::{Rows, Value};
+use fx_types::words::Words;
 use std::alloc::Global;
 
 /// So many blanks.

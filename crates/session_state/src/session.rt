@@ -8,10 +8,10 @@ use crate::lists::{blanks, copy_of_inputs, copy_of_texts, copy_of_values, empty_
 use crate::turn::Turn;
 use crate::weight::{put, total_weight};
 use fx_base::Memory;
-use fx_data::values::{Rows, Value};
-use fx_data::words::Words;
-use fx_trees::Names;
-use fx_trees::sources::Source;
+use fx_core::Names;
+use fx_core::sources::Source;
+use fx_types::values::{Rows, Value};
+use fx_types::words::Words;
 use std::alloc::Global;
 use std::marker::Model;
 use std::mem;
@@ -63,8 +63,8 @@ impl Drop for Session {
 impl Model for Session {
     ghost use Rattle.std.specs.Prelude.{◌≡◌, [], map, option_map, vec_capacity};
     ghost use Rattle.std.specs.Coded.{codes};
-    ghost use Rattle.fx_data.specs.ValueCode.{data_code};
-    ghost use Rattle.fx_data.specs.ValueView.{view as value_view};
+    ghost use Rattle.fx_types.specs.ValueCode.{data_code};
+    ghost use Rattle.fx_types.specs.ValueView.{view as value_view};
     ghost use Rattle.session_state.specs.Sessions.{SessionState, weight_of_values};
 
     ghost Value = { SessionState };
@@ -91,13 +91,13 @@ impl Model for Session {
 impl Session {
     ghost use Rattle.std.specs.Prelude.{true, false};
     ghost use Rattle.std.specs.List.{All};
-    ghost use Rattle.fx_data.specs.Types.{Shape};
-    ghost use Rattle.fx_data.specs.TypeView.{shape};
-    ghost use Rattle.fx_data.specs.Values.{tab, no_rows};
-    ghost use Rattle.fx_data.specs.ValueView.{view};
+    ghost use Rattle.fx_types.specs.Types.{Shape};
+    ghost use Rattle.fx_types.specs.TypeView.{shape};
+    ghost use Rattle.fx_types.specs.Values.{tab, no_rows};
+    ghost use Rattle.fx_types.specs.ValueView.{view};
     ghost use Rattle.fx_value.specs.Fits.{fits_in};
-    ghost use Rattle.fx_trees.specs.declared.names.Names.{Names as AppNames};
-    ghost use Rattle.fx_trees.specs.SourceTypes.{sources};
+    ghost use Rattle.fx_core.specs.declared.names.Names.{Names as AppNames};
+    ghost use Rattle.fx_core.specs.SourceTypes.{sources};
     ghost use Rattle.session_state.specs.Once.{turn_of};
     ghost use Rattle.session_state.specs.Carrying.{carried};
     ghost use Rattle.session_state.specs.Sessions.{HasRoom, opened, held, Holds, no_room, room_with, weight as weight_of, may_weigh};

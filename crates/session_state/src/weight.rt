@@ -1,10 +1,10 @@
 //! The weight of a session, and how much it may become.
 ghost use Rattle.std.specs.Prelude.{◌≡◌, ◌+◌, ◌-◌, ◌^◌, ◌<◌, ◌≤◌, MatchOption, length, map, vec_len, slice_set, true, false, if◌then◌else◌};
 ghost use Rattle.std.specs.List.{sum_by};
-ghost use Rattle.fx_data.specs.ValueView.{view};
+ghost use Rattle.fx_types.specs.ValueView.{view};
 ghost use Rattle.session_state.specs.Sessions.{may_weigh, weighed};
 
-use fx_data::values::Value;
+use fx_types::values::Value;
 use fx_value::weighing::weigh;
 
 /// The most that a session's variables and collections may come to weigh, in bytes.

@@ -5,9 +5,9 @@ use Rattle.std.specs.List.Sorted.{IsPermutation, IsSorted}
 use Rattle.std.proofs.lemmas.List.{take_more}
 use Rattle.std.proofs.lemmas.List.Elements.{All-from_recursion, recursion_from_All}
 use Rattle.std.proofs.lemmas.List.Sorted.{All-permutation}
-use Rattle.fx_data.specs.declared.aggregates.Totals.{Totals}
+use Rattle.fx_types.specs.declared.aggregates.Totals.{Totals}
 use Rattle.fx_value.specs.Aggregates.{SumsUp, numbers_in}
-use Rattle.fx_trees.specs.declared.schema.TableShape.{TableShape}
+use Rattle.fx_core.specs.declared.schema.TableShape.{TableShape}
 use Rattle.row_queries.specs.Answers.{IsCountAnswer, IsScanAnswer, IsTotalAnswer, OfRows}
 use Rattle.row_queries.specs.Queries.{AreAsked, first_fault, given_of, lies, outcome_on, row_order, rows_or_fault}
 use Rattle.row_queries.specs.TableRows.{AreHeldRows, AreInIdOrder, IsHeldRow, IsRowOf, value_at, values_of}

@@ -7,7 +7,7 @@ ghost use Rattle.row_queries.specs.declared.rows.Row.{Row as RowValue};
 
 use crate::ranges::is_in_ranges;
 use fx_base::Memory;
-use fx_trees::TableShape;
+use fx_core::TableShape;
 use row_keeper::KeeperEnd;
 use row_keeper::keys::key_in;
 use row_keeper::scans::sort_rows;

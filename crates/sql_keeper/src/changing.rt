@@ -8,7 +8,7 @@ use crate::database::Database;
 use crate::reading::body_now;
 use crate::rules::{broken_rule, fullness};
 use crate::tallies::{Tally, all_rows};
-use fx_trees::TableShape;
+use fx_core::TableShape;
 use row_keeper::{KeeperEnd, Put};
 use row_lines::lines::line_of;
 use row_queries::Cells;

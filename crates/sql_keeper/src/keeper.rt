@@ -21,9 +21,9 @@ use crate::reading::ask;
 use crate::shaping::{kept_body, kept_tallies, new_tallies, other_schema};
 use crate::tallies::{Tally, end};
 use crate::writing::Writing;
-use fx_data::Totals;
+use fx_core::Schema;
 use fx_tables::totals;
-use fx_trees::Schema;
+use fx_types::Totals;
 use row_keeper::answers::{answer, give_rows, values_in};
 use row_keeper::schemas::copy_schema;
 use row_keeper::{Keeper, KeeperEnd, Put};
@@ -64,7 +64,7 @@ impl Drop for SqlKeeper {
 impl Model for SqlKeeper {
     ghost use Rattle.std.specs.Prelude.{is_some};
     ghost use Rattle.std.specs.Coded.{codes};
-    ghost use Rattle.fx_trees.specs.contracts.schema.Schema.{the_row as schema_row};
+    ghost use Rattle.fx_core.specs.contracts.schema.Schema.{the_row as schema_row};
     ghost use Rattle.sql_keeper.specs.View.{SqlView};
 
     ghost Value = { SqlView };

@@ -11,7 +11,7 @@ use crate::database::Database;
 use crate::ranges::{lies_in, numbers_in};
 use crate::statements::{self, bytes_in, number_in};
 use fx_base::Memory;
-use fx_trees::{Column, TableShape};
+use fx_core::{Column, TableShape};
 use row_keeper::KeeperEnd;
 use row_lines::lines::row_of;
 use row_queries::{KeyRange, Query, Row, TestNode};

@@ -8,7 +8,7 @@ use crate::database::Database;
 use crate::statements::{self, number_in};
 use crate::tallies::{Count, is_full};
 use fx_base::Memory;
-use fx_trees::Column;
+use fx_core::Column;
 use row_keeper::rules::{is_empty, weight};
 use row_keeper::{KeeperEnd, RowRefusal, RowRule};
 use row_lines::pieces::piece_at;

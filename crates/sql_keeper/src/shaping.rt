@@ -7,7 +7,7 @@ use crate::statements::{self, bytes_in, number_in};
 use crate::tallies::{Count, Tally, no_rows};
 use crate::writing::Writing;
 use fx_base::Memory;
-use fx_trees::{Schema, TableShape};
+use fx_core::{Schema, TableShape};
 use row_keeper::KeeperEnd;
 use row_lines::lines::row_of;
 use row_lines::schemas::schema_of;

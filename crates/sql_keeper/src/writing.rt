@@ -6,7 +6,7 @@ use crate::statements::{
     take_mark,
 };
 use crate::tallies::Tally;
-use fx_trees::{Column, Schema};
+use fx_core::{Column, Schema};
 use row_keeper::KeeperEnd;
 use row_lines::pieces::piece_at;
 use sqlite::{Alter, Connection, Transaction};

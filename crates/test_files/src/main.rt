@@ -16,7 +16,7 @@ use app_file::{AppFile, FileBreak};
 use app_names::{name_breaks, names_of};
 use app_texts::{read_is_sound, read_texts};
 use fx_base::{Memory, OrMemory};
-use fx_trees::{AppEnd, Broken, line};
+use fx_core::{AppEnd, Broken, line};
 use std::alloc::Global;
 use std::io::{self, ErrorKind};
 

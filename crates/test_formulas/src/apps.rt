@@ -6,10 +6,10 @@ ghost use Rattle.fx_infer.specs.declared.elaboration.Written.{Written};
 use crate::context::bare_app;
 use crate::place::{Spot, any_table, write_formula};
 use crate::stop::Stop;
-use fx_data::types::Ty;
-use fx_data::words::Words;
+use fx_core::names::{Collection, FormulaName, Names, Property, Variable};
 use fx_infer::Written;
-use fx_trees::names::{Collection, FormulaName, Names, Property, Variable};
+use fx_types::types::Ty;
+use fx_types::words::Words;
 use std::alloc::Global;
 
 /// The number of the gallery.

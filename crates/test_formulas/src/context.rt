@@ -10,14 +10,14 @@ use crate::place::place_formula;
 use crate::stop::Stop;
 use app_names::is_lawful;
 use fx_base::InOrder;
-use fx_data::controls::Control;
-use fx_data::types::Ty;
-use fx_data::words::Words;
+use fx_core::formulas::FormulaList;
+use fx_core::names::{Collection, ControlName, FormulaName, Names, Property, Variable};
+use fx_core::schema::{Column, Schema, TableList, TableShape};
 use fx_infer::{InferEnd, elaborate};
 use fx_sig::all;
-use fx_trees::formulas::FormulaList;
-use fx_trees::names::{Collection, ControlName, FormulaName, Names, Property, Variable};
-use fx_trees::schema::{Column, Schema, TableList, TableShape};
+use fx_types::controls::Control;
+use fx_types::types::Ty;
+use fx_types::words::Words;
 use std::alloc::Global;
 
 /// Nothing but the functions and the tables.

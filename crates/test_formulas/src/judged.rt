@@ -11,9 +11,9 @@ use crate::tree::{DEPTH, tree_text};
 use crate::types::type_text;
 use app_names::is_lawful;
 use fx_base::Memory;
+use fx_core::line as broken_line;
+use fx_core::names::Names;
 use fx_infer::{InferEnd, Written, elaborate};
-use fx_trees::line as broken_line;
-use fx_trees::names::Names;
 use std::alloc::Global;
 use std::io::{self, ErrorKind};
 

@@ -6,10 +6,10 @@ use crate::place::place_formula;
 use crate::stop::Stop;
 use crate::tree::{DEPTH, tree_text};
 use app_names::is_lawful;
+use fx_core::line as broken_line;
+use fx_core::names::Names;
 use fx_infer::{InferEnd, Written, elaborate};
 use fx_plan::limit_queries;
-use fx_trees::line as broken_line;
-use fx_trees::names::Names;
 use std::alloc::Global;
 
 /// The row limit.

@@ -3,10 +3,10 @@ ghost use Rattle.std.specs.Prelude.{◌≤◌, IfOk};
 ghost use Rattle.fx_infer.specs.Below.{tree_depth};
 
 use crate::stop::Stop;
-use fx_data::types::{Columns, Ty};
-use fx_data::words::Words;
 use fx_infer::{Place, Written, no_deeper};
 use fx_parser::{ParseEnd, parse_formula};
+use fx_types::types::{Columns, Ty};
+use fx_types::words::Words;
 use std::alloc::Global;
 
 /// A place of a formula.

@@ -2,8 +2,8 @@
 ghost use Rattle.std.specs.Prelude.{◌<◌, ◌^◌, length};
 
 use fx_base::Memory;
+use fx_core::expr::Expr;
 use fx_parser::{ParseEnd, ReadBackEnd, bad_token, parse_formula, print, read_back, syntax_detail};
-use fx_trees::expr::Expr;
 use std::alloc::Global;
 use std::io::{self, ErrorKind};
 

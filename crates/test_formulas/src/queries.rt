@@ -1,16 +1,16 @@
 //! What formulas ask of the rows of tables.
 ghost use Rattle.std.specs.Prelude.{◌≤◌};
 ghost use Rattle.fx_infer.specs.Below.{tree_depth};
-ghost use Rattle.fx_trees.specs.Lawful.{IsLawful};
+ghost use Rattle.fx_core.specs.Lawful.{IsLawful};
 
 use crate::place::place_formula;
 use crate::stop::Stop;
 use crate::tree::{DEPTH, tree_text};
 use app_names::is_lawful;
+use fx_core::names::Names;
+use fx_core::{Core, line as broken_line};
 use fx_infer::{InferEnd, Written, elaborate};
 use fx_plan::{Pattern, PatternNode, Patterns, Sketch, sites, sketch};
-use fx_trees::names::Names;
-use fx_trees::{Core, line as broken_line};
 use std::alloc::Global;
 
 /// The query of a formula that is a query expression, with the trees of its constants; or `no query`. Behind it stand

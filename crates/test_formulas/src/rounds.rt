@@ -2,17 +2,17 @@
 ghost use Rattle.std.specs.Prelude.{◌≤◌, All};
 ghost use Rattle.fx_infer.specs.Below.{tree_depth};
 ghost use Rattle.fx_infer.specs.declared.elaboration.Written.{Written};
-ghost use Rattle.fx_trees.specs.Lawful.{IsLawful};
+ghost use Rattle.fx_core.specs.Lawful.{IsLawful};
 
 use crate::apps::{App, app_of};
 use crate::stop::Stop;
 use crate::tree::DEPTH;
 use crate::types::type_text;
 use app_names::is_lawful;
-use fx_data::types::Ty;
+use fx_core::line as broken_line;
+use fx_core::names::{Names, Variable};
 use fx_infer::{InferEnd, Written, elaborate, type_rounds};
-use fx_trees::line as broken_line;
-use fx_trees::names::{Names, Variable};
+use fx_types::types::Ty;
 use std::alloc::Global;
 
 /// The final types of the names of the app of these parts, and behind them the rule that each formula breaks

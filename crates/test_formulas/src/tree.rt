@@ -2,9 +2,9 @@
 
 use crate::stop::Stop;
 use crate::types::type_text;
-use fx_data::words::Words;
-use fx_trees::deeds::Deed;
-use fx_trees::{Core, CoreNode};
+use fx_core::deeds::Deed;
+use fx_core::{Core, CoreNode};
+use fx_types::words::Words;
 use std::alloc::Global;
 use view_text::plain;
 

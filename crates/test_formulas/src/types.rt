@@ -1,7 +1,7 @@
 //! Types as texts.
 
 use crate::stop::Stop;
-use fx_data::types::{Columns, Ty};
+use fx_types::types::{Columns, Ty};
 use std::alloc::Global;
 
 /// A type as a text, of at most so many types in one another.

@@ -1,7 +1,7 @@
 //! Functions applied to typed values.
 ghost use Rattle.std.specs.Prelude.{◌≡◌, IsTrue, true};
-ghost use Rattle.fx_data.specs.ValueView.{view};
-ghost use Rattle.fx_trees.specs.Rows.{row_of, shape_of};
+ghost use Rattle.fx_types.specs.ValueView.{view};
+ghost use Rattle.fx_core.specs.Rows.{row_of, shape_of};
 ghost use Rattle.fx_scalar.specs.Arguments.{views};
 ghost use Rattle.fx_scalar.specs.Fitting.{FitPlaces, fits_place};
 ghost use Rattle.fx_scalar.specs.ScalarFunctions.{CanApply, is_value};
@@ -9,10 +9,10 @@ ghost use Rattle.fx_value.specs.Coercion.{HasCoercion};
 
 use crate::typed::{Stop, Typed};
 use fx_base::Memory;
-use fx_data::Value;
+use fx_core::rows::row_of;
+use fx_core::{Answer, Fun, Scalar, Takes};
 use fx_scalar::apply;
-use fx_trees::rows::row_of;
-use fx_trees::{Answer, Fun, Scalar, Takes};
+use fx_types::Value;
 use fx_value::{coerce, fits};
 use std::alloc::Global;
 

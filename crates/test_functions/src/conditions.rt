@@ -1,16 +1,16 @@
 //! What a row holds of a condition, and of one before an error.
 ghost use Rattle.std.specs.Prelude.{◌≡◌, [], IfOk, IfSome};
-ghost use Rattle.fx_data.specs.declared.comparisons.Cmp.TheVariants.{Eq as EqualTo};
-ghost use Rattle.fx_data.specs.declared.faults.Kind.TheVariants.{Div0};
-ghost use Rattle.fx_data.specs.Values.{number as number_data, fault as fault_data};
+ghost use Rattle.fx_types.specs.declared.comparisons.Cmp.TheVariants.{Eq as EqualTo};
+ghost use Rattle.fx_types.specs.declared.faults.Kind.TheVariants.{Div0};
+ghost use Rattle.fx_types.specs.Values.{number as number_data, fault as fault_data};
 ghost use Rattle.row_queries.specs.Conditions.{all_of, also, compares, constant as constant_data, no_conditions};
 ghost use Rattle.row_queries.specs.RowTests.{CanAsk};
 ghost use Rattle.row_queries.specs.TableRows.{values_of};
 
 use crate::page::Page;
 use fx_base::Memory;
-use fx_data::{Cmp, Fault, Kind, Value, Words};
 use fx_number::Num;
+use fx_types::{Cmp, Fault, Kind, Value, Words};
 use row_queries::{Cells, Held, Row, Test, TestNode, Tests, fault_of, meets};
 use std::alloc::Global;
 

@@ -2,9 +2,9 @@
 
 use crate::page::Page;
 use fx_base::Memory;
-use fx_builtins::{date, date_add, today};
-use fx_data::{CivilDate, Day, Kind, Value, civil_date, date_text, day_of_date};
-use fx_trees::TimeUnit;
+use fx_core::TimeUnit;
+use fx_primitives::{date, date_add, today};
+use fx_types::{CivilDate, Day, Kind, Value, civil_date, date_text, day_of_date};
 use std::alloc::Global;
 use view_text::plain;
 

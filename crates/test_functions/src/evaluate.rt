@@ -4,13 +4,13 @@ use crate::arguments::apply_to;
 use crate::operators::fun_of;
 use crate::records::{error_of, record_of};
 use crate::typed::{Stop, Typed};
-use fx_data::{Value, Words};
+use fx_core::expr::{Expr, FieldName, Node, Op};
+use fx_core::literals::{enumeration_of, with_literal};
+use fx_core::rows::row_of;
+use fx_core::{Fun, Scalar, SigShape};
 use fx_scalar::today;
 use fx_sig::signature;
-use fx_trees::expr::{Expr, FieldName, Node, Op};
-use fx_trees::literals::{enumeration_of, with_literal};
-use fx_trees::rows::row_of;
-use fx_trees::{Fun, Scalar, SigShape};
+use fx_types::{Value, Words};
 use std::alloc::Global;
 
 /// More than the depth of every formula.

@@ -3,8 +3,8 @@
 use crate::page::Page;
 use crate::parts::{pair, text};
 use fx_base::Memory;
-use fx_data::{Day, Fault, Fields, Kind, Rows, Value, Words};
 use fx_number::Num;
+use fx_types::{Day, Fault, Fields, Kind, Rows, Value, Words};
 use std::alloc::Global;
 use view_text::{Named, named_json, plain, value_json};
 

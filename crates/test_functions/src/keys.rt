@@ -1,11 +1,11 @@
 //! Keys, whose bytes are written as numbers, and the order of values.
-ghost use Rattle.fx_data.specs.ValueView.{view};
+ghost use Rattle.fx_types.specs.ValueView.{view};
 ghost use Rattle.fx_value.specs.Order.{IsScalar};
 
 use crate::page::Page;
 use fx_base::Memory;
-use fx_data::{Day, Value, Words};
 use fx_number::Num;
+use fx_types::{Day, Value, Words};
 use fx_value::{compare, key_of};
 use std::alloc::Global;
 use std::cmp::Ordering;

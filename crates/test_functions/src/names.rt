@@ -2,9 +2,9 @@
 
 use crate::page::Page;
 use fx_base::{InOrder, Memory};
-use fx_data::{Control, Ty, Words};
-use fx_trees::controls::{has_property, input_ty, is_behaviour};
-use fx_trees::names::{Variable, VariableList};
+use fx_core::controls::{has_property, input_ty, is_behaviour};
+use fx_core::names::{Variable, VariableList};
+use fx_types::{Control, Ty, Words};
 
 pub fn write(page: &mut Page) -> Result<(), Memory> {
     page.add("# Properties and names");

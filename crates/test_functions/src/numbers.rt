@@ -2,8 +2,8 @@
 
 use crate::page::Page;
 use fx_base::Memory;
-use fx_builtins::average;
 use fx_number::{Num, Way, read, round, text};
+use fx_primitives::average;
 use std::alloc::Global;
 
 /// The ten-thousandths of the greatest number.

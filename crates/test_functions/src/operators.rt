@@ -1,7 +1,7 @@
 //! Which function an operator is of two types.
 
-use fx_trees::expr::Op;
-use fx_trees::{Fun, Scalar};
+use fx_core::expr::Op;
+use fx_core::{Fun, Scalar};
 
 /// The function of an operator between operands of two types, if it takes them.
 pub fn fun_of(op: Op, left: Scalar, right: Scalar) -> Option<Fun> {

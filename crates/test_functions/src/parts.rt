@@ -1,11 +1,11 @@
 //! Values and types for the rows.
 ghost use Rattle.std.specs.Prelude.{◌≡◌, IfOk};
-ghost use Rattle.fx_data.specs.ValueView.{view};
-ghost use Rattle.fx_data.specs.Values.{text as text_data};
-ghost use Rattle.fx_data.specs.Words.{scalars_of};
+ghost use Rattle.fx_types.specs.ValueView.{view};
+ghost use Rattle.fx_types.specs.Values.{text as text_data};
+ghost use Rattle.fx_types.specs.Words.{scalars_of};
 
 use fx_base::Memory;
-use fx_data::{Fields, Value, Words};
+use fx_types::{Fields, Value, Words};
 use std::alloc::Global;
 
 pub fn text(alloc: Global, text: &str) -> Result<Value, Memory>

@@ -2,10 +2,10 @@
 
 use crate::page::Page;
 use fx_base::Memory;
-use fx_trees::functions::Fun;
-use fx_trees::make_core::{call, read};
-use fx_trees::sources::Source;
-use fx_trees::trees::{Core, CoreArgs};
+use fx_core::functions::Fun;
+use fx_core::make_core::{call, read};
+use fx_core::sources::Source;
+use fx_core::trees::{Core, CoreArgs};
 use std::alloc::Global;
 
 pub fn write(page: &mut Page) -> Result<(), Memory> {

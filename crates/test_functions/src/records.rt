@@ -1,13 +1,13 @@
 //! Records, and the errors that they tell.
 ghost use Rattle.std.specs.Prelude.{◌≤◌, IsTrue, length};
-ghost use Rattle.fx_data.specs.Rising.{IsAboveAll};
-ghost use Rattle.fx_data.specs.ValueView.{fields_view};
+ghost use Rattle.fx_types.specs.Rising.{IsAboveAll};
+ghost use Rattle.fx_types.specs.ValueView.{fields_view};
 
 use crate::typed::Stop;
 use fx_base::Memory;
-use fx_data::{Fields, Value, Words};
+use fx_core::Fun;
 use fx_scalar::apply;
-use fx_trees::Fun;
+use fx_types::{Fields, Value, Words};
 use std::alloc::Global;
 use std::cmp::Ordering;
 

@@ -3,7 +3,7 @@ ghost use Rattle.view_text.specs.RefusalText.{Fits};
 
 use crate::page::Page;
 use fx_base::Memory;
-use fx_data::Words;
+use fx_types::Words;
 use view_text::{Detail, Lines, Refusal, refusal_json};
 
 pub fn write(page: &mut Page) -> Result<(), Memory> {

@@ -3,7 +3,7 @@
 use crate::page::Page;
 use app_wire::{Method, Request, Route, RouteEnd, Routes};
 use fx_base::Memory;
-use fx_data::Words;
+use fx_types::Words;
 use std::alloc::Global;
 
 /// Requests of each route, and of none.

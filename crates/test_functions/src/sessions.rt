@@ -2,7 +2,7 @@
 
 use crate::page::Page;
 use fx_base::{InOrder, Memory};
-use fx_trees::{FormulaList, Names, Schema};
+use fx_core::{FormulaList, Names, Schema};
 use session_state::{Change, Desk, Session, Turn};
 use std::alloc::Global;
 

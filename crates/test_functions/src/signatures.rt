@@ -1,10 +1,10 @@
 //! The functions that a formula can call.
 
 use crate::page::Page;
+use fx_core::TimeUnit;
+use fx_core::functions::{Acting, Fun};
+use fx_core::signatures::SigShape;
 use fx_sig::{all, signature};
-use fx_trees::TimeUnit;
-use fx_trees::functions::{Acting, Fun};
-use fx_trees::signatures::SigShape;
 
 pub fn write(page: &mut Page) {
     page.add("# Signatures");

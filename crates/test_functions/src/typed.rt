@@ -1,8 +1,8 @@
 //! Values with their types.
 
 use fx_base::Memory;
-use fx_data::Value;
-use fx_trees::Scalar;
+use fx_core::Scalar;
+use fx_types::Value;
 use std::alloc::{AllocError, AllocFailed};
 
 /// A value and the type of the formula that gives it. The value may also be blank or an error.

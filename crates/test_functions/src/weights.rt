@@ -3,8 +3,8 @@
 use crate::page::Page;
 use crate::parts::{pair, single};
 use fx_base::Memory;
-use fx_data::{Columns, Rows, Ty, Value, Words};
 use fx_number::Num;
+use fx_types::{Columns, Rows, Ty, Value, Words};
 use fx_value::{coerce, fits, join, same, weigh};
 use std::alloc::Global;
 use view_text::plain;

@@ -1,12 +1,12 @@
 -- Queries of the table that the cases are about.
 use Rattle.std.proofs.Common.{◌≡◌, ◌⊎◌, inl, ℕ, ◌≤◌, List, [], ◌∷◌, length, refl, sym, ap, subst, arith, Bool, true, false, cond, Option, None, Some}
 use Rattle.std.specs.Prelude.{IsSomeAnd, slice_get}
-use Rattle.fx_data.specs.TypeView.{shape}
-use Rattle.fx_data.specs.Types.{numbers}
-use Rattle.fx_trees.specs.declared.schema.Column.{Column}
-use Rattle.fx_trees.specs.declared.schema.Schema.{Schema}
-use Rattle.fx_trees.specs.declared.schema.TableShape.{TableShape}
-use Rattle.fx_data.specs.Values.{Data}
+use Rattle.fx_types.specs.TypeView.{shape}
+use Rattle.fx_types.specs.Types.{numbers}
+use Rattle.fx_core.specs.declared.schema.Column.{Column}
+use Rattle.fx_core.specs.declared.schema.Schema.{Schema}
+use Rattle.fx_core.specs.declared.schema.TableShape.{TableShape}
+use Rattle.fx_types.specs.Values.{Data}
 use Rattle.fx_value.specs.Order.{IsScalar}
 use Rattle.row_queries.specs.Conditions.{Condition, always, is_blank}
 use Rattle.row_queries.specs.RowTests.{CanAsk}

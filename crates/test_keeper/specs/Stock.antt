@@ -1,9 +1,9 @@
 -- The table that the cases are about, and what is known of a keeper between them.
 use Rattle.std.specs.Prelude.{◌≡◌, Bool, true, List, [], ◌∷◌, Option, Some, None}
-use Rattle.fx_data.specs.declared.types.Ty.TheVariants.{Number, Text}
-use Rattle.fx_trees.specs.declared.schema.Column.{Column}
-use Rattle.fx_trees.specs.declared.schema.Schema.{Schema}
-use Rattle.fx_trees.specs.declared.schema.TableShape.{TableShape}
+use Rattle.fx_types.specs.declared.types.Ty.TheVariants.{Number, Text}
+use Rattle.fx_core.specs.declared.schema.Column.{Column}
+use Rattle.fx_core.specs.declared.schema.Schema.{Schema}
+use Rattle.fx_core.specs.declared.schema.TableShape.{TableShape}
 
 -- a column of texts, and an indexed one of numbers
 abbrev pub AreStockColumns : List Column → Type 0

@@ -1,6 +1,6 @@
 // The table that the cases are about: its schema, cells of its rows, and queries of it.
 ghost use Rattle.std.specs.Prelude.{◌≡◌, cond, [], ◌∷◌, None, Option, Some, IfOk, IsSomeAnd, slice_get};
-ghost use Rattle.fx_trees.specs.declared.schema.Schema.{Schema as SchemaValue};
+ghost use Rattle.fx_core.specs.declared.schema.Schema.{Schema as SchemaValue};
 ghost use Rattle.row_queries.specs.Conditions.{always, is_blank as has_blank};
 ghost use Rattle.row_queries.specs.Queries.{CanTotal, IsQuery};
 ghost use Rattle.row_queries.specs.RowTests.{HasNoFaults};
@@ -9,9 +9,9 @@ ghost use Rattle.row_keeper.specs.Tables.{shapes_of};
 ghost use Rattle.test_keeper.specs.Stock.{IsStock};
 
 use fx_base::{InOrder, Memory};
-use fx_data::{Ty, Value, Words};
+use fx_core::{Column, Schema, TableShape};
 use fx_number::Num;
-use fx_trees::{Column, Schema, TableShape};
+use fx_types::{Ty, Value, Words};
 use row_queries::{Cells, Key, KeyRange, Query, RangeList, Test, TestNode};
 use std::alloc::Global;
 

@@ -1,8 +1,8 @@
 //! A keeper that writes down what it is asked.
 ghost use Rattle.std.specs.Prelude.{◌≡◌};
 
-use fx_data::Totals;
-use fx_trees::Schema;
+use fx_core::Schema;
+use fx_types::Totals;
 use row_keeper::{Keeper, KeeperEnd, Put};
 use row_queries::{Cells, Query, RowList};
 use std::alloc::{AllocError, Global};

@@ -6,8 +6,8 @@ use Rattle.serde_json.specs.Data as json
 use Rattle.serde_json.specs.View.{items_of}
 use Rattle.serde_json.specs.Written.{has_float, items_have_float, members_have_float}
 use Rattle.serde_json.specs.Find.{of_integer, is_float}
-use Rattle.fx_data.specs.Values.{Data, blank, number, text, boolean, date, rec, tab, fault, FieldList, field_list, no_fields, field, RowList, no_rows, row}
-use Rattle.fx_data.specs.ValueView.{view}
+use Rattle.fx_types.specs.Values.{Data, blank, number, text, boolean, date, rec, tab, fault, FieldList, field_list, no_fields, field, RowList, no_rows, row}
+use Rattle.fx_types.specs.ValueView.{view}
 use Rattle.view_text.specs.JsonText.{value_data, fields_data, rows_data, tagged, whole_of}
 use Rattle.view_text.specs.ReplyText.{named_data, all_named_data}
 use Rattle.view_text.specs.RefusalText.{detail_data, line_data, id_data, refusal_data}
@@ -18,8 +18,8 @@ use Rattle.view_text.specs.declared.views.Shown.{Shown}
 use Rattle.view_text.specs.declared.views.Items.{Items}
 use Rattle.view_text.specs.declared.views.ItemView.{ItemView}
 use Rattle.view_text.specs.declared.views.ItemControl.{ItemControl}
-use Rattle.fx_data.specs.declared.controls.Control.{Control}
-use Rattle.fx_data.specs.declared.faults.Fault.{Fault}
+use Rattle.fx_types.specs.declared.controls.Control.{Control}
+use Rattle.fx_types.specs.declared.faults.Fault.{Fault}
 use Rattle.view_text.specs.declared.refused.Refusal.{Refusal}
 use Rattle.view_text.specs.declared.refused.Detail.{Detail}
 use Rattle.view_text.specs.declared.refused.Detail.TheVariants as detail

@@ -8,12 +8,12 @@ use Rattle.std.specs.Str.{all_scalars}
 use Rattle.serde_json.specs.Data as json
 use Rattle.serde_json.specs.Data.{put, member, item, object}
 use Rattle.serde_json.specs.View.{items_of}
-use Rattle.fx_data.specs.Values.{Data, field_list, row_list}
-use Rattle.fx_data.specs.ValueView.{view, fields_view}
-use Rattle.fx_data.specs.Rising.{AreRising, IsAboveAll}
-use Rattle.fx_data.specs.declared.values.Value.{Value}
-use Rattle.fx_data.proofs.Risings.{names_of, rising_names, above_before}
-use Rattle.fx_data.proofs.Utf8Order.{slice_cmp-encodes}
+use Rattle.fx_types.specs.Values.{Data, field_list, row_list}
+use Rattle.fx_types.specs.ValueView.{view, fields_view}
+use Rattle.fx_types.specs.Rising.{AreRising, IsAboveAll}
+use Rattle.fx_types.specs.declared.values.Value.{Value}
+use Rattle.fx_types.proofs.Risings.{names_of, rising_names, above_before}
+use Rattle.fx_types.proofs.Utf8Order.{slice_cmp-encodes}
 use Rattle.view_text.specs.JsonText.{value_data, fields_data, rows_data}
 
 -- each name is a text of scalar values

@@ -3,11 +3,11 @@ use Rattle.std.specs.Prelude.{ℕ, ◌/◌, ◌%◌, ℤ, pos, negsuc, suc, List
 use Rattle.serde_json.specs.Data as json
 use Rattle.serde_json.specs.Data.{object, array, string, member, no_members, Members, item, no_items, Items}
 use Rattle.serde_json.specs.Find.{of_integer}
-use Rattle.fx_data.specs.Values.{Data, blank, number, text, boolean, date, rec, tab, fault, FieldList, no_fields, field, RowList, no_rows, row}
-use Rattle.fx_data.specs.declared.faults.Kind.{Kind}
+use Rattle.fx_types.specs.Values.{Data, blank, number, text, boolean, date, rec, tab, fault, FieldList, no_fields, field, RowList, no_rows, row}
+use Rattle.fx_types.specs.declared.faults.Kind.{Kind}
 use Rattle.fx_number.specs.Spelling.{text_of}
-use Rattle.fx_data.specs.DateText.{date_text}
-use Rattle.fx_data.specs.Faults.{kind_name}
+use Rattle.fx_types.specs.DateText.{date_text}
+use Rattle.fx_types.specs.Faults.{kind_name}
 
 -- an object of one member
 abbrev pub tagged : List ℕ → json.Data → json.Data

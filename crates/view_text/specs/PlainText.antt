@@ -1,10 +1,10 @@
 -- The plain form of a value, as `view` prints it.
 use Rattle.std.specs.Prelude.{ℕ, List, [], ◌∷◌, ◌++◌, Bool, true, false, ◌==◌, if◌then◌else◌, codes, flat_map, encode_utf8_all}
-use Rattle.fx_data.specs.declared.faults.Kind.{Kind}
-use Rattle.fx_data.specs.Faults.{kind_name}
-use Rattle.fx_data.specs.Values.{Data, blank, number, text, boolean, date, rec, tab, fault, FieldList, no_fields, field, RowList, no_rows, row}
+use Rattle.fx_types.specs.declared.faults.Kind.{Kind}
+use Rattle.fx_types.specs.Faults.{kind_name}
+use Rattle.fx_types.specs.Values.{Data, blank, number, text, boolean, date, rec, tab, fault, FieldList, no_fields, field, RowList, no_rows, row}
 use Rattle.fx_number.specs.Spelling.{text_of}
-use Rattle.fx_data.specs.DateText.{date_text}
+use Rattle.fx_types.specs.DateText.{date_text}
 
 -- a character, and a quote twice
 abbrev pub doubled : ℕ → List ℕ

@@ -3,7 +3,7 @@ use Rattle.std.specs.Prelude.{ℕ, List, true, map, codes, encode_utf8_all}
 use Rattle.serde_json.specs.Data.{Data, boolean, string, array, object, member, no_members}
 use Rattle.serde_json.specs.View.{items_of}
 use Rattle.serde_json.specs.Written.{compact_text}
-use Rattle.fx_data.specs.ValueView.{view}
+use Rattle.fx_types.specs.ValueView.{view}
 use Rattle.view_text.specs.JsonText.{tagged, value_data}
 use Rattle.view_text.specs.declared.replies.Named.{Named}
 

@@ -4,10 +4,10 @@ use Rattle.serde_json.specs.Data as json
 use Rattle.serde_json.specs.Data.{unsigned, string, array, object, member, no_members}
 use Rattle.serde_json.specs.View.{items_of}
 use Rattle.serde_json.specs.Written.{compact_text}
-use Rattle.fx_data.specs.Values.{Data, blank, number, text, boolean, date, rec, tab, fault, field_list}
-use Rattle.fx_data.specs.declared.controls.Control.{Control}
-use Rattle.fx_data.specs.declared.controls.Control.TheVariants.{Label, Button, TextInput, Slider, Checkbox, DatePicker, Gallery}
-use Rattle.fx_data.specs.declared.faults.Fault.{Fault}
+use Rattle.fx_types.specs.Values.{Data, blank, number, text, boolean, date, rec, tab, fault, field_list}
+use Rattle.fx_types.specs.declared.controls.Control.{Control}
+use Rattle.fx_types.specs.declared.controls.Control.TheVariants.{Label, Button, TextInput, Slider, Checkbox, DatePicker, Gallery}
+use Rattle.fx_types.specs.declared.faults.Fault.{Fault}
 use Rattle.view_text.specs.JsonText.{value_data, fields_data, error_data}
 use Rattle.view_text.specs.RefusalText.{id_data, line_data}
 use Rattle.view_text.specs.declared.views.View.{View}

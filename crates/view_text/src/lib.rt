@@ -9,7 +9,7 @@ pub mod replies;
 mod status;
 pub mod views;
 
-pub use fx_data::date_text;
+pub use fx_types::date_text;
 pub use json::value_json;
 pub use plain_form::plain;
 pub use refusals::Cause;

@@ -1,12 +1,12 @@
 //! The plain form of values.
 
 ghost use Rattle.std.specs.Prelude.{◌≡◌, ◌++◌, ◌∷◌, [], IfOk, OnOk, string_bytes, false, encode_utf8_all};
-ghost use Rattle.fx_data.specs.Values.{field_list, row_list};
-ghost use Rattle.fx_data.specs.ValueView.{view};
+ghost use Rattle.fx_types.specs.Values.{field_list, row_list};
+ghost use Rattle.fx_types.specs.ValueView.{view};
 ghost use Rattle.view_text.specs.PlainText.{comma_if, doubled, error_text, fields_text, plain_text, quoted_text, rows_text};
 
 use fx_base::Memory;
-use fx_data::{Fields, Kind, Rows, Value, Words, date_text};
+use fx_types::{Fields, Kind, Rows, Value, Words, date_text};
 use std::alloc::Global;
 
 /// The plain form of a value, as `{A: 1, B: "x"}`.

@@ -7,7 +7,7 @@ ghost use Rattle.view_text.specs.RefusalText.{Fits, detail_data, line_data, move
 use crate::Cause;
 use crate::json::tag;
 use fx_base::{InOrder, Memory};
-use fx_data::Words;
+use fx_types::Words;
 use serde_json::{Value as Json, json};
 use std::alloc::Global;
 

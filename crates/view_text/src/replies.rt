@@ -5,7 +5,7 @@ ghost use Rattle.view_text.specs.ReplyText.{all_named_data, named_data, named_te
 
 use crate::json::{tag, value_json};
 use fx_base::Memory;
-use fx_data::{Value, Words};
+use fx_types::{Value, Words};
 use serde_json::{Value as Json, json};
 use std::alloc::Global;
 

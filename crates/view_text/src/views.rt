@@ -1,14 +1,14 @@
 //! What a session shows, and the replies to its requests as JSON.
 ghost use Rattle.std.specs.Prelude.{◌≡◌, IfOk, map, string_bytes};
 ghost use Rattle.serde_json.specs.View.{view as json_view};
-ghost use Rattle.fx_data.specs.ValueView.{view as value_view};
+ghost use Rattle.fx_types.specs.ValueView.{view as value_view};
 ghost use Rattle.view_text.specs.RefusalText.{id_data};
 ghost use Rattle.view_text.specs.ViewText.{control_data, event_data, event_text, gallery_data, item_control_data, item_data, items_data, items_text, kind_text, listed_data, shown_data, told_data, total_of, view_data, view_text};
 
 use crate::json::{error_json, fields_json, value_json};
 use crate::refused::lines_json;
 use fx_base::{InOrder, Memory};
-use fx_data::{Control, Fault, Fields, Value, Words};
+use fx_types::{Control, Fault, Fields, Value, Words};
 use serde_json::{Value as Json, json};
 use std::alloc::Global;
 

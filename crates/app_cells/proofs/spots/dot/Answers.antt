@@ -2,7 +2,7 @@ use Rattle.std.proofs.Common.{◌≡◌, ◌++◌, ◌∷◌, ℕ, List, ap, sym
 use Rattle.std.proofs.lemmas.Result.{IfOk-weaker}
 use Rattle.std.proofs.lemmas.Str.{chars-append, chars-IsAscii}
 use Rattle.std.specs.Str.{IsAscii, IsUtf8, chars}
-use Rattle.fx_trees.specs.BrokenText.{address_of}
+use Rattle.fx_core.specs.BrokenText.{address_of}
 use Rattle.app_cells.proofs.spots.dot.Goals as goal
 
 -- the characters of two texts with a point between them

@@ -1,5 +1,5 @@
 use Rattle.std.proofs.Common.{◌≡◌, ◌++◌, drop, length, map}
-use Rattle.fx_trees.specs.declared.schema.TableShape.{TableShape}
+use Rattle.fx_core.specs.declared.schema.TableShape.{TableShape}
 use Rattle.app_file.proofs.limits.column_counts.Given as goal
 
 abbrev pub invariant-loop-shape : goal.invariant-loop-shape

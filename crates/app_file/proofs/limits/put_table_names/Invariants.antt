@@ -1,5 +1,5 @@
 use Rattle.std.proofs.Common.{◌≡◌, ◌++◌, drop, length, map}
-use Rattle.fx_trees.specs.declared.schema.Column.{Column}
+use Rattle.fx_core.specs.declared.schema.Column.{Column}
 use Rattle.app_file.proofs.limits.put_table_names.Given as goal
 
 abbrev pub invariant-loop-column : goal.invariant-loop-column

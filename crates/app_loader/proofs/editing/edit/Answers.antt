@@ -1,4 +1,4 @@
-use Rattle.fx_data.specs.Words.{scalars_of}
+use Rattle.fx_types.specs.Words.{scalars_of}
 use Rattle.app_loader.proofs.Edited.{AreLeft, broken_end, edit_err, edit_ok, fit_to_judge, frame_ok, left_by, left_frame, left_placed, loaded_ok, one_items}
 use Rattle.app_loader.proofs.editing.edit.Goals as goal
 

@@ -1,8 +1,8 @@
 use Rattle.std.proofs.Common.{List, subst, sym}
 use Rattle.std.proofs.lemmas.Result.{IfOk-weaker}
 use Rattle.std.specs.Prelude.{◌↔◌}
-use Rattle.fx_trees.specs.Reads.{AreRising, IsAmong, sources_in}
-use Rattle.fx_trees.specs.declared.sources.Source.{Source}
+use Rattle.fx_core.specs.Reads.{AreRising, IsAmong, sources_in}
+use Rattle.fx_core.specs.declared.sources.Source.{Source}
 use Rattle.app_loader.proofs.infos.reads_of.Goals as goal
 
 pub returns-clause-once : goal.returns-clause-once

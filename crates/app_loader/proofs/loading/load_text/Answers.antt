@@ -1,7 +1,7 @@
 use Rattle.std.proofs.Common.{ap, ◌∙◌}
 use Rattle.std.proofs.lemmas.Result.{IfOk-weaker, err_from_is_err_and}
 use Rattle.app_cells.specs.declared.frame.Frame.{Frame}
-use Rattle.fx_trees.specs.declared.schema.Schema.{Schema}
+use Rattle.fx_core.specs.declared.schema.Schema.{Schema}
 use Rattle.app_loader.proofs.Loads.{text_end, text_err, text_ok}
 use Rattle.app_loader.proofs.Shallow.{named_shallow}
 use Rattle.app_loader.proofs.Singles.{named_parts, named_single}

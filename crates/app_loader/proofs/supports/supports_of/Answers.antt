@@ -2,8 +2,8 @@ use Rattle.std.proofs.Common.{◌≡◌, List, Some, get_or, length, slice_get, 
 use Rattle.std.proofs.lemmas.Option.{slice_get_read}
 use Rattle.app_cells.specs.declared.app.CellInfo.{CellInfo}
 use Rattle.app_cells.specs.Leaning.{edges_of}
-use Rattle.fx_trees.specs.Reads.{AreRising}
-use Rattle.fx_trees.specs.declared.sources.Source.{Source}
+use Rattle.fx_core.specs.Reads.{AreRising}
+use Rattle.fx_core.specs.declared.sources.Source.{Source}
 use Rattle.app_loader.specs.Supports.{AllRise, IsJoined}
 use Rattle.app_loader.proofs.Supporting.{all_told, none_told, numbered, one_told}
 use Rattle.app_loader.proofs.supports.supports_of.Goals as goal

@@ -1,5 +1,5 @@
 use Rattle.std.proofs.Common.{drop}
-use Rattle.fx_trees.specs.Term.{all, parts_of, term_size, terms_size}
+use Rattle.fx_core.specs.Term.{all, parts_of, term_size, terms_size}
 use Rattle.fx_semantics.specs.NamedTypes.{HaveLawfulTypes}
 use Rattle.app_loader.proofs.trees.+look.Given as goal
 

@@ -1,5 +1,5 @@
 use Rattle.std.proofs.Common.{arith}
-use Rattle.fx_data.proofs.Sizes.{column_is_smaller}
+use Rattle.fx_types.proofs.Sizes.{column_is_smaller}
 use Rattle.app_loader.proofs.Looks.{all_seen}
 use Rattle.app_loader.proofs.types.+look.Goals as goal
 

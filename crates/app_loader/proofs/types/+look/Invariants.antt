@@ -1,6 +1,6 @@
 use Rattle.std.proofs.Common.{drop}
-use Rattle.fx_data.specs.Types.{column_list, shape_size, columns_size}
-use Rattle.fx_data.specs.TypeView.{shape, columns_view}
+use Rattle.fx_types.specs.Types.{column_list, shape_size, columns_size}
+use Rattle.fx_types.specs.TypeView.{shape, columns_view}
 use Rattle.fx_semantics.proofs.Lawful.{AreInner}
 use Rattle.app_loader.proofs.types.+look.Given as goal
 

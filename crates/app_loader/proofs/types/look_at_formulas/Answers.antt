@@ -1,9 +1,9 @@
 use Rattle.std.proofs.Common.{All, List, arith, subst}
 use Rattle.std.proofs.lemmas.List.{take_all}
 use Rattle.std.proofs.lemmas.List.Elements.{All-more}
-use Rattle.fx_data.specs.TypeView.{shape}
+use Rattle.fx_types.specs.TypeView.{shape}
 use Rattle.fx_semantics.specs.Sound.{IsLawfulType}
-use Rattle.fx_trees.specs.declared.names.FormulaName.{FormulaName}
+use Rattle.fx_core.specs.declared.names.FormulaName.{FormulaName}
 use Rattle.app_loader.proofs.types.look_at_formulas.Goals as goal
 
 pub loop-formula-preserved : goal.loop-formula-preserved

@@ -1,5 +1,5 @@
 use Rattle.std.proofs.Common.{◌≡◌, ◌++◌, ◌+◌, ◌*◌, drop}
-use Rattle.fx_trees.specs.Tree.{forest, forest_size, parts_of, tree_size}
+use Rattle.fx_core.specs.Tree.{forest, forest_size, parts_of, tree_size}
 use Rattle.app_names.specs.Declarations.{declared_among}
 use Rattle.app_names.proofs.declarations.+declare.Given as goal
 

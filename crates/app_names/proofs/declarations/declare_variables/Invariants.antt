@@ -1,5 +1,5 @@
 use Rattle.std.proofs.Common.{◌≡◌, ◌++◌, drop}
-use Rattle.fx_trees.specs.Tree.{names_of, places_of}
+use Rattle.fx_core.specs.Tree.{names_of, places_of}
 use Rattle.app_names.specs.Declarations.{variables_in}
 use Rattle.app_names.proofs.declarations.declare_variables.Given as goal
 

@@ -1,6 +1,6 @@
 use Rattle.std.proofs.Common.{◌≡◌, drop, bytes_eq}
 use Rattle.app_names.specs.Decided.{is_new, column_names}
-use Rattle.fx_trees.specs.Lawful.{id_name}
+use Rattle.fx_core.specs.Lawful.{id_name}
 use Rattle.app_names.proofs.distinct.is_without_id.Given as goal
 
 abbrev pub invariant-loop-column : goal.invariant-loop-column

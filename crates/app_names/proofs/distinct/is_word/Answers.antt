@@ -1,5 +1,5 @@
 use Rattle.std.proofs.Common.{◌∙◌}
-use Rattle.fx_trees.proofs.Spelled.{spells_word}
+use Rattle.fx_core.proofs.Spelled.{spells_word}
 use Rattle.app_names.proofs.distinct.is_word.Goals as goal
 
 pub returns : goal.returns

@@ -1,5 +1,5 @@
 use Rattle.std.proofs.Common.{◌≡◌, ◌++◌, drop, map}
-use Rattle.fx_trees.specs.declared.names.ControlName.{ControlName}
+use Rattle.fx_core.specs.declared.names.ControlName.{ControlName}
 use Rattle.app_names.proofs.given.put_control_names.Given as goal
 
 abbrev pub invariant-loop-control : goal.invariant-loop-control

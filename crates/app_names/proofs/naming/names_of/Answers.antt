@@ -1,7 +1,7 @@
 use Rattle.std.proofs.Common.{◌<◌, All, arith, length, subst, sym}
 use Rattle.std.proofs.lemmas.Result.{IfOk-weaker}
-use Rattle.fx_trees.specs.declared.names.FormulaName.{FormulaName}
-use Rattle.fx_trees.specs.declared.names.Property.{Property}
+use Rattle.fx_core.specs.declared.names.FormulaName.{FormulaName}
+use Rattle.fx_core.specs.declared.names.Property.{Property}
 use Rattle.app_names.proofs.LawfulNames.{both_ok, formulas_below, lawful_names, properties_below, unbroken}
 use Rattle.app_names.proofs.naming.names_of.Goals as goal
 

@@ -4,9 +4,9 @@ use Rattle.std.proofs.lemmas.Result.{IfOk-weaker, on_err_weaker}
 use Rattle.std.specs.Prelude.{IfOk, OnErr}
 use Rattle.fx_base.proofs.Silences.{rose_before}
 use Rattle.fx_base.specs.Silence.{Goes, IsLost}
-use Rattle.fx_data.specs.Types.{booleans}
-use Rattle.fx_data.specs.Values.{fault}
-use Rattle.fx_data.specs.ValueView.{view}
+use Rattle.fx_types.specs.Types.{booleans}
+use Rattle.fx_types.specs.Values.{fault}
+use Rattle.fx_types.specs.ValueView.{view}
 use Rattle.fx_eval.proofs.ListRows.{can_list}
 use Rattle.fx_eval.proofs.Sizes.{one_falls, parts_fall, table_falls}
 use Rattle.fx_eval.specs.Parts.{caught_in, inner}
@@ -14,16 +14,16 @@ use Rattle.fx_env.specs.Scopes.{Fixed}
 use Rattle.fx_scalar.specs.LazyForms.{CanMatch, decision_of, none_left as none_left_of}
 use Rattle.fx_semantics.specs.Around.{record_of}
 use Rattle.fx_semantics.specs.Sound.{AreFit}
-use Rattle.fx_trees.specs.declared.deeds.Deed.{Deed}
-use Rattle.fx_trees.specs.declared.functions.Form.TheVariants as form
-use Rattle.fx_trees.specs.declared.functions.Fun.TheVariants as fun
-use Rattle.fx_trees.specs.declared.trees.CoreNode.{CoreNode}
-use Rattle.fx_trees.specs.declared.trees.CoreNode.TheVariants as kind
-use Rattle.fx_trees.specs.Term.{Term, all, cons, nil, of, terms_size}
-use Rattle.fx_trees.specs.Term as top
-use Rattle.fx_trees.specs.TermView.{branch}
+use Rattle.fx_core.specs.declared.deeds.Deed.{Deed}
+use Rattle.fx_core.specs.declared.functions.Form.TheVariants as form
+use Rattle.fx_core.specs.declared.functions.Fun.TheVariants as fun
+use Rattle.fx_core.specs.declared.trees.CoreNode.{CoreNode}
+use Rattle.fx_core.specs.declared.trees.CoreNode.TheVariants as kind
+use Rattle.fx_core.specs.Term.{Term, all, cons, nil, of, terms_size}
+use Rattle.fx_core.specs.Term as top
+use Rattle.fx_core.specs.TermView.{branch}
 use Rattle.fx_value.specs.Fits.{fits_in}
-use Rattle.fx_trees.specs.declared.deeds.Deed.TheVariants as deed
+use Rattle.fx_core.specs.declared.deeds.Deed.TheVariants as deed
 use Rattle.fx_deeds.proofs.Passing.{passed_nowhere, passed_on}
 use Rattle.fx_deeds.proofs.Allowing.{only_nowhere, only_on, only_over, only_staying, only_wider}
 use Rattle.fx_deeds.specs.CutOff.{CutDeed, CutUpdate}

@@ -1,13 +1,13 @@
 use Rattle.std.proofs.Common.{◌≡◌, ◌≤◌, ◌+◌, ◌*◌, ◌++◌, List, length, map, true}
 use Rattle.fx_base.specs.Silence.{Goes, IsLost}
-use Rattle.fx_data.specs.Types.{Shape}
-use Rattle.fx_data.specs.ValueView.{view}
+use Rattle.fx_types.specs.Types.{Shape}
+use Rattle.fx_types.specs.ValueView.{view}
 use Rattle.fx_semantics.specs.Sound.{AreFit}
 use Rattle.fx_scalar.specs.LazyForms.{decision_of, none_left}
-use Rattle.fx_trees.specs.declared.functions.Form.TheVariants as form
-use Rattle.fx_trees.specs.Term.{all, term_size, terms_size}
+use Rattle.fx_core.specs.declared.functions.Form.TheVariants as form
+use Rattle.fx_core.specs.Term.{all, term_size, terms_size}
 use Rattle.fx_value.specs.Fits.{fits_in}
-use Rattle.fx_trees.specs.declared.sources.Source.{Source}
+use Rattle.fx_core.specs.declared.sources.Source.{Source}
 use Rattle.fx_deeds.specs.Fitting.{AreOf}
 use Rattle.fx_deeds.specs.Lefts.{Decides}
 use Rattle.fx_deeds.specs.Stages.{Passed, stage}

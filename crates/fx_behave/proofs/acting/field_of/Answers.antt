@@ -1,6 +1,6 @@
 use Rattle.std.proofs.Common.{◌≡◌, ap, sym, ◌∙◌}
 use Rattle.std.proofs.lemmas.Result.{IfOk-weaker}
-use Rattle.fx_data.specs.ValueView.{view}
+use Rattle.fx_types.specs.ValueView.{view}
 use Rattle.fx_value.proofs.FieldValues.{none_found, value_found}
 use Rattle.fx_semantics.specs.Fresh.{field_of}
 use Rattle.fx_behave.proofs.acting.field_of.Goals as goal

@@ -3,7 +3,7 @@ use Rattle.std.proofs.Common.{◌∙◌}
 use Rattle.fx_base.proofs.Silences.{goes_two}
 use Rattle.fx_base.specs.Silence.{IsLost}
 use Rattle.fx_base.specs.Telling.{Stays}
-use Rattle.fx_data.specs.ValueView.{view}
+use Rattle.fx_types.specs.ValueView.{view}
 use Rattle.fx_deeds.proofs.Passing.{passed_on, passed_staying, same_state}
 use Rattle.fx_deeds.proofs.Told.{state_stays}
 use Rattle.fx_behave.proofs.Purely.{can_take, reads_tables, take_ready, taken_done}

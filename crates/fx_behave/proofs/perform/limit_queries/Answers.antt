@@ -1,5 +1,5 @@
 use Rattle.std.proofs.Common.{sym, subst}
-use Rattle.fx_trees.specs.Lawful.{IsLawfulSchema}
+use Rattle.fx_core.specs.Lawful.{IsLawfulSchema}
 use Rattle.fx_behave.proofs.perform.limit_queries.Goals as goal
 
 pub limit_queries_under-requires : goal.limit_queries_under-requires

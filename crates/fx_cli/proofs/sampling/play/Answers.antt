@@ -6,8 +6,8 @@ use Rattle.app_wire.specs.Framing.{Asked, asked}
 use Rattle.app_wire.specs.declared.framer.Request.{Request}
 use Rattle.fx_base.proofs.Silences.{later_then}
 use Rattle.office.specs.Answers.{Exchange}
-use Rattle.request_checks.specs.Replies.{IsReply, said}
-use Rattle.request_checks.specs.declared.reply.Reply.{Reply}
+use Rattle.numbered_requests.specs.Replies.{IsReply, said}
+use Rattle.numbered_requests.specs.declared.reply.Reply.{Reply}
 use Rattle.fx_cli.specs.Sampled.{sample_moment}
 use Rattle.fx_cli.proofs.Samples.{performs_more}
 use Rattle.fx_cli.proofs.sampling.play.Goals as goal

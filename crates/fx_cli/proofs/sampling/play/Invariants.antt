@@ -2,7 +2,7 @@ use Rattle.std.proofs.Common.{◌≡◌, map, take}
 use Rattle.std.specs.List.{All}
 use Rattle.app_wire.specs.Framing.{asked}
 use Rattle.fx_base.specs.Silence.{IsLater}
-use Rattle.request_checks.specs.Replies.{IsReply, said}
+use Rattle.numbered_requests.specs.Replies.{IsReply, said}
 use Rattle.fx_cli.specs.Held.{standing}
 use Rattle.fx_cli.specs.Sampled.{IsPlayed}
 use Rattle.fx_cli.proofs.sampling.play.Given as goal

@@ -1,7 +1,7 @@
 use Rattle.std.proofs.Common.{map}
 use Rattle.app_wire.specs.Framing.{asked}
 use Rattle.office.specs.State.{started}
-use Rattle.request_checks.specs.Replies.{said}
+use Rattle.numbered_requests.specs.Replies.{said}
 use Rattle.fx_cli.proofs.Samples.{sampled_over}
 use Rattle.fx_cli.proofs.sampling.put_over.Goals as goal
 

@@ -1,6 +1,6 @@
 use Rattle.std.proofs.Common.{◌∷◌, [], ap, refl, subst, sym, ◌∙◌}
 use Rattle.fx_base.specs.Silence.{IsLost}
-use Rattle.fx_trees.specs.declared.deeds.Deed.TheVariants as deed
+use Rattle.fx_core.specs.declared.deeds.Deed.TheVariants as deed
 use Rattle.fx_deeds.proofs.CutRows.{cut_as}
 use Rattle.fx_deeds.proofs.Doing.{can_as, done_as, fits_as, none_cleared, none_reset, none_shown, one_filter, one_given, one_text}
 use Rattle.fx_deeds.proofs.Allowing.{only_wider}

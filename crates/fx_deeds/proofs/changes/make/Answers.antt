@@ -1,5 +1,5 @@
 use Rattle.fx_base.specs.Silence.{IsLost}
-use Rattle.fx_data.specs.ValueView.{view}
+use Rattle.fx_types.specs.ValueView.{view}
 use Rattle.fx_deeds.proofs.CutOff.{cut_made, cut_staying, on_any}
 use Rattle.fx_deeds.specs.Deeds.{Makes}
 use Rattle.fx_deeds.proofs.changes.make.Goals as goal

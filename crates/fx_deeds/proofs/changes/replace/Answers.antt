@@ -1,5 +1,5 @@
 use Rattle.std.proofs.Common.{◌∷◌, []}
-use Rattle.fx_trees.specs.declared.sources.Source.TheVariants as source
+use Rattle.fx_core.specs.declared.sources.Source.TheVariants as source
 use Rattle.fx_deeds.proofs.Changing.{row_changed_within}
 use Rattle.fx_deeds.proofs.Passing.{passed_changing}
 use Rattle.fx_deeds.proofs.Allowing.{only_changing, row_changed_only}

@@ -1,5 +1,5 @@
 use Rattle.std.proofs.Common.{◌↔◌, length}
-use Rattle.fx_data.specs.ValueView.{fields_view}
+use Rattle.fx_types.specs.ValueView.{fields_view}
 use Rattle.fx_deeds.specs.Collections.{AreBlank}
 use Rattle.fx_deeds.proofs.collections.are_blank.Given as goal
 

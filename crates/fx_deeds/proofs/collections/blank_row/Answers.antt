@@ -1,6 +1,6 @@
 use Rattle.std.proofs.Common.{sym, subst}
 use Rattle.std.proofs.lemmas.List.{nil_from_length}
-use Rattle.fx_data.specs.Rising.{AreRising}
+use Rattle.fx_types.specs.Rising.{AreRising}
 use Rattle.fx_deeds.proofs.RowSteps.{blank_ends, blanks_rise}
 use Rattle.fx_deeds.proofs.collections.blank_row.Goals as goal
 

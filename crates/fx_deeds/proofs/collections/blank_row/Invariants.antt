@@ -1,7 +1,7 @@
 use Rattle.std.proofs.Common.{◌≡◌, ◌++◌, length}
-use Rattle.fx_data.specs.Types.{column_list}
-use Rattle.fx_data.specs.TypeView.{columns_view}
-use Rattle.fx_data.specs.ValueView.{fields_view}
+use Rattle.fx_types.specs.Types.{column_list}
+use Rattle.fx_types.specs.TypeView.{columns_view}
+use Rattle.fx_types.specs.ValueView.{fields_view}
 use Rattle.fx_deeds.specs.RowValues.{blank_row}
 use Rattle.fx_deeds.proofs.collections.blank_row.Given as goal
 

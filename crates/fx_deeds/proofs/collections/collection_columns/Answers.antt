@@ -1,5 +1,5 @@
 use Rattle.std.proofs.Common.{◌≤◌, length, subst}
-use Rattle.fx_trees.specs.declared.names.Names.{Names}
+use Rattle.fx_core.specs.declared.names.Names.{Names}
 use Rattle.fx_deeds.proofs.Deeding.{not_beyond}
 use Rattle.fx_deeds.proofs.collections.collection_columns.Goals as goal
 

@@ -1,7 +1,7 @@
 use Rattle.std.proofs.Common.{◌≡◌, ap, sym, ◌∙◌}
 use Rattle.std.proofs.lemmas.Result.{IfOk-weaker}
-use Rattle.fx_data.specs.Types.{column_list}
-use Rattle.fx_data.specs.ValueView.{view}
+use Rattle.fx_types.specs.Types.{column_list}
+use Rattle.fx_types.specs.ValueView.{view}
 use Rattle.fx_deeds.proofs.Lefting.{row_back}
 use Rattle.fx_deeds.specs.RowValues.{row_named}
 use Rattle.fx_deeds.proofs.collections.named_row.Goals as goal

@@ -1,4 +1,4 @@
-use Rattle.fx_data.specs.ValueView.{view}
+use Rattle.fx_types.specs.ValueView.{view}
 use Rattle.fx_deeds.proofs.Gathering.{part_first, part_goes}
 use Rattle.fx_deeds.proofs.collections.part.Goals as goal
 

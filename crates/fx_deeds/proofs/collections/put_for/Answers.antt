@@ -1,8 +1,8 @@
 use Rattle.std.proofs.Common.{◌≡◌, ◌++◌, ◌∷◌, [], subst, List}
 use Rattle.std.specs.Prelude.{MatchOption}
-use Rattle.fx_data.specs.Types.{records}
+use Rattle.fx_types.specs.Types.{records}
 use Rattle.fx_semantics.specs.Around.{record_of}
-use Rattle.fx_trees.specs.declared.sources.Source.TheVariants as source
+use Rattle.fx_core.specs.declared.sources.Source.TheVariants as source
 use Rattle.fx_value.specs.Columns.{Row}
 use Rattle.fx_deeds.proofs.Adding.{gathers_rows, put_fits}
 use Rattle.fx_deeds.proofs.Allowing.{only_behind, only_staying}

@@ -1,5 +1,5 @@
 use Rattle.std.proofs.Common.{[], ◌∷◌}
-use Rattle.fx_trees.specs.declared.sources.Source.TheVariants as source
+use Rattle.fx_core.specs.declared.sources.Source.TheVariants as source
 use Rattle.fx_deeds.specs.Writable.{IsOneOf}
 use Rattle.fx_base.specs.Silence.{IsLost}
 use Rattle.fx_deeds.proofs.Allowing.{only_nowhere}

@@ -1,6 +1,6 @@
 use Rattle.std.proofs.Common.{◌≡◌, ◌++◌, ◌∷◌, [], subst, List}
 use Rattle.std.specs.Prelude.{MatchOption}
-use Rattle.fx_trees.specs.declared.sources.Source.TheVariants as source
+use Rattle.fx_core.specs.declared.sources.Source.TheVariants as source
 use Rattle.fx_value.specs.Columns.{Row}
 use Rattle.fx_deeds.proofs.Adding.{gathers_rows, parted_fits}
 use Rattle.fx_deeds.proofs.Gathering.{take_fails, take_takes}

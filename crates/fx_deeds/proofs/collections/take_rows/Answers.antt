@@ -1,8 +1,8 @@
 use Rattle.std.proofs.Common.{◌∷◌, [], inl, map, refl}
 use Rattle.fx_base.specs.Silence.{IsLost}
-use Rattle.fx_data.specs.ValueView.{view}
-use Rattle.fx_data.specs.Types.{column_list}
-use Rattle.fx_trees.specs.declared.sources.Source.TheVariants as source
+use Rattle.fx_types.specs.ValueView.{view}
+use Rattle.fx_types.specs.Types.{column_list}
+use Rattle.fx_core.specs.declared.sources.Source.TheVariants as source
 use Rattle.fx_deeds.proofs.CutOff.{CutTaken, carried, cut_where, on_any, taken_goes, carries_nowhere}
 use Rattle.fx_deeds.proofs.Gathering.{take_goes, take_stops, taking}
 use Rattle.fx_deeds.proofs.Passing.{passed_on, passed_nowhere}

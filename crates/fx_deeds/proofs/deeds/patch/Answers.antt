@@ -1,12 +1,12 @@
-use Rattle.fx_trees.specs.declared.deeds.Target.TheVariants as target
+use Rattle.fx_core.specs.declared.deeds.Target.TheVariants as target
 use Rattle.std.proofs.Common.{◌≡◌, ◌∷◌, [], ◌∙◌, List, map, ap, subst, sym, true}
 use Rattle.std.specs.Prelude.{IfOk, option_map}
 use Rattle.fx_base.specs.Silence.{IsLost}
-use Rattle.fx_data.specs.declared.values.Value.{Value}
-use Rattle.fx_data.specs.ValueView.{view}
-use Rattle.fx_trees.specs.declared.deeds.Deed.TheVariants as deed
+use Rattle.fx_types.specs.declared.values.Value.{Value}
+use Rattle.fx_types.specs.ValueView.{view}
+use Rattle.fx_core.specs.declared.deeds.Deed.TheVariants as deed
 use Rattle.fx_value.specs.Fits.{fits_in}
-use Rattle.fx_trees.specs.declared.sources.Source.TheVariants as source
+use Rattle.fx_core.specs.declared.sources.Source.TheVariants as source
 use Rattle.fx_deeds.proofs.Adding.{error_fits}
 use Rattle.fx_deeds.proofs.Holding.{base_can}
 use Rattle.fx_deeds.proofs.Targets.{can_patch, patched_fits}

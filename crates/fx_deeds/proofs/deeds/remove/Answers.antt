@@ -1,11 +1,11 @@
-use Rattle.fx_trees.specs.declared.deeds.Target.TheVariants as target
+use Rattle.fx_core.specs.declared.deeds.Target.TheVariants as target
 use Rattle.std.proofs.Common.{◌∙◌, ◌∷◌, [], ap, sym, subst, refl}
 use Rattle.std.specs.Prelude.{map, option_map, take}
 use Rattle.fx_base.specs.Silence.{IsLost}
-use Rattle.fx_data.specs.Types.{booleans}
-use Rattle.fx_data.specs.ValueView.{view}
-use Rattle.fx_trees.specs.declared.deeds.Deed.TheVariants as deed
-use Rattle.fx_trees.specs.declared.sources.Source.TheVariants as source
+use Rattle.fx_types.specs.Types.{booleans}
+use Rattle.fx_types.specs.ValueView.{view}
+use Rattle.fx_core.specs.declared.deeds.Deed.TheVariants as deed
+use Rattle.fx_core.specs.declared.sources.Source.TheVariants as source
 use Rattle.fx_deeds.proofs.Adding.{error_fits}
 use Rattle.fx_deeds.proofs.Allowing.{only_nowhere, only_wider}
 use Rattle.fx_deeds.specs.Writable.{IsOneOf, DeedMayWrite}

@@ -1,7 +1,7 @@
-use Rattle.fx_trees.specs.declared.deeds.Target.TheVariants as target
-use Rattle.fx_trees.specs.declared.deeds.Deed.TheVariants as deed
+use Rattle.fx_core.specs.declared.deeds.Target.TheVariants as target
+use Rattle.fx_core.specs.declared.deeds.Deed.TheVariants as deed
 use Rattle.std.proofs.Common.{[], ◌∷◌, subst, sym, ap, refl}
-use Rattle.fx_trees.specs.declared.sources.Source.TheVariants as source
+use Rattle.fx_core.specs.declared.sources.Source.TheVariants as source
 use Rattle.fx_deeds.specs.Writable.{IsOneOf, DeedMayWrite}
 use Rattle.fx_deeds.proofs.Allowing.{only_wider}
 use Rattle.fx_deeds.specs.State.{frame_of}

@@ -1,10 +1,10 @@
 use Rattle.std.proofs.Common.{◌∙◌, ◌∷◌, [], map, ap, subst, sym}
 use Rattle.std.specs.Prelude.{option_map}
 use Rattle.fx_base.specs.Silence.{IsLost}
-use Rattle.fx_data.specs.Types.{booleans}
-use Rattle.fx_data.specs.ValueView.{view}
-use Rattle.fx_trees.specs.declared.deeds.Deed.TheVariants as deed
-use Rattle.fx_trees.specs.declared.sources.Source.TheVariants as source
+use Rattle.fx_types.specs.Types.{booleans}
+use Rattle.fx_types.specs.ValueView.{view}
+use Rattle.fx_core.specs.declared.deeds.Deed.TheVariants as deed
+use Rattle.fx_core.specs.declared.sources.Source.TheVariants as source
 use Rattle.fx_deeds.proofs.Adding.{error_fits}
 use Rattle.fx_deeds.proofs.Deeding.{no_error}
 use Rattle.fx_deeds.proofs.Holding.{all_can}

@@ -1,6 +1,6 @@
 use Rattle.std.proofs.Common.{ap}
 use Rattle.std.proofs.lemmas.List.{nil_from_length}
-use Rattle.fx_data.specs.declared.values.Value.TheVariants.{Rec}
+use Rattle.fx_types.specs.declared.values.Value.TheVariants.{Rec}
 use Rattle.fx_semantics.specs.Around.{record_of}
 use Rattle.fx_deeds.proofs.Lefting.{left_ends, left_start, left_stays, left_takes, still_records}
 use Rattle.fx_deeds.proofs.filtering.rows_left.Goals as goal

@@ -1,11 +1,11 @@
 use Rattle.std.proofs.Common.{◌≡◌, ◌∙◌, ◌∷◌, [], true, map, refl, ap, subst, sym}
 use Rattle.fx_base.specs.Silence.{IsLost}
-use Rattle.fx_data.specs.Types.{booleans, tables}
-use Rattle.fx_data.specs.Values.{boolean}
-use Rattle.fx_data.specs.ValueView.{view}
+use Rattle.fx_types.specs.Types.{booleans, tables}
+use Rattle.fx_types.specs.Values.{boolean}
+use Rattle.fx_types.specs.ValueView.{view}
 use Rattle.fx_semantics.specs.Rows.{rows_in, table_of}
 use Rattle.fx_value.specs.Fits.{fits_in}
-use Rattle.fx_trees.specs.declared.sources.Source.TheVariants as source
+use Rattle.fx_core.specs.declared.sources.Source.TheVariants as source
 use Rattle.fx_deeds.proofs.Adding.{gathers_rows}
 use Rattle.fx_deeds.proofs.CutUpdates.{held_cut}
 use Rattle.fx_deeds.proofs.Holding.{taken_if, takes_if}

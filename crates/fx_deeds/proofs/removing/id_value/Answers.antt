@@ -1,10 +1,10 @@
 use Rattle.std.proofs.Common.{◌≡◌, ap, sym, ◌∙◌}
 use Rattle.std.proofs.lemmas.Result.{IfOk-weaker}
-use Rattle.fx_data.specs.Lookup.{item_of}
-use Rattle.fx_data.specs.ValueView.{view}
+use Rattle.fx_types.specs.Lookup.{item_of}
+use Rattle.fx_types.specs.ValueView.{view}
 use Rattle.fx_value.proofs.FieldValues.{none_found, value_found}
 use Rattle.fx_semantics.specs.Fresh.{field_of}
-use Rattle.fx_trees.specs.Lawful.{id_name}
+use Rattle.fx_core.specs.Lawful.{id_name}
 use Rattle.fx_deeds.proofs.removing.id_value.Goals as goal
 
 pub returns-in-Some : goal.returns-in-Some

@@ -1,6 +1,6 @@
 use Rattle.std.proofs.Common.{◌∷◌, [], inl, map, refl}
-use Rattle.fx_data.specs.ValueView.{view}
-use Rattle.fx_trees.specs.declared.sources.Source.TheVariants as source
+use Rattle.fx_types.specs.ValueView.{view}
+use Rattle.fx_core.specs.declared.sources.Source.TheVariants as source
 use Rattle.fx_deeds.proofs.CutOff.{CutRemoved, carried, on_any, removed_goes, carries_nowhere}
 use Rattle.fx_deeds.proofs.Passing.{passed_on, passed_nowhere}
 use Rattle.fx_deeds.proofs.Steps.{remove_goes, remove_stops, removing, Whole}

@@ -1,5 +1,5 @@
 use Rattle.std.proofs.Common.{◌≡◌, ◌++◌, length, map}
-use Rattle.fx_data.specs.ValueView.{view}
+use Rattle.fx_types.specs.ValueView.{view}
 use Rattle.fx_deeds.specs.RowValues.{changed_cells}
 use Rattle.fx_deeds.proofs.row_changes.changed_cells.Given as goal
 

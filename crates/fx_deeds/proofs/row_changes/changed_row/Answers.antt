@@ -1,5 +1,5 @@
 use Rattle.std.proofs.lemmas.List.{nil_from_length}
-use Rattle.fx_data.specs.ValueView.{view}
+use Rattle.fx_types.specs.ValueView.{view}
 use Rattle.fx_deeds.proofs.RowSteps.{change_goes, changed_rises}
 use Rattle.fx_deeds.proofs.row_changes.changed_row.Goals as goal
 

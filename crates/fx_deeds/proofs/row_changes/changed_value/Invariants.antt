@@ -1,5 +1,5 @@
 use Rattle.std.proofs.Common.{◌≡◌, length}
-use Rattle.fx_data.specs.ValueView.{view}
+use Rattle.fx_types.specs.ValueView.{view}
 use Rattle.fx_deeds.specs.RowValues.{changed_value}
 use Rattle.fx_deeds.proofs.row_changes.changed_value.Given as goal
 

@@ -1,6 +1,6 @@
 use Rattle.std.proofs.Common.{◌≡◌, length}
 use Rattle.std.specs.List.{find}
-use Rattle.fx_data.specs.ValueView.{fields_view}
+use Rattle.fx_types.specs.ValueView.{fields_view}
 use Rattle.fx_tables.specs.Unions.{is_fault}
 use Rattle.fx_deeds.specs.RowValues.{values_of}
 use Rattle.fx_deeds.proofs.row_changes.error_in.Given as goal

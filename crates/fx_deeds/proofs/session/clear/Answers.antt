@@ -1,6 +1,6 @@
 use Rattle.std.proofs.Common.{refl, sym, ◌∙◌}
-use Rattle.fx_data.specs.Types.{booleans, tables}
-use Rattle.fx_trees.specs.declared.sources.Source.TheVariants as source
+use Rattle.fx_types.specs.Types.{booleans, tables}
+use Rattle.fx_core.specs.declared.sources.Source.TheVariants as source
 use Rattle.fx_deeds.proofs.session.clear.Goals as goal
 
 pub make-requires : goal.make-requires

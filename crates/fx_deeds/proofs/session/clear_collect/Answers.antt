@@ -1,11 +1,11 @@
 use Rattle.std.proofs.Common.{◌≡◌, ◌∙◌, ◌∷◌, [], true, ap, sym, subst, refl}
 use Rattle.std.specs.Prelude.{map, option_map}
 use Rattle.fx_base.specs.Silence.{IsLost}
-use Rattle.fx_data.specs.Types.{booleans, tables}
-use Rattle.fx_data.specs.ValueView.{view}
+use Rattle.fx_types.specs.Types.{booleans, tables}
+use Rattle.fx_types.specs.ValueView.{view}
 use Rattle.fx_semantics.specs.Rows.{table_of}
 use Rattle.fx_value.specs.Fits.{fits_in}
-use Rattle.fx_trees.specs.declared.sources.Source.TheVariants as source
+use Rattle.fx_core.specs.declared.sources.Source.TheVariants as source
 use Rattle.fx_deeds.proofs.Adding.{error_fits, gathers}
 use Rattle.fx_deeds.proofs.Allowing.{only_nowhere}
 use Rattle.fx_deeds.specs.Writable.{IsOneOf}

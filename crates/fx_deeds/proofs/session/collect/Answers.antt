@@ -1,9 +1,9 @@
 use Rattle.std.proofs.Common.{◌∙◌, ◌∷◌, [], ap, sym, refl}
 use Rattle.std.specs.Prelude.{map, option_map}
 use Rattle.fx_base.specs.Silence.{IsLost}
-use Rattle.fx_data.specs.Types.{booleans}
-use Rattle.fx_data.specs.ValueView.{view}
-use Rattle.fx_trees.specs.declared.sources.Source.TheVariants as source
+use Rattle.fx_types.specs.Types.{booleans}
+use Rattle.fx_types.specs.ValueView.{view}
+use Rattle.fx_core.specs.declared.sources.Source.TheVariants as source
 use Rattle.fx_deeds.proofs.Adding.{error_fits, gathers}
 use Rattle.fx_deeds.proofs.Allowing.{only_behind, only_nowhere, only_staying}
 use Rattle.fx_deeds.specs.Writable.{IsOneOf}

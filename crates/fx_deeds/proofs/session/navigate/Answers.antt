@@ -1,6 +1,6 @@
 use Rattle.std.proofs.Common.{[], refl}
 use Rattle.fx_base.specs.Silence.{IsLost}
-use Rattle.fx_data.specs.Types.{booleans}
+use Rattle.fx_types.specs.Types.{booleans}
 use Rattle.fx_deeds.proofs.Allowing.{only_nowhere}
 use Rattle.fx_deeds.specs.Writable.{IsOneOf}
 use Rattle.fx_deeds.proofs.Passing.{passed_nowhere}

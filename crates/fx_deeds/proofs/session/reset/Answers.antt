@@ -1,7 +1,7 @@
 use Rattle.std.proofs.Common.{◌≡◌, Option, Some, None, refl, sym, ◌∙◌}
 use Rattle.std.specs.Prelude.{IsSome}
-use Rattle.fx_data.specs.Types.{Shape, booleans}
-use Rattle.fx_trees.specs.declared.sources.Source.TheVariants as source
+use Rattle.fx_types.specs.Types.{Shape, booleans}
+use Rattle.fx_core.specs.declared.sources.Source.TheVariants as source
 use Rattle.fx_deeds.proofs.session.reset.Goals as goal
 
 there : (o : Option Shape) → IsSome o → (t : Shape) × (o ≡ Some t)

@@ -1,7 +1,7 @@
 use Rattle.std.proofs.Common.{refl}
 use Rattle.fx_base.specs.Silence.{IsLost}
-use Rattle.fx_data.specs.Values.{boolean}
-use Rattle.fx_data.specs.ValueView.{view}
+use Rattle.fx_types.specs.Values.{boolean}
+use Rattle.fx_types.specs.ValueView.{view}
 use Rattle.std.specs.Prelude.{true}
 use Rattle.session_state.specs.declared.change.Change.TheVariants as change
 use Rattle.fx_deeds.proofs.CutOff.{cut_by}

@@ -1,7 +1,7 @@
 use Rattle.std.proofs.lemmas.List.{nil_from_length}
 use Rattle.session_state.specs.declared.change.Change.TheVariants as change
 use Rattle.std.proofs.Common.{inl, map, refl}
-use Rattle.fx_data.specs.ValueView.{view}
+use Rattle.fx_types.specs.ValueView.{view}
 use Rattle.fx_deeds.proofs.CutOff.{CutSet, carried, cut_where, on_any, refused_stays, set_goes_on, carries_nowhere}
 use Rattle.fx_base.specs.Silence.{IsLost}
 use Rattle.fx_deeds.proofs.Passing.{passed_on, passed_nowhere}

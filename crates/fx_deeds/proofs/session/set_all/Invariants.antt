@@ -1,8 +1,8 @@
 use Rattle.fx_deeds.proofs.CutOff.{Carries, CutSet}
 use Rattle.std.proofs.Common.{length, map}
 use Rattle.fx_base.specs.Silence.{Goes, IsLost}
-use Rattle.fx_data.specs.ValueView.{view}
-use Rattle.fx_trees.specs.declared.sources.Source.{Source}
+use Rattle.fx_types.specs.ValueView.{view}
+use Rattle.fx_core.specs.declared.sources.Source.{Source}
 use Rattle.fx_deeds.specs.Deeds.{AreSet}
 use Rattle.fx_deeds.specs.Fitting.{CanTakeAll}
 use Rattle.fx_deeds.specs.Lefts.{Decides}

@@ -1,5 +1,5 @@
 use Rattle.std.proofs.Common.{refl}
-use Rattle.fx_data.specs.Types.{booleans}
+use Rattle.fx_types.specs.Types.{booleans}
 use Rattle.fx_deeds.proofs.session.tell.Goals as goal
 
 pub returns-clause-fits : goal.returns-clause-fits

@@ -2,7 +2,7 @@ use Rattle.std.proofs.Common.{◌≡◌, ◌∙◌, ◌∷◌, sym}
 use Rattle.std.specs.Prelude.{option_map}
 use Rattle.std.specs.List.{find}
 use Rattle.std.proofs.lemmas.Result.{IfOk-weaker}
-use Rattle.fx_data.specs.ValueView.{view}
+use Rattle.fx_types.specs.ValueView.{view}
 use Rattle.fx_tables.specs.Unions.{is_fault}
 use Rattle.fx_deeds.proofs.Tabling.{fault_found, not_fault, rest_faults}
 use Rattle.fx_deeds.specs.Deeds.{id_of}

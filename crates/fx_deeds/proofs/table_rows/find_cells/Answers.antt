@@ -1,7 +1,7 @@
 use Rattle.std.proofs.Common.{◌≡◌, ◌∙◌, ap}
 use Rattle.std.specs.Prelude.{option_map}
 use Rattle.fx_base.specs.Silence.{IsLost}
-use Rattle.fx_data.specs.ValueView.{view}
+use Rattle.fx_types.specs.ValueView.{view}
 use Rattle.fx_env.specs.Telling.{tables_told}
 use Rattle.fx_semantics.specs.Rows.{rows_in}
 use Rattle.row_queries.specs.declared.rows.Row.{Row}

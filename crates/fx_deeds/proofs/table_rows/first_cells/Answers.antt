@@ -1,5 +1,5 @@
 use Rattle.std.proofs.Common.{ap}
-use Rattle.fx_data.specs.ValueView.{view}
+use Rattle.fx_types.specs.ValueView.{view}
 use Rattle.fx_deeds.proofs.Naming.{first_there}
 use Rattle.fx_deeds.proofs.table_rows.first_cells.Goals as goal
 

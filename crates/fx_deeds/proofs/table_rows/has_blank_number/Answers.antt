@@ -1,5 +1,5 @@
 use Rattle.std.proofs.Common.{◌∙◌, ap, sym}
-use Rattle.fx_data.specs.ValueView.{view}
+use Rattle.fx_types.specs.ValueView.{view}
 use Rattle.fx_deeds.proofs.Tabling.{not_blank}
 use Rattle.fx_deeds.specs.Deeds.{id_of}
 use Rattle.fx_deeds.proofs.table_rows.has_blank_number.Goals as goal

@@ -1,6 +1,6 @@
 use Rattle.std.proofs.Common.{◌≡◌, ◌∙◌, ◌∷◌, [], ap, subst, sym}
 use Rattle.fx_base.specs.Silence.{IsLost}
-use Rattle.fx_trees.specs.declared.sources.Source.TheVariants as source
+use Rattle.fx_core.specs.declared.sources.Source.TheVariants as source
 use Rattle.row_queries.specs.TableRows.{AreCellsOf}
 use Rattle.fx_deeds.proofs.Cells.{blanks_fit, changed_cells_fit}
 use Rattle.fx_deeds.proofs.Allowing.{only_nowhere}

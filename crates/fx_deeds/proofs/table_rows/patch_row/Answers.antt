@@ -1,5 +1,5 @@
 use Rattle.fx_base.specs.Silence.{IsLost}
-use Rattle.fx_data.specs.ValueView.{view}
+use Rattle.fx_types.specs.ValueView.{view}
 use Rattle.fx_deeds.proofs.Tabling.{patches_row}
 use Rattle.fx_deeds.proofs.CutOff.{cut_staying, on_any}
 use Rattle.fx_deeds.proofs.CutRows.{cut_put}

@@ -2,12 +2,12 @@ use Rattle.std.proofs.Common.{◌≡◌, ◌++◌, ◌∙◌, ◌∷◌, [], map
 use Rattle.std.specs.Prelude.{IfOk, option_map}
 use Rattle.std.specs.List.{find}
 use Rattle.fx_base.specs.Silence.{IsLost}
-use Rattle.fx_data.specs.Types.{records}
-use Rattle.fx_data.specs.ValueView.{view}
+use Rattle.fx_types.specs.Types.{records}
+use Rattle.fx_types.specs.ValueView.{view}
 use Rattle.fx_tables.specs.Unions.{is_fault}
-use Rattle.fx_trees.specs.SourceTypes.{columns_of}
+use Rattle.fx_core.specs.SourceTypes.{columns_of}
 use Rattle.fx_value.specs.Fits.{fits_in}
-use Rattle.fx_trees.specs.declared.sources.Source.TheVariants as source
+use Rattle.fx_core.specs.declared.sources.Source.TheVariants as source
 use Rattle.fx_deeds.proofs.Adding.{error_fits}
 use Rattle.fx_deeds.proofs.Deeding.{by_error, goes_nowhere, is_error, no_error}
 use Rattle.fx_deeds.proofs.Tabling.{of_shape, patched_table, rest_none, to_table}

@@ -1,6 +1,6 @@
 use Rattle.std.proofs.Common.{subst}
 use Rattle.std.specs.Prelude.{IfOk}
-use Rattle.fx_data.specs.ValueView.{view}
+use Rattle.fx_types.specs.ValueView.{view}
 use Rattle.fx_env.specs.Telling.{tables_told}
 use Rattle.row_queries.specs.Answers.{IsScanValue}
 use Rattle.fx_deeds.proofs.table_rows.scan_row.Goals as goal

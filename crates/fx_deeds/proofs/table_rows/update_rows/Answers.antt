@@ -1,9 +1,9 @@
 use Rattle.std.proofs.Common.{◌∷◌, [], map, inl, inr, subst, sym}
 use Rattle.std.proofs.lemmas.List.{nil_from_length}
 use Rattle.fx_base.specs.Silence.{IsLost}
-use Rattle.fx_data.specs.ValueView.{view}
+use Rattle.fx_types.specs.ValueView.{view}
 use Rattle.fx_env.specs.Scopes.{Fixed}
-use Rattle.fx_trees.specs.declared.sources.Source.TheVariants as source
+use Rattle.fx_core.specs.declared.sources.Source.TheVariants as source
 use Rattle.fx_deeds.proofs.Passing.{passed_on, passed_nowhere}
 use Rattle.fx_deeds.proofs.Patching.{update_ends, update_goes, update_stops, updating}
 use Rattle.fx_deeds.proofs.Allowing.{only_on, only_nowhere}

@@ -1,7 +1,7 @@
 use Rattle.std.proofs.Common.{◌≡◌, ◌++◌, ap, sym, subst, ◌∙◌}
 use Rattle.std.specs.Prelude.{IfOk}
 use Rattle.std.proofs.lemmas.Result.{IfOk-weaker}
-use Rattle.fx_data.specs.ValueView.{view}
+use Rattle.fx_types.specs.ValueView.{view}
 use Rattle.fx_semantics.proofs.RowsBack.{rows_back}
 use Rattle.fx_semantics.specs.Rows.{rows_in}
 use Rattle.fx_deeds.proofs.tables.with_table.Goals as goal

@@ -1,5 +1,5 @@
 use Rattle.std.proofs.Common.{◌≡◌, ◌++◌, length, map}
-use Rattle.fx_data.specs.ValueView.{view}
+use Rattle.fx_types.specs.ValueView.{view}
 use Rattle.fx_deeds.specs.RowValues.{rows_among}
 use Rattle.fx_deeds.proofs.tables.with_tables.Given as goal
 

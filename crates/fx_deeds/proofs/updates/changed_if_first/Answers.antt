@@ -1,6 +1,6 @@
 use Rattle.std.proofs.Common.{◌∙◌, ap}
-use Rattle.fx_data.specs.declared.values.Value.TheVariants.{Rec}
-use Rattle.fx_data.specs.Types.{column_list}
+use Rattle.fx_types.specs.declared.values.Value.TheVariants.{Rec}
+use Rattle.fx_types.specs.Types.{column_list}
 use Rattle.fx_semantics.specs.Around.{record_of}
 use Rattle.fx_deeds.proofs.Updating.{first_can, is_first}
 use Rattle.fx_deeds.proofs.updates.changed_if_first.Goals as goal

@@ -1,6 +1,6 @@
 use Rattle.std.proofs.Common.{◌≡◌, length, map}
 use Rattle.std.specs.List.{find}
-use Rattle.fx_data.specs.ValueView.{view}
+use Rattle.fx_types.specs.ValueView.{view}
 use Rattle.fx_tables.specs.Unions.{is_fault}
 use Rattle.fx_deeds.specs.Done.{errors_in}
 use Rattle.fx_deeds.proofs.updates.first_of_changes.Given as goal

@@ -1,5 +1,5 @@
 use Rattle.std.proofs.lemmas.List.{nil_from_length}
-use Rattle.fx_data.specs.Types.{column_list}
+use Rattle.fx_types.specs.Types.{column_list}
 use Rattle.fx_deeds.proofs.Updating.{with_ends, with_fits, with_stays, with_takes}
 use Rattle.fx_deeds.proofs.updates.rows_with.Goals as goal
 

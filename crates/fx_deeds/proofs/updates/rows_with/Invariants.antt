@@ -1,5 +1,5 @@
 use Rattle.std.proofs.Common.{length}
-use Rattle.fx_data.specs.Types.{column_list}
+use Rattle.fx_types.specs.Types.{column_list}
 use Rattle.fx_deeds.proofs.Updating.{IsWith}
 use Rattle.fx_deeds.proofs.updates.rows_with.Given as goal
 

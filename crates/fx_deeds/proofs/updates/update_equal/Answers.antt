@@ -1,10 +1,10 @@
 use Rattle.std.proofs.Common.{◌≡◌, ◌∙◌, ◌∷◌, [], true, refl, map, ap, subst, sym}
 use Rattle.fx_base.specs.Silence.{IsLost}
-use Rattle.fx_data.specs.Types.{booleans, column_list}
-use Rattle.fx_data.specs.Values.{boolean}
-use Rattle.fx_data.specs.ValueView.{view}
+use Rattle.fx_types.specs.Types.{booleans, column_list}
+use Rattle.fx_types.specs.Values.{boolean}
+use Rattle.fx_types.specs.ValueView.{view}
 use Rattle.fx_semantics.specs.Around.{record_of}
-use Rattle.fx_trees.specs.declared.sources.Source.TheVariants as source
+use Rattle.fx_core.specs.declared.sources.Source.TheVariants as source
 use Rattle.fx_deeds.proofs.CutUpdates.{held_cut}
 use Rattle.fx_deeds.proofs.Holding.{same_columns, updated_in, updates_in}
 use Rattle.fx_deeds.proofs.Lefting.{made_records, rows_back}

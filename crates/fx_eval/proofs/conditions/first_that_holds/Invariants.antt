@@ -1,5 +1,5 @@
 use Rattle.std.proofs.Common.{◌≡◌, ◌+◌, drop, length, map}
-use Rattle.fx_data.specs.ValueView.{view}
+use Rattle.fx_types.specs.ValueView.{view}
 use Rattle.fx_eval.specs.TableCalls.{value_found}
 use Rattle.fx_eval.proofs.conditions.first_that_holds.Given as goal
 

@@ -1,5 +1,5 @@
 use Rattle.std.proofs.Common.{◌∙◌, ap, map}
-use Rattle.fx_data.specs.ValueView.{view}
+use Rattle.fx_types.specs.ValueView.{view}
 use Rattle.fx_eval.proofs.Turns.{truths_seen}
 use Rattle.fx_eval.proofs.conditions.truths.Goals as goal
 

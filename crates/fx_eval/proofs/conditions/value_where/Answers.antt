@@ -1,6 +1,6 @@
 use Rattle.std.proofs.Common.{◌∙◌, ap, map, sym}
 use Rattle.std.specs.List.{list_all}
-use Rattle.fx_data.specs.ValueView.{view}
+use Rattle.fx_types.specs.ValueView.{view}
 use Rattle.fx_tables.specs.RowCalls.{holds}
 use Rattle.fx_eval.proofs.Turns.{no_error_found}
 use Rattle.fx_eval.specs.TableCalls.{value_found}

@@ -1,6 +1,6 @@
 use Rattle.std.proofs.Common.{◌≡◌, ◌∙◌, ap, length, map, sym}
 use Rattle.std.proofs.lemmas.List.{length-map}
-use Rattle.fx_data.specs.ValueView.{view}
+use Rattle.fx_types.specs.ValueView.{view}
 use Rattle.fx_eval.specs.Given.{given}
 use Rattle.fx_eval.proofs.Turns.{condition_many, for_many, next_formula, verdict_step}
 use Rattle.fx_eval.proofs.conditions.verdicts.Goals as goal

@@ -1,5 +1,5 @@
 use Rattle.std.proofs.Common.{◌≡◌, length, map}
-use Rattle.fx_data.specs.ValueView.{view}
+use Rattle.fx_types.specs.ValueView.{view}
 use Rattle.fx_eval.specs.Given.{given}
 use Rattle.fx_eval.specs.TableCalls.{AreFormulas, verdicts, verdicts_behind}
 use Rattle.fx_eval.proofs.conditions.verdicts.Given as goal

@@ -1,5 +1,5 @@
 use Rattle.std.proofs.Common.{◌≡◌, ◌++◌, length, map}
-use Rattle.fx_data.specs.ValueView.{view}
+use Rattle.fx_types.specs.ValueView.{view}
 use Rattle.fx_eval.specs.TableCalls.{with_condition}
 use Rattle.fx_eval.proofs.conditions.with_one_more.Given as goal
 

@@ -1,6 +1,6 @@
 use Rattle.std.proofs.Common.{◌≡◌, ◌∙◌, ap, subst, sym}
-use Rattle.fx_data.specs.declared.values.Value.{Value}
-use Rattle.fx_data.specs.ValueView.{view}
+use Rattle.fx_types.specs.declared.values.Value.{Value}
+use Rattle.fx_types.specs.ValueView.{view}
 use Rattle.fx_semantics.proofs.RowsBack.{rows_back}
 use Rattle.fx_semantics.specs.Rows.{rows_in}
 use Rattle.fx_tables.specs.RowCalls.{first_of}

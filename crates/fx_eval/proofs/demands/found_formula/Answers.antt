@@ -1,6 +1,6 @@
 use Rattle.std.proofs.Common.{◌∙◌, ap, sym}
 use Rattle.fx_eval.proofs.Demanding.{search_formula_is, search_parts}
-use Rattle.fx_trees.specs.TermView.{branch}
+use Rattle.fx_core.specs.TermView.{branch}
 use Rattle.fx_eval.proofs.demands.found_formula.Goals as goal
 
 pub second-requires : goal.second-requires

@@ -2,7 +2,7 @@ use Rattle.std.proofs.lemmas.List.{length-append}
 use Rattle.std.proofs.lemmas.Result.{IfOk-weaker}
 use Rattle.std.specs.Prelude.{if◌then◌else◌}
 use Rattle.std.proofs.Common.{◌≡◌, ◌∷◌, [], None, Option, true, length, ap, sym, subst, ◌∙◌, refl, arith}
-use Rattle.fx_data.specs.ValueView.{view}
+use Rattle.fx_types.specs.ValueView.{view}
 use Rattle.fx_eval.proofs.CallPlaces.{call_fine}
 use Rattle.fx_eval.proofs.Forms.{ThenSet}
 use Rattle.fx_eval.proofs.Nodes.{apply_is, called_is, coerce_is, fields_rise, fields_there, list_fine, list_is, only_is, over_is, record_is, row_is, there}
@@ -25,18 +25,18 @@ use Rattle.fx_eval.specs.Moments.{moment}
 use Rattle.fx_eval.specs.Courses.{answers, catches, chooses, goes, going, passes}
 use Rattle.fx_eval.specs.Demands.{CanStand}
 use Rattle.fx_eval.specs.Parts.{AreBranches, AreConditions, AreFine, AreRecoveries, IsSwitched, caught_in, inner, terms_of}
-use Rattle.fx_data.specs.declared.faults.Fault.{Fault}
+use Rattle.fx_types.specs.declared.faults.Fault.{Fault}
 use Rattle.fx_env.specs.Scopes.{CanEvaluate, Held, around}
 use Rattle.fx_semantics.specs.Around.{record_of}
 use Rattle.fx_semantics.specs.Around.{catching as around_caught}
 use Rattle.fx_semantics.specs.Fresh.{IsValue, meaning}
 use Rattle.fx_semantics.specs.Rows.{IsOfFound}
-use Rattle.fx_trees.specs.Term.{of, all, call, cons, over}
-use Rattle.fx_trees.specs.TermView.{branch}
+use Rattle.fx_core.specs.Term.{of, all, call, cons, over}
+use Rattle.fx_core.specs.TermView.{branch}
 use Rattle.fx_typing.specs.WellTyped.{inside, plain}
 use Rattle.fx_eval.specs.Given.{IsGiven, given}
 use Rattle.fx_value.specs.Fits.{fits_in}
-use Rattle.fx_trees.proofs.Parts.{part_is_smaller}
+use Rattle.fx_core.proofs.Parts.{part_is_smaller}
 use Rattle.fx_eval.proofs.evaluate.+tree.Goals as goal
 
 pub tree-returns-clause-fits : goal.tree-returns-clause-fits

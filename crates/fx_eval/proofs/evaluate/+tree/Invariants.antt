@@ -1,6 +1,6 @@
 use Rattle.std.proofs.Common.{◌≡◌, ◌+◌, ◌*◌, ◌≤◌, Option, length, map, take}
-use Rattle.fx_data.specs.ValueView.{fields_view, view}
-use Rattle.fx_data.specs.Values.{Data}
+use Rattle.fx_types.specs.ValueView.{fields_view, view}
+use Rattle.fx_types.specs.Values.{Data}
 use Rattle.fx_eval.specs.Courses.{IsWorth, going}
 use Rattle.fx_eval.proofs.Visiting.{HasPassed}
 use Rattle.fx_eval.specs.Moments.{HasVisited, Went, moment}
@@ -11,8 +11,8 @@ use Rattle.fx_env.specs.Telling.{IsHeard, values_told}
 use Rattle.fx_semantics.specs.Around.{AreEach, AreValues}
 use Rattle.fx_semantics.specs.Fresh.{meaning, meanings}
 use Rattle.fx_eval.specs.Given.{AreGiven, given}
-use Rattle.fx_trees.specs.declared.sources.Source.{Source}
-use Rattle.fx_trees.specs.Term.{all, over, term_size, terms_size}
+use Rattle.fx_core.specs.declared.sources.Source.{Source}
+use Rattle.fx_core.specs.Term.{all, over, term_size, terms_size}
 use Rattle.fx_eval.proofs.evaluate.+tree.Given as goal
 
 abbrev pub decreases-tree : goal.decreases-tree

@@ -1,5 +1,5 @@
 use Rattle.std.proofs.lemmas.Result.{IfOk-weaker}
-use Rattle.fx_data.specs.ValueView.{view}
+use Rattle.fx_types.specs.ValueView.{view}
 use Rattle.fx_eval.proofs.Passing.{heard_told}
 use Rattle.fx_env.specs.Scopes.{around}
 use Rattle.fx_env.specs.Telling.{values_told}

@@ -3,7 +3,7 @@ use Rattle.fx_semantics.specs.Fresh.{meaning, meanings}
 use Rattle.fx_semantics.specs.Rows.{rows_in}
 use Rattle.fx_eval.proofs.Made.{over_error, over_made}
 use Rattle.fx_eval.specs.Laws.{standing_in}
-use Rattle.fx_trees.specs.Term.{over}
+use Rattle.fx_core.specs.Term.{over}
 use Rattle.fx_eval.proofs.laws.made_is_worth.Goals as goal
 
 pub returns-clause-made : goal.returns-clause-made

@@ -1,7 +1,7 @@
 use Rattle.std.proofs.Common.{map, subst, sym}
-use Rattle.fx_data.specs.TypeView.{shape}
-use Rattle.fx_data.specs.Types.{ColumnList, tables}
-use Rattle.fx_data.specs.ValueView.{view}
+use Rattle.fx_types.specs.TypeView.{shape}
+use Rattle.fx_types.specs.Types.{ColumnList, tables}
+use Rattle.fx_types.specs.ValueView.{view}
 use Rattle.fx_eval.proofs.ListRows.{can_be_rows}
 use Rattle.fx_tables.specs.Unions.{CanBeRows}
 use Rattle.fx_eval.proofs.lists.list.Goals as goal

@@ -1,5 +1,5 @@
 use Rattle.std.specs.Prelude.{map}
-use Rattle.fx_data.specs.ValueView.{view}
+use Rattle.fx_types.specs.ValueView.{view}
 use Rattle.fx_eval.proofs.Consumed.{plan_visits}
 use Rattle.fx_eval.proofs.Visiting.{ok_always}
 use Rattle.fx_eval.proofs.Demanding.{meets_so}

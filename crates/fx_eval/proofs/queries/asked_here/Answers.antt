@@ -1,6 +1,6 @@
 use Rattle.std.proofs.Common.{◌≡◌, ◌∙◌, ap, length, sym}
 use Rattle.std.proofs.lemmas.List.{length-map}
-use Rattle.fx_data.specs.ValueView.{view}
+use Rattle.fx_types.specs.ValueView.{view}
 use Rattle.fx_env.specs.Scopes.{Held}
 use Rattle.fx_eval.proofs.Demanding.{asked_at}
 use Rattle.fx_eval.proofs.Still.{none_asked}

@@ -1,20 +1,20 @@
 use Rattle.std.proofs.Common.{◌∙◌, ap, map, not, refl, subst, sym}
-use Rattle.fx_data.specs.Types.{numbers, texts, booleans}
-use Rattle.fx_data.specs.Values.{number, text, boolean}
-use Rattle.fx_trees.specs.declared.functions.Form.TheVariants as form
-use Rattle.fx_trees.specs.declared.functions.Fun.TheVariants as fun
+use Rattle.fx_types.specs.Types.{numbers, texts, booleans}
+use Rattle.fx_types.specs.Values.{number, text, boolean}
+use Rattle.fx_core.specs.declared.functions.Form.TheVariants as form
+use Rattle.fx_core.specs.declared.functions.Fun.TheVariants as fun
 use Rattle.fx_typing.specs.Builds.{list_of}
 use Rattle.fx_typing.specs.Calls.{called}
 use Rattle.fx_typing.specs.Parts.{may_act, pieces, unless, values}
 use Rattle.fx_typing.specs.Typing.{admit, chain_by, constant, dot_by, global_by, is_too_deep, name_by, paired_by, record_as, woven_by}
 use Rattle.fx_typing.specs.Answers.{Answers}
 use Rattle.fx_typing.specs.TypedView.{typed}
-use Rattle.fx_scopes.specs.MeaningView.{place}
-use Rattle.fx_scopes.specs.PartView.{part}
-use Rattle.fx_scopes.specs.SettingView.{setting}
-use Rattle.fx_trees.specs.Tree.{names_of}
-use Rattle.fx_trees.specs.Tree as tree
-use Rattle.fx_trees.specs.ColumnLists.{and_then}
+use Rattle.fx_resolve.specs.MeaningView.{place}
+use Rattle.fx_resolve.specs.PartView.{part}
+use Rattle.fx_resolve.specs.SettingView.{setting}
+use Rattle.fx_core.specs.Tree.{names_of}
+use Rattle.fx_core.specs.Tree as tree
+use Rattle.fx_core.specs.ColumnLists.{and_then}
 use Rattle.fx_typing.specs.Local.{formed, made}
 use Rattle.fx_typing.specs.Meaning.{in_globals, meaning_of}
 use Rattle.fx_infer.proofs.Admits.{global_leaf, name_leaf, number_leaf, text_leaf, truth_leaf}

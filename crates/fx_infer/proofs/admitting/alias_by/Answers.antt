@@ -1,10 +1,10 @@
 use Rattle.std.proofs.Common.{◌≡◌, ◌∷◌, [], map, rules, subst, sym}
-use Rattle.fx_data.specs.TypeView.{shape}
+use Rattle.fx_types.specs.TypeView.{shape}
 use Rattle.fx_typing.specs.Parts as parts
 use Rattle.fx_typing.specs.Typing.{alias_by}
 use Rattle.fx_typing.specs.Answers.{Answers}
-use Rattle.fx_scopes.specs.PartView.{part}
-use Rattle.fx_scopes.specs.PlanView.{grant}
+use Rattle.fx_resolve.specs.PartView.{part}
+use Rattle.fx_resolve.specs.PlanView.{grant}
 use Rattle.fx_typing.specs.Local as local
 use Rattle.fx_infer.proofs.admitting.alias_by.Goals as goal
 

@@ -4,11 +4,11 @@ use Rattle.fx_typing.specs.Parts.{unless}
 use Rattle.fx_typing.specs.Typing.{is_too_deep}
 use Rattle.fx_typing.specs.Answers.{Answers}
 use Rattle.fx_typing.specs.TypedView.{typed}
-use Rattle.fx_scopes.specs.MeaningView.{place}
-use Rattle.fx_scopes.specs.PartView.{part}
-use Rattle.fx_scopes.specs.PlanView.{head_of}
-use Rattle.fx_scopes.specs.SettingView.{setting}
-use Rattle.fx_scopes.specs.declared.parts.Part.{Part}
+use Rattle.fx_resolve.specs.MeaningView.{place}
+use Rattle.fx_resolve.specs.PartView.{part}
+use Rattle.fx_resolve.specs.PlanView.{head_of}
+use Rattle.fx_resolve.specs.SettingView.{setting}
+use Rattle.fx_resolve.specs.declared.parts.Part.{Part}
 use Rattle.fx_infer.proofs.admitting.call_by.Goals as goal
 
 pub returns : goal.returns

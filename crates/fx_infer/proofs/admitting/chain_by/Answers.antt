@@ -1,11 +1,11 @@
 use Rattle.std.proofs.Common.{◌≡◌, ◌-◌, ◌∙◌, List, Ok, Some, ap, length, map, slice_get, sym}
-use Rattle.fx_data.specs.TypeView.{shape}
-use Rattle.fx_data.specs.declared.types.Ty.{Ty}
+use Rattle.fx_types.specs.TypeView.{shape}
+use Rattle.fx_types.specs.declared.types.Ty.{Ty}
 use Rattle.fx_typing.specs.Typing.{chain_as}
 use Rattle.fx_typing.specs.declared.typed.Typed.{Typed}
 use Rattle.fx_typing.specs.TypedView.{typed}
-use Rattle.fx_trees.specs.Term.{Term, chain, of}
-use Rattle.fx_trees.specs.Term as term
+use Rattle.fx_core.specs.Term.{Term, chain, of}
+use Rattle.fx_core.specs.Term as term
 use Rattle.fx_typing.specs.Local.{firsts}
 use Rattle.fx_infer.proofs.Lasts.{last_shape}
 use Rattle.fx_infer.proofs.admitting.chain_by.Goals as goal

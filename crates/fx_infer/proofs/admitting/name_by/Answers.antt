@@ -1,11 +1,11 @@
 use Rattle.std.proofs.Common.{option_map, subst, sym, inl, inr}
 use Rattle.fx_typing.specs.Typing.{name_by}
 use Rattle.fx_typing.specs.Answers.{Answers}
-use Rattle.fx_scopes.specs.MeaningView.{meaning_view}
+use Rattle.fx_resolve.specs.MeaningView.{meaning_view}
 use Rattle.fx_typing.specs.Meaning.{named}
-use Rattle.fx_scopes.specs.PartView.{part}
-use Rattle.fx_scopes.specs.PlanView.{grant}
-use Rattle.fx_scopes.specs.declared.plans.Grant.{Grant}
+use Rattle.fx_resolve.specs.PartView.{part}
+use Rattle.fx_resolve.specs.PlanView.{grant}
+use Rattle.fx_resolve.specs.declared.plans.Grant.{Grant}
 use Rattle.fx_infer.proofs.admitting.name_by.Goals as goal
 
 pub returns : goal.returns

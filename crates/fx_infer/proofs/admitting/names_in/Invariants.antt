@@ -1,5 +1,5 @@
 use Rattle.std.proofs.Common.{◌≡◌, ◌++◌, drop}
-use Rattle.fx_trees.specs.Tree.{names_of}
+use Rattle.fx_core.specs.Tree.{names_of}
 use Rattle.fx_infer.proofs.admitting.names_in.Given as goal
 
 abbrev pub invariant-loop-name : goal.invariant-loop-name

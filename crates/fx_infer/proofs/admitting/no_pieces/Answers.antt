@@ -1,8 +1,8 @@
 use Rattle.std.proofs.Common.{◌∙◌, Ok, ap, sym}
 use Rattle.std.proofs.lemmas.Str.{chars-nil}
-use Rattle.fx_data.specs.Types.{texts}
-use Rattle.fx_data.specs.Values.{text}
-use Rattle.fx_trees.specs.Term.{Term, const, nil, of}
+use Rattle.fx_types.specs.Types.{texts}
+use Rattle.fx_types.specs.Values.{text}
+use Rattle.fx_core.specs.Term.{Term, const, nil, of}
 use Rattle.fx_infer.proofs.admitting.no_pieces.Goals as goal
 
 pub returns : goal.returns

@@ -4,11 +4,11 @@ use Rattle.fx_typing.specs.Parts.{pieces, values}
 use Rattle.fx_typing.specs.Typing.{paired_by}
 use Rattle.fx_typing.specs.Answers.{Answers}
 use Rattle.fx_typing.specs.TypedView.{typed}
-use Rattle.fx_scopes.specs.PartView.{part}
-use Rattle.fx_scopes.specs.declared.parts.Part.{Part}
-use Rattle.fx_trees.specs.ColumnLists.{and_then}
+use Rattle.fx_resolve.specs.PartView.{part}
+use Rattle.fx_resolve.specs.declared.parts.Part.{Part}
+use Rattle.fx_core.specs.ColumnLists.{and_then}
 use Rattle.fx_typing.specs.Local.{made}
-use Rattle.fx_operators.proofs.Exits.{as_same}
+use Rattle.fx_node_typing.proofs.Exits.{as_same}
 use Rattle.fx_infer.specs.Operands.{operator_of}
 use Rattle.fx_infer.proofs.Admits.{paired_is}
 use Rattle.fx_infer.proofs.admitting.pair.Goals as goal

@@ -3,9 +3,9 @@ use Rattle.fx_typing.specs.Builds.{record_of}
 use Rattle.fx_typing.specs.Typing.{record_as}
 use Rattle.fx_typing.specs.Answers.{Answers}
 use Rattle.fx_typing.specs.TypedView.{typed}
-use Rattle.fx_scopes.specs.PartView.{part}
-use Rattle.fx_scopes.specs.PlanView.{grant}
-use Rattle.fx_scopes.specs.declared.plans.Grant.{Grant}
+use Rattle.fx_resolve.specs.PartView.{part}
+use Rattle.fx_resolve.specs.PlanView.{grant}
+use Rattle.fx_resolve.specs.declared.plans.Grant.{Grant}
 use Rattle.fx_infer.proofs.admitting.record_as.Goals as goal
 
 pub returns-in-Nothing : goal.returns-in-Nothing

@@ -1,8 +1,8 @@
 use Rattle.std.proofs.Common.{◌≡◌, ◌∙◌, List, ap, arith, length, map}
 use Rattle.std.proofs.lemmas.List.{nil_from_length}
 use Rattle.fx_typing.specs.Typing.{woven_by}
-use Rattle.fx_scopes.specs.PartView.{part}
-use Rattle.fx_scopes.specs.declared.parts.Part.{Part}
+use Rattle.fx_resolve.specs.PartView.{part}
+use Rattle.fx_resolve.specs.declared.parts.Part.{Part}
 use Rattle.fx_infer.proofs.admitting.weave.Goals as goal
 
 pub returns-then-is_empty : goal.returns-then-is_empty

@@ -4,10 +4,10 @@ use Rattle.fx_typing.specs.Calls.{called_by}
 use Rattle.fx_typing.specs.Details.{limit_of}
 use Rattle.fx_typing.specs.Answers.{Answers}
 use Rattle.fx_typing.specs.TypedView.{typed}
-use Rattle.fx_trees.specs.Rules.{number_of}
-use Rattle.fx_scopes.specs.MeaningView.{place}
-use Rattle.fx_scopes.specs.PartView.{part}
-use Rattle.fx_scopes.specs.SettingView.{setting}
+use Rattle.fx_core.specs.Rules.{number_of}
+use Rattle.fx_resolve.specs.MeaningView.{place}
+use Rattle.fx_resolve.specs.PartView.{part}
+use Rattle.fx_resolve.specs.SettingView.{setting}
 use Rattle.fx_infer.proofs.details.own_limit.Goals as goal
 
 pub returns-in-Err-Refused : goal.returns-in-Err-Refused

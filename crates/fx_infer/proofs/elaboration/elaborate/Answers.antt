@@ -1,7 +1,7 @@
 use Rattle.std.proofs.Common.{option_map, refl}
 use Rattle.std.proofs.lemmas.Result.{IfOk-weaker}
-use Rattle.fx_data.specs.TypeView.{shape}
-use Rattle.fx_trees.specs.Rules.{number_of}
+use Rattle.fx_types.specs.TypeView.{shape}
+use Rattle.fx_core.specs.Rules.{number_of}
 use Rattle.fx_typing.specs.TypedView.{typed}
 use Rattle.fx_infer.specs.Written.{may_act, place_of}
 use Rattle.fx_infer.proofs.Wholes.{ends_admitted, ends_typed, ends_told, whole_broken}

@@ -1,5 +1,5 @@
 use Rattle.std.specs.Prelude.{None}
-use Rattle.fx_trees.specs.Rules.{number_of}
+use Rattle.fx_core.specs.Rules.{number_of}
 use Rattle.fx_infer.specs.Written.{may_act, place_of}
 use Rattle.fx_infer.proofs.Wholes.{ends_admitted, ends_told, whole_broken}
 use Rattle.fx_infer.proofs.elaboration.elaborate_alone.Goals as goal

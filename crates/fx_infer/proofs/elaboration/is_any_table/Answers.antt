@@ -1,6 +1,6 @@
 use Rattle.std.proofs.Common.{◌∙◌, ap, nat_eq, sym}
-use Rattle.fx_data.specs.TypeView.{shape}
-use Rattle.fx_data.specs.declared.types.Ty.{Ty}
+use Rattle.fx_types.specs.TypeView.{shape}
+use Rattle.fx_types.specs.declared.types.Ty.{Ty}
 use Rattle.fx_infer.specs.Written.{is_any_table}
 use Rattle.fx_infer.proofs.Wholes.{any_is}
 use Rattle.fx_infer.proofs.elaboration.is_any_table.Goals as goal

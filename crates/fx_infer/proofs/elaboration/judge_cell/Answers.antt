@@ -1,10 +1,10 @@
 use Rattle.std.proofs.Common.{◌∙◌, Err, ap, inl, option_map, subst}
-use Rattle.fx_data.specs.TypeView.{shape}
+use Rattle.fx_types.specs.TypeView.{shape}
 use Rattle.fx_typing.specs.Details.{IsToldBroken}
 use Rattle.fx_typing.specs.Typing.{judge}
-use Rattle.fx_trees.specs.Rules.{number_of}
-use Rattle.fx_scopes.specs.PartView.{part}
-use Rattle.fx_scopes.specs.SettingView.{setting}
+use Rattle.fx_core.specs.Rules.{number_of}
+use Rattle.fx_resolve.specs.PartView.{part}
+use Rattle.fx_resolve.specs.SettingView.{setting}
 use Rattle.fx_infer.specs.Judged.{Judged, Halt}
 use Rattle.fx_infer.specs.Written.{may_act, place_of}
 use Rattle.fx_infer.proofs.elaboration.judge_cell.Goals as goal

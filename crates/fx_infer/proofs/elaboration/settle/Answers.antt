@@ -1,9 +1,9 @@
 use Rattle.std.proofs.Common.{Err, inr, option_map, subst}
-use Rattle.fx_data.specs.TypeView.{shape}
+use Rattle.fx_types.specs.TypeView.{shape}
 use Rattle.fx_typing.specs.Typing.{whole_of}
 use Rattle.fx_typing.specs.Answers.{Answers, Wrong}
 use Rattle.fx_typing.specs.TypedView.{typed}
-use Rattle.fx_scopes.specs.PartView.{part}
+use Rattle.fx_resolve.specs.PartView.{part}
 use Rattle.fx_infer.specs.Written.{place_of}
 use Rattle.fx_infer.proofs.elaboration.settle.Goals as goal
 

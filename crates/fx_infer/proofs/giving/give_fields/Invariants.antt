@@ -1,7 +1,7 @@
 use Rattle.std.proofs.Common.{◌≡◌, ◌++◌, drop, map}
 use Rattle.fx_typing.specs.Rounds as rounds
-use Rattle.fx_scopes.specs.PartView.{part}
-use Rattle.fx_trees.specs.Tree.{names_of}
+use Rattle.fx_resolve.specs.PartView.{part}
+use Rattle.fx_core.specs.Tree.{names_of}
 use Rattle.fx_infer.specs.GivenView.{given_view}
 use Rattle.fx_infer.proofs.giving.give_fields.Given as goal
 

@@ -1,6 +1,6 @@
 use Rattle.std.proofs.Common.{◌≡◌, ◌++◌, drop, map}
 use Rattle.fx_typing.specs.Rounds as rounds
-use Rattle.fx_scopes.specs.PartView.{part}
+use Rattle.fx_resolve.specs.PartView.{part}
 use Rattle.fx_infer.specs.GivenView.{given_view}
 use Rattle.fx_infer.proofs.giving.give_rows.Given as goal
 

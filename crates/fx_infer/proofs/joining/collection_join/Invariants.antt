@@ -1,6 +1,6 @@
 use Rattle.std.proofs.Common.{◌≡◌, drop, map}
-use Rattle.fx_data.specs.TypeView.{shape}
-use Rattle.fx_data.specs.Types.{blanks}
+use Rattle.fx_types.specs.TypeView.{shape}
+use Rattle.fx_types.specs.Types.{blanks}
 use Rattle.fx_typing.specs.Rounds as rounds
 use Rattle.fx_infer.specs.GivenView.{given_view}
 use Rattle.fx_infer.proofs.joining.collection_join.Given as goal

@@ -1,14 +1,14 @@
 use Rattle.std.proofs.Common.{◌≡◌, ℕ, suc, ◌+◌, ◌<◌, ◌≤◌, List, [], ◌∷◌, length, map, Ok, ap, sym, subst, ◌∙◌, arith, length-append}
 use Rattle.std.proofs.lemmas.List.{length-map, map-append}
-use Rattle.fx_trees.specs.Tree.{more, tree_size, forest_size}
+use Rattle.fx_core.specs.Tree.{more, tree_size, forest_size}
 use Rattle.fx_typing.specs.Parts.{parts_in}
 use Rattle.fx_typing.specs.Plans.{setting_at}
 use Rattle.fx_typing.specs.Typing as typing
-use Rattle.fx_scopes.specs.MeaningView.{place}
-use Rattle.fx_scopes.specs.PartView.{part}
-use Rattle.fx_scopes.specs.PlanView.{head_of}
-use Rattle.fx_scopes.specs.SettingView.{setting}
-use Rattle.fx_scopes.specs.declared.parts.Part.{Part}
+use Rattle.fx_resolve.specs.MeaningView.{place}
+use Rattle.fx_resolve.specs.PartView.{part}
+use Rattle.fx_resolve.specs.PlanView.{head_of}
+use Rattle.fx_resolve.specs.SettingView.{setting}
+use Rattle.fx_resolve.specs.declared.parts.Part.{Part}
 use Rattle.fx_infer.specs.Below.{forest_of, forest_from, tree_depth, forest_depth}
 use Rattle.fx_infer.proofs.Goes.{GoesOn, goes_on}
 use Rattle.fx_infer.proofs.Places.{part_smaller, part_shallow, part_within, size_is, depth_is}

@@ -1,10 +1,10 @@
 use Rattle.std.proofs.Common.{◌≡◌, ◌+◌, ◌-◌, ◌*◌, length, map}
-use Rattle.fx_trees.specs.Tree.{tree_size}
+use Rattle.fx_core.specs.Tree.{tree_size}
 use Rattle.fx_typing.specs.Parts.{parts_in}
-use Rattle.fx_scopes.specs.MeaningView.{place}
-use Rattle.fx_scopes.specs.PartView.{part}
-use Rattle.fx_scopes.specs.PlanView.{head_of}
-use Rattle.fx_scopes.specs.SettingView.{setting}
+use Rattle.fx_resolve.specs.MeaningView.{place}
+use Rattle.fx_resolve.specs.PartView.{part}
+use Rattle.fx_resolve.specs.PlanView.{head_of}
+use Rattle.fx_resolve.specs.SettingView.{setting}
 use Rattle.fx_infer.specs.Below.{forest_of}
 use Rattle.fx_infer.proofs.Goes.{GoesOn}
 use Rattle.fx_infer.proofs.judging.+judge.Given as goal

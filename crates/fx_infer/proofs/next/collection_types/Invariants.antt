@@ -1,8 +1,8 @@
 use Rattle.std.proofs.Common.{◌≡◌, ◌++◌, drop, map}
-use Rattle.fx_data.specs.TypeView.{shape}
-use Rattle.fx_data.specs.Types.{blanks}
+use Rattle.fx_types.specs.TypeView.{shape}
+use Rattle.fx_types.specs.Types.{blanks}
 use Rattle.fx_typing.specs.Rounds as rounds
-use Rattle.fx_trees.specs.declared.names.Collection.{Collection}
+use Rattle.fx_core.specs.declared.names.Collection.{Collection}
 use Rattle.fx_infer.specs.GivenView.{given_view}
 use Rattle.fx_infer.proofs.next.collection_types.Given as goal
 

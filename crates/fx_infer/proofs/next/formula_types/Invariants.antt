@@ -1,5 +1,5 @@
 use Rattle.std.proofs.Common.{◌≡◌, ◌++◌, drop, map}
-use Rattle.fx_data.specs.TypeView.{shape}
+use Rattle.fx_types.specs.TypeView.{shape}
 use Rattle.fx_typing.specs.Rounds as rounds
 use Rattle.fx_infer.specs.CellView.{cell}
 use Rattle.fx_infer.proofs.next.formula_types.Given as goal

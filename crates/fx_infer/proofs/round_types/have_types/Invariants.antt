@@ -1,5 +1,5 @@
 use Rattle.std.proofs.Common.{◌≡◌, length, map}
-use Rattle.fx_data.specs.TypeView.{shape}
+use Rattle.fx_types.specs.TypeView.{shape}
 use Rattle.fx_infer.specs.SameTypes.{same_shapes}
 use Rattle.fx_infer.proofs.round_types.have_types.Given as goal
 

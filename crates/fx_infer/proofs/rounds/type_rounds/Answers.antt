@@ -1,6 +1,6 @@
 use Rattle.std.proofs.Common.{◌≢◌, map, sym, ◌∙◌, arith}
 use Rattle.fx_typing.specs.Rounds.{AfterRounds, next_types, types_in}
-use Rattle.fx_trees.specs.declared.names.Names.{Names}
+use Rattle.fx_core.specs.declared.names.Names.{Names}
 use Rattle.fx_infer.specs.CellView.{cell}
 use Rattle.fx_infer.specs.TypesView.{types_view}
 use Rattle.fx_infer.proofs.After.{after_next, first_fits, next_fits, below_last, is_final, types_differ, up_to}

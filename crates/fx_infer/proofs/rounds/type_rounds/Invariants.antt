@@ -1,7 +1,7 @@
 use Rattle.std.proofs.Common.{◌≢◌, ◌<◌, ℕ, map}
 use Rattle.fx_typing.specs.Rounds.{AfterRounds, next_types, types_in}
-use Rattle.fx_trees.specs.Lawful.{IsLawful}
-use Rattle.fx_trees.specs.declared.names.Names.{Names}
+use Rattle.fx_core.specs.Lawful.{IsLawful}
+use Rattle.fx_core.specs.declared.names.Names.{Names}
 use Rattle.fx_infer.specs.CellView.{cell}
 use Rattle.fx_infer.proofs.rounds.type_rounds.Given as goal
 

@@ -1,8 +1,8 @@
 use Rattle.std.proofs.Common.{◌≡◌, List, map, refl, sym, ap, subst, ◌∙◌}
-use Rattle.fx_data.specs.TypeView.{shape}
-use Rattle.fx_data.specs.Types.{Shape}
+use Rattle.fx_types.specs.TypeView.{shape}
+use Rattle.fx_types.specs.Types.{Shape}
 use Rattle.fx_typing.specs.Rounds.{AllSame, SameFormula}
-use Rattle.fx_trees.specs.declared.names.FormulaName.{FormulaName}
+use Rattle.fx_core.specs.declared.names.FormulaName.{FormulaName}
 use Rattle.fx_infer.proofs.Same.{formulas_same, formulas_typed}
 use Rattle.fx_infer.proofs.typed_names.with_types.Goals as goal
 

@@ -1,12 +1,12 @@
 use Rattle.std.proofs.Common.{◌≡◌, ℕ, suc, ◌+◌, ◌<◌, ◌≤◌, ◌++◌, [], ◌∷◌, length, map, ap, sym, subst, ◌∙◌, arith, rules, length-append}
 use Rattle.std.proofs.lemmas.List.{length-map, map-append}
-use Rattle.fx_trees.specs.Tree.{none, more, tree_size, forest_size}
+use Rattle.fx_core.specs.Tree.{none, more, tree_size, forest_size}
 use Rattle.fx_typing.specs.Parts.{parts_in}
 use Rattle.fx_typing.specs.Rounds.{gives}
-use Rattle.fx_scopes.specs.MeaningView.{place}
-use Rattle.fx_scopes.specs.PartView.{part}
-use Rattle.fx_scopes.specs.PlanView.{head_of}
-use Rattle.fx_scopes.specs.SettingView.{setting}
+use Rattle.fx_resolve.specs.MeaningView.{place}
+use Rattle.fx_resolve.specs.PartView.{part}
+use Rattle.fx_resolve.specs.PlanView.{head_of}
+use Rattle.fx_resolve.specs.SettingView.{setting}
 use Rattle.fx_infer.specs.Below.{forest_of, forest_from, tree_depth, forest_depth}
 use Rattle.fx_infer.proofs.Places.{part_smaller, part_shallow, part_within, size_is, depth_is}
 use Rattle.fx_infer.specs.GivenView.{given_view}

@@ -2,7 +2,7 @@ use Rattle.std.proofs.Common.{◌≡◌, ℕ, ◌≤◌, sym, ap, ◌∙◌, sub
 use Rattle.std.specs.Prelude.{slice_range}
 use Rattle.std.specs.Str.{chars, IsCharBoundary}
 use Rattle.std.proofs.lemmas.Result.{err_from_is_err_and}
-use Rattle.fx_trees.specs.Tree.{Tree}
+use Rattle.fx_core.specs.Tree.{Tree}
 use Rattle.fx_grammar.specs.Grammar.{place}
 use Rattle.fx_grammar.specs.Formulas.{end}
 use Rattle.fx_grammar.specs.Reading.{Seen}

@@ -1,5 +1,5 @@
 use Rattle.std.proofs.Common.{rules, ◌∙◌, ap, sym, arith}
-use Rattle.fx_trees.specs.TreeView.{branch}
+use Rattle.fx_core.specs.TreeView.{branch}
 use Rattle.fx_parser.proofs.Falls.{parts_fall, fields_fall}
 use Rattle.fx_parser.proofs.write.+print.Goals as goal
 

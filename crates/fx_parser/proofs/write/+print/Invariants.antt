@@ -1,5 +1,5 @@
 use Rattle.std.proofs.Common.{◌≡◌, ◌++◌, ◌+◌, ◌*◌, drop, false}
-use Rattle.fx_trees.specs.Tree.{tree_size, forest_size, forest, names_of, parts_of}
+use Rattle.fx_core.specs.Tree.{tree_size, forest_size, forest, names_of, parts_of}
 use Rattle.fx_parser.specs.Printing.{shown_further, shown_further_fields, shown_strands}
 use Rattle.fx_parser.proofs.write.+print.Given as goal
 

@@ -1,6 +1,6 @@
 use Rattle.std.proofs.Common.{◌≡◌, drop}
 use Rattle.fx_plan.specs.QueryExpressions.{are_constant}
-use Rattle.fx_trees.specs.Term.{all, parts_of, term_size, terms_size}
+use Rattle.fx_core.specs.Term.{all, parts_of, term_size, terms_size}
 use Rattle.fx_plan.proofs.conditions.+is_constant.Given as goal
 
 abbrev pub decreases-is_constant : goal.decreases-is_constant

@@ -1,6 +1,6 @@
 use Rattle.std.proofs.Common.{◌≡◌, drop}
 use Rattle.fx_plan.specs.QueryExpressions.{behind, patterns_of}
-use Rattle.fx_trees.specs.Term.{all, term_size, terms_size}
+use Rattle.fx_core.specs.Term.{all, term_size, terms_size}
 use Rattle.fx_plan.proofs.conditions.+pattern_of.Given as goal
 
 abbrev pub decreases-pattern_of : goal.decreases-pattern_of

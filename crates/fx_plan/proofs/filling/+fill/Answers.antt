@@ -1,5 +1,5 @@
 use Rattle.std.proofs.Common.{arith, map}
-use Rattle.fx_data.specs.ValueView.{view}
+use Rattle.fx_types.specs.ValueView.{view}
 use Rattle.fx_plan.proofs.Outlined.{filled_more, part_falls, part_within}
 use Rattle.fx_plan.proofs.filling.+fill.Goals as goal
 

@@ -1,5 +1,5 @@
 use Rattle.std.proofs.Common.{◌≡◌, map, take}
-use Rattle.fx_data.specs.ValueView.{view}
+use Rattle.fx_types.specs.ValueView.{view}
 use Rattle.fx_plan.specs.Outlines.{all_filled, outline_list, outline_size, outlines_size}
 use Rattle.row_queries.specs.Conditions.{condition_list}
 use Rattle.fx_plan.proofs.filling.+fill.Given as goal

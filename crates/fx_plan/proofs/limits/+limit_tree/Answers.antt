@@ -1,10 +1,10 @@
 use Rattle.std.proofs.Common.{◌≡◌, ◌∙◌, ap, arith}
 use Rattle.std.proofs.lemmas.Result.{IfOk-weaker}
-use Rattle.fx_data.specs.TypeView.{shape}
+use Rattle.fx_types.specs.TypeView.{shape}
 use Rattle.fx_plan.proofs.Delegable.{field_falls, part_falls}
 use Rattle.fx_plan.specs.declared.site_list.Scoped.TheVariants.{Others}
-use Rattle.fx_trees.specs.Term.{all, cons, of}
-use Rattle.fx_trees.specs.Term as top
+use Rattle.fx_core.specs.Term.{all, cons, of}
+use Rattle.fx_core.specs.Term as top
 use Rattle.fx_plan.proofs.RowLimits.{act_limited, call_limited, chain_limited, form_limited, list_limited, over_limited, rec_limited}
 use Rattle.fx_plan.specs.Limits.{depth_at, each_limited, fields_limited, with_limited_parts}
 use Rattle.fx_plan.proofs.limits.+limit_tree.Goals as goal

@@ -1,5 +1,5 @@
 use Rattle.std.proofs.Common.{◌≡◌, ◌+◌, ◌*◌, ◌++◌, drop}
-use Rattle.fx_trees.specs.Term.{all, parts_of, term_size, terms_size}
+use Rattle.fx_core.specs.Term.{all, parts_of, term_size, terms_size}
 use Rattle.fx_plan.specs.Limits.{depth_at, each_limited, fields_limited}
 use Rattle.fx_plan.proofs.limits.+limit_tree.Given as goal
 

@@ -1,5 +1,5 @@
 use Rattle.std.proofs.Common.{map, refl}
-use Rattle.fx_data.specs.ValueView.{view}
+use Rattle.fx_types.specs.ValueView.{view}
 use Rattle.fx_plan.proofs.Planned.{planned_query, planned_taken, there}
 use Rattle.fx_plan.proofs.plans.plan.Goals as goal
 

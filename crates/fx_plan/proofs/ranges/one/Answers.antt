@@ -1,4 +1,4 @@
-use Rattle.fx_data.specs.ValueView.{view}
+use Rattle.fx_types.specs.ValueView.{view}
 use Rattle.fx_plan.proofs.SpanLaws.{one_span}
 use Rattle.fx_plan.proofs.ranges.one.Goals as goal
 

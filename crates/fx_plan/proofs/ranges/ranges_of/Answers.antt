@@ -1,6 +1,6 @@
 use Rattle.std.proofs.Common.{inl, refl, zero}
 use Rattle.std.proofs.lemmas.Result.{IfOk-weaker}
-use Rattle.fx_data.specs.Types.{numbers}
+use Rattle.fx_types.specs.Types.{numbers}
 use Rattle.fx_plan.proofs.Places.{found_at, found_id, indexed_at, taken_at}
 use Rattle.fx_plan.proofs.ranges.ranges_of.Goals as goal
 

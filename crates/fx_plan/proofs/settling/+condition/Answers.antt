@@ -1,6 +1,6 @@
 use Rattle.std.proofs.Common.{arith, sym, map, ◌∙◌}
 use Rattle.std.proofs.lemmas.Result.{IfOk-weaker}
-use Rattle.fx_data.specs.ValueView.{view}
+use Rattle.fx_types.specs.ValueView.{view}
 use Rattle.fx_plan.proofs.Delegable.{part_falls}
 use Rattle.fx_plan.proofs.SettledPlaces.{all_settled, constant_settled, one_settled}
 use Rattle.fx_plan.proofs.settling.+condition.Goals as goal

@@ -1,6 +1,6 @@
 use Rattle.std.proofs.Common.{◌≡◌, drop, map}
-use Rattle.fx_data.specs.ValueView.{view}
-use Rattle.fx_trees.specs.Term.{all, term_size, terms_size}
+use Rattle.fx_types.specs.ValueView.{view}
+use Rattle.fx_core.specs.Term.{all, term_size, terms_size}
 use Rattle.fx_plan.specs.Settled.{conditions_settled}
 use Rattle.fx_plan.proofs.SettledPlaces.{before}
 use Rattle.fx_plan.proofs.settling.+condition.Given as goal

@@ -1,6 +1,6 @@
 use Rattle.std.proofs.Common.{ap, map, sym, ◌∙◌}
-use Rattle.fx_data.specs.ValueView.{view}
-use Rattle.fx_trees.specs.TermView.{branch}
+use Rattle.fx_types.specs.ValueView.{view}
+use Rattle.fx_core.specs.TermView.{branch}
 use Rattle.fx_plan.proofs.SettledPlaces.{search_there}
 use Rattle.fx_plan.proofs.settling.settled_search.Goals as goal
 

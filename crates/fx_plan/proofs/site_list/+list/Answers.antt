@@ -6,7 +6,7 @@ use Rattle.fx_plan.specs.Sites.{Position, listed, own_use, part_at, takes_whole,
 use Rattle.fx_plan.proofs.Delegable.{field_falls, part_falls}
 use Rattle.fx_plan.proofs.Listing.{listed_then, next_field, next_part, over_listed, uses_split, with_listed}
 use Rattle.fx_plan.proofs.site_list.+list.Goals as goal
-use Rattle.fx_trees.specs.TermView.{branch}
+use Rattle.fx_core.specs.TermView.{branch}
 
 pub list-returns : goal.list-returns
 list-returns t c =

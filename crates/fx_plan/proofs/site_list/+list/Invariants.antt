@@ -2,7 +2,7 @@ use Rattle.std.proofs.Common.{◌≡◌, ◌+◌, ◌*◌, drop}
 use Rattle.fx_plan.specs.declared.site_list.Scoped.TheVariants.{Nothing}
 use Rattle.fx_plan.specs.SitePlaces.{position, stand_at}
 use Rattle.fx_plan.specs.Sites.{listed, uses_among}
-use Rattle.fx_trees.specs.Term.{all, parts_of, term_size, terms_size}
+use Rattle.fx_core.specs.Term.{all, parts_of, term_size, terms_size}
 use Rattle.fx_plan.proofs.site_list.+list.Given as goal
 
 abbrev pub decreases-list : goal.decreases-list

@@ -1,7 +1,7 @@
 use Rattle.std.proofs.Common.{subst, sym}
-use Rattle.fx_data.specs.Types.{texts}
-use Rattle.fx_data.specs.ValueView.{view}
-use Rattle.fx_data.specs.declared.values.Value.{Value}
+use Rattle.fx_types.specs.Types.{texts}
+use Rattle.fx_types.specs.ValueView.{view}
+use Rattle.fx_types.specs.declared.values.Value.{Value}
 use Rattle.fx_value.specs.Coercion.{CanCoerce}
 use Rattle.fx_scalar.proofs.ErrorLemmas.{text_coercion}
 use Rattle.fx_scalar.proofs.errors.as_text.Goals as goal

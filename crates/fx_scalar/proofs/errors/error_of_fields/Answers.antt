@@ -1,6 +1,6 @@
 use Rattle.std.specs.Str.{chars}
 use Rattle.std.proofs.lemmas.Result.{IfOk-weaker}
-use Rattle.fx_data.specs.ValueView.{view}
+use Rattle.fx_types.specs.ValueView.{view}
 use Rattle.fx_scalar.proofs.errors.error_of_fields.Goals as goal
 
 pub returns : goal.returns

@@ -1,5 +1,5 @@
 use Rattle.std.proofs.Common.{refl}
-use Rattle.fx_data.specs.ValueView.{view}
+use Rattle.fx_types.specs.ValueView.{view}
 use Rattle.fx_scalar.proofs.ErrorLemmas.{none_found, value_found}
 use Rattle.fx_scalar.proofs.errors.field_text.Goals as goal
 

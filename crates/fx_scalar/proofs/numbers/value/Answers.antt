@@ -1,5 +1,5 @@
 use Rattle.std.proofs.Common.{refl}
-use Rattle.fx_data.specs.Types.{texts}
+use Rattle.fx_types.specs.Types.{texts}
 use Rattle.fx_scalar.proofs.numbers.value.Goals as goal
 
 pub coerce-requires : goal.coerce-requires

@@ -1,5 +1,5 @@
 use Rattle.std.proofs.lemmas.Result.{IfOk-weaker}
-use Rattle.fx_data.specs.ValueView.{view}
+use Rattle.fx_types.specs.ValueView.{view}
 use Rattle.fx_scalar.specs.Arguments.{views}
 use Rattle.fx_scalar.proofs.AnswerFits.{result_fits}
 use Rattle.fx_scalar.proofs.table.apply.Goals as goal

@@ -1,6 +1,6 @@
 use Rattle.std.proofs.Common.{◌≡◌, ◌∙◌, ap, map}
-use Rattle.fx_data.specs.ValueView.{view}
-use Rattle.fx_builtins.specs.Folds.{present, average_of}
+use Rattle.fx_types.specs.ValueView.{view}
+use Rattle.fx_primitives.specs.Folds.{present, average_of}
 use Rattle.fx_value.specs.Aggregates.{numbers_in}
 use Rattle.fx_tables.specs.AggregateCalls.{number_or_blank}
 use Rattle.fx_tables.proofs.FirstErrors.{error_is, none_is}

@@ -1,6 +1,6 @@
 use Rattle.std.proofs.Common.{◌≡◌, ◌∙◌, ap, map, subst, sym, List, ℤ}
-use Rattle.fx_data.specs.ValueView.{view}
-use Rattle.fx_builtins.specs.Folds.{IsLeast, present}
+use Rattle.fx_types.specs.ValueView.{view}
+use Rattle.fx_primitives.specs.Folds.{IsLeast, present}
 use Rattle.fx_value.specs.Aggregates.{numbers_in}
 use Rattle.fx_tables.specs.AggregateCalls.{IsNumberOrBlank}
 use Rattle.fx_tables.proofs.FirstErrors.{error_meets, none_meets}

@@ -1,5 +1,5 @@
 use Rattle.std.proofs.Common.{◌∙◌, ap}
-use Rattle.fx_builtins.specs.Folds.{present}
+use Rattle.fx_primitives.specs.Folds.{present}
 use Rattle.fx_tables.proofs.Numbers.{present_numbers}
 use Rattle.fx_tables.proofs.aggregates.numbers.Goals as goal
 

@@ -1,6 +1,6 @@
 use Rattle.std.proofs.Common.{◌≡◌, ◌∙◌, ap, map, subst, List, ℤ, IfOk}
-use Rattle.fx_data.specs.ValueView.{view}
-use Rattle.fx_builtins.specs.Folds.{present}
+use Rattle.fx_types.specs.ValueView.{view}
+use Rattle.fx_primitives.specs.Folds.{present}
 use Rattle.fx_value.specs.Aggregates.{numbers_in}
 use Rattle.fx_tables.specs.AggregateCalls.{IsSumValue}
 use Rattle.fx_tables.proofs.FirstErrors.{call_meets, error_meets}

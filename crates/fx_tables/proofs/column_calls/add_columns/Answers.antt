@@ -1,5 +1,5 @@
 use Rattle.std.proofs.Common.{◌≡◌, List, map, subst, sym, true}
-use Rattle.fx_data.specs.Values.{row_list}
+use Rattle.fx_types.specs.Values.{row_list}
 use Rattle.fx_value.specs.Fits.{rows_fit}
 use Rattle.fx_value.specs.Columns.{Row}
 use Rattle.fx_tables.specs.NewColumn.{column_seen}

@@ -1,14 +1,14 @@
 use Rattle.std.proofs.Common.{List, arith, ◌∙◌, subst, sym, true, ◌≡◌}
 use Rattle.fx_tables.proofs.ColumnTurns.{step_without}
 use Rattle.std.proofs.lemmas.List.{at_drop_all}
-use Rattle.fx_data.specs.Values.{row_list}
+use Rattle.fx_types.specs.Values.{row_list}
 use Rattle.fx_value.specs.Fits.{rows_fit}
 use Rattle.fx_value.specs.Columns.{Row}
 use Rattle.fx_value.proofs.Unions.{rises_list}
-use Rattle.fx_data.specs.Types.{column_list}
+use Rattle.fx_types.specs.Types.{column_list}
 use Rattle.fx_tables.specs.ColumnCalls.{without_columns}
 use Rattle.fx_tables.proofs.FitColumns.{dropped_fit}
-use Rattle.fx_trees.specs.ColumnLists.{without_all}
+use Rattle.fx_core.specs.ColumnLists.{without_all}
 use Rattle.fx_tables.proofs.column_calls.drop_columns.Goals as goal
 
 pub loop-name-preserved : goal.loop-name-preserved

@@ -2,11 +2,11 @@ use Rattle.std.proofs.Common.{List, arith, length, map, ◌∙◌, subst, sym, t
 use Rattle.fx_value.specs.Columns.{LacksColumn}
 use Rattle.fx_tables.proofs.ColumnTurns.{can_rename_rest, next_renamed, step_renamed}
 use Rattle.std.proofs.lemmas.List.{at_drop_all}
-use Rattle.fx_data.specs.Values.{row_list}
+use Rattle.fx_types.specs.Values.{row_list}
 use Rattle.fx_value.specs.Fits.{rows_fit}
 use Rattle.fx_value.specs.Columns.{Row}
 use Rattle.fx_value.proofs.Unions.{rises_list}
-use Rattle.fx_data.specs.Types.{column_list}
+use Rattle.fx_types.specs.Types.{column_list}
 use Rattle.fx_tables.specs.ColumnCalls.{renamed_columns}
 use Rattle.fx_tables.specs.NewColumn.{renaming_seen}
 use Rattle.fx_tables.proofs.FitColumns.{all_renamed_fit}

@@ -1,6 +1,6 @@
 use Rattle.std.proofs.Common.{◌∙◌, ℕ, List, subst, sym}
 use Rattle.std.proofs.lemmas.List.{length-map}
-use Rattle.fx_data.specs.ValueView.{view}
+use Rattle.fx_types.specs.ValueView.{view}
 use Rattle.fx_value.specs.Columns.{LacksColumn}
 use Rattle.fx_tables.proofs.ColumnTurns.{can_add_rest, next_new, step_added}
 use Rattle.fx_tables.proofs.column_calls.rows_with.Goals as goal

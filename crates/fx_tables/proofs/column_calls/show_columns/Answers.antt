@@ -1,8 +1,8 @@
 use Rattle.std.proofs.Common.{◌≡◌, List, subst, sym, true}
-use Rattle.fx_data.specs.Values.{row_list}
+use Rattle.fx_types.specs.Values.{row_list}
 use Rattle.fx_value.specs.Fits.{rows_fit}
 use Rattle.fx_value.specs.Columns.{Row}
-use Rattle.fx_trees.specs.ColumnLists.{only}
+use Rattle.fx_core.specs.ColumnLists.{only}
 use Rattle.fx_tables.proofs.FitColumns.{rows_only_fit}
 use Rattle.fx_tables.proofs.column_calls.show_columns.Goals as goal
 

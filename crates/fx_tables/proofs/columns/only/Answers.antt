@@ -1,10 +1,10 @@
 use Rattle.std.proofs.Common.{◌≡◌, ◌∙◌, ap, subst, sym, ℕ, List, bytes_eq, rules}
 use Rattle.std.specs.List.{filter, list_any}
 use Rattle.std.proofs.lemmas.Fn.{filter_same}
-use Rattle.fx_data.specs.Rising.{AreRising}
-use Rattle.fx_data.specs.ValueView.{view, fields_view}
-use Rattle.fx_data.specs.declared.values.Value.{Value}
-use Rattle.fx_data.proofs.Risings.{rising_filter}
+use Rattle.fx_types.specs.Rising.{AreRising}
+use Rattle.fx_types.specs.ValueView.{view, fields_view}
+use Rattle.fx_types.specs.declared.values.Value.{Value}
+use Rattle.fx_types.proofs.Risings.{rising_filter}
 use Rattle.fx_value.specs.Columns.{only}
 use Rattle.fx_tables.proofs.ColumnSteps.{seen_filter}
 use Rattle.fx_tables.proofs.columns.only.Goals as goal

@@ -1,6 +1,6 @@
 use Rattle.std.proofs.Common.{◌≡◌, drop}
-use Rattle.fx_data.specs.Lookup.{item_of}
-use Rattle.fx_data.specs.ValueView.{fields_view}
+use Rattle.fx_types.specs.Lookup.{item_of}
+use Rattle.fx_types.specs.ValueView.{fields_view}
 use Rattle.fx_tables.proofs.columns.place_under.Given as goal
 
 abbrev pub invariant-loop-place : goal.invariant-loop-place

@@ -1,6 +1,6 @@
 use Rattle.std.proofs.Common.{◌≡◌, ◌∙◌, ap, subst, sym, None}
-use Rattle.fx_data.specs.Lookup.{item_of}
-use Rattle.fx_data.specs.Rising.{AreRising}
+use Rattle.fx_types.specs.Lookup.{item_of}
+use Rattle.fx_types.specs.Rising.{AreRising}
 use Rattle.fx_value.specs.Columns.{Row, without}
 use Rattle.fx_tables.proofs.ColumnSteps.{rising_without, lacks_without}
 use Rattle.fx_tables.proofs.columns.rename_field.Goals as goal

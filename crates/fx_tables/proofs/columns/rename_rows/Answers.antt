@@ -1,6 +1,6 @@
 use Rattle.std.proofs.Common.{◌≡◌, ◌∙◌, ap, None}
 use Rattle.std.proofs.lemmas.List.Elements.{All-rest}
-use Rattle.fx_data.specs.Lookup.{item_of}
+use Rattle.fx_types.specs.Lookup.{item_of}
 use Rattle.fx_value.specs.Columns.{Row, renamed}
 use Rattle.fx_tables.proofs.ColumnSteps.{step_rows}
 use Rattle.fx_tables.proofs.columns.rename_rows.Goals as goal

@@ -1,7 +1,7 @@
 use Rattle.std.proofs.Common.{◌≡◌, ◌∙◌, ap, None, length, arith}
 use Rattle.std.proofs.lemmas.List.Elements.{All-rest}
-use Rattle.fx_data.specs.Lookup.{item_of}
-use Rattle.fx_data.specs.ValueView.{view}
+use Rattle.fx_types.specs.Lookup.{item_of}
+use Rattle.fx_types.specs.ValueView.{view}
 use Rattle.fx_value.specs.Columns.{Row, with_field}
 use Rattle.fx_tables.proofs.ColumnSteps.{step_with}
 use Rattle.fx_tables.proofs.columns.rows_with.Goals as goal

@@ -1,5 +1,5 @@
 use Rattle.std.proofs.Common.{◌≡◌, ◌++◌, map, length}
-use Rattle.fx_data.specs.ValueView.{view}
+use Rattle.fx_types.specs.ValueView.{view}
 use Rattle.fx_value.specs.Columns.{LacksColumn, with_column}
 use Rattle.fx_tables.proofs.columns.rows_with.Given as goal
 

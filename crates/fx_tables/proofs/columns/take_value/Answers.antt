@@ -1,7 +1,7 @@
 use Rattle.std.proofs.Common.{◌≡◌, ◌∙◌, ap, ℕ, List, subst, None}
-use Rattle.fx_data.specs.Lookup.{item_of}
-use Rattle.fx_data.specs.ValueView.{fields_view}
-use Rattle.fx_data.specs.declared.values.Value.{Value}
+use Rattle.fx_types.specs.Lookup.{item_of}
+use Rattle.fx_types.specs.ValueView.{fields_view}
+use Rattle.fx_types.specs.declared.values.Value.{Value}
 use Rattle.fx_tables.proofs.ColumnSteps.{IsNamed, taken_value, taken_rest, lacking_rest}
 use Rattle.fx_tables.proofs.columns.take_value.Goals as goal
 

@@ -1,5 +1,5 @@
 use Rattle.std.proofs.Common.{◌∙◌, ap, subst, sym}
-use Rattle.fx_data.specs.Rising.{AreRising}
+use Rattle.fx_types.specs.Rising.{AreRising}
 use Rattle.fx_value.specs.Columns.{without}
 use Rattle.fx_tables.proofs.ColumnSteps.{rising_without}
 use Rattle.fx_tables.proofs.columns.without.Goals as goal

@@ -1,7 +1,7 @@
 use Rattle.std.proofs.Common.{◌≡◌, ◌∙◌, ap, map, subst, sym, List, true}
-use Rattle.fx_data.specs.Types.{tables}
-use Rattle.fx_data.specs.Values.{tab, row_list}
-use Rattle.fx_data.specs.ValueView.{view}
+use Rattle.fx_types.specs.Types.{tables}
+use Rattle.fx_types.specs.Values.{tab, row_list}
+use Rattle.fx_types.specs.ValueView.{view}
 use Rattle.fx_value.specs.Fits.{fits_in}
 use Rattle.fx_value.specs.Columns.{Row}
 use Rattle.fx_tables.specs.RowCalls.{first_of, kept_rows}

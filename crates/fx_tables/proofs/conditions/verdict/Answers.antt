@@ -1,7 +1,7 @@
 use Rattle.std.proofs.Common.{◌∙◌, ap, map}
 use Rattle.std.specs.List.{list_all}
-use Rattle.fx_data.specs.Values.{boolean}
-use Rattle.fx_data.specs.ValueView.{view}
+use Rattle.fx_types.specs.Values.{boolean}
+use Rattle.fx_types.specs.ValueView.{view}
 use Rattle.fx_tables.specs.RowCalls.{holds}
 use Rattle.fx_tables.proofs.FirstErrors.{error_is, none_is}
 use Rattle.fx_tables.proofs.KeptRows.{all_seen}

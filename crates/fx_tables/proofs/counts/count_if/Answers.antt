@@ -1,6 +1,6 @@
 use Rattle.std.proofs.Common.{◌∙◌, ℕ, ap, map, length, subst, IfOk}
 use Rattle.std.specs.List.{filter}
-use Rattle.fx_data.specs.ValueView.{view}
+use Rattle.fx_types.specs.ValueView.{view}
 use Rattle.fx_tables.specs.RowCalls.{IsCountValue, holds}
 use Rattle.fx_tables.proofs.FirstErrors.{call_meets, error_meets}
 use Rattle.fx_tables.proofs.counts.count_if.Goals as goal

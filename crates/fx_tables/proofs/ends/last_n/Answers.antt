@@ -1,5 +1,5 @@
 use Rattle.std.proofs.Common.{◌≡◌, ◌-◌, List, length, subst, sym, true}
-use Rattle.fx_data.specs.Values.{tab, row_list}
+use Rattle.fx_types.specs.Values.{tab, row_list}
 use Rattle.fx_value.specs.Fits.{fits_in}
 use Rattle.fx_value.specs.Columns.{Row}
 use Rattle.fx_tables.proofs.FitRows.{last_rows_fit}

@@ -1,6 +1,6 @@
 use Rattle.std.proofs.Common.{ap}
 use Rattle.std.specs.Str.{chars}
-use Rattle.fx_data.specs.Values.{fault}
+use Rattle.fx_types.specs.Values.{fault}
 use Rattle.fx_tables.proofs.errors.made_error.Goals as goal
 
 pub returns : goal.returns

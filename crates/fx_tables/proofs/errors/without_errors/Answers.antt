@@ -1,7 +1,7 @@
 use Rattle.std.proofs.Common.{◌≡◌, ◌∙◌, ap, map, get_or, subst, List, Some}
 use Rattle.std.specs.List.{find}
-use Rattle.fx_data.specs.ValueView.{view}
-use Rattle.fx_data.specs.declared.values.Value.{Value}
+use Rattle.fx_types.specs.ValueView.{view}
+use Rattle.fx_types.specs.declared.values.Value.{Value}
 use Rattle.fx_tables.specs.Unions.{is_fault}
 use Rattle.fx_tables.proofs.UnionSteps.{no_fault}
 use Rattle.fx_tables.proofs.FirstErrors.{found_passes}

@@ -1,8 +1,8 @@
 use Rattle.std.proofs.Common.{List, map, take, subst, sym}
 use Rattle.std.specs.List.{All}
 use Rattle.std.proofs.lemmas.List.Elements.{All-push}
-use Rattle.fx_data.specs.Values.{Data}
-use Rattle.fx_data.specs.ValueView.{view}
+use Rattle.fx_types.specs.Values.{Data}
+use Rattle.fx_types.specs.ValueView.{view}
 use Rattle.fx_value.specs.Keys.{IsProper}
 use Rattle.fx_tables.specs.Seen.{HoldsFirsts}
 use Rattle.fx_tables.proofs.DistinctSteps.{goes_with_earlier, scalar_at}

@@ -1,6 +1,6 @@
 use Rattle.std.proofs.Common.{map, take}
 use Rattle.std.specs.List.{All}
-use Rattle.fx_data.specs.ValueView.{view}
+use Rattle.fx_types.specs.ValueView.{view}
 use Rattle.fx_value.specs.Keys.{IsProper}
 use Rattle.fx_tables.specs.Seen.{HoldsFirsts}
 use Rattle.fx_tables.proofs.first_values.distinct.Given as goal

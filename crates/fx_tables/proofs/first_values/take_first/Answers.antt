@@ -1,7 +1,7 @@
 use Rattle.std.proofs.Common.{◌≡◌, ◌∙◌, ◌++◌, ◌∷◌, [], ap, sym, true, false, rules}
 use Rattle.std.specs.BTreeSet.{contains}
 use Rattle.std.proofs.lemmas.Bool.{not-false, not-true}
-use Rattle.fx_data.specs.ValueView.{view}
+use Rattle.fx_types.specs.ValueView.{view}
 use Rattle.fx_tables.specs.Distinct.{value_row}
 use Rattle.fx_tables.specs.Seen.{key_order}
 use Rattle.fx_tables.proofs.DistinctSteps.{is_among, keys_more, was_among, firsts_same, firsts_more}

@@ -1,13 +1,13 @@
 use Rattle.std.proofs.Common.{◌≡◌, ◌∙◌, ap, map, subst, sym, List, true}
-use Rattle.fx_data.specs.Types.{tables}
-use Rattle.fx_data.specs.Values.{tab, row_list}
-use Rattle.fx_data.specs.ValueView.{view}
-use Rattle.fx_data.specs.declared.values.Value.{Value}
+use Rattle.fx_types.specs.Types.{tables}
+use Rattle.fx_types.specs.Values.{tab, row_list}
+use Rattle.fx_types.specs.ValueView.{view}
+use Rattle.fx_types.specs.declared.values.Value.{Value}
 use Rattle.fx_value.specs.Fits.{fits_in}
 use Rattle.fx_value.specs.Columns.{Row}
 use Rattle.fx_tables.specs.Distinct.{distinct_of, value_row}
 use Rattle.fx_value.specs.Ordered.{AreKeys}
-use Rattle.fx_trees.specs.ColumnLists.{value_column}
+use Rattle.fx_core.specs.ColumnLists.{value_column}
 use Rattle.fx_tables.proofs.FirstErrors.{error_is, none_is}
 use Rattle.fx_tables.proofs.FitDistinct.{distinct_fit}
 use Rattle.fx_tables.proofs.formulas.distinct_values.Goals as goal

@@ -1,10 +1,10 @@
 use Rattle.std.proofs.Common.{◌≡◌, ◌∙◌, ap, map, not, subst, sym, true}
 use Rattle.std.specs.List.{filter}
-use Rattle.fx_data.specs.Values.{RowList, tab}
-use Rattle.fx_data.specs.ValueView.{view}
+use Rattle.fx_types.specs.Values.{RowList, tab}
+use Rattle.fx_types.specs.ValueView.{view}
 use Rattle.fx_value.specs.Fits.{rows_fit}
 use Rattle.fx_tables.specs.RowCalls.{is_blank, rows_by_values}
-use Rattle.fx_trees.specs.ColumnLists.{row_columns}
+use Rattle.fx_core.specs.ColumnLists.{row_columns}
 use Rattle.fx_tables.proofs.FirstErrors.{error_is, none_is}
 use Rattle.fx_tables.proofs.ValueRows.{values_fit}
 use Rattle.fx_tables.proofs.formulas.for_all.Goals as goal

@@ -1,7 +1,7 @@
 use Rattle.std.proofs.Common.{◌∙◌, map, subst, List, refl}
-use Rattle.fx_data.specs.Values.{tab, row_list}
-use Rattle.fx_data.specs.ValueView.{view}
-use Rattle.fx_data.specs.declared.values.Value.{Value}
+use Rattle.fx_types.specs.Values.{tab, row_list}
+use Rattle.fx_types.specs.ValueView.{view}
+use Rattle.fx_types.specs.declared.values.Value.{Value}
 use Rattle.fx_value.specs.Ordered.{IsOrderedBy}
 use Rattle.fx_tables.specs.RowCalls.{IsTableBy}
 use Rattle.fx_tables.proofs.FirstErrors.{error_meets, none_meets}

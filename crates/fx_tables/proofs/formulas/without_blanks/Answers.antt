@@ -1,8 +1,8 @@
 use Rattle.std.proofs.Common.{◌≡◌, ◌∙◌, ap, map, not, rules}
 use Rattle.std.specs.List.{filter}
 use Rattle.std.proofs.lemmas.Fn.{filter_same}
-use Rattle.fx_data.specs.ValueView.{view}
-use Rattle.fx_data.specs.declared.values.Value.{Value}
+use Rattle.fx_types.specs.ValueView.{view}
+use Rattle.fx_types.specs.declared.values.Value.{Value}
 use Rattle.fx_tables.specs.RowCalls.{is_blank}
 use Rattle.fx_tables.proofs.KeptRows.{blanks_seen}
 use Rattle.fx_tables.proofs.formulas.without_blanks.Goals as goal

@@ -1,6 +1,6 @@
 use Rattle.std.proofs.Common.{◌≡◌, ◌++◌, ◌+◌, map, drop, length}
 use Rattle.std.specs.List.{zip}
-use Rattle.fx_data.specs.ValueView.{view}
+use Rattle.fx_types.specs.ValueView.{view}
 use Rattle.fx_tables.specs.Keyed.{pair_of}
 use Rattle.fx_tables.proofs.ordering.beside_keys.Given as goal
 

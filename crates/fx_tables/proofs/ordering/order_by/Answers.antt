@@ -3,7 +3,7 @@ use Rattle.std.proofs.lemmas.Fn.{always_returns_same}
 use Rattle.std.proofs.lemmas.Result.{IfOk-weaker}
 use Rattle.std.specs.List.Sorted.{IsSortedBy, IsStableBy}
 use Rattle.std.proofs.Common.{rules}
-use Rattle.fx_data.specs.ValueView.{view}
+use Rattle.fx_types.specs.ValueView.{view}
 use Rattle.fx_value.specs.Ordered.{IsOrderedBy}
 use Rattle.fx_tables.specs.declared.ordering.Keyed.{Keyed}
 use Rattle.fx_tables.proofs.OrderSteps.{before_is_order, found_order, is_before}

@@ -1,6 +1,6 @@
 use Rattle.std.proofs.Common.{List, map, subst, sym, take, arith}
-use Rattle.fx_data.specs.Values.{Data}
-use Rattle.fx_data.specs.ValueView.{view}
+use Rattle.fx_types.specs.Values.{Data}
+use Rattle.fx_types.specs.ValueView.{view}
 use Rattle.fx_value.specs.Aggregates.{numbers_in, SumsUp}
 use Rattle.fx_tables.proofs.SumSteps.{seen_more}
 use Rattle.fx_tables.proofs.sums.totals.Goals as goal

@@ -1,5 +1,5 @@
 use Rattle.std.proofs.Common.{◌≤◌, map, take}
-use Rattle.fx_data.specs.ValueView.{view}
+use Rattle.fx_types.specs.ValueView.{view}
 use Rattle.fx_value.specs.Aggregates.{IsWithin, SumsUp, numbers_in}
 use Rattle.fx_tables.proofs.sums.totals.Given as goal
 

@@ -1,5 +1,5 @@
 use Rattle.std.proofs.Common.{List, ℤ, ap, subst, sym, arith}
-use Rattle.fx_data.specs.ValueView.{view}
+use Rattle.fx_types.specs.ValueView.{view}
 use Rattle.fx_value.specs.Aggregates.{numbers_in, SumsUp}
 use Rattle.fx_tables.proofs.SumSteps.{numbers_with, numbers_without, sums_more}
 use Rattle.fx_tables.proofs.sums.with_value.Goals as goal

@@ -1,6 +1,6 @@
 use Rattle.std.proofs.Common.{◌∙◌, ap, map, sym, take, ◌∷◌, [], arith}
 use Rattle.std.proofs.lemmas.List.{map-append}
-use Rattle.fx_data.specs.ValueView.{view}
+use Rattle.fx_types.specs.ValueView.{view}
 use Rattle.fx_tables.specs.AggregateCalls.{characters_in, separated}
 use Rattle.fx_tables.proofs.KeptRows.{values_more}
 use Rattle.fx_tables.proofs.texts.parts.Goals as goal

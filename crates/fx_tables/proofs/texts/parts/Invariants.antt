@@ -1,5 +1,5 @@
 use Rattle.std.proofs.Common.{◌≡◌, map, take}
-use Rattle.fx_data.specs.ValueView.{view}
+use Rattle.fx_types.specs.ValueView.{view}
 use Rattle.fx_tables.specs.AggregateCalls.{characters_in, separated}
 use Rattle.fx_tables.proofs.texts.parts.Given as goal
 

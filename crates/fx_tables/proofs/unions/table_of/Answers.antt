@@ -1,8 +1,8 @@
 use Rattle.std.proofs.Common.{◌≡◌, ◌∙◌, ◌++◌, ◌∷◌, [], ap, subst, sym, map, List, true, append_assoc}
-use Rattle.fx_data.specs.Types.{Shape, records, column_list}
-use Rattle.fx_data.specs.Values.{Data, rec, tab, field_list}
-use Rattle.fx_data.specs.ValueView.{view}
-use Rattle.fx_data.specs.declared.values.Value.{Value}
+use Rattle.fx_types.specs.Types.{Shape, records, column_list}
+use Rattle.fx_types.specs.Values.{Data, rec, tab, field_list}
+use Rattle.fx_types.specs.ValueView.{view}
+use Rattle.fx_types.specs.declared.values.Value.{Value}
 use Rattle.fx_value.specs.Coercion.{CanWiden, widened, widened_fields}
 use Rattle.fx_value.specs.Fits.{fits_in}
 use Rattle.fx_value.proofs.WideningSteps.{rows_fit_push}

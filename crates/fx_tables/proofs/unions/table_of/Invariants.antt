@@ -1,8 +1,8 @@
 use Rattle.std.proofs.Common.{◌≡◌, ◌++◌, map, true, None}
 use Rattle.std.specs.List.{All, find}
-use Rattle.fx_data.specs.Types.{column_list}
-use Rattle.fx_data.specs.Values.{row_list}
-use Rattle.fx_data.specs.ValueView.{view}
+use Rattle.fx_types.specs.Types.{column_list}
+use Rattle.fx_types.specs.Values.{row_list}
+use Rattle.fx_types.specs.ValueView.{view}
 use Rattle.fx_value.specs.Fits.{rows_fit}
 use Rattle.fx_tables.specs.Unions.{CanBeRow, is_fault, rows_of}
 use Rattle.fx_tables.proofs.unions.table_of.Given as goal

@@ -1,5 +1,5 @@
 use Rattle.std.proofs.Common.{◌∙◌}
-use Rattle.fx_data.specs.Types.{column_list}
+use Rattle.fx_types.specs.Types.{column_list}
 use Rattle.fx_typing.proofs.Pairs.{added_step}
 use Rattle.fx_typing.proofs.columns.add_columns.Goals as goal
 

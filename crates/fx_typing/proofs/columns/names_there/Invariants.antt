@@ -1,5 +1,5 @@
 use Rattle.std.proofs.Common.{◌≡◌, drop, map}
-use Rattle.fx_data.specs.Types.{column_list}
+use Rattle.fx_types.specs.Types.{column_list}
 use Rattle.fx_typing.specs.Columns.{names_there}
 use Rattle.fx_typing.proofs.Befores.{before}
 use Rattle.fx_typing.specs.TypedView.{typed}

@@ -1,6 +1,6 @@
 use Rattle.std.proofs.Common.{◌≡◌, ap, sym, ◌∙◌}
-use Rattle.fx_data.specs.Types.{column_list}
-use Rattle.fx_trees.specs.ColumnLists.{is_one_of, only}
+use Rattle.fx_types.specs.Types.{column_list}
+use Rattle.fx_core.specs.ColumnLists.{is_one_of, only}
 use Rattle.fx_typing.proofs.ColumnLists.{listed, rising_some, kept_only}
 use Rattle.fx_typing.proofs.columns.only.Goals as goal
 

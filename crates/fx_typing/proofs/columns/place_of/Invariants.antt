@@ -1,5 +1,5 @@
 use Rattle.std.proofs.Common.{◌≡◌, ◌+◌, drop}
-use Rattle.fx_data.specs.TypeView.{columns_view}
+use Rattle.fx_types.specs.TypeView.{columns_view}
 use Rattle.fx_typing.specs.ColumnPlaces.{place_of}
 use Rattle.fx_typing.proofs.columns.place_of.Given as goal
 

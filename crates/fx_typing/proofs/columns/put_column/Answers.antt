@@ -1,7 +1,7 @@
 use Rattle.std.proofs.Common.{◌≡◌, ap, ◌∙◌, arith, insert, length}
-use Rattle.fx_data.specs.Types.{column_list}
-use Rattle.fx_data.specs.TypeView.{shape, columns_view}
-use Rattle.fx_trees.specs.SourceTypes.{put_column}
+use Rattle.fx_types.specs.Types.{column_list}
+use Rattle.fx_types.specs.TypeView.{shape, columns_view}
+use Rattle.fx_core.specs.SourceTypes.{put_column}
 use Rattle.fx_typing.specs.ColumnPlaces.{place_of}
 use Rattle.fx_typing.proofs.ColumnLists.{put_made, put_rising, place_within}
 use Rattle.fx_typing.proofs.columns.put_column.Goals as goal

@@ -1,5 +1,5 @@
 use Rattle.std.proofs.Common.{◌∙◌}
-use Rattle.fx_data.specs.Types.{column_list}
+use Rattle.fx_types.specs.Types.{column_list}
 use Rattle.fx_typing.proofs.Pairs.{renamed_step}
 use Rattle.fx_typing.proofs.columns.rename_columns.Goals as goal
 

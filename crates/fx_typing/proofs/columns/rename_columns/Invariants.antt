@@ -1,5 +1,5 @@
 use Rattle.std.proofs.Common.{◌≡◌, length, map}
-use Rattle.fx_data.specs.Types.{column_list}
+use Rattle.fx_types.specs.Types.{column_list}
 use Rattle.fx_typing.specs.Columns.{renamed}
 use Rattle.fx_typing.specs.TypedView.{typed}
 use Rattle.fx_typing.proofs.columns.rename_columns.Given as goal

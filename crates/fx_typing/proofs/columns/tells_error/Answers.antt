@@ -1,4 +1,4 @@
-use Rattle.fx_data.specs.Types.{column_list}
+use Rattle.fx_types.specs.Types.{column_list}
 use Rattle.fx_typing.proofs.Tellings.{tells_both, tells_none}
 use Rattle.fx_typing.proofs.columns.tells_error.Goals as goal
 

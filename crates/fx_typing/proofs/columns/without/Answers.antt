@@ -1,6 +1,6 @@
 use Rattle.std.proofs.Common.{◌≡◌, ap, sym, ◌∙◌, not, bytes_eq, filter}
-use Rattle.fx_data.specs.Types.{column_list}
-use Rattle.fx_trees.specs.ColumnLists.{without}
+use Rattle.fx_types.specs.Types.{column_list}
+use Rattle.fx_core.specs.ColumnLists.{without}
 use Rattle.fx_typing.proofs.ColumnLists.{listed, rising_some, others_without}
 use Rattle.fx_typing.proofs.columns.without.Goals as goal
 

@@ -1,6 +1,6 @@
 use Rattle.std.proofs.Common.{◌≡◌, drop}
-use Rattle.fx_data.specs.Types.{column_list}
-use Rattle.fx_trees.specs.ColumnLists.{without_all}
+use Rattle.fx_types.specs.Types.{column_list}
+use Rattle.fx_core.specs.ColumnLists.{without_all}
 use Rattle.fx_typing.proofs.columns.without_all.Given as goal
 
 abbrev pub invariant-loop-name : goal.invariant-loop-name

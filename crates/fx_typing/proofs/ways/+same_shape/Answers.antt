@@ -1,5 +1,5 @@
 use Rattle.std.proofs.Common.{arith}
-use Rattle.fx_data.proofs.Sizes.{column_is_smaller}
+use Rattle.fx_types.proofs.Sizes.{column_is_smaller}
 use Rattle.fx_typing.proofs.SameColumns.{longer_differs}
 use Rattle.fx_typing.proofs.ways.+same_shape.Goals as goal
 

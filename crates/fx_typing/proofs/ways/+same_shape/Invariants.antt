@@ -1,6 +1,6 @@
 use Rattle.std.proofs.Common.{◌≡◌, drop}
-use Rattle.fx_data.specs.Types.{column_list, shape_size, columns_size}
-use Rattle.fx_data.specs.TypeView.{shape, columns_view}
+use Rattle.fx_types.specs.Types.{column_list, shape_size, columns_size}
+use Rattle.fx_types.specs.TypeView.{shape, columns_view}
 use Rattle.fx_typing.specs.Ways.{same_columns}
 use Rattle.fx_typing.proofs.ways.+same_shape.Given as goal
 

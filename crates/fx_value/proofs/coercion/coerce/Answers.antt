@@ -1,5 +1,5 @@
-use Rattle.fx_data.specs.TypeView.{shape}
-use Rattle.fx_data.specs.ValueView.{view}
+use Rattle.fx_types.specs.TypeView.{shape}
+use Rattle.fx_types.specs.ValueView.{view}
 use Rattle.fx_value.proofs.Coercions.{can_widen, is_wide}
 use Rattle.fx_value.proofs.coercion.coerce.Goals as goal
 

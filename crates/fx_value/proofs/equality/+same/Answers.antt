@@ -1,6 +1,6 @@
 use Rattle.std.proofs.Common.{arith, ap}
-use Rattle.fx_data.proofs.Sizes.{field_is_smaller, row_is_smaller}
-use Rattle.fx_data.specs.Values.{rec, tab, field_list, row_list}
+use Rattle.fx_types.proofs.Sizes.{field_is_smaller, row_is_smaller}
+use Rattle.fx_types.specs.Values.{rec, tab, field_list, row_list}
 use Rattle.fx_value.proofs.SameLemmas.{rec_tells, tab_tells}
 use Rattle.fx_value.proofs.equality.+same.Goals as goal
 

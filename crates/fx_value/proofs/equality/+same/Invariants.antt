@@ -1,6 +1,6 @@
 use Rattle.std.proofs.Common.{◌≡◌, ◌↔◌, drop}
-use Rattle.fx_data.specs.Values.{field_list, row_list, size_of, fields_size, rows_size}
-use Rattle.fx_data.specs.ValueView.{view, fields_view}
+use Rattle.fx_types.specs.Values.{field_list, row_list, size_of, fields_size, rows_size}
+use Rattle.fx_types.specs.ValueView.{view, fields_view}
 use Rattle.fx_value.proofs.equality.+same.Given as goal
 
 abbrev pub decreases-same : goal.decreases-same

@@ -1,6 +1,6 @@
 use Rattle.std.proofs.Common.{arith}
 use Rattle.fx_value.proofs.FitsLemmas.{no_fit_of_lengths}
-use Rattle.fx_data.proofs.Sizes.{field_is_smaller, row_is_smaller}
+use Rattle.fx_types.proofs.Sizes.{field_is_smaller, row_is_smaller}
 use Rattle.fx_value.proofs.fitting.+fits.Goals as goal
 
 pub record_fits-fits-requires : goal.record_fits-fits-requires

@@ -1,9 +1,9 @@
 use Rattle.std.proofs.Common.{◌≡◌, drop}
-use Rattle.fx_data.specs.Values.{field_list, row_list, size_of, fields_size, rows_size}
+use Rattle.fx_types.specs.Values.{field_list, row_list, size_of, fields_size, rows_size}
 use Rattle.fx_value.specs.Fits.{fields_fit, rows_fit}
-use Rattle.fx_data.specs.Types.{column_list}
-use Rattle.fx_data.specs.TypeView.{columns_view}
-use Rattle.fx_data.specs.ValueView.{view, fields_view}
+use Rattle.fx_types.specs.Types.{column_list}
+use Rattle.fx_types.specs.TypeView.{columns_view}
+use Rattle.fx_types.specs.ValueView.{view, fields_view}
 use Rattle.fx_value.proofs.fitting.+fits.Given as goal
 
 abbrev pub decreases-fits : goal.decreases-fits

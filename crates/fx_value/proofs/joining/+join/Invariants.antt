@@ -1,6 +1,6 @@
 use Rattle.std.proofs.Common.{◌+◌, ◌-◌, ◌≤◌, length, drop}
-use Rattle.fx_data.specs.Types.{column_list, shape_size, columns_size}
-use Rattle.fx_data.specs.TypeView.{shape}
+use Rattle.fx_types.specs.Types.{column_list, shape_size, columns_size}
+use Rattle.fx_types.specs.TypeView.{shape}
 use Rattle.fx_value.proofs.JoinSteps.{IsJoined}
 use Rattle.fx_value.proofs.joining.+join.Given as goal
 

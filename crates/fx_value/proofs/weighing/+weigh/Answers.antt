@@ -1,5 +1,5 @@
 use Rattle.std.proofs.Common.{arith}
-use Rattle.fx_data.proofs.Sizes.{field_is_smaller, row_is_smaller}
+use Rattle.fx_types.proofs.Sizes.{field_is_smaller, row_is_smaller}
 use Rattle.fx_value.proofs.weighing.+weigh.Goals as goal
 
 pub weigh_fields-weigh-requires : goal.weigh_fields-weigh-requires

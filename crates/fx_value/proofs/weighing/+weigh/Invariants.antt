@@ -1,7 +1,7 @@
 use Rattle.std.proofs.Common.{◌≡◌, ◌+◌, ◌-◌, ◌^◌, ◌<◌, min, drop}
-use Rattle.fx_data.specs.ValueView.{view, fields_view}
+use Rattle.fx_types.specs.ValueView.{view, fields_view}
 use Rattle.fx_value.specs.Weight.{fields_weight, rows_weight}
-use Rattle.fx_data.specs.Values.{field_list, row_list, size_of, fields_size, rows_size}
+use Rattle.fx_types.specs.Values.{field_list, row_list, size_of, fields_size, rows_size}
 use Rattle.fx_value.proofs.weighing.+weigh.Given as goal
 
 abbrev pub invariant-weigh_fields-loop-name : goal.invariant-weigh_fields-loop-name

@@ -1,10 +1,10 @@
 use Rattle.std.proofs.Common.{arith, ap, sym, subst, ◌∙◌, refl, ◌≡◌, ◌++◌, ◌∷◌, [], List, ℕ, append_assoc}
 use Rattle.std.proofs.lemmas.List.{take_all}
-use Rattle.fx_data.proofs.Sizes.{column_is_smaller}
-use Rattle.fx_data.specs.Types.{column_list}
-use Rattle.fx_data.specs.TypeView.{shape, columns_view}
-use Rattle.fx_data.specs.Values.{Data, field_list}
-use Rattle.fx_data.specs.ValueView.{view, fields_view}
+use Rattle.fx_types.proofs.Sizes.{column_is_smaller}
+use Rattle.fx_types.specs.Types.{column_list}
+use Rattle.fx_types.specs.TypeView.{shape, columns_view}
+use Rattle.fx_types.specs.Values.{Data, field_list}
+use Rattle.fx_types.specs.ValueView.{view, fields_view}
 use Rattle.fx_value.specs.Coercion.{widened, widened_fields}
 use Rattle.fx_value.proofs.Widenings.{field_can_widen, row_can_widen, rises_by_fit, flat_fits, is_flat, rec_stays, tab_stays}
 use Rattle.fx_value.proofs.WideningSteps.{stand_at_first, stands_next, stands_after, next_value, next_fits, rows_push, rows_fit_push}

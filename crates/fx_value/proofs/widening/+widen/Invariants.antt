@@ -1,8 +1,8 @@
 use Rattle.std.proofs.Common.{◌≡◌, ◌++◌, ◌+◌, ◌*◌, take, drop, true}
-use Rattle.fx_data.specs.Types.{column_list, shape_size, columns_size}
-use Rattle.fx_data.specs.TypeView.{shape, columns_view}
-use Rattle.fx_data.specs.Values.{field_list, row_list}
-use Rattle.fx_data.specs.ValueView.{fields_view}
+use Rattle.fx_types.specs.Types.{column_list, shape_size, columns_size}
+use Rattle.fx_types.specs.TypeView.{shape, columns_view}
+use Rattle.fx_types.specs.Values.{field_list, row_list}
+use Rattle.fx_types.specs.ValueView.{fields_view}
 use Rattle.fx_value.specs.Coercion.{widened_fields, rows_by}
 use Rattle.fx_value.specs.Fits.{fields_fit, rows_fit}
 use Rattle.fx_value.proofs.WideningSteps.{Stand}

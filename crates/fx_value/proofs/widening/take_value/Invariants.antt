@@ -1,6 +1,6 @@
 use Rattle.std.proofs.Common.{◌≡◌, drop}
-use Rattle.fx_data.specs.Values.{field_list}
-use Rattle.fx_data.specs.ValueView.{fields_view}
+use Rattle.fx_types.specs.Values.{field_list}
+use Rattle.fx_types.specs.ValueView.{fields_view}
 use Rattle.fx_value.specs.Coercion.{value_in}
 use Rattle.fx_value.proofs.widening.take_value.Given as goal
 

@@ -1,6 +1,6 @@
 use Rattle.std.proofs.Common.{◌≡◌, ◌∙◌, ap, get_or, set, sym}
 use Rattle.std.proofs.lemmas.List.Edits.{map_over_more}
-use Rattle.request_checks.specs.declared.directory.Named.{Named}
+use Rattle.numbered_requests.specs.declared.directory.Named.{Named}
 use Rattle.session_state.specs.Sessions.{SessionState}
 use Rattle.office.specs.DeskEdits.{one_carried}
 use Rattle.office.proofs.carrying.carry.Goals as goal

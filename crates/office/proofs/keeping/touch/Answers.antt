@@ -1,5 +1,5 @@
 use Rattle.std.proofs.Common.{◌≡◌, ◌+◌, ◌∙◌, arith, get_or, length, sym, subst}
-use Rattle.fx_trees.specs.declared.sources.Source.TheVariants.{Cell}
+use Rattle.fx_core.specs.declared.sources.Source.TheVariants.{Cell}
 use Rattle.recalc.specs.Kept.{Kept}
 use Rattle.office.proofs.Rounds.{IsAt, at_among, at_end, at_other, at_start, at_table, plain_table}
 use Rattle.office.proofs.keeping.touch.Goals.{then-is_table, else-is_table}

@@ -1,7 +1,7 @@
 use Rattle.std.proofs.Common.{◌≡◌, ◌<◌, ◌+◌, ◌∙◌, length, ap, refl, sym, subst, arith, true, false, Vec, vec_capacity}
 use Rattle.std.specs.declared.alloc.Global.{Global}
 use Rattle.recalc.specs.Kept.{Kept}
-use Rattle.request_checks.specs.declared.directory.Named.{Named}
+use Rattle.numbered_requests.specs.declared.directory.Named.{Named}
 use Rattle.office.specs.Caches.{IsToldAside, is_other, tables_in}
 use Rattle.office.proofs.Places.{item_at}
 use Rattle.office.proofs.Rounds.{IsSoFar, so_far_here, so_far_more, so_far_skip}

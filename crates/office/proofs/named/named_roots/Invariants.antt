@@ -1,5 +1,5 @@
 use Rattle.std.proofs.Common.{◌≡◌, map, take}
-use Rattle.fx_trees.specs.declared.names.FormulaName.{FormulaName}
+use Rattle.fx_core.specs.declared.names.FormulaName.{FormulaName}
 use Rattle.office.proofs.named.named_roots.Given as goal
 
 abbrev pub invariant-loop-formula : goal.invariant-loop-formula

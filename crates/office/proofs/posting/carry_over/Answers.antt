@@ -1,7 +1,7 @@
 use Rattle.std.proofs.Common.{ℕ, List, Option, subst, sym}
 use Rattle.recalc.specs.Carrying.{AreOldCells}
 use Rattle.row_keeper.specs.Tables.{Tables}
-use Rattle.request_checks.specs.declared.directory.Named.{Named}
+use Rattle.numbered_requests.specs.declared.directory.Named.{Named}
 use Rattle.session_state.specs.Sessions.{SessionState}
 use Rattle.office.specs.Caches.{AreKept}
 use Rattle.office.specs.Rooms.{HaveNoRoom, HaveRoom}

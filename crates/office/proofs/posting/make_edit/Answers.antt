@@ -3,16 +3,16 @@ use Rattle.app_cells.specs.declared.app.App.{App}
 use Rattle.app_loader.specs.Edits.{IsLoaded, JudgedEdit}
 use Rattle.app_loader.specs.app_edits.Frames.{frame_of}
 use Rattle.app_loader.specs.app_semantics.Sound.{IsSound}
-use Rattle.fx_data.specs.Words.{scalars_of}
-use Rattle.request_checks.specs.Checked.{SessionsKeepReplies}
-use Rattle.request_checks.specs.Replies.{IsAccepted, KeepReplies, said}
-use Rattle.request_checks.specs.declared.directory.Named.{Named}
+use Rattle.fx_types.specs.Words.{scalars_of}
+use Rattle.numbered_requests.specs.Checked.{SessionsKeepReplies}
+use Rattle.numbered_requests.specs.Replies.{IsAccepted, KeepReplies, said}
+use Rattle.numbered_requests.specs.declared.directory.Named.{Named}
 use Rattle.serde_json.specs.Written.{compact_text}
 use Rattle.session_state.specs.Changes.{HoldsTables}
 use Rattle.session_state.specs.Once.{Kept}
 use Rattle.session_state.specs.Sessions.{SessionState}
 use Rattle.office.specs.DeskEdits.{seq_data}
-use Rattle.app_views.specs.Shows.{AreFit}
+use Rattle.session_views.specs.Shows.{AreFit}
 use Rattle.office.proofs.Desks.{kept_so}
 use Rattle.office.proofs.Directories.{put_all}
 use Rattle.office.proofs.Edits.{alike, carried_fit, carried_keep}

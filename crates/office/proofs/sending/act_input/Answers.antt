@@ -1,10 +1,10 @@
 use Rattle.std.proofs.Common.{◌≡◌, ◌<◌, ◌∙◌, List, length, Some, arith, subst, sym}
 use Rattle.std.specs.List.{position}
 use Rattle.fx_base.specs.Silence.{Goes, IsLost}
-use Rattle.fx_trees.specs.declared.sources.Source.{Source}
-use Rattle.request_checks.specs.Directory.{is_named}
-use Rattle.request_checks.specs.Replies.{said}
-use Rattle.request_checks.specs.declared.directory.Named.{Named}
+use Rattle.fx_core.specs.declared.sources.Source.{Source}
+use Rattle.numbered_requests.specs.Directory.{is_named}
+use Rattle.numbered_requests.specs.Replies.{said}
+use Rattle.numbered_requests.specs.declared.directory.Named.{Named}
 use Rattle.row_requests.specs.Written.{AreTablesBut}
 use Rattle.session_state.specs.Sessions.{SessionState}
 use Rattle.std.specs.Prelude.{slice_set}

@@ -1,7 +1,7 @@
 use Rattle.std.proofs.Common.{[], List, subst, sym}
 use Rattle.fx_base.specs.Silence.{Goes, IsLost}
-use Rattle.fx_trees.specs.Reads.{IsAmong}
-use Rattle.fx_trees.specs.declared.sources.Source.{Source}
+use Rattle.fx_core.specs.Reads.{IsAmong}
+use Rattle.fx_core.specs.declared.sources.Source.{Source}
 use Rattle.row_requests.specs.Written.{AreTablesBut, IsNamedBy}
 use Rattle.office.specs.Caches.{tables_in}
 use Rattle.office.proofs.Leaving.{among_tables, each_same, each_told, left_none}

@@ -2,10 +2,10 @@ use Rattle.std.proofs.Common.{◌≡◌, ℕ, List, Result, Ok, Err, subst, sym}
 use Rattle.std.specs.Prelude.{IsSome}
 use Rattle.std.proofs.lemmas.Result.{IfOk-weaker, on_err_weaker}
 use Rattle.fx_base.specs.Silence.{IsLost}
-use Rattle.request_checks.specs.Checks.{checks, session_of}
-use Rattle.request_checks.specs.Directory.{find}
-use Rattle.request_checks.specs.Replies.{said}
-use Rattle.request_checks.specs.declared.directory.Named.{Named}
+use Rattle.numbered_requests.specs.Checks.{checks, session_of}
+use Rattle.numbered_requests.specs.Directory.{find}
+use Rattle.numbered_requests.specs.Replies.{said}
+use Rattle.numbered_requests.specs.declared.directory.Named.{Named}
 use Rattle.session_requests.proofs.Passing.{live}
 use Rattle.session_requests.specs.Bodies.{event_in}
 use Rattle.session_requests.specs.Posting.{PostsEventChecked}

@@ -1,15 +1,15 @@
 use Rattle.std.proofs.Common.{◌≡◌, ℕ, List, Result, Ok, Err, subst, sym}
 use Rattle.std.specs.Prelude.{IsSome}
-use Rattle.request_checks.specs.Directory.{find}
-use Rattle.request_checks.specs.declared.directory.Named.{Named}
+use Rattle.numbered_requests.specs.Directory.{find}
+use Rattle.numbered_requests.specs.declared.directory.Named.{Named}
 use Rattle.session_requests.proofs.Passing.{live}
 use Rattle.session_requests.specs.Bodies.{input_in}
 use Rattle.session_requests.specs.declared.input.Input.{Input}
 use Rattle.session_state.specs.Sessions.{SessionState}
 use Rattle.std.proofs.lemmas.Result.{IfOk-weaker, on_err_weaker}
 use Rattle.fx_base.specs.Silence.{IsLost}
-use Rattle.request_checks.specs.Checks.{checks, session_of}
-use Rattle.request_checks.specs.Replies.{said}
+use Rattle.numbered_requests.specs.Checks.{checks, session_of}
+use Rattle.numbered_requests.specs.Replies.{said}
 use Rattle.office.specs.Leaving.{AreStopped, InputLeaves, input_cut, nothing}
 use Rattle.office.proofs.Leaving.{acted_same, err_always, stopped_same}
 use Rattle.office.proofs.sending.post_input.Goals as goal

@@ -1,19 +1,19 @@
 use Rattle.std.proofs.Common.{◌≡◌, ◌∙◌, ℕ, List, None, Option, Some, ap, refl, subst, sym}
 use Rattle.std.specs.Prelude.{IfSome, option_map, slice_get}
 use Rattle.fx_base.specs.Silence.{IsLost}
-use Rattle.fx_trees.specs.declared.sources.Source.{Source}
+use Rattle.fx_core.specs.declared.sources.Source.{Source}
 use Rattle.recalc.specs.Kept.{Kept}
-use Rattle.request_checks.specs.declared.directory.Named.{Named}
+use Rattle.numbered_requests.specs.declared.directory.Named.{Named}
 use Rattle.session_state.specs.Changes.{FitsNames}
 use Rattle.session_state.specs.Sessions.{SessionState, opened}
 use Rattle.office.specs.Caches.{AreEach, AreKept, IsToldAside, tables_in}
-use Rattle.app_views.specs.Shows.{AreFit}
+use Rattle.session_views.specs.Shows.{AreFit}
 use Rattle.office.specs.Leaving.{AreLeft, AreLeftBeside, any_table, nothing}
 use Rattle.office.specs.Sessions.{BeginsChecked, begin_checks}
-use Rattle.request_checks.specs.Directory.{put}
-use Rattle.request_checks.specs.Checked.{SessionsKeepReplies}
-use Rattle.request_checks.specs.Replies.{IsReply, said}
-use Rattle.request_checks.specs.declared.reply.Reply.{Reply}
+use Rattle.numbered_requests.specs.Directory.{put}
+use Rattle.numbered_requests.specs.Checked.{SessionsKeepReplies}
+use Rattle.numbered_requests.specs.Replies.{IsReply, said}
+use Rattle.numbered_requests.specs.declared.reply.Reply.{Reply}
 use Rattle.office.proofs.Leaving.{beside_begun, beside_opened, beside_same, checked_leaves, err_always, left_unchanged, opened_leaves}
 use Rattle.office.proofs.Directories.{begun_keep, put_all}
 use Rattle.office.proofs.Sent.{kept_begun, kept_order, kept_still}

@@ -1,9 +1,9 @@
 use Rattle.std.proofs.Common.{List, sym, subst}
-use Rattle.request_checks.specs.Checked.{KeepsReply, SessionsKeepReplies}
-use Rattle.request_checks.specs.declared.directory.Named.{Named}
+use Rattle.numbered_requests.specs.Checked.{KeepsReply, SessionsKeepReplies}
+use Rattle.numbered_requests.specs.declared.directory.Named.{Named}
 use Rattle.session_state.specs.Changes.{FitsNames}
 use Rattle.session_state.specs.Sessions.{SessionState}
-use Rattle.app_views.specs.Shows.{AreFit}
+use Rattle.session_views.specs.Shows.{AreFit}
 use Rattle.office.specs.Sessions.{without}
 use Rattle.recalc.specs.Kept.{Kept}
 use Rattle.office.specs.Caches.{AreKept}

@@ -1,10 +1,10 @@
 use Rattle.std.proofs.Common.{[], ◌<◌, length, Option, Some, arith, get_or, refl, subst, sym}
 use Rattle.std.specs.Prelude.{IsSome}
 use Rattle.std.proofs.lemmas.Result.{IfOk-weaker}
-use Rattle.app_views.specs.Galleries.{gallery_named}
-use Rattle.app_views.specs.Shows.{ShowsItemsTo}
+use Rattle.session_views.specs.Galleries.{gallery_named}
+use Rattle.session_views.specs.Shows.{ShowsItemsTo}
 use Rattle.fx_base.specs.Silence.{IsLost}
-use Rattle.request_checks.specs.Replies.{said}
+use Rattle.numbered_requests.specs.Replies.{said}
 use Rattle.session_state.specs.Sessions.{SessionState}
 use Rattle.office.proofs.Costs.{costs_there, ok_all}
 use Rattle.office.proofs.Leaving.{each_set}

@@ -2,7 +2,7 @@ use Rattle.std.proofs.Common.{[], ◌<◌, Option, ap, arith, length, refl, stri
 use Rattle.std.specs.Prelude.{IsSome}
 use Rattle.app_wire.specs.ReplyBytes.{reply}
 use Rattle.fx_base.specs.Silence.{IsLost}
-use Rattle.request_checks.specs.Replies.{said}
+use Rattle.numbered_requests.specs.Replies.{said}
 use Rattle.row_keeper.specs.Tables.{rows_told}
 use Rattle.recalc.proofs.Asked.{heard_told}
 use Rattle.session_state.specs.Sessions.{SessionState}

@@ -1,7 +1,7 @@
 use Rattle.std.proofs.Common.{◌≡◌, ◌∙◌, ap, arith, false, map, sym}
 use Rattle.std.specs.Prelude.{option_map}
 use Rattle.app_semantics.specs.Fresh.{reads_table}
-use Rattle.fx_data.specs.ValueView.{view}
+use Rattle.fx_types.specs.ValueView.{view}
 use Rattle.recalc.proofs.CellVisits.{none_read}
 use Rattle.recalc.specs.Reading.{cell_value}
 use Rattle.row_keeper.specs.Tables.{rows_of}

@@ -3,15 +3,15 @@ use Rattle.std.specs.Prelude.{option_map}
 use Rattle.app_semantics.specs.app_cells.declared.app.CellInfo.{CellInfo}
 use Rattle.app_semantics.specs.Present.{Present, present}
 use Rattle.app_semantics.specs.Telling.{told_on}
-use Rattle.fx_data.specs.TypeView.{shape}
-use Rattle.fx_data.specs.ValueView.{view}
-use Rattle.fx_data.specs.Values.{Data}
-use Rattle.fx_data.specs.declared.values.Value.{Value}
+use Rattle.fx_types.specs.TypeView.{shape}
+use Rattle.fx_types.specs.ValueView.{view}
+use Rattle.fx_types.specs.Values.{Data}
+use Rattle.fx_types.specs.declared.values.Value.{Value}
 use Rattle.fx_env.specs.Scopes.{CanEvaluate, Held, IsReady, around, held}
 use Rattle.fx_env.specs.Telling.{Told}
 use Rattle.fx_semantics.specs.Fresh.{IsValue}
-use Rattle.fx_trees.specs.Term.{Term}
-use Rattle.fx_trees.specs.declared.sources.Source.{Source}
+use Rattle.fx_core.specs.Term.{Term}
+use Rattle.fx_core.specs.declared.sources.Source.{Source}
 use Rattle.recalc.specs.Reading.{cell_value, types_on}
 use Rattle.recalc.proofs.Tellings.{is_ready, is_value, outermost}
 use Rattle.recalc.proofs.evaluating.value_alone.Goals as goal

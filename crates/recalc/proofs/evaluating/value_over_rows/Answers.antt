@@ -5,18 +5,18 @@ use Rattle.app_semantics.specs.Fresh.{IsValueOf}
 use Rattle.app_semantics.specs.Present.{present}
 use Rattle.app_semantics.specs.Telling.{told_on}
 use Rattle.fx_base.specs.Silence.{IsLost}
-use Rattle.fx_data.specs.TypeView.{shape}
-use Rattle.fx_data.specs.Types.{Shape}
-use Rattle.fx_data.specs.ValueView.{view}
-use Rattle.fx_data.specs.Values.{Data}
-use Rattle.fx_data.specs.declared.values.Value.{Value}
+use Rattle.fx_types.specs.TypeView.{shape}
+use Rattle.fx_types.specs.Types.{Shape}
+use Rattle.fx_types.specs.ValueView.{view}
+use Rattle.fx_types.specs.Values.{Data}
+use Rattle.fx_types.specs.declared.values.Value.{Value}
 use Rattle.fx_env.specs.Scopes.{CanEvaluate, Held, IsReady, around, held}
 use Rattle.fx_env.specs.Telling.{values_told}
 use Rattle.fx_scalar.specs.ScalarFunctions.{IsToday}
 use Rattle.fx_semantics.specs.Fresh.{IsValue}
-use Rattle.fx_trees.specs.Term.{Term}
-use Rattle.fx_trees.specs.declared.sources.Source.{Source}
-use Rattle.fx_trees.specs.declared.names.Names.{Names}
+use Rattle.fx_core.specs.Term.{Term}
+use Rattle.fx_core.specs.declared.sources.Source.{Source}
+use Rattle.fx_core.specs.declared.names.Names.{Names}
 use Rattle.recalc.specs.Asking.{HasRead, IsHeardOf, ToldRows, keeping}
 use Rattle.recalc.specs.Reading.{cell_value, told_over, types_over}
 use Rattle.row_keeper.specs.Tables.{Tables, rows_of, rows_told}

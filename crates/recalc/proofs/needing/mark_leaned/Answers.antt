@@ -1,5 +1,5 @@
 use Rattle.std.proofs.Common.{◌≡◌, ◌∙◌, ℕ, List, Some, arith, inl, inr, true}
-use Rattle.fx_trees.specs.declared.sources.Source.{Source}
+use Rattle.fx_core.specs.declared.sources.Source.{Source}
 use Rattle.recalc.specs.app_cells.Leaning.{cell_behind}
 use Rattle.recalc.specs.app_semantics.Needed.{is_alone}
 use Rattle.recalc.proofs.Among.{among_at, found_there, one_more}

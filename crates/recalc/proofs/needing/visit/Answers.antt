@@ -1,5 +1,5 @@
 use Rattle.std.proofs.Common.{◌≡◌, ◌∙◌, Some, ap, inl, inr, subst, sym}
-use Rattle.fx_trees.specs.Reads.{IsAmong}
+use Rattle.fx_core.specs.Reads.{IsAmong}
 use Rattle.recalc.specs.app_cells.declared.app.CellInfo.{CellInfo}
 use Rattle.recalc.proofs.needing.visit.Goals as goal
 

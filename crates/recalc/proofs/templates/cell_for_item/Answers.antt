@@ -2,7 +2,7 @@ use Rattle.std.proofs.Common.{Some, arith, subst, sym}
 use Rattle.std.proofs.lemmas.Result.{IfOk-weaker}
 use Rattle.app_semantics.specs.Fresh.{IsValueOf}
 use Rattle.app_semantics.specs.Present.{present}
-use Rattle.fx_data.specs.ValueView.{view}
+use Rattle.fx_types.specs.ValueView.{view}
 use Rattle.fx_semantics.specs.Around.{record_of}
 use Rattle.fx_semantics.specs.Sound.{IsItemFit}
 use Rattle.fx_value.specs.Columns.{Row}

@@ -1,4 +1,4 @@
-use Rattle.fx_data.specs.ValueView.{view}
+use Rattle.fx_types.specs.ValueView.{view}
 use Rattle.recalc.proofs.ForItems.{visible_for}
 use Rattle.recalc.proofs.templates.is_visible_for_item.Goals as goal
 

@@ -2,7 +2,7 @@ use Rattle.std.proofs.Common.{Option, ℕ, ◌+◌, ap, arith, ◌∙◌, refl, 
 use Rattle.std.proofs.lemmas.Result.{IfOk-weaker}
 use Rattle.app_semantics.specs.Present.{present}
 use Rattle.app_semantics.specs.Properties.{IsForItem}
-use Rattle.fx_data.specs.ValueView.{view}
+use Rattle.fx_types.specs.ValueView.{view}
 use Rattle.fx_semantics.specs.Around.{record_of}
 use Rattle.fx_eval.specs.Visits.{AtMost}
 use Rattle.recalc.specs.ItemVisits.{ItemVisits}

@@ -1,5 +1,5 @@
 use Rattle.std.proofs.Common.{ℕ, ◌+◌, ◌*◌, ◌<◌}
-use Rattle.fx_trees.specs.Term.{term_size}
+use Rattle.fx_core.specs.Term.{term_size}
 use Rattle.recalc.specs.Carrying.{IsOldPart, IsOldSource, part_at, parts_of}
 use Rattle.recalc.proofs.trees.+is_old_tree.Given as goal
 

@@ -1,7 +1,7 @@
 use Rattle.std.proofs.Common.{arith, get_or, refl}
 use Rattle.std.proofs.lemmas.Option.{slice_get-get_or}
-use Rattle.fx_trees.specs.Reads.{IsAmong}
-use Rattle.fx_trees.specs.declared.sources.Source.{Source}
+use Rattle.fx_core.specs.Reads.{IsAmong}
+use Rattle.fx_core.specs.declared.sources.Source.{Source}
 use Rattle.recalc.proofs.Among.{among_at, at_among, one_more}
 use Rattle.recalc.specs.Carrying.{IsOldSource}
 use Rattle.recalc.proofs.trees.are_old_reads.Goals as goal

@@ -1,7 +1,7 @@
 use Rattle.std.proofs.Common.{◌≡◌, ◌<◌, ℕ, Some}
 use Rattle.std.specs.Prelude.{slice_get}
-use Rattle.fx_trees.specs.Reads.{IsAmong}
-use Rattle.fx_trees.specs.declared.sources.Source.{Source}
+use Rattle.fx_core.specs.Reads.{IsAmong}
+use Rattle.fx_core.specs.declared.sources.Source.{Source}
 use Rattle.recalc.specs.Carrying.{IsOldSource}
 use Rattle.recalc.proofs.trees.are_old_reads.Given as goal
 

@@ -1,6 +1,6 @@
 use Rattle.std.proofs.Common.{◌≡◌, drop}
 use Rattle.std.specs.Prelude.{◌↔◌}
-use Rattle.fx_trees.specs.Term.{names_of}
+use Rattle.fx_core.specs.Term.{names_of}
 use Rattle.recalc.proofs.trees.have_same_names.Given as goal
 
 abbrev pub invariant-loop-i : goal.invariant-loop-i

@@ -1,5 +1,5 @@
 use Rattle.std.proofs.Common.{arith, refl}
-use Rattle.fx_trees.specs.declared.sources.Source.{Source}
+use Rattle.fx_core.specs.declared.sources.Source.{Source}
 use Rattle.recalc.proofs.Among.{among_at, found_there, one_more}
 use Rattle.recalc.specs.Carrying.{IsOldSource}
 use Rattle.recalc.proofs.trees.is_old_read.Goals as goal

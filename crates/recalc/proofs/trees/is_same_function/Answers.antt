@@ -1,6 +1,6 @@
 use Rattle.std.proofs.Common.{◌≡◌, ◌∙◌, subst, sym, true}
-use Rattle.fx_trees.specs.contracts.functions.FunPartialEq.TheImpl as of_fun
-use Rattle.fx_trees.specs.declared.functions.Fun.{Fun}
+use Rattle.fx_core.specs.contracts.functions.FunPartialEq.TheImpl as of_fun
+use Rattle.fx_core.specs.declared.functions.Fun.{Fun}
 use Rattle.recalc.proofs.Functions.{fun_itself, fun_tells}
 use Rattle.recalc.proofs.trees.is_same_function.Goals as goal
 

@@ -1,5 +1,5 @@
 use Rattle.std.proofs.Common.{◌≡◌, ◌∙◌, subst, sym, true}
-use Rattle.fx_data.specs.TypeView.{shape}
+use Rattle.fx_types.specs.TypeView.{shape}
 use Rattle.fx_typing.proofs.Same.{shape_same}
 use Rattle.fx_typing.specs.Ways.{same_shape}
 use Rattle.recalc.proofs.Finding.{shape_itself}

@@ -2,9 +2,9 @@ use Rattle.std.proofs.Common.{◌≡◌, List, None, map, rules, subst, sym, tru
 use Rattle.app_semantics.specs.app_cells.declared.app.CellInfo.{CellInfo}
 use Rattle.app_semantics.specs.Fresh.{IsCellValue, IsValueOf}
 use Rattle.app_semantics.specs.Present.{Present, present}
-use Rattle.fx_data.specs.ValueView.{view}
-use Rattle.fx_data.specs.Values.{Data}
-use Rattle.fx_data.specs.declared.values.Value.{Value}
+use Rattle.fx_types.specs.ValueView.{view}
+use Rattle.fx_types.specs.Values.{Data}
+use Rattle.fx_types.specs.declared.values.Value.{Value}
 use Rattle.recalc.specs.Reading.{cell_value}
 use Rattle.app_semantics.specs.Needed.{stands_alone}
 use Rattle.recalc.proofs.Asked.{asks_for}

@@ -1,5 +1,5 @@
 use Rattle.std.proofs.Common.{◌∙◌, ℕ, List, map}
-use Rattle.fx_data.specs.ValueView.{view}
+use Rattle.fx_types.specs.ValueView.{view}
 use Rattle.recalc.specs.Asking.{Keeping, keeping}
 use Rattle.recalc.specs.Reading.{cell_value}
 use Rattle.app_semantics.specs.Needed.{is_alone}

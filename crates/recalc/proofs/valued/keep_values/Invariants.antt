@@ -1,6 +1,6 @@
 use Rattle.std.proofs.Common.{◌≡◌, ◌+◌, length, map, take}
 use Rattle.std.specs.List.{count_by}
-use Rattle.fx_data.specs.ValueView.{view}
+use Rattle.fx_types.specs.ValueView.{view}
 use Rattle.recalc.specs.Asking.{HasRead, ReadsNone, keeping}
 use Rattle.recalc.specs.Reading.{cell_value}
 use Rattle.row_keeper.specs.Tables.{rows_told}

@@ -1,5 +1,5 @@
 use Rattle.std.proofs.Common.{◌≡◌, map, take}
-use Rattle.fx_data.specs.ValueView.{view}
+use Rattle.fx_types.specs.ValueView.{view}
 use Rattle.row_queries.specs.TableRows.{value_at, values_of}
 use Rattle.row_queries.specs.declared.rows.Row.{Row}
 use Rattle.row_keeper.proofs.answers.values_in.Given as goal

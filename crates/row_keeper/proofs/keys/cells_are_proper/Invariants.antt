@@ -1,6 +1,6 @@
 use Rattle.std.proofs.Common.{take, map}
 use Rattle.std.specs.List.{AllByRecursion}
-use Rattle.fx_data.specs.ValueView.{view}
+use Rattle.fx_types.specs.ValueView.{view}
 use Rattle.fx_value.specs.Keys.{IsProper}
 use Rattle.row_keeper.proofs.keys.cells_are_proper.Given as goal
 

@@ -1,7 +1,7 @@
 use Rattle.std.proofs.Common.{List, arith, refl, subst, sym}
 use Rattle.std.specs.Prelude.{IsSomeAnd, slice_get}
 use Rattle.std.specs.List.{All}
-use Rattle.fx_trees.specs.declared.schema.TableShape.{TableShape}
+use Rattle.fx_core.specs.declared.schema.TableShape.{TableShape}
 use Rattle.row_queries.specs.TableRows.{IsRowOf, rows_at}
 use Rattle.row_queries.specs.declared.rows.Row.{Row}
 use Rattle.row_keeper.specs.Pages.{IsGiven}

@@ -1,7 +1,7 @@
 use Rattle.std.proofs.Common.{◌≡◌, map, take}
 use Rattle.std.specs.Prelude.{slice_get, unwrap_or}
-use Rattle.fx_data.specs.ValueView.{view}
-use Rattle.fx_data.specs.Values.{blank}
+use Rattle.fx_types.specs.ValueView.{view}
+use Rattle.fx_types.specs.Values.{blank}
 use Rattle.row_queries.specs.declared.rows.Row.{Row}
 use Rattle.row_keeper.proofs.row_tables.cells_at.Given as goal
 

@@ -1,5 +1,5 @@
 use Rattle.std.proofs.Common.{◌≡◌, [], ◌∷◌, map, take}
-use Rattle.fx_trees.specs.Lawful.{id_name}
+use Rattle.fx_core.specs.Lawful.{id_name}
 use Rattle.row_queries.specs.declared.rows.Row.{Row}
 use Rattle.row_queries.specs.TableRows.{id_value}
 use Rattle.row_keeper.proofs.row_tables.number_rows.Given as goal

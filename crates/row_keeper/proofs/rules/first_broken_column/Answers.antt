@@ -1,5 +1,5 @@
 use Rattle.std.proofs.Common.{◌∙◌, ◌+◌, ap, sym, cond, drop, Some}
-use Rattle.fx_data.specs.ValueView.{view}
+use Rattle.fx_types.specs.ValueView.{view}
 use Rattle.row_keeper.specs.RowRules.{first_broken, others}
 use Rattle.row_keeper.specs.Rules.{breaks_by}
 use Rattle.row_keeper.proofs.RuleLemmas.{at_slice, broken_step, fits_at, scalar_of}

@@ -1,6 +1,6 @@
 use Rattle.std.proofs.Common.{◌∙◌, ◌+◌, ◌∷◌, [], ap, filter}
 use Rattle.std.specs.List.{list_any}
-use Rattle.fx_data.specs.ValueView.{view}
+use Rattle.fx_types.specs.ValueView.{view}
 use Rattle.row_keeper.specs.Rules.{is_other}
 use Rattle.row_keeper.specs.Sound.{lies_among}
 use Rattle.row_keeper.proofs.RuleLemmas.{repeated_at}

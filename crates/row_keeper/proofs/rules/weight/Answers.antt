@@ -1,5 +1,5 @@
 use Rattle.std.proofs.Common.{arith}
-use Rattle.fx_data.specs.ValueView.{view}
+use Rattle.fx_types.specs.ValueView.{view}
 use Rattle.fx_value.specs.Weight.{weight_of}
 use Rattle.row_keeper.proofs.RuleLemmas.{sum_more}
 use Rattle.row_keeper.proofs.rules.weight.Goals as goal

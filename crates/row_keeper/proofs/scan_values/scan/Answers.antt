@@ -1,5 +1,5 @@
 use Rattle.std.proofs.Common.{arith}
-use Rattle.fx_data.specs.ValueView.{view}
+use Rattle.fx_types.specs.ValueView.{view}
 use Rattle.row_keeper.proofs.Records.{no_more}
 use Rattle.row_keeper.proofs.scan_values.scan.Goals as goal
 

@@ -1,5 +1,5 @@
 use Rattle.std.proofs.Common.{◌+◌, take, subst, sym}
-use Rattle.fx_data.specs.ValueView.{view}
+use Rattle.fx_types.specs.ValueView.{view}
 use Rattle.row_queries.specs.TableRows.{AreCellsOf}
 use Rattle.row_lines.proofs.CellLemmas.{cells_on}
 use Rattle.row_lines.proofs.lines.cells_of.Goals as goal

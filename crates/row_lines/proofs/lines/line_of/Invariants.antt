@@ -1,6 +1,6 @@
 use Rattle.std.proofs.Common.{◌≡◌, map, take}
 use Rattle.std.specs.List.{AllByRecursion}
-use Rattle.fx_data.specs.ValueView.{view}
+use Rattle.fx_types.specs.ValueView.{view}
 use Rattle.row_lines.specs.Bodies.{line_bytes}
 use Rattle.row_lines.specs.Laws.{HasShortKey}
 use Rattle.row_lines.proofs.lines.line_of.Given as goal

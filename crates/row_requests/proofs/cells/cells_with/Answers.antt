@@ -1,6 +1,6 @@
 use Rattle.std.proofs.Common.{◌∙◌, ◌++◌, ◌∷◌, [], ◌<◌, ap, arith, length, map, refl, sym, take}
 use Rattle.std.proofs.lemmas.Option.{slice_get_read}
-use Rattle.fx_data.specs.ValueView.{view}
+use Rattle.fx_types.specs.ValueView.{view}
 use Rattle.row_requests.specs.Changes.{cells_with}
 use Rattle.row_requests.proofs.Given.{cells_more, slice_view}
 use Rattle.row_requests.proofs.cells.cells_with.Goals as goal

@@ -1,5 +1,5 @@
 use Rattle.std.proofs.Common.{◌≡◌, map, take}
-use Rattle.fx_data.specs.ValueView.{view}
+use Rattle.fx_types.specs.ValueView.{view}
 use Rattle.row_requests.specs.Changes.{blanks}
 use Rattle.row_requests.proofs.cells.new_cells.Given as goal
 

@@ -1,8 +1,8 @@
 use Rattle.std.proofs.Common.{◌∙◌, ◌≡◌, List, None, ap, subst, sym}
 use Rattle.std.specs.Prelude.{IsSomeAnd, slice_get}
 use Rattle.fx_base.specs.Silence.{Goes, IsLost}
-use Rattle.fx_trees.specs.declared.schema.Column.{Column}
-use Rattle.fx_trees.specs.declared.schema.TableShape.{TableShape}
+use Rattle.fx_core.specs.declared.schema.Column.{Column}
+use Rattle.fx_core.specs.declared.schema.TableShape.{TableShape}
 use Rattle.row_queries.specs.TableRows.{AreCellsOf}
 use Rattle.row_keeper.specs.Changes.{Inserts, IsInserted}
 use Rattle.row_keeper.specs.Tables.{columns_at, shapes_of}

@@ -1,11 +1,11 @@
 use Rattle.std.proofs.Common.{◌∙◌, ◌≡◌, List, None, ap, subst, sym}
 use Rattle.std.specs.Prelude.{IsSomeAnd, slice_get}
 use Rattle.fx_base.specs.Silence.{Goes, IsLost}
-use Rattle.fx_trees.specs.declared.schema.Column.{Column}
-use Rattle.fx_trees.specs.declared.schema.TableShape.{TableShape}
+use Rattle.fx_core.specs.declared.schema.Column.{Column}
+use Rattle.fx_core.specs.declared.schema.TableShape.{TableShape}
 use Rattle.row_queries.specs.TableRows.{AreCellsOf}
 use Rattle.std.specs.Prelude.{IfSome, length, map}
-use Rattle.fx_data.specs.ValueView.{view}
+use Rattle.fx_types.specs.ValueView.{view}
 use Rattle.row_queries.specs.TableRows.{IsRowOf}
 use Rattle.row_queries.specs.declared.rows.Row.{Row}
 use Rattle.row_keeper.specs.Changes.{IsReplaced, Replaces}

@@ -3,7 +3,7 @@ use Rattle.std.specs.Prelude.{IsSomeAnd, List, slice_get}
 use Rattle.std.specs.List.{All}
 use Rattle.fx_base.specs.Silence.{IsLost}
 use Rattle.fx_base.proofs.Silences.{goes_weaker}
-use Rattle.fx_trees.specs.declared.schema.TableShape.{TableShape}
+use Rattle.fx_core.specs.declared.schema.TableShape.{TableShape}
 use Rattle.row_queries.specs.TableRows.{IsRowOf}
 use Rattle.row_queries.specs.Visits.{VisitsTold}
 use Rattle.row_queries.specs.declared.queries.Query.{Query}

@@ -3,7 +3,7 @@ use Rattle.std.specs.Prelude.{codes, encode_utf8_all}
 use Rattle.std.proofs.lemmas.Option.{slice_get_read}
 use Rattle.serde_json.specs.Data.{Data, Members, member, no_members, number, put, unsigned}
 use Rattle.serde_json.specs.View.{members_view}
-use Rattle.fx_data.specs.ValueView.{view}
+use Rattle.fx_types.specs.ValueView.{view}
 use Rattle.view_text.specs.JsonText.{value_data}
 use Rattle.row_requests.proofs.Given.{slice_view, view_length}
 use Rattle.row_requests.proofs.Pages.{values_more}

@@ -2,7 +2,7 @@ use Rattle.std.proofs.Common.{◌≡◌, map, take}
 use Rattle.std.specs.Prelude.{codes}
 use Rattle.serde_json.specs.Data.{member, no_members, number, unsigned}
 use Rattle.serde_json.specs.View.{members_view}
-use Rattle.fx_data.specs.ValueView.{view}
+use Rattle.fx_types.specs.ValueView.{view}
 use Rattle.row_requests.specs.Page.{with_values}
 use Rattle.row_requests.proofs.page.row_json.Given as goal
 

@@ -2,7 +2,7 @@ use Rattle.std.proofs.Common.{◌∙◌, ◌≡◌, ap, subst}
 use Rattle.fx_base.specs.Silence.{IsLost}
 use Rattle.row_keeper.specs.Tables.{columns_at}
 use Rattle.row_requests.specs.Page.{ShowsTable, VisitsTable, page_reply}
-use Rattle.request_checks.specs.Replies.{said}
+use Rattle.numbered_requests.specs.Replies.{said}
 use Rattle.row_requests.proofs.Pages.{shows, visits}
 use Rattle.row_requests.proofs.Schemas.{rows_numbered}
 use Rattle.row_requests.proofs.page.show_page.Goals as goal

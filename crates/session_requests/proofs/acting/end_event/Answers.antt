@@ -1,7 +1,7 @@
 use Rattle.std.proofs.Common.{◌≡◌, Option, option_map, subst, sym}
 use Rattle.fx_base.specs.Silence.{IsLost}
-use Rattle.fx_data.specs.ValueView.{view}
-use Rattle.fx_data.specs.Values.{Data}
+use Rattle.fx_types.specs.ValueView.{view}
+use Rattle.fx_types.specs.Values.{Data}
 use Rattle.recalc.specs.Kept.{value_of}
 use Rattle.std.specs.Option.{option_to_list}
 use Rattle.session_requests.proofs.Written.{event_written}

@@ -1,6 +1,6 @@
 use Rattle.std.proofs.Common.{◌≡◌, List, None, [], ◌∷◌, subst, sym}
 use Rattle.std.specs.Prelude.{unwrap_or}
-use Rattle.fx_data.specs.Values.{blank}
+use Rattle.fx_types.specs.Values.{blank}
 use Rattle.recalc.specs.app_semantics.Present.{input_of}
 use Rattle.recalc.specs.app_semantics.Properties.{is_true}
 use Rattle.recalc.specs.Kept.{value_of}
@@ -9,8 +9,8 @@ use Rattle.session_requests.proofs.Written.{input_written}
 use Rattle.session_requests.specs.Triggers.{ItemFits}
 use Rattle.session_requests.specs.declared.trigger.Trigger.{Trigger}
 use Rattle.session_state.specs.Changes.{FitsNames}
-use Rattle.fx_trees.specs.declared.sources.Source.TheVariants as source
-use Rattle.fx_trees.specs.declared.sources.Source.{Source}
+use Rattle.fx_core.specs.declared.sources.Source.TheVariants as source
+use Rattle.fx_core.specs.declared.sources.Source.{Source}
 use Rattle.session_requests.specs.Caching.{AreSessionsBut}
 use Rattle.session_requests.specs.Targets.{Given}
 use Rattle.session_state.specs.Sessions.{SessionState}

@@ -1,7 +1,7 @@
 use Rattle.std.proofs.Common.{List, Some, ap, drop, length, subst, sym, ◌++◌, ◌≡◌, ◌∙◌}
 use Rattle.std.specs.Option.{option_to_list}
-use Rattle.fx_trees.specs.declared.sources.Source.{Source}
-use Rattle.request_checks.specs.Directory.{find}
+use Rattle.fx_core.specs.declared.sources.Source.{Source}
+use Rattle.numbered_requests.specs.Directory.{find}
 use Rattle.recalc.proofs.Leaving.{left_same}
 use Rattle.recalc.specs.Changes.{IsLeftBut}
 use Rattle.recalc.specs.Kept.{Kept}
@@ -10,8 +10,8 @@ use Rattle.session_requests.proofs.Caches.{given_left}
 use Rattle.session_requests.specs.Caching.{AreSessionsBut, AreSources, IsCached}
 use Rattle.session_requests.proofs.Giving.{given_told}
 use Rattle.session_requests.proofs.Resting.{before_is, cached_found, cached_kept}
-use Rattle.request_checks.specs.Checked.{SessionsKeepReplies}
-use Rattle.request_checks.specs.declared.directory.Named.{Named}
+use Rattle.numbered_requests.specs.Checked.{SessionsKeepReplies}
+use Rattle.numbered_requests.specs.declared.directory.Named.{Named}
 use Rattle.session_state.specs.Sessions.{SessionState}
 use Rattle.view_text.specs.ViewText.{event_text}
 use Rattle.session_requests.specs.Acting.{answered}
@@ -21,7 +21,7 @@ use Rattle.fx_base.specs.Silence.{IsLost}
 use Rattle.session_requests.proofs.Writable.{only_effect, only_none}
 use Rattle.session_requests.specs.Writable.{EffectMayWrite}
 use Rattle.std.proofs.Common.{option_map}
-use Rattle.fx_data.specs.ValueView.{view}
+use Rattle.fx_types.specs.ValueView.{view}
 use Rattle.row_keeper.specs.Tables.{Tables}
 use Rattle.session_requests.proofs.Cuts.{cut_effect, cut_none, on_any}
 use Rattle.session_requests.specs.Whole.{GivenAndWrites, IsInAll}

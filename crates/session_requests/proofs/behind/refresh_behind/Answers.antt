@@ -1,6 +1,6 @@
 use Rattle.std.proofs.Common.{◌≡◌, ℕ, List, arith, length, subst, sym}
 use Rattle.std.proofs.lemmas.Bool.Decides.{nat_tests}
-use Rattle.fx_trees.specs.Reads.{IsAmong}
+use Rattle.fx_core.specs.Reads.{IsAmong}
 use Rattle.std.specs.List.{Contains}
 use Rattle.recalc.specs.app_semantics.Present.{present}
 use Rattle.recalc.specs.Kept.{value_of}

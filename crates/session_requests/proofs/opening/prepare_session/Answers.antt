@@ -1,6 +1,6 @@
 use Rattle.std.proofs.Common.{List, Option, [], drop, length, subst, sym, ◌∙◌}
 use Rattle.fx_base.specs.Silence.{Goes, IsLost}
-use Rattle.fx_trees.specs.declared.sources.Source.{Source}
+use Rattle.fx_core.specs.declared.sources.Source.{Source}
 use Rattle.row_keeper.specs.Tables.{Tables}
 use Rattle.session_state.specs.Changes.{FitsNames}
 use Rattle.session_state.specs.Sessions.{SessionState, opened}

@@ -1,7 +1,7 @@
 use Rattle.std.proofs.Common.{option_map, subst, sym}
 use Rattle.fx_base.specs.Silence.{IsLost}
 use Rattle.fx_behave.specs.Writable.{MayWrite}
-use Rattle.fx_data.specs.ValueView.{view}
+use Rattle.fx_types.specs.ValueView.{view}
 use Rattle.recalc.specs.app_cells.declared.app.App.{App}
 use Rattle.row_keeper.specs.Tables.{Tables}
 use Rattle.session_requests.specs.Transactions.{GoesOn, IsUnderWay}

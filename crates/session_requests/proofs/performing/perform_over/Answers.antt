@@ -5,12 +5,12 @@ use Rattle.fx_base.specs.Faults.{Rose}
 use Rattle.fx_base.specs.Silence.{Goes, IsLater, IsLost}
 use Rattle.fx_behave.specs.Actable.{CanAct, IsActable}
 use Rattle.fx_behave.specs.Writable.{MayWrite}
-use Rattle.fx_data.specs.TypeView.{shape}
-use Rattle.fx_data.specs.ValueView.{view}
-use Rattle.fx_data.specs.declared.values.Value.{Value}
+use Rattle.fx_types.specs.TypeView.{shape}
+use Rattle.fx_types.specs.ValueView.{view}
+use Rattle.fx_types.specs.declared.values.Value.{Value}
 use Rattle.fx_env.specs.Scopes.{Held, held}
-use Rattle.fx_trees.specs.SourceTypes.{sources}
-use Rattle.fx_trees.specs.declared.sources.Source.{Source}
+use Rattle.fx_core.specs.SourceTypes.{sources}
+use Rattle.fx_core.specs.declared.sources.Source.{Source}
 use Rattle.recalc.proofs.Evaluated.{carried}
 use Rattle.recalc.proofs.Leaving.{left_same}
 use Rattle.recalc.specs.Changes.{IsLeftBut}

@@ -14,7 +14,7 @@ use Rattle.fx_scalar.specs.ScalarFunctions.{IsToday}
 use Rattle.recalc.proofs.Asked.{heard_before, heard_told, read_on}
 use Rattle.recalc.specs.Asking.{Keeping, keeping}
 use Rattle.recalc.specs.Kept.{value_of}
-use Rattle.request_checks.specs.Replies.{said}
+use Rattle.numbered_requests.specs.Replies.{said}
 use Rattle.row_keeper.specs.Tables.{rows_told}
 use Rattle.session_requests.proofs.Written.{event_writes_lost, ok_both}
 use Rattle.session_requests.proofs.Posted.{event_lost, stays_lost}

@@ -6,7 +6,7 @@ use Rattle.row_keeper.specs.Tables.{rows_told}
 use Rattle.fx_base.specs.Silence.{IsLost}
 use Rattle.recalc.specs.Values.{Values}
 use Rattle.recalc.specs.Kept.{value_of}
-use Rattle.request_checks.specs.Replies.{said}
+use Rattle.numbered_requests.specs.Replies.{said}
 use Rattle.view_text.specs.declared.refused.Refusal.{Refusal}
 use Rattle.recalc.proofs.Leaving.{left_all, left_then}
 use Rattle.session_requests.specs.Acting.{EndsInput, InputWrites}

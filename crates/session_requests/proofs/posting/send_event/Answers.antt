@@ -1,7 +1,7 @@
 use Rattle.std.proofs.Common.{◌≡◌, ◌<◌, ◌∙◌, List, Some, ap, length, subst, sym}
 use Rattle.std.specs.List.{position}
-use Rattle.request_checks.specs.Directory.{is_named}
-use Rattle.request_checks.specs.declared.directory.Named.{Named}
+use Rattle.numbered_requests.specs.Directory.{is_named}
+use Rattle.numbered_requests.specs.declared.directory.Named.{Named}
 use Rattle.session_state.specs.Sessions.{SessionState}
 use Rattle.session_requests.specs.Acting.{IsAt}
 use Rattle.session_requests.proofs.Endings.{find_at}

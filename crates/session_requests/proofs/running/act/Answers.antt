@@ -1,7 +1,7 @@
 use Rattle.std.proofs.Common.{drop, length, option_map, sym}
 use Rattle.std.proofs.lemmas.Result.{IfOk-weaker, on_err_weaker}
 use Rattle.fx_base.specs.Silence.{IsLost}
-use Rattle.fx_data.specs.ValueView.{view}
+use Rattle.fx_types.specs.ValueView.{view}
 use Rattle.session_requests.proofs.Written.{none_written, some_written}
 use Rattle.session_requests.specs.Triggers.{cell_at}
 use Rattle.session_requests.proofs.RequestFitting.{is_acting, item_fits, there_at}

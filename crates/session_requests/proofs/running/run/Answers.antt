@@ -1,6 +1,6 @@
 use Rattle.std.proofs.Common.{◌∙◌, drop, inl, inr, length, option_map, sym}
 use Rattle.fx_base.specs.Silence.{IsLost}
-use Rattle.fx_data.specs.ValueView.{view}
+use Rattle.fx_types.specs.ValueView.{view}
 use Rattle.session_requests.proofs.Written.{alone_written, arrived_same_as, both_written}
 use Rattle.session_requests.proofs.Writable.{only_more, only_two}
 use Rattle.session_requests.specs.Writable.{RequestMayWrite, ScreenMayWrite, TriggerMayWrite}

@@ -1,7 +1,7 @@
 use Rattle.std.proofs.Common.{◌∙◌, ap, sym}
 use Rattle.recalc.specs.app_semantics.Chosen.{row_at}
-use Rattle.fx_data.specs.ValueView.{view}
-use Rattle.fx_data.specs.declared.values.Value.{Value}
+use Rattle.fx_types.specs.ValueView.{view}
+use Rattle.fx_types.specs.declared.values.Value.{Value}
 use Rattle.fx_semantics.proofs.RowsBack.{rows_back}
 use Rattle.recalc.specs.fx_semantics.Rows.{rows_in}
 use Rattle.session_requests.proofs.shown.row_in.Goals as goal

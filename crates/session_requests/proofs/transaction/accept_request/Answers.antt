@@ -1,5 +1,5 @@
 use Rattle.std.proofs.Common.{List, subst, sym}
-use Rattle.fx_trees.specs.declared.sources.Source.{Source}
+use Rattle.fx_core.specs.declared.sources.Source.{Source}
 use Rattle.recalc.specs.Changes.{IsLeftBut}
 use Rattle.session_requests.specs.Caching.{AreSources, IsPending}
 use Rattle.session_requests.proofs.Transactions.{ended_touched}

@@ -1,6 +1,6 @@
 use Rattle.std.proofs.Common.{[], drop, length, option_map, subst}
 use Rattle.fx_base.specs.Silence.{Goes, IsLost}
-use Rattle.fx_data.specs.ValueView.{view}
+use Rattle.fx_types.specs.ValueView.{view}
 use Rattle.row_keeper.specs.Tables.{Tables}
 use Rattle.session_state.specs.Sessions.{SessionState}
 use Rattle.session_requests.specs.Running.{Runs, RunsWriting}

@@ -1,7 +1,7 @@
 use Rattle.std.proofs.Common.{Option, drop, length, option_map, refl, subst}
 use Rattle.fx_base.specs.Silence.{Goes, IsLost}
 use Rattle.fx_base.specs.Telling.{Stays}
-use Rattle.fx_data.specs.ValueView.{view}
+use Rattle.fx_types.specs.ValueView.{view}
 use Rattle.row_keeper.specs.Tables.{Tables}
 use Rattle.session_requests.specs.Scenes.{begun, scene}
 use Rattle.session_requests.specs.Whole.{IsInAll, RequestWrites}

@@ -1,5 +1,5 @@
 use Rattle.std.proofs.Common.{Option, subst, sym}
-use Rattle.fx_trees.specs.declared.sources.Source.{Source}
+use Rattle.fx_core.specs.declared.sources.Source.{Source}
 use Rattle.session_requests.specs.Caching.{IsTouchedIf}
 use Rattle.session_requests.proofs.writing.note.Goals as goal
 

@@ -1,8 +1,8 @@
 use Rattle.std.proofs.Common.{◌≡◌, ℕ, ◌+◌, Option, refl, sym, ◌∙◌, ap, arith, length, map}
-use Rattle.fx_data.specs.Values.{tab, no_rows, row_list}
-use Rattle.fx_data.specs.ValueView.{view}
-use Rattle.fx_data.specs.declared.values.Value.TheVariants as value
-use Rattle.fx_trees.specs.declared.names.Collection.{Collection}
+use Rattle.fx_types.specs.Values.{tab, no_rows, row_list}
+use Rattle.fx_types.specs.ValueView.{view}
+use Rattle.fx_types.specs.declared.values.Value.TheVariants as value
+use Rattle.fx_core.specs.declared.names.Collection.{Collection}
 use Rattle.session_state.specs.Carrying.{carried_values, collection_was, place_of_collection, value_or}
 use Rattle.session_state.proofs.Moving.{apart, left_more, moved_more}
 use Rattle.session_state.proofs.carrying.carry_collections.Goals as goal

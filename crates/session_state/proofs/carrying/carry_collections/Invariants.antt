@@ -1,5 +1,5 @@
 use Rattle.std.proofs.Common.{length}
-use Rattle.fx_data.specs.Values.{tab, no_rows}
+use Rattle.fx_types.specs.Values.{tab, no_rows}
 use Rattle.session_state.specs.Carrying.{collection_was}
 use Rattle.session_state.proofs.Moving.{IsMoving}
 use Rattle.session_state.proofs.carrying.carry_collections.Given as goal

@@ -1,8 +1,8 @@
 use Rattle.std.proofs.Common.{◌≡◌, ℕ, ◌+◌, Option, refl, sym, ◌∙◌, ap, arith, length, map}
-use Rattle.fx_data.specs.Values.{blank}
-use Rattle.fx_data.specs.ValueView.{view}
-use Rattle.fx_data.specs.declared.values.Value.TheVariants as value
-use Rattle.fx_trees.specs.declared.names.Variable.{Variable}
+use Rattle.fx_types.specs.Values.{blank}
+use Rattle.fx_types.specs.ValueView.{view}
+use Rattle.fx_types.specs.declared.values.Value.TheVariants as value
+use Rattle.fx_core.specs.declared.names.Variable.{Variable}
 use Rattle.session_state.specs.Carrying.{carried_values, variable_was, place_of_variable, value_or}
 use Rattle.session_state.proofs.Moving.{apart, left_more, moved_more}
 use Rattle.session_state.proofs.carrying.carry_variables.Goals as goal

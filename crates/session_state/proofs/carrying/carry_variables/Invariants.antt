@@ -1,5 +1,5 @@
 use Rattle.std.proofs.Common.{length}
-use Rattle.fx_data.specs.Values.{blank}
+use Rattle.fx_types.specs.Values.{blank}
 use Rattle.session_state.specs.Carrying.{variable_was}
 use Rattle.session_state.proofs.Moving.{IsMoving}
 use Rattle.session_state.proofs.carrying.carry_variables.Given as goal

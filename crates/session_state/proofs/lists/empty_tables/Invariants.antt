@@ -1,7 +1,7 @@
 use Rattle.std.proofs.Common.{◌≡◌, map}
 use Rattle.std.specs.Prelude.{replicate}
-use Rattle.fx_data.specs.Values.{tab, no_rows}
-use Rattle.fx_data.specs.ValueView.{view}
+use Rattle.fx_types.specs.Values.{tab, no_rows}
+use Rattle.fx_types.specs.ValueView.{view}
 use Rattle.session_state.proofs.lists.empty_tables.Given as goal
 
 abbrev pub invariant-loop : goal.invariant-loop

@@ -1,6 +1,6 @@
 use Rattle.std.proofs.Common.{◌<◌, ◌≤◌, length, map, arith, sym, ◌∙◌, ap}
 use Rattle.std.specs.List.{sum_by}
-use Rattle.fx_data.specs.ValueView.{view}
+use Rattle.fx_types.specs.ValueView.{view}
 use Rattle.session_state.specs.Sessions.{weighed, may_weigh}
 use Rattle.session_state.proofs.Weights.{part_of, after}
 use Rattle.session_state.proofs.weight.put.Goals as goal

@@ -1,7 +1,7 @@
 use Rattle.std.proofs.Common.{◌<◌, ◌^◌, arith, map}
 use Rattle.std.specs.List.{sum_by}
 use Rattle.std.proofs.lemmas.List.Sums.{sum_by-take-le}
-use Rattle.fx_data.specs.ValueView.{view}
+use Rattle.fx_types.specs.ValueView.{view}
 use Rattle.session_state.specs.Sessions.{weighed}
 use Rattle.session_state.proofs.Weights.{one_more, one_more_le, sum_is_little}
 use Rattle.session_state.proofs.weight.total_weight.Goals as goal

@@ -1,5 +1,5 @@
 use Rattle.std.proofs.Common.{◌≡◌, ℕ, ◌<◌, true, length}
-use Rattle.fx_trees.specs.Rows.{row_of, takes_at}
+use Rattle.fx_core.specs.Rows.{row_of, takes_at}
 use Rattle.fx_scalar.specs.Arguments.{at, views}
 use Rattle.fx_scalar.specs.Fitting.{fits_place}
 use Rattle.test_functions.proofs.arguments.fit_places.Given as goal

@@ -1,6 +1,6 @@
 use Rattle.std.proofs.Common.{drop}
-use Rattle.fx_data.specs.Rising.{IsAboveAll}
-use Rattle.fx_data.specs.ValueView.{fields_view}
+use Rattle.fx_types.specs.Rising.{IsAboveAll}
+use Rattle.fx_types.specs.ValueView.{fields_view}
 use Rattle.test_functions.proofs.records.is_above.Given as goal
 
 abbrev pub invariant-loop-other : goal.invariant-loop-other

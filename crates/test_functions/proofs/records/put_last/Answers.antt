@@ -1,8 +1,8 @@
 use Rattle.std.proofs.Common.{subst, List, ℕ}
-use Rattle.fx_data.proofs.Risings.{rising_push}
-use Rattle.fx_data.specs.Rising.{IsAboveAll}
-use Rattle.fx_data.specs.Values.{Data}
-use Rattle.fx_data.specs.ValueView.{view}
+use Rattle.fx_types.proofs.Risings.{rising_push}
+use Rattle.fx_types.specs.Rising.{IsAboveAll}
+use Rattle.fx_types.specs.Values.{Data}
+use Rattle.fx_types.specs.ValueView.{view}
 use Rattle.test_functions.proofs.records.put_last.Goals as goal
 
 pub push-requires : goal.push-requires

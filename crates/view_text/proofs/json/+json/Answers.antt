@@ -2,7 +2,7 @@ use Rattle.std.proofs.Common.{◌≡◌, arith, ◌∙◌, ap, take, refl}
 use Rattle.std.proofs.lemmas.List.{take_more, map-append}
 use Rattle.std.proofs.lemmas.Grind.{common_steps}
 use Rattle.serde_json.specs.View.{items_of}
-use Rattle.fx_data.proofs.Sizes.{field_is_smaller, row_is_smaller}
+use Rattle.fx_types.proofs.Sizes.{field_is_smaller, row_is_smaller}
 use Rattle.view_text.proofs.JsonLemmas.{IsMore, one_more, rows_are}
 use Rattle.view_text.proofs.json.+json.Goals as goal
 

@@ -1,8 +1,8 @@
 use Rattle.std.proofs.Common.{◌≡◌, map, take}
 use Rattle.serde_json.specs.View.{members_view}
 use Rattle.serde_json.specs.View.{view as json_view}
-use Rattle.fx_data.specs.Values.{field_list, row_list, size_of, fields_size, rows_size}
-use Rattle.fx_data.specs.ValueView.{view, fields_view}
+use Rattle.fx_types.specs.Values.{field_list, row_list, size_of, fields_size, rows_size}
+use Rattle.fx_types.specs.ValueView.{view, fields_view}
 use Rattle.view_text.specs.JsonText.{fields_data}
 use Rattle.view_text.proofs.JsonLemmas.{AreTexts, row_data}
 use Rattle.view_text.proofs.json.+json.Given as goal

@@ -1,5 +1,5 @@
 use Rattle.std.proofs.Common.{arith}
-use Rattle.fx_data.proofs.Sizes.{field_is_smaller, row_is_smaller}
+use Rattle.fx_types.proofs.Sizes.{field_is_smaller, row_is_smaller}
 use Rattle.view_text.proofs.plain_form.+plain.Goals as goal
 
 pub write_record-write_value-requires : goal.write_record-write_value-requires

@@ -1,6 +1,6 @@
 use Rattle.std.proofs.Common.{◌≡◌, ◌++◌, ◌∷◌, drop, string_bytes, false, nat_lt}
-use Rattle.fx_data.specs.Values.{field_list, row_list, size_of, fields_size, rows_size}
-use Rattle.fx_data.specs.ValueView.{view, fields_view}
+use Rattle.fx_types.specs.Values.{field_list, row_list, size_of, fields_size, rows_size}
+use Rattle.fx_types.specs.ValueView.{view, fields_view}
 use Rattle.view_text.specs.PlainText.{fields_text, rows_text}
 use Rattle.view_text.proofs.plain_form.+plain.Given as goal
 

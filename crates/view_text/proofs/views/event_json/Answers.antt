@@ -1,4 +1,4 @@
-use Rattle.fx_data.specs.ValueView.{view}
+use Rattle.fx_types.specs.ValueView.{view}
 use Rattle.view_text.proofs.Floats.{event_has_none}
 use Rattle.view_text.proofs.views.event_json.Goals as goal
 

@@ -3,7 +3,7 @@ use Rattle.std.proofs.lemmas.List.{take_all}
 use Rattle.std.proofs.lemmas.Result.{IfOk-weaker}
 use Rattle.std.specs.List.{join_by}
 use Rattle.std.specs.Prelude.{string_bytes}
-use Rattle.fx_data.specs.Words.{scalars_of}
+use Rattle.fx_types.specs.Words.{scalars_of}
 use Rattle.app_file.specs.Paths.{step_text}
 use Rattle.app_file.proofs.Counting.{joined_same}
 use Rattle.app_file.proofs.paths.Path.text.Goals as goal

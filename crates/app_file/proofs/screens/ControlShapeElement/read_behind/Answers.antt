@@ -3,7 +3,7 @@ use Rattle.std.proofs.lemmas.Result.{err_from_is_err_and}
 use Rattle.std.specs.Prelude.{option_and_then}
 use Rattle.serde_json.specs.Find.{get}
 use Rattle.serde_json.specs.View.{view}
-use Rattle.fx_data.specs.declared.controls.Control.TheVariants as control
+use Rattle.fx_types.specs.declared.controls.Control.TheVariants as control
 use Rattle.app_file.specs.Contents.{at, kind, kind_at, properties}
 use Rattle.app_file.specs.FormOfApp.{gallery_of, kind_in}
 use Rattle.app_file.proofs.Controls.{fine_control, kind_known, told_gallery, told_keys, told_kind, told_name, told_properties}

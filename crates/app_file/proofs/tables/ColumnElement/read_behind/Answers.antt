@@ -2,7 +2,7 @@ use Rattle.std.proofs.Common.{true, false, codes}
 use Rattle.std.proofs.lemmas.Result.{err_from_is_err_and}
 use Rattle.serde_json.specs.Find.{get}
 use Rattle.serde_json.specs.View.{view}
-use Rattle.fx_data.specs.declared.types.Ty.TheVariants as ty
+use Rattle.fx_types.specs.declared.types.Ty.TheVariants as ty
 use Rattle.app_file.specs.declared.keys.Object.TheVariants as object
 use Rattle.app_file.specs.Contents.{column_type}
 use Rattle.app_file.specs.FormOfApp.{column_fields, column_type_of, flag, leaf, name}

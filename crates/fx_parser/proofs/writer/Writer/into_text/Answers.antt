@@ -1,6 +1,6 @@
 use Rattle.std.proofs.Common.{ap, ◌∙◌, encode_utf8_all, string_bytes}
 use Rattle.std.proofs.lemmas.Str.{IsUtf8-string_bytes}
-use Rattle.fx_data.proofs.Texts.{encodes_chars}
+use Rattle.fx_types.proofs.Texts.{encodes_chars}
 use Rattle.fx_parser.proofs.writer.Writer.into_text.Goals as goal
 
 pub returns-clause-bytes : goal.returns-clause-bytes

@@ -1,7 +1,7 @@
 use Rattle.std.proofs.Common.{inl, inr, refl}
 use Rattle.std.proofs.lemmas.Result.{IfOk-weaker, on_err_weaker}
 use Rattle.app_wire.specs.Framing.{asked}
-use Rattle.request_checks.specs.Replies.{said}
+use Rattle.numbered_requests.specs.Replies.{said}
 use Rattle.office.proofs.Costs.{costs_then}
 use Rattle.office.proofs.Leaving.{acts_then, leaves_same, leaves_then, leaves_unrouted, stops_same, stops_then, stops_unrouted}
 use Rattle.office.proofs.StepLemmas.{left_all, routed_then, unrouted, wrong_method}

@@ -1,15 +1,15 @@
 use Rattle.std.proofs.Common.{[], ℕ, List, ap, refl, subst, sym, ◌∙◌}
 use Rattle.std.proofs.lemmas.Result.{IfOk-weaker, on_err_weaker}
 use Rattle.fx_base.specs.Silence.{IsLost}
-use Rattle.fx_trees.specs.declared.schema.Schema.{Schema}
-use Rattle.request_checks.specs.Replies.{said}
-use Rattle.request_checks.specs.declared.directory.Named.{Named}
+use Rattle.fx_core.specs.declared.schema.Schema.{Schema}
+use Rattle.numbered_requests.specs.Replies.{said}
+use Rattle.numbered_requests.specs.declared.directory.Named.{Named}
 use Rattle.row_requests.specs.Sound.{AreSound}
 use Rattle.session_state.specs.Sessions.{SessionState}
 use Rattle.app_wire.specs.declared.route.Route.{Route}
 use Rattle.app_wire.specs.declared.route.Route.TheVariants.{Begin, End, View, Named as Formulas, Items, Event, Input, Rows, Edit, Page, Plan, Graph}
-use Rattle.app_views.specs.Galleries.{gallery_named}
-use Rattle.request_checks.specs.Directory.{find}
+use Rattle.session_views.specs.Galleries.{gallery_named}
+use Rattle.numbered_requests.specs.Directory.{find}
 use Rattle.row_requests.specs.Page.{VisitsPage}
 use Rattle.row_requests.specs.Written.{IsNamedBy}
 use Rattle.office.specs.Leaving.{AreEachLeft}

@@ -1,8 +1,8 @@
 use Rattle.std.proofs.Common.{[], List, subst, sym}
-use Rattle.fx_trees.specs.declared.sources.Source.TheVariants.{Today}
+use Rattle.fx_core.specs.declared.sources.Source.TheVariants.{Today}
 use Rattle.recalc.specs.Changes.{IsLeftBut}
 use Rattle.recalc.specs.Kept.{Kept}
-use Rattle.request_checks.specs.declared.directory.Named.{Named}
+use Rattle.numbered_requests.specs.declared.directory.Named.{Named}
 use Rattle.office.specs.Caches.{AreEach}
 use Rattle.office.specs.Leaving.{AreEachLeft, turned}
 use Rattle.office.specs.State.{Seen}

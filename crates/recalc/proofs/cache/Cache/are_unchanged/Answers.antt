@@ -1,5 +1,5 @@
 use Rattle.std.proofs.Common.{◌≡◌, ◌<◌, ◌≤◌, arith, false}
-use Rattle.fx_trees.specs.declared.sources.Source.{Source}
+use Rattle.fx_core.specs.declared.sources.Source.{Source}
 use Rattle.recalc.specs.app_cells.Reach.{is_cell}
 use Rattle.recalc.specs.Kept.{version_of}
 use Rattle.recalc.proofs.Among.{among_at, found_there, one_more}

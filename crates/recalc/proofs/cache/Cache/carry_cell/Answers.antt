@@ -1,7 +1,7 @@
 use Rattle.std.proofs.Common.{◌∙◌, List, ap, inl, inr, refl, subst, sym}
-use Rattle.fx_data.specs.Values.{Data}
-use Rattle.fx_trees.specs.Reads.{IsAmong}
-use Rattle.fx_trees.specs.declared.sources.Source.{Source}
+use Rattle.fx_types.specs.Values.{Data}
+use Rattle.fx_core.specs.Reads.{IsAmong}
+use Rattle.fx_core.specs.declared.sources.Source.{Source}
 use Rattle.recalc.proofs.Finding.{all_had, not_had}
 use Rattle.recalc.specs.Carrying.{received}
 use Rattle.recalc.proofs.cache.Cache.carry_cell.Goals as goal

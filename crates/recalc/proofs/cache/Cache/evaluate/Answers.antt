@@ -1,7 +1,7 @@
 use Rattle.std.proofs.Common.{None, ◌≡◌, ◌<◌, ℕ, Some, arith, length, slice_get, subst, sym}
 use Rattle.std.proofs.lemmas.Option.{slice_get_within}
-use Rattle.fx_data.specs.ValueView.{view}
-use Rattle.fx_data.specs.Values.{Data}
+use Rattle.fx_types.specs.ValueView.{view}
+use Rattle.fx_types.specs.Values.{Data}
 use Rattle.fx_scalar.specs.ScalarFunctions.{IsToday}
 use Rattle.recalc.specs.Asking.{Keeping, keeping}
 use Rattle.recalc.specs.Values.{CellsFit, Values}

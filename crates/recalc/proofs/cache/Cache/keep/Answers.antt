@@ -1,5 +1,5 @@
 use Rattle.std.proofs.Common.{◌∙◌, ◌+◌, ap, length}
-use Rattle.fx_data.specs.ValueView.{view}
+use Rattle.fx_types.specs.ValueView.{view}
 use Rattle.recalc.specs.Values.{Values}
 use Rattle.recalc.specs.Kept.{Kept}
 use Rattle.recalc.specs.Steps.{confirmed, kept_with}

@@ -1,7 +1,7 @@
 use Rattle.std.proofs.Common.{◌≡◌, ◌≤◌, ◌<◌, ◌∙◌, ℕ, None, Option, ap, arith, length, replicate, refl, rules, subst}
 use Rattle.std.specs.Prelude.{IfSome}
-use Rattle.fx_data.specs.Values.{blank}
-use Rattle.fx_trees.specs.declared.sources.Source.{Source}
+use Rattle.fx_types.specs.Values.{blank}
+use Rattle.fx_core.specs.declared.sources.Source.{Source}
 use Rattle.recalc.specs.Kept.{IsSourceOf, place_of}
 use Rattle.recalc.proofs.Emptying.{new_order}
 use Rattle.recalc.proofs.cache.Cache.new.Goals as goal

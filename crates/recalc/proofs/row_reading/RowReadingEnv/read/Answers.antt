@@ -1,5 +1,5 @@
 use Rattle.std.proofs.Common.{map}
-use Rattle.fx_data.specs.ValueView.{view}
+use Rattle.fx_types.specs.ValueView.{view}
 use Rattle.recalc.specs.Reading.{told_by}
 use Rattle.recalc.proofs.RowTellings.{other_given, over_held, table_given}
 use Rattle.recalc.proofs.row_reading.RowReadingEnv.read.Goals as goal

@@ -1,5 +1,5 @@
 use Rattle.std.proofs.Common.{map, refl}
-use Rattle.fx_data.specs.ValueView.{view}
+use Rattle.fx_types.specs.ValueView.{view}
 use Rattle.recalc.specs.Reading.{told_by}
 use Rattle.recalc.proofs.RowTellings.{keeps_tables}
 use Rattle.recalc.proofs.row_reading.RowReadingEnv.tables.Goals as goal

@@ -1,6 +1,6 @@
 use Rattle.std.proofs.Common.{List, Option, map, subst, sym}
-use Rattle.fx_data.specs.ValueView.{view}
-use Rattle.fx_trees.specs.declared.schema.Schema.{Schema}
+use Rattle.fx_types.specs.ValueView.{view}
+use Rattle.fx_core.specs.declared.schema.Schema.{Schema}
 use Rattle.recalc.proofs.RowTellings.{tables_over}
 use Rattle.row_keeper.specs.Tables.{rows_told, shapes_of}
 use Rattle.row_queries.specs.Answers.{IsTotalAnswer}

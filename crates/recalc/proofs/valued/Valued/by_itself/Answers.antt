@@ -1,11 +1,11 @@
 use Rattle.std.proofs.Common.{◌≡◌, List, None, map, rules, subst, sym, true}
 use Rattle.std.proofs.lemmas.Result.{IfOk-weaker}
-use Rattle.fx_data.specs.TypeView.{shape}
+use Rattle.fx_types.specs.TypeView.{shape}
 use Rattle.app_semantics.specs.app_cells.declared.app.CellInfo.{CellInfo}
 use Rattle.app_semantics.specs.Fresh.{IsValueOf}
 use Rattle.app_semantics.specs.Present.{Present, present}
-use Rattle.fx_data.specs.ValueView.{view}
-use Rattle.fx_data.specs.Values.{Data}
+use Rattle.fx_types.specs.ValueView.{view}
+use Rattle.fx_types.specs.Values.{Data}
 use Rattle.fx_value.specs.Fits.{fits_in}
 use Rattle.fx_scalar.specs.ScalarFunctions.{IsToday}
 use Rattle.recalc.specs.Reading.{cell_value}

@@ -1,7 +1,7 @@
 use Rattle.std.proofs.Common.{◌≡◌, List, ap, map, set, subst}
 use Rattle.std.proofs.lemmas.List.{map-set}
-use Rattle.fx_data.specs.ValueView.{view}
-use Rattle.fx_data.specs.Values.{Data}
+use Rattle.fx_types.specs.ValueView.{view}
+use Rattle.fx_types.specs.Values.{Data}
 use Rattle.recalc.specs.Values.{Values}
 use Rattle.recalc.specs.contracts.valued.Valued.{the_view}
 use Rattle.recalc.proofs.valued.Valued.put.Goals as goal

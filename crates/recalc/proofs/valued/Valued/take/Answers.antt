@@ -1,9 +1,9 @@
 use Rattle.std.proofs.Common.{◌≡◌, ◌∙◌, List, ap, map, set, subst}
 use Rattle.std.proofs.lemmas.List.{map-set}
-use Rattle.fx_data.specs.ValueView.{view}
-use Rattle.fx_data.specs.Values.{Data, blank}
-use Rattle.fx_data.specs.declared.values.Value.{Value}
-use Rattle.fx_data.specs.declared.values.Value.TheVariants.{Blank}
+use Rattle.fx_types.specs.ValueView.{view}
+use Rattle.fx_types.specs.Values.{Data, blank}
+use Rattle.fx_types.specs.declared.values.Value.{Value}
+use Rattle.fx_types.specs.declared.values.Value.TheVariants.{Blank}
 use Rattle.recalc.specs.Values.{Values}
 use Rattle.recalc.specs.contracts.valued.Valued.{the_view}
 use Rattle.recalc.proofs.valued.Valued.take.Goals as goal

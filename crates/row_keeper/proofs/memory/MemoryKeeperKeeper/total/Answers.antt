@@ -1,5 +1,5 @@
 use Rattle.std.proofs.Common.{◌∙◌, Some, ap, map, subst, sym}
-use Rattle.fx_data.specs.ValueView.{view}
+use Rattle.fx_types.specs.ValueView.{view}
 use Rattle.row_queries.specs.Answers.{IsTotalAnswer}
 use Rattle.row_queries.specs.Queries.{IsTotalled}
 use Rattle.row_queries.specs.TableRows.{rows_at, value_at, values_of}

@@ -1,6 +1,6 @@
 use Rattle.std.proofs.Common.{sym, subst}
 use Rattle.std.specs.Prelude.{IsSomeAnd, slice_get}
-use Rattle.fx_trees.specs.declared.schema.TableShape.{TableShape}
+use Rattle.fx_core.specs.declared.schema.TableShape.{TableShape}
 use Rattle.row_queries.specs.Queries.{IsQuery}
 use Rattle.row_queries.specs.TableRows.{AreHeldRows, rows_at}
 use Rattle.row_keeper.specs.StoreView.{StoreView}

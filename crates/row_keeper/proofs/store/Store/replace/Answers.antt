@@ -3,7 +3,7 @@ use Rattle.std.specs.Prelude.{IfOk, IsSomeAnd, OnErr, slice_get}
 use Rattle.std.specs.Vec.{with_items}
 use Rattle.std.proofs.lemmas.List.{with_items_is}
 use Rattle.std.proofs.lemmas.Result.{IfOk-weaker}
-use Rattle.fx_trees.specs.declared.schema.TableShape.{TableShape}
+use Rattle.fx_core.specs.declared.schema.TableShape.{TableShape}
 use Rattle.row_queries.specs.TableRows.{AreCellsOf}
 use Rattle.row_keeper.specs.Changes.{Replaces, IsReplaced}
 use Rattle.row_keeper.specs.Kept.{IsKept}

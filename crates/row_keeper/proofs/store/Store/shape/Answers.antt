@@ -1,7 +1,7 @@
 use Rattle.std.proofs.Common.{◌≡◌, ◌≤◌, ◌∙◌, List, Option, Some, None, ap, ap₂, sym, subst, map, length}
 use Rattle.std.specs.List.{AllByRecursion}
-use Rattle.fx_trees.specs.declared.schema.Schema.{Schema}
-use Rattle.fx_trees.specs.declared.schema.TableShape.{TableShape}
+use Rattle.fx_core.specs.declared.schema.Schema.{Schema}
+use Rattle.fx_core.specs.declared.schema.TableShape.{TableShape}
 use Rattle.row_keeper.specs.Changes.{Shapes}
 use Rattle.row_keeper.specs.Kept.{IsKept, columns_shaped, empty_table}
 use Rattle.row_keeper.specs.Sound.{IsSound}

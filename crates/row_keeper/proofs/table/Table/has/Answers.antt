@@ -1,7 +1,7 @@
 use Rattle.std.proofs.Common.{◌≡◌, ◌∙◌, List, Option, None, Some, ap, sym, subst, false}
 use Rattle.std.specs.List.{list_any}
 use Rattle.std.specs.Option.{MatchOption, is_some}
-use Rattle.fx_data.specs.Values.{Data}
+use Rattle.fx_types.specs.Values.{Data}
 use Rattle.row_keeper.specs.Slots.{cells_now, now_in_slot}
 use Rattle.row_keeper.specs.TableView.{TableView}
 use Rattle.row_keeper.specs.Tables.{has_id}

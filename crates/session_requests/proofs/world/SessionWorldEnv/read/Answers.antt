@@ -1,7 +1,7 @@
 use Rattle.std.proofs.Common.{◌∙◌, List, ap, map, subst}
 use Rattle.std.specs.Prelude.{drop}
-use Rattle.fx_data.specs.ValueView.{view}
-use Rattle.fx_data.specs.Values.{Data}
+use Rattle.fx_types.specs.ValueView.{view}
+use Rattle.fx_types.specs.Values.{Data}
 use Rattle.recalc.specs.Queries.{IsTableValue}
 use Rattle.recalc.specs.Reading.{told_by}
 use Rattle.recalc.specs.Values.{Values}

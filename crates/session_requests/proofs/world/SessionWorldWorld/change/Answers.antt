@@ -2,9 +2,9 @@ use Rattle.std.proofs.Common.{◌≤◌, List, Option, ap, length, refl, subst, 
 use Rattle.std.specs.Prelude.{drop, take}
 use Rattle.std.specs.Option.{option_to_list}
 use Rattle.fx_base.specs.Silence.{Goes, IsLost}
-use Rattle.fx_data.specs.ValueView.{view}
+use Rattle.fx_types.specs.ValueView.{view}
 use Rattle.fx_deeds.specs.Changed.{IsChanged}
-use Rattle.fx_trees.specs.declared.sources.Source.{Source}
+use Rattle.fx_core.specs.declared.sources.Source.{Source}
 use Rattle.recalc.specs.Outcomes.{IsRightOver}
 use Rattle.session_state.specs.Changes.{FitsNames}
 use Rattle.session_state.specs.Sessions.{SessionState}

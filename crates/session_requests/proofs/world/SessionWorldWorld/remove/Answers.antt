@@ -2,8 +2,8 @@ use Rattle.std.proofs.Common.{◌∙◌, ◌≤◌, List, Option, ap, length, su
 use Rattle.std.specs.Prelude.{drop, take}
 use Rattle.std.specs.Option.{option_to_list}
 use Rattle.fx_base.specs.Silence.{IsLost}
-use Rattle.fx_data.specs.ValueView.{view}
-use Rattle.fx_trees.specs.declared.sources.Source.{Source}
+use Rattle.fx_types.specs.ValueView.{view}
+use Rattle.fx_core.specs.declared.sources.Source.{Source}
 use Rattle.row_keeper.specs.Changes.{Removes}
 use Rattle.row_requests.specs.Written.{AreTablesBut}
 use Rattle.recalc.specs.Changes.{IsLeftBut}

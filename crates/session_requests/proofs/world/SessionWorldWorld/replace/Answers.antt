@@ -1,8 +1,8 @@
 use Rattle.std.proofs.Common.{◌∙◌, ◌≤◌, List, length, subst, sym}
 use Rattle.std.specs.Prelude.{drop, take}
 use Rattle.fx_base.specs.Silence.{IsLost}
-use Rattle.fx_data.specs.ValueView.{view}
-use Rattle.fx_trees.specs.declared.sources.Source.{Source}
+use Rattle.fx_types.specs.ValueView.{view}
+use Rattle.fx_core.specs.declared.sources.Source.{Source}
 use Rattle.row_keeper.specs.Changes.{Replaces}
 use Rattle.row_keeper.specs.Tables.{columns_at, shapes_of}
 use Rattle.row_requests.specs.Written.{AreTablesBut}

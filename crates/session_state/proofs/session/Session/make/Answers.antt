@@ -1,8 +1,8 @@
 use Rattle.std.proofs.Common.{◌≡◌, ap, subst, sym, map, set}
 use Rattle.std.specs.Prelude.{option_map, List, Option}
 use Rattle.std.proofs.lemmas.List.{map-set}
-use Rattle.fx_data.specs.Values.{Data}
-use Rattle.fx_data.specs.ValueView.{view}
+use Rattle.fx_types.specs.Values.{Data}
+use Rattle.fx_types.specs.ValueView.{view}
 use Rattle.session_state.specs.Sessions.{SessionState}
 use Rattle.session_state.specs.Changes.{made}
 use Rattle.session_state.specs.declared.change.Change.{Change}

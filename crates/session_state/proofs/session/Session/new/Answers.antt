@@ -1,9 +1,9 @@
 use Rattle.std.proofs.Common.{◌≡◌, ℕ, zero, suc, List, [], ◌∷◌, Option, None, map, ap, ◌∙◌, refl, length}
 use Rattle.std.specs.Prelude.{option_map, replicate, false}
-use Rattle.fx_data.specs.Values.{Data, blank, tab, no_rows}
-use Rattle.fx_data.specs.ValueView.{view}
-use Rattle.fx_data.specs.declared.values.Value.{Value}
-use Rattle.fx_trees.specs.declared.names.Names.{Names}
+use Rattle.fx_types.specs.Values.{Data, blank, tab, no_rows}
+use Rattle.fx_types.specs.ValueView.{view}
+use Rattle.fx_types.specs.declared.values.Value.{Value}
+use Rattle.fx_core.specs.declared.names.Names.{Names}
 use Rattle.session_state.specs.Once.{Kept, nobody}
 use Rattle.session_state.specs.Sessions.{Room, SessionState, opened}
 use Rattle.session_state.proofs.Fitting.{fits_opened}

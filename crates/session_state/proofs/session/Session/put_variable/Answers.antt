@@ -1,7 +1,7 @@
 use Rattle.std.proofs.Common.{◌≡◌, refl, subst, map, set}
 use Rattle.std.specs.Prelude.{if◌then◌else◌}
 use Rattle.std.specs.List.{sum_by}
-use Rattle.fx_data.specs.ValueView.{view}
+use Rattle.fx_types.specs.ValueView.{view}
 use Rattle.session_state.specs.Sessions.{SessionState, weighed}
 use Rattle.session_state.specs.contracts.session.Session.{the_view}
 use Rattle.session_state.proofs.Weights.{kept_weight, with_variable}

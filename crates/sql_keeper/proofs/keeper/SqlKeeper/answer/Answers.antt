@@ -1,7 +1,7 @@
 use Rattle.std.proofs.Common.{length, map, ap, arith, sym, subst}
 use Rattle.std.specs.Prelude.{IsSomeAnd, slice_get}
 use Rattle.std.specs.List.{All}
-use Rattle.fx_trees.specs.declared.schema.TableShape.{TableShape}
+use Rattle.fx_core.specs.declared.schema.TableShape.{TableShape}
 use Rattle.row_queries.specs.Queries.{first_fault, outcome_on}
 use Rattle.row_queries.specs.TableRows.{IsRowOf}
 use Rattle.row_queries.specs.declared.rows.RowList.{RowList}

@@ -1,6 +1,6 @@
 use Rattle.std.proofs.Common.{◌∙◌, List, ap, map, subst}
-use Rattle.fx_data.specs.ValueView.{view}
-use Rattle.fx_data.specs.Values.{Data}
+use Rattle.fx_types.specs.ValueView.{view}
+use Rattle.fx_types.specs.Values.{Data}
 use Rattle.fx_value.specs.Aggregates.{SumsUp, numbers_in}
 use Rattle.row_queries.specs.TableRows.{value_at, values_of}
 use Rattle.row_queries.specs.declared.rows.Row.{Row}

@@ -1,5 +1,0 @@
-use Rattle.std.proofs.Common.{refl}
-use Rattle.app_views.proofs.displaying.checkbox.Goals as goal
-
-pub push-requires : goal.push-requires
-push-requires c = rw (c.in_ok-fields.ensures, c.in_ok-name.ensures) ((refl, tt), (tt, tt))

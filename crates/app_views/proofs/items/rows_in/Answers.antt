@@ -1,9 +1,0 @@
-use Rattle.std.proofs.Common.{◌∙◌, ap, sym}
-use Rattle.fx_data.specs.ValueView.{view}
-use Rattle.fx_data.specs.declared.values.Value.{Value}
-use Rattle.fx_semantics.proofs.RowsBack.{rows_back}
-use Rattle.recalc.specs.fx_semantics.Rows.{rows_in}
-use Rattle.app_views.proofs.items.rows_in.Goals as goal
-
-pub returns-in-Tab : goal.returns-in-Tab
-returns-in-Tab c = c.as_slice.ensures ∙ rows_back c.in-Tab.rows ∙ ap (λ (v : Value). rows_in (view v)) (sym c.in-Tab.is)

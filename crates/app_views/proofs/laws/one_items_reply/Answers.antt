@@ -1,5 +1,0 @@
-use Rattle.app_views.proofs.Replies.{one_items_reply}
-use Rattle.app_views.proofs.laws.one_items_reply.Goals as goal
-
-pub returns : goal.returns
-returns c = one_items_reply c.one_items.ensures

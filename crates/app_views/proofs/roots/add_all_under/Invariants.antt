@@ -1,8 +1,0 @@
-use Rattle.std.proofs.Common.{◌≡◌, true}
-use Rattle.recalc.specs.app_semantics.Needed.{is_alone}
-use Rattle.app_views.proofs.Gathering.{Adds, UpTo}
-use Rattle.app_views.specs.Looking.{IsUnder, is_among}
-use Rattle.app_views.proofs.roots.add_all_under.Given as goal
-
-abbrev pub invariant-loop-info : goal.invariant-loop-info
-invariant-loop-info l = Adds (UpTo (IsUnder l.app.names (is_among l.app.names l.part)) l.app.cells l.info-index) (λ k. is_alone l.app.cells k ≡ true) l.fn.roots.items l.roots.items

@@ -1,6 +1,0 @@
-use Rattle.std.proofs.Common.{take}
-use Rattle.fx_builtins.specs.Folds.{IsGreatest, present}
-use Rattle.fx_builtins.proofs.folds.max.Given as goal
-
-abbrev pub invariant-loop-number : goal.invariant-loop-number
-invariant-loop-number l = IsGreatest (present (take l.number-index l.numbers)) l.greatest

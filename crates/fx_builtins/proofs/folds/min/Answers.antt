@@ -1,9 +1,0 @@
-use Rattle.std.proofs.Common.{List, ℤ, arith, subst, sym}
-use Rattle.fx_builtins.specs.Folds.{IsLeast}
-use Rattle.fx_builtins.proofs.FoldLemmas.{present_more}
-use Rattle.fx_builtins.proofs.folds.min.Goals as goal
-
-pub loop-number-preserved : goal.loop-number-preserved
-loop-number-preserved c =
-    let more = present_more c.args.numbers.now c.loop-number.number-index c.number-item.result (omega arith) c.number-item.is in
-    subst (λ (zs : List ℤ). IsLeast zs c.lesser-least.result) (sym more) (c.lesser-least.ensures _ c.loop-number.invariant)

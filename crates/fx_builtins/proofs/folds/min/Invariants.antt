@@ -1,6 +1,0 @@
-use Rattle.std.proofs.Common.{take}
-use Rattle.fx_builtins.specs.Folds.{IsLeast, present}
-use Rattle.fx_builtins.proofs.folds.min.Given as goal
-
-abbrev pub invariant-loop-number : goal.invariant-loop-number
-invariant-loop-number l = IsLeast (present (take l.number-index l.numbers)) l.least

@@ -1,5 +1,0 @@
-use Rattle.fx_builtins.proofs.Replacing.{one_list}
-use Rattle.fx_builtins.proofs.laws.one_list_of_occurrences.Goals as goal
-
-pub returns : goal.returns
-returns c = one_list

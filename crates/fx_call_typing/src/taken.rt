@@ -1,0 +1,188 @@
+//! New names of columns that are taken.
+ghost use Rattle.std.specs.Prelude.{◌≡◌, IfOk, None, bytes_eq, if◌then◌else◌, map, option_map};
+ghost use Rattle.fx_types.specs.Types.{column_list};
+ghost use Rattle.fx_typing.specs.Breaks as breaks;
+ghost use Rattle.fx_core.specs.ColumnLists as lists;
+ghost use Rattle.fx_resolve.specs.PartView.{part};
+
+use fx_base::Memory;
+use fx_core::functions::Fun;
+use fx_core::rows::{Answer, row_of};
+use fx_resolve::Part;
+use fx_types::types::{Columns, Ty};
+use fx_types::words::Words;
+use fx_typing::Piece;
+use std::alloc::Global;
+
+// The name of a column.
+fn name_of<'p>(one: &'p Part) -> Option<&'p Words>
+    ensures { option_map (λ w. w.now) result ≡ breaks.name_of (part one.now) }
+{
+    match one {
+        Part::Piece(Piece::Label(name)) => Some(name),
+        _ => None,
+    }
+}
+
+// The names of columns.
+fn column_names<'p>(alloc: Global, columns: &'p Columns) -> Result<Vec<&'p Words>, Memory>
+    ensures { IfOk result (λ ns. map (λ w. w.now) ns.items ≡ breaks.column_names (column_list columns.now)) }
+{
+    let mut names = Vec::new(alloc);
+    for (name, _) in columns.as_slice() {
+        names.push(name)?;
+    }
+    Ok(names)
+}
+
+// The names of the columns of a part, of which one that is no table has none.
+fn names_in<'p>(alloc: Global, one: &'p Part) -> Result<Vec<&'p Words>, Memory>
+    ensures { IfOk result (λ ns. map (λ w. w.now) ns.items ≡ breaks.names_in (part one.now)) }
+{
+    match one {
+        Part::Piece(Piece::Value(_, value)) => match &value.ty {
+            Ty::Tab(columns) => column_names(alloc, columns),
+            _ => Ok(Vec::new(alloc)),
+        },
+        _ => Ok(Vec::new(alloc)),
+    }
+}
+
+// Whether a name is one of these.
+fn is_one_of(name: &Words, names: &[&Words]) -> bool
+    ensures { result ≡ lists.is_one_of name.now (map (λ w. w.now) names.now) }
+{
+    for other in names {
+        if other.is(name) {
+            return true;
+        }
+    }
+    false
+}
+
+// The names with one in the place of another, if that is there.
+fn rename<'p>(
+    alloc: Global,
+    from: &Words,
+    to: &'p Words,
+    names: Vec<&'p Words>,
+) -> Result<Vec<&'p Words>, Memory>
+    ensures { IfOk result (λ ns. map (λ w. w.now) ns.items
+        ≡ map (λ n. if bytes_eq n from.now then to.now else n) (map (λ w. w.now) names.entry.items)) }
+{
+    let mut found = Vec::new(alloc);
+    for name in names {
+        let name = if name.is(from) { to } else { name };
+        found.push(name)?;
+    }
+    Ok(found)
+}
+
+// The names behind a pair of an old name and a new one.
+fn rename_next<'p>(
+    alloc: Global,
+    from: Option<&Words>,
+    to: Option<&'p Words>,
+    names: Vec<&'p Words>,
+) -> Result<Vec<&'p Words>, Memory>
+    ensures { IfOk result (λ ns. map (λ w. w.now) ns.items ≡ breaks.with_renamed (option_map (λ w. w.now) from.entry)
+        (option_map (λ w. w.now) to.entry) (map (λ w. w.now) names.entry.items)) }
+{
+    match (from, to) {
+        (Some(from), Some(to)) => rename(alloc, from, to, names),
+        _ => Ok(names),
+    }
+}
+
+// The names with one more, if there is one.
+fn with_name<'p>(name: Option<&'p Words>, names: Vec<&'p Words>) -> Result<Vec<&'p Words>, Memory>
+    ensures { IfOk result (λ ns. map (λ w. w.now) ns.items
+        ≡ breaks.with_name (option_map (λ w. w.now) name.entry) (map (λ w. w.now) names.entry.items)) }
+{
+    let mut names = names;
+    if let Some(name) = name {
+        names.push(name)?;
+    }
+    Ok(names)
+}
+
+// A name that is one of these.
+fn find_name<'p>(name: Option<&'p Words>, names: &[&Words]) -> Option<&'p Words>
+    ensures { option_map (λ w. w.now) result
+        ≡ breaks.taken_or (option_map (λ w. w.now) name.entry) (map (λ w. w.now) names.now) None }
+{
+    match name {
+        Some(name) if is_one_of(name, names) => Some(name),
+        _ => None,
+    }
+}
+
+// The first name of a new column, in turn, that is taken.
+fn taken_added_name<'p>(all: &'p [Part], names: Vec<&'p Words>) -> Result<Option<&'p Words>, Memory>
+    ensures { IfOk result (λ o. option_map (λ w. w.now) o
+        ≡ breaks.taken_added (map part all.now) (map (λ w. w.now) names.entry.items)) }
+{
+    let mut names = names;
+    let mut more = all;
+    while let [new, _, rest @ ..] = more {
+        let new = name_of(new);
+        if let Some(taken) = find_name(new, names.as_slice()) {
+            return Ok(Some(taken));
+        }
+        names = with_name(new, names)?;
+        more = rest;
+    }
+    Ok(None)
+}
+
+// The first new name of a column, in turn, that is taken.
+fn taken_renamed_name<'p>(
+    alloc: Global,
+    all: &'p [Part],
+    names: Vec<&'p Words>,
+) -> Result<Option<&'p Words>, Memory>
+    ensures { IfOk result (λ o. option_map (λ w. w.now) o
+        ≡ breaks.taken_renamed (map part all.now) (map (λ w. w.now) names.entry.items)) }
+{
+    let mut names = names;
+    let mut more = all;
+    while let [old, new, rest @ ..] = more {
+        let new = name_of(new);
+        if let Some(taken) = find_name(new, names.as_slice()) {
+            return Ok(Some(taken));
+        }
+        names = rename_next(alloc, name_of(old), new, names)?;
+        more = rest;
+    }
+    Ok(None)
+}
+
+// The first new name of a column that is taken, in a call with this answer.
+fn taken_name_by_answer<'p>(
+    alloc: Global,
+    answer: Answer,
+    all: &'p [Part],
+) -> Result<Option<&'p Words>, Memory>
+    ensures { IfOk result (λ o. option_map (λ w. w.now) o ≡ breaks.taken_by answer (map part all.now)) }
+{
+    let Some((first, others)) = all.split_first() else {
+        return Ok(None);
+    };
+    match answer {
+        Answer::Added => taken_added_name(others, names_in(alloc, first)?),
+        Answer::Renamed => taken_renamed_name(alloc, others, names_in(alloc, first)?),
+        _ => Ok(None),
+    }
+}
+
+/// The first new name of a column that is taken, in a call of a function that has as many parts as it takes.
+pub fn taken_name<'p>(alloc: Global, fun: Fun, all: &'p [Part]) -> Result<Option<&'p Words>, Memory>
+    ensures { IfOk result (λ o. option_map (λ w. w.now) o ≡ breaks.taken_at fun (map part all.now)) }
+{
+    let row = row_of(fun);
+    if row.takes_count(all.len()) {
+        taken_name_by_answer(alloc, row.answer, all)
+    } else {
+        Ok(None)
+    }
+}

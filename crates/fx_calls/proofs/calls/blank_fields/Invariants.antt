@@ -1,7 +1,0 @@
-use Rattle.std.proofs.Common.{◌≡◌, take}
-use Rattle.fx_data.specs.ValueView.{fields_view}
-use Rattle.fx_calls.proofs.Blanks.{blanked}
-use Rattle.fx_calls.proofs.calls.blank_fields.Given as goal
-
-abbrev pub invariant-loop-name : goal.invariant-loop-name
-invariant-loop-name l = fields_view l.fields.items ≡ blanked (take l.name-index l.name-items)

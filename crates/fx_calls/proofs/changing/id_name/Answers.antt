@@ -1,7 +1,0 @@
-use Rattle.std.proofs.Common.{refl}
-use Rattle.std.specs.Str.{chars}
-use Rattle.fx_calls.proofs.changing.id_name.Goals as goal
-
-pub returns : goal.returns
-unfolding chars
-returns c = rw (c.in_ok-of.ensures) refl

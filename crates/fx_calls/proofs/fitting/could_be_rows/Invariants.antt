@@ -1,7 +1,0 @@
-use Rattle.std.proofs.Common.{◌≡◌, drop, map}
-use Rattle.fx_typing.specs.Breaks.{all_could, could_be_row}
-use Rattle.fx_scopes.specs.PartView.{part}
-use Rattle.fx_calls.proofs.fitting.could_be_rows.Given as goal
-
-abbrev pub invariant-loop-one : goal.invariant-loop-one
-invariant-loop-one l = all_could could_be_row (map part (drop l.one-index l.all)) ≡ all_could could_be_row (map part l.all)

@@ -1,9 +1,0 @@
-use Rattle.std.proofs.Common.{◌≡◌, ◌++◌, map}
-use Rattle.fx_typing.specs.Parts.{pieces}
-use Rattle.fx_typing.specs.TypedView.{piece}
-use Rattle.fx_scopes.specs.PartView.{part}
-use Rattle.fx_calls.proofs.values.pieces.Given as goal
-
-abbrev pub invariant-loop-one : goal.invariant-loop-one
-invariant-loop-one l =
-    map piece l.found.items ++ pieces (map part l.one-iterator.rest.items) ≡ pieces (map part l.fn.all.items)

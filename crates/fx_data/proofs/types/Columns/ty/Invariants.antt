@@ -1,8 +1,0 @@
-use Rattle.std.proofs.Common.{◌≡◌, drop}
-use Rattle.fx_data.specs.Lookup.{item_of}
-use Rattle.fx_data.specs.TypeView.{columns_view}
-use Rattle.fx_data.proofs.types.Columns.ty.Given as goal
-
-abbrev pub invariant-loop-other : goal.invariant-loop-other
-invariant-loop-other l =
-    item_of l.name (columns_view (drop l.other-index l.other-items)) ≡ item_of l.name (columns_view l.other-items)

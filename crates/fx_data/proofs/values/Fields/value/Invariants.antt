@@ -1,8 +1,0 @@
-use Rattle.std.proofs.Common.{◌≡◌, drop}
-use Rattle.fx_data.specs.Lookup.{item_of}
-use Rattle.fx_data.specs.ValueView.{fields_view}
-use Rattle.fx_data.proofs.values.Fields.value.Given as goal
-
-abbrev pub invariant-loop-other : goal.invariant-loop-other
-invariant-loop-other l =
-    item_of l.name (fields_view (drop l.other-index l.other-items)) ≡ item_of l.name (fields_view l.other-items)

@@ -1,7 +1,0 @@
-use Rattle.std.proofs.Common.{◌≡◌, ◌++◌, drop, map}
-use Rattle.fx_typing.specs.Details.{all_names}
-use Rattle.fx_scopes.specs.PartView.{part}
-use Rattle.fx_details.proofs.mistyped.all_names.Given as goal
-
-abbrev pub invariant-loop-one : goal.invariant-loop-one
-invariant-loop-one l = l.found.items ++ all_names l.names (map part (drop l.one-index l.all)) ≡ all_names l.names (map part l.all)

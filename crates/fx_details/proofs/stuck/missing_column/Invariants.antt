@@ -1,9 +1,0 @@
-use Rattle.std.proofs.Common.{◌≡◌, drop, map}
-use Rattle.fx_data.specs.Types.{column_list}
-use Rattle.fx_typing.specs.Details.{stuck_sought}
-use Rattle.fx_typing.specs.TypedView.{piece}
-use Rattle.fx_details.proofs.stuck.missing_column.Given as goal
-
-abbrev pub invariant-loop-one : goal.invariant-loop-one
-invariant-loop-one l =
-    stuck_sought (map (λ p. piece p.now) (drop l.one-index l.pieces)) (column_list l.columns) ≡ stuck_sought (map (λ p. piece p.now) l.pieces) (column_list l.columns)

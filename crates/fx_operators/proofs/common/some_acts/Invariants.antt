@@ -1,7 +1,0 @@
-use Rattle.std.proofs.Common.{◌≡◌, drop, map}
-use Rattle.fx_typing.specs.Local.{some_acts}
-use Rattle.fx_typing.specs.TypedView.{typed}
-use Rattle.fx_operators.proofs.common.some_acts.Given as goal
-
-abbrev pub invariant-loop-part : goal.invariant-loop-part
-invariant-loop-part l = some_acts (map (λ b. typed b.now) (drop l.part-index l.parts)) ≡ some_acts (map (λ b. typed b.now) l.parts)

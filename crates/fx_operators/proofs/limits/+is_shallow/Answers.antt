@@ -1,6 +1,0 @@
-use Rattle.std.proofs.Common.{arith}
-use Rattle.fx_data.proofs.Sizes.{column_is_smaller}
-use Rattle.fx_operators.proofs.limits.+is_shallow.Goals as goal
-
-pub are_shallow-is_shallow-requires : goal.are_shallow-is_shallow-requires
-are_shallow-is_shallow-requires t c = grind (arith, column_is_smaller)

@@ -1,7 +1,0 @@
-use Rattle.std.proofs.Common.{map}
-use Rattle.fx_typing.specs.TypedView.{typed}
-use Rattle.fx_operators.proofs.Fields.{rising_puts}
-use Rattle.fx_operators.proofs.records.record_of.Goals as goal
-
-pub record_by-requires : goal.record_by-requires
-record_by-requires c = rw c.in_ok-fields.ensures (rising_puts c.args.names.items (map typed c.args.parts.items))

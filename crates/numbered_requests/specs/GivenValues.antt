@@ -1,0 +1,88 @@
+-- Values as they come in, and the members of objects.
+use Rattle.std.specs.Prelude.{ℕ, ◌+◌, ◌-◌, ◌*◌, ◌&&◌, nat_le, ℤ, pos, neg_ℤ, ◌*ℤ◌, int_le, List, [], ◌∷◌, take, drop, codes, bytes_eq, Option, Some, None, option_and_then, option_map, if◌then◌else◌}
+use Rattle.std.specs.List.{fold}
+use Rattle.serde_json.specs.Data as json
+use Rattle.serde_json.specs.Data.{Members, no_members, member}
+use Rattle.serde_json.specs.Events.{members_len}
+use Rattle.serde_json.specs.Find.{as_array, as_i64, as_number, as_object, as_str, as_u64, get}
+use Rattle.jiff_core.specs.Calendar.{days_from_civil}
+use Rattle.fx_types.specs.Values.{Data, blank, number, text, boolean, date}
+use Rattle.fx_types.specs.Words.{scalars_of}
+use Rattle.fx_number.specs.Decimal.{greatest}
+use Rattle.fx_number.specs.Reading.{spelled}
+use Rattle.fx_types.specs.DateText.{date_text}
+
+-- ---- values
+
+-- a count of ten-thousandths, where it is one of a number
+abbrev pub in_range : ℤ → Option ℤ
+in_range z = if int_le (neg_ℤ (pos greatest)) z && int_le z (pos greatest) then Some z else None
+
+-- the number that a JSON number is: a whole one in range
+abbrev pub whole_number : json.Num → Option ℤ
+whole_number n = option_and_then (λ z. in_range (z *ℤ pos 10000)) (as_i64 n)
+
+-- the number that a text spells
+abbrev pub spelled_number : List ℕ → Option ℤ
+spelled_number s = option_and_then in_range (spelled s)
+
+-- the number that digits are, whatever bytes they are
+abbrev pub digits_of : List ℕ → ℕ
+digits_of ds = fold (λ n d. n * 10 + (d - 48)) 0 ds
+
+-- the day that a text would name as `yyyy-mm-dd`
+abbrev pub day_at : List ℕ → ℤ
+day_at s = days_from_civil (pos (digits_of (take 4 s))) (digits_of (take 2 (drop 5 s))) (digits_of (take 2 (drop 8 s)))
+
+-- the day, where it is one and this is its text
+abbrev pub day_if : ℤ → List ℕ → Option ℤ
+day_if z s = if int_le (neg_ℤ (pos 25567)) z && int_le z (pos 2932896) && bytes_eq s (date_text z) then Some z else None
+
+abbrev pub spelled_day : List ℕ → Option ℤ
+spelled_day s = day_if (day_at s) s
+
+-- `{"n":".."}` is a number, and `{"d":".."}` a date
+abbrev pub tagged_value : List ℕ → List ℕ → Option Data
+tagged_value key s =
+    if bytes_eq key (codes "n") then option_map number (spelled_number s)
+    else (if bytes_eq key (codes "d") then option_map date (spelled_day s) else None)
+
+-- an object of one member whose value is a text may be a value
+abbrev pub member_value : Members → Option Data
+member_value (member key (json.string s) no_members) = tagged_value key s
+member_value ms = None
+
+-- THE value that JSON is, where it is one
+abbrev pub value_in : json.Data → Option Data
+value_in json.null = Some blank
+value_in (json.boolean b) = Some (boolean b)
+value_in (json.number n) = option_map number (whole_number n)
+value_in (json.string s) = Some (text (scalars_of s))
+value_in (json.array ds) = None
+value_in (json.object ms) = member_value ms
+
+-- ---- members
+
+-- how many members an object has
+abbrev pub member_count : json.Data → ℕ
+member_count (json.object ms) = members_len ms
+member_count d = 0
+
+-- a member that is a text, in bytes and in scalar values, one that is a whole number from 1 to 4,294,967,295, and one that is a list or an object
+abbrev pub bytes_at : List ℕ → json.Data → Option (List ℕ)
+bytes_at key d = option_and_then as_str (get key d)
+
+abbrev pub text_at : List ℕ → json.Data → Option (List ℕ)
+text_at key d = option_map scalars_of (bytes_at key d)
+
+abbrev pub if_counted : ℕ → Option ℕ
+if_counted n = if nat_le 1 n && nat_le n 4294967295 then Some n else None
+
+abbrev pub number_at : List ℕ → json.Data → Option ℕ
+number_at key d = option_and_then if_counted (option_and_then as_u64 (option_and_then as_number (get key d)))
+
+abbrev pub items_at : List ℕ → json.Data → Option json.Items
+items_at key d = option_and_then as_array (get key d)
+
+abbrev pub members_at : List ℕ → json.Data → Option Members
+members_at key d = option_and_then as_object (get key d)

@@ -1,7 +1,0 @@
-use Rattle.std.proofs.Common.{◌∙◌}
-use Rattle.std.proofs.lemmas.Result.{IfOk-weaker}
-use Rattle.request_checks.proofs.Refusals.{plain_reply}
-use Rattle.request_checks.proofs.reply.Reply.refuse_plain.Goals as goal
-
-pub returns-clause-said : goal.returns-clause-said
-returns-clause-said c = IfOk-weaker c.refuse.result _ _ (λ r h. h ∙ plain_reply c.args.code c.requires) c.refuse.ensures.said

@@ -1,9 +1,0 @@
-use Rattle.std.proofs.Common.{map}
-use Rattle.app_wire.specs.Framing.{asked}
-use Rattle.sample_load.specs.Sample.{opens as opens_of}
-use Rattle.sample_load.proofs.Pushed.{more}
-use Rattle.sample_load.proofs.making.push_opens.Goals as goal
-
-pub loop-before-preserved : goal.loop-before-preserved
-loop-before-preserved c =
-    more opens_of (map asked c.args.all.now.items) (map asked c.loop-before.all.items) (map asked c.push_open.new.all.items) c.loop-before.before c.loop-before.invariant c.in_ok-push_open.ensures

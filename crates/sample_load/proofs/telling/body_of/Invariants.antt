@@ -1,6 +1,0 @@
-use Rattle.std.proofs.Common.{◌≡◌, drop}
-use Rattle.sample_load.specs.Summary.{body_of as body_in}
-use Rattle.sample_load.proofs.telling.body_of.Given as goal
-
-abbrev pub invariant-loop-at : goal.invariant-loop-at
-invariant-loop-at l = body_in (drop l.at l.reply) ≡ body_in l.reply
